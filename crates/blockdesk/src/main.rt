@@ -1,0 +1,31 @@
+//! The program `blockdesk`: it judges the words after its name, reads the files of a feed, and puts its answer.
+//!
+//! [`run`] is the whole program over any shelf and any sink, and [`main`] hands it the folder, standard output and
+//! a count of steps. The one contract: by the words, the text that was put and the status are those of the files.
+//!
+//! The contracts cite `World` (what stands outside the program) and `Runs` (what a run does to it).
+#![tactic(auto)]
+
+mod start;
+mod status;
+mod top;
+mod usage;
+
+pub use status::status_line;
+use std::marker::Brand;
+use std::process::ExitCode;
+use std::sync::ledger::Blank;
+pub use top::run;
+pub use usage::put_usage;
+
+fn main(rt: HostRuntime) -> ExitCode {
+    let status = start::start::<Brand>(&rt, Blank::new(1));
+    if let Some(line) = status_line(status) {
+        // Where standard error can't be written either, the status alone tells.
+        let _ = eprintln!(rt; "{line}");
+    }
+    ExitCode::from(status)
+}
+
+#[cfg(test)]
+mod tests;

@@ -1,0 +1,52 @@
+ghost use Rattle.std.specs.Prelude.{◌≡◌, ◌<◌};
+
+use crate::run;
+use desk_io::{FolderShelf, Memory, OutSink, Steps, Text};
+use std::env;
+use std::io::ErrorKind;
+use std::rt::{Env, Files};
+use std::sync::ledger::{Blank, Ledger};
+
+// Want of memory, found before the run began.
+const NO_MEMORY: u8 = 8;
+
+/// The run over the program's own words, a real folder and standard output. It answers the status.
+pub fn start<L: Ledger>(rt: &(impl Env + Files + Print + AllocGlobal), blank: Blank) -> u8
+    requires name { blank.name ≡ L.name }
+    requires parts { blank.parts ≡ L.parts }
+    requires shared { 0 < blank.parts }
+{
+    let mut steps = Steps::<L>::open(blank);
+    let Ok(words) = words_of(rt) else {
+        return NO_MEMORY;
+    };
+    let Ok(folder) = Text::of(rt.alloc(), folder_of(&words)) else {
+        return NO_MEMORY;
+    };
+    let mut shelf = FolderShelf::over(rt, folder);
+    let mut out = OutSink::over(rt);
+    run(rt.alloc(), &words, &mut shelf, &mut out, &mut steps)
+}
+
+// The words after the program's name, and none where one of them is not UTF-8.
+fn words_of(rt: &(impl Env + AllocGlobal)) -> Result<Vec<Text>, Memory> {
+    let mut words = Vec::new(rt.alloc());
+    match env::args(rt) {
+        Ok(args) => {
+            for arg in args.skip(1) {
+                words.push(Text::wrap(arg))?;
+            }
+            Ok(words)
+        }
+        Err(error) if error.kind() == ErrorKind::OutOfMemory => Err(Memory),
+        Err(_) => Ok(words),
+    }
+}
+
+// The folder that is read and written: the second of two words, but for `sample`, which works on none.
+fn folder_of(words: &[Text]) -> &str {
+    match words {
+        [command, folder] if command.as_str() != "sample" => folder.as_str(),
+        _ => ".",
+    }
+}

@@ -1,0 +1,3 @@
+pub mod FoundFirst
+pub mod OthersStay
+pub mod PutsMore

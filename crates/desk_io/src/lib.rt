@@ -1,0 +1,43 @@
+//! The edge to the outside: what the product reads, writes and counts.
+//!
+//! A [`Shelf`] holds named files, a [`Sink`] takes the bytes that are printed, and [`Steps`] counts steps for
+//! proofs alone. Each of the first two is a trait with one meaning, a record of what it holds and of how many
+//! faults it has counted. Callers are generic over them, so that they are proved once: for the objects in memory,
+//! which tell their bytes, and for a real folder and standard output, which tell nothing.
+//!
+//! The contract that the crates above use: a read gives the file, `Missing` or `TooLong` by the files; [`put_all`]
+//! appends all bytes or a prefix; `Failed` comes only where a count of that object rose, and every other answer
+//! leaves the counts as they were.
+//!
+//! ```text
+//! let mut shelf = FolderShelf::over(&rt, Text::of(rt.alloc(), "feed")?);
+//! let found = shelf.read(rt.alloc(), "trips.txt", 536_870_912)?;
+//! ```
+//!
+//! The contracts cite `Faults` (when a count rose), `Shelf` (what a shelf holds, and what reads and writes do to
+//! it), `Sink` (what a sink has taken), `MemoryShelf` and `MemorySink`.
+#![tactic(auto)]
+
+mod calls;
+mod folder_shelf;
+mod memory;
+mod memory_shelf;
+mod memory_sink;
+mod out_sink;
+mod shelf;
+mod sink;
+mod steps;
+mod text;
+
+pub use folder_shelf::FolderShelf;
+pub use memory::Memory;
+pub use memory_shelf::MemoryShelf;
+pub use memory_sink::MemorySink;
+pub use out_sink::OutSink;
+pub use shelf::{Found, Shelf, ShelfFault};
+pub use sink::{Sink, SinkFault, put_all};
+pub use steps::Steps;
+pub use text::{Bytes, Text};
+
+#[cfg(test)]
+mod tests;
