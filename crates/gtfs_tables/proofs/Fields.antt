@@ -1,0 +1,25 @@
+-- The fields of a record with empty ones at its end.
+use Rattle.std.proofs.Common.{◌≡◌, ℕ, zero, suc, ◌-◌, ◌≤◌, List, [], ◌∷◌, ◌++◌, length, get_or, replicate, unwrap_or, refl, sym, arith}
+use Rattle.std.proofs.lemmas.List.{append-nil, length-append, length-replicate}
+use Rattle.csv.specs.Records.{field_at}
+use Rattle.gtfs_tables.specs.Rows.{padded}
+
+empty-at : (k n : ℕ) → get_or {A = List ℕ} (replicate k []) n [] ≡ []
+empty-at zero n = refl
+empty-at (suc k) zero = refl
+empty-at (suc k) (suc n) = empty-at k n
+
+-- the field at a place, and an empty one past those that the record has
+pub field_at-padded : (fields : List (List ℕ)) (k n : ℕ) → unwrap_or (field_at fields n) [] ≡ get_or (fields ++ replicate k []) n []
+unfolding field_at
+field_at-padded [] k n = sym (empty-at k n)
+field_at-padded (f ∷ fields) k zero = refl
+field_at-padded (f ∷ fields) k (suc n) = field_at-padded fields k n
+
+-- as many fields as there are leave a record as it is
+pub padded-full : (fields : List (List ℕ)) → padded (length fields) fields ≡ fields
+padded-full fields = let none : length fields - length fields ≡ 0 = omega arith in rw (none, append-nil fields) refl
+
+-- a padded record has the fields of its width
+pub length-padded : (width : ℕ) (fields : List (List ℕ)) → length fields ≤ width → length (padded width fields) ≡ width
+length-padded width fields fits = simp (length-append, length-replicate) (omega arith)

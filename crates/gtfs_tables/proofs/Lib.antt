@@ -1,0 +1,5 @@
+pub mod TwoDigits
+pub mod CsvRecords
+pub mod Fields
+pub mod Body
+pub mod Digits

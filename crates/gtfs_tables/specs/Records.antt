@@ -1,0 +1,34 @@
+-- The records of a comma-separated file, by what `csv` promises of its reader.
+use Rattle.std.specs.Prelude.{◌≡◌, ℕ, ◌+◌, List, [], ◌∷◌, Bool, true, false, MatchBool, Some, IsSome, length, unwrap_or}
+use Rattle.std.specs.Borrow.{Bor}
+use Rattle.csv.specs.Machine.{ends_at_end}
+use Rattle.csv.specs.Reading as csv
+use Rattle.csv.specs.declared.reader.Reader.{Reader}
+use Rattle.csv.specs.declared.reader.Trim.TheVariants as trim
+
+-- the records of a file: those that `csv` reads, of any lengths, with comma and double quote, of the bytes
+-- after at most one leading byte-order mark
+abbrev pub records : List ℕ → List (List (List ℕ))
+records bytes = csv.records csv.default_config (csv.strip_bom bytes)
+
+-- the bytes that a reader over a slice has yet to read; none where it has failed
+abbrev pub unread : Reader (Bor (List ℕ)) → List ℕ
+unread reader = unwrap_or (csv.source_of (λ (bytes : Bor (List ℕ)). Some bytes.now) reader) []
+
+-- the records that a reader has yet to read
+abbrev pub records_left : Reader (Bor (List ℕ)) → List (List (List ℕ))
+records_left reader = csv.records_from csv.default_config (length (unread reader) + 1) (csv.reader_state reader) (unread reader)
+
+-- a reader that stands between two records, with commas and double quotes, and has not failed
+pub record IsReading (reader : Reader (Bor (List ℕ))) : Type 0 where
+  pub config : csv.reader_config reader ≡ csv.default_config
+  pub untrimmed : csv.reader_trim reader ≡ trim.None
+  pub flexible : csv.is_flexible reader ≡ true
+  pub ready : csv.Ready reader
+  pub source : IsSome (csv.source_of (λ (bytes : Bor (List ℕ)). Some bytes.now) reader)
+  pub between : ends_at_end (csv.reader_state reader) ≡ false
+
+-- a read found the next record, with these fields, and stands behind it; or there was none left
+abbrev pub ReadsNext : Reader (Bor (List ℕ)) → Bool → List (List ℕ) → Reader (Bor (List ℕ)) → Type 0
+ReadsNext old found fields new =
+    MatchBool found ((records_left old ≡ fields ∷ records_left new) × IsReading new) (records_left old ≡ [])

@@ -1,0 +1,42 @@
+//! Comma-separated files as tables, small texts as numbers and times, and the lines of refused files.
+//!
+//! [`read_rows`] gives the records of a file that has no header, [`Table::read`] a header and rows of as many fields.
+//! [`read_time`], [`read_number`] and [`minute_text`] go between texts and numbers, and take spaces round a value.
+//! [`Paper`] and [`Column`] name the files and their columns, and [`feed_line`] is the line of a [`FeedFault`].
+//!
+//! The contract that the crates above use: a table is the record list of its bytes, as `csv` promises to read them,
+//! or the fault that is due, or there was no memory for it; a time and a number are the values of their grammars.
+//!
+//! ```text
+//! let table = Table::read(alloc, bytes)?;
+//! if let Some(column) = table.column("trip_id") {
+//!     for before in 0..table.records() {
+//!         let trip = table.row(before + 1).field(column);
+//!     }
+//! }
+//! ```
+//!
+//! The contracts cite `Records` (the records of a file), `Rows` and `Table` (padding, the table or its fault, the place
+//! of a column), `Times` and `Numbers` (the grammars, the rounding to minutes), `Spaces`, `Papers` and `Faults` (the
+//! printed names and lines).
+#![tactic(auto)]
+
+mod fault;
+mod numbers;
+mod paper;
+mod records;
+mod row;
+mod spaces;
+mod table;
+mod times;
+
+pub use fault::{FeedFault, feed_line};
+pub use numbers::read_number;
+pub use paper::{Column, Paper};
+pub use records::read_rows;
+pub use row::Row;
+pub use table::{Table, TableFault};
+pub use times::{minute_down, minute_text, minute_up, read_time};
+
+#[cfg(test)]
+mod tests;

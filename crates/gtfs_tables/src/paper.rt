@@ -1,0 +1,87 @@
+ghost use Rattle.std.specs.Prelude.{◌≡◌};
+ghost use Rattle.gtfs_tables.specs.Papers.{column_name_of, file_name_of};
+
+/// A file that is read.
+#[derive(Clone, Copy, Debug, PartialEq, Eq)]
+pub enum Paper {
+    Settings,
+    Terminals,
+    Tolerances,
+    Trips,
+    StopTimes,
+    Deadheads,
+    Edits,
+    Journal,
+    Blocks,
+    Prices,
+}
+
+impl Paper {
+    /// The name by which the file is read and printed.
+    pub fn file_name(self) -> &'static str
+        ensures { result.now ≡ file_name_of self }
+    {
+        match self {
+            Paper::Settings => "desk.toml",
+            Paper::Terminals => "terminals.csv",
+            Paper::Tolerances => "tolerances.csv",
+            Paper::Trips => "trips.txt",
+            Paper::StopTimes => "stop_times.txt",
+            Paper::Deadheads => "deadheads.csv",
+            Paper::Edits => "edits.csv",
+            Paper::Journal => "journal",
+            Paper::Blocks => "blocks.csv",
+            Paper::Prices => "prices.csv",
+        }
+    }
+}
+
+/// A column that is asked of a file, or any other.
+#[derive(Clone, Copy, Debug, PartialEq, Eq)]
+pub enum Column {
+    StopId,
+    Terminal,
+    TripId,
+    Early,
+    Late,
+    ServiceId,
+    BlockId,
+    ArrivalTime,
+    DepartureTime,
+    StopSequence,
+    From,
+    To,
+    Minutes,
+    Deadhead,
+    Leave,
+    Enter,
+    /// A column of another name, or one that is not the first of its name.
+    Other,
+}
+
+impl Column {
+    /// The name of the column in a header, as it is printed; `field` for any other.
+    pub fn name(self) -> &'static str
+        ensures { result.now ≡ column_name_of self }
+    {
+        match self {
+            Column::StopId => "stop_id",
+            Column::Terminal => "terminal",
+            Column::TripId => "trip_id",
+            Column::Early => "early",
+            Column::Late => "late",
+            Column::ServiceId => "service_id",
+            Column::BlockId => "block_id",
+            Column::ArrivalTime => "arrival_time",
+            Column::DepartureTime => "departure_time",
+            Column::StopSequence => "stop_sequence",
+            Column::From => "from",
+            Column::To => "to",
+            Column::Minutes => "minutes",
+            Column::Deadhead => "deadhead",
+            Column::Leave => "leave",
+            Column::Enter => "enter",
+            Column::Other => "field",
+        }
+    }
+}

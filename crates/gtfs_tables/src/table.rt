@@ -1,0 +1,150 @@
+ghost use Rattle.std.specs.Prelude.{◌≡◌, ◌+◌, ◌-◌, ◌<◌, ◌≤◌, IfErr, IfOk, IfSome, [], Ok, length, slice_index_or};
+ghost use Rattle.gtfs_tables.specs.Records.{records_left, IsReading};
+ghost use Rattle.gtfs_tables.specs.Table.{body_of, column_of, table_of, IsFaultOf};
+
+use crate::Row;
+use crate::records::{next_record, reader_over};
+use crate::spaces::without_spaces;
+use csv::{ByteRecord, Reader};
+use desk_io::Memory;
+use std::alloc::{AllocError, AllocFailed, Global};
+use std::marker::Model;
+
+/// Why bytes are no table.
+#[derive(Clone, Copy, Debug, PartialEq, Eq)]
+pub enum TableFault {
+    /// There is no record.
+    NoHeader,
+    /// This record, counted from 1 after the header, is the first with more fields than the header.
+    RowTooLong(u32),
+    /// No memory was found.
+    Memory,
+}
+
+impl From<Memory> for TableFault {
+    ghost use Rattle.std.specs.Prelude.{◌≡◌};
+    ghost use Rattle.gtfs_tables.specs.declared.table.TableFault.{TableFault};
+
+    ghost from_gives = { λ _ e. e ≡ TableFault.Memory };
+
+    fn from(_: Memory) -> TableFault {
+        TableFault::Memory
+    }
+}
+
+impl From<AllocError> for TableFault {
+    ghost use Rattle.std.specs.Prelude.{◌≡◌};
+    ghost use Rattle.gtfs_tables.specs.declared.table.TableFault.{TableFault};
+
+    ghost from_gives = { λ _ e. e ≡ TableFault.Memory };
+
+    fn from(_: AllocError) -> TableFault {
+        TableFault::Memory
+    }
+}
+
+impl<T: Drop> From<AllocFailed<T>> for TableFault {
+    ghost use Rattle.std.specs.Prelude.{◌≡◌};
+    ghost use Rattle.gtfs_tables.specs.declared.table.TableFault.{TableFault};
+
+    ghost from_gives = { λ _ e. e ≡ TableFault.Memory };
+
+    fn from(_: AllocFailed<T>) -> TableFault {
+        TableFault::Memory
+    }
+}
+
+/// A file with a header: its rows are padded with empty fields to the header's length.
+#[derive(Debug, Drop)]
+pub struct Table {
+    header: Row,
+    rows: Vec<Row>,
+}
+
+impl Model for Table {
+    ghost use Rattle.gtfs_tables.specs.Table.{TableView, IsTable};
+
+    ghost Value = { TableView };
+
+    ghost view = { λ t. record { header = t.header; rows = t.rows.items } };
+
+    ghost invariant = { λ t. IsTable (record { header = t.header; rows = t.rows.items }) };
+}
+
+// The records that are left, each padded to the width.
+fn read_body(
+    alloc: Global,
+    reader: &mut Reader<&[u8]>,
+    fields: &mut ByteRecord,
+    width: usize,
+) -> Result<Vec<Row>, TableFault>
+    requires reading { IsReading reader.old }
+    requires count { length (records_left reader.old) ≤ 536870912 }
+    ensures rows { IfOk result (λ rows. body_of width (records_left reader.old) ≡ Ok rows.items) }
+    ensures fault { IfErr result (λ fault. IsFaultOf (body_of width (records_left reader.old)) fault) }
+{
+    let mut rows = Vec::new(alloc);
+    'records: while next_record(reader, fields)? {
+        if fields.len() > width {
+            return Err(TableFault::RowTooLong(rows.len() as u32 + 1));
+        }
+        rows.push(Row::of(fields, width)?)?;
+    }
+    Ok(rows)
+}
+
+impl Table {
+    /// The table of a file of at most 536,870,912 bytes. The first record is the header.
+    pub fn read(alloc: Global, bytes: &[u8]) -> Result<Table, TableFault>
+        requires { length bytes.now ≤ 536870912 }
+        ensures table { IfOk result (λ table. table_of bytes.now ≡ Ok table) }
+        ensures fault { IfErr result (λ fault. IsFaultOf (table_of bytes.now) fault) }
+    {
+        let mut reader = reader_over(alloc, bytes);
+        let mut fields = ByteRecord::new(alloc);
+        if !next_record(&mut reader, &mut fields)? {
+            return Err(TableFault::NoHeader);
+        }
+        let header = Row::of(&fields, fields.len())?;
+        let rows = read_body(alloc, &mut reader, &mut fields, header.len())?;
+        Ok(Table { header, rows })
+    }
+
+    /// The first column whose name, without spaces at both ends, equals the name; columns count from 0.
+    pub fn column(&self, name: &str) -> Option<usize>
+        ensures first { result ≡ column_of name.now self.now.header }
+        ensures within { IfSome result (λ column. column < length self.now.header) }
+    {
+        let wanted = name.as_bytes();
+        for column in 0..self.header.len() {
+            if without_spaces(self.header.field(column)) == wanted {
+                return Some(column);
+            }
+        }
+        None
+    }
+
+    /// The number of records after the header.
+    pub fn records(&self) -> u32
+        ensures { result ≡ length self.now.rows }
+    {
+        self.rows.len() as u32
+    }
+
+    /// The names of the columns, as the file has them.
+    pub fn header(&self) -> &Row
+        ensures { result.now ≡ self.now.header }
+    {
+        &self.header
+    }
+
+    /// A record, counted from 1 after the header, with as many fields as the header.
+    pub fn row(&self, r: u32) -> &Row
+        requires first { 1 ≤ r }
+        requires last { r ≤ length self.now.rows }
+        ensures value { result.now ≡ slice_index_or self.now.rows (r - 1) [] }
+        ensures width { length result.now ≡ length self.now.header }
+    {
+        &self.rows[r as usize - 1]
+    }
+}

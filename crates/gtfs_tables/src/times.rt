@@ -1,0 +1,72 @@
+ghost use Rattle.std.specs.Prelude.{◌≡◌, ◌+◌, ◌<◌, ◌≤◌, IfOk, IfSome, if◌then◌else◌, Some, None};
+ghost use Rattle.gtfs_tables.specs.Times as spec;
+
+use crate::spaces::without_spaces;
+use desk_io::{Memory, Text};
+use std::alloc::Global;
+
+// The value of two decimal digits, of which the first is at most `most`.
+fn pair(most: u8, tens: u8, ones: u8) -> Option<u32>
+    requires { most ≤ 57 }
+    ensures value { result ≡ (if spec.is_pair most tens ones then Some (spec.pair_value tens ones) else None) }
+{
+    if (b'0'..=most).contains(&tens) && ones.is_ascii_digit() {
+        Some(10 * u32::from(tens - b'0') + u32::from(ones - b'0'))
+    } else {
+        None
+    }
+}
+
+// The seconds of `HH:MM:SS`.
+fn full_time(text: [u8; 8]) -> Option<u32>
+    ensures value { result ≡ spec.full_time text }
+    ensures bound { IfSome result (λ seconds. seconds < 360000) }
+{
+    let hours = pair(b'9', text[0], text[1])?;
+    let minutes = pair(b'5', text[3], text[4])?;
+    let seconds = pair(b'5', text[6], text[7])?;
+    if text[2] != b':' || text[5] != b':' {
+        return None;
+    }
+    Some(3600 * hours + 60 * minutes + seconds)
+}
+
+/// The seconds of a time of the service day, at most 359,999: one or two digits of hours, a colon, two digits from 00
+/// to 59, a colon, two digits from 00 to 59, with any spaces round them. None exactly where the text has another form.
+pub fn read_time(text: &str) -> Option<u32>
+    ensures value { result ≡ spec.seconds_of text.now }
+    ensures bound { IfSome result (λ seconds. seconds ≤ 359999) }
+{
+    match *without_spaces(text.as_bytes()) {
+        [h, a, m, n, b, s, t] => full_time([b'0', h, a, m, n, b, s, t]),
+        [g, h, a, m, n, b, s, t] => full_time([g, h, a, m, n, b, s, t]),
+        _ => None,
+    }
+}
+
+/// A second of the service day as a minute, rounded down.
+pub fn minute_down(seconds: u32) -> u16
+    requires { seconds ≤ 359999 }
+    ensures value { result ≡ spec.rounded_down seconds }
+    ensures bound { result ≤ 5999 }
+{
+    (seconds / 60) as u16
+}
+
+/// A second of the service day as a minute, rounded up.
+pub fn minute_up(seconds: u32) -> u16
+    requires { seconds ≤ 359999 }
+    ensures value { result ≡ spec.rounded_up seconds }
+    ensures bound { result ≤ 6000 }
+{
+    seconds.div_ceil(60) as u16
+}
+
+/// A minute of the service day as `HH:MM`, with hours in at least two digits.
+pub fn minute_text(alloc: Global, minute: u16) -> Result<Text, Memory>
+    ensures { IfOk result (λ text. text ≡ spec.minute_digits minute) }
+{
+    let hours = minute / 60;
+    let minutes = minute % 60;
+    Ok(Text::wrap(format!(in alloc; "{hours:02}:{minutes:02}")?))
+}
