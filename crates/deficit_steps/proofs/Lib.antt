@@ -1,0 +1,3 @@
+pub mod DeficitsLemmas
+pub mod LinesLemmas
+pub mod RowLemmas

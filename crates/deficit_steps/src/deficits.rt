@@ -1,0 +1,114 @@
+ghost use Rattle.std.specs.Prelude.{◌≡◌, ◌+◌, ◌<◌, ◌≤◌, List, [], ◌∷◌, ◌++◌, length, ℤ, pos, neg_ℤ, ◌<ℤ◌, All, IfOk};
+ghost use Rattle.trip_model.specs.declared.trip.Move.{Move as ModelMove};
+ghost use Rattle.trip_model.specs.Maximum.{IsFirstMaximum, first_maximum, sum_of_maxima};
+ghost use Rattle.trip_model.specs.Steps.{steps};
+ghost use Rattle.deficit_steps.specs.Changes.{IsDeficits, change_at, value, with_move};
+ghost use Rattle.deficit_steps.specs.Holds.{Holds};
+
+use crate::row::Row;
+use desk_io::{Memory, Steps};
+use std::alloc::Global;
+use std::marker::Model;
+use std::sync::ledger::Ledger;
+use trip_model::Move;
+
+/// The deficits of all places, in vehicles, over the minutes 0 to 8,191 of the service day.
+///
+/// Memory is taken by [`Deficits::open`] and [`Deficits::step_list`] alone.
+#[derive(Drop)]
+pub struct Deficits {
+    rows: Vec<Row>,
+}
+
+impl Model for Deficits {
+    ghost use Rattle.std.specs.Prelude.{List, ℤ};
+    ghost use Rattle.deficit_steps.specs.Changes.{IsDeficits};
+
+    ghost Value = { List (List ℤ) };
+
+    ghost view = { λ d. d.rows.items };
+
+    ghost invariant = { λ d. IsDeficits d.rows.items };
+}
+
+impl Deficits {
+    /// The deficits of so many places, which hold no move.
+    pub fn open(alloc: Global, places: u16) -> Result<Deficits, Memory>
+        ensures places { IfOk result (λ deficits. length deficits ≡ places) }
+        ensures empty { IfOk result (All (All (λ c. c ≡ pos 0))) }
+        ensures held { IfOk result (λ deficits. Holds deficits []) }
+        ensures valid { IfOk result IsDeficits }
+    {
+        let mut rows = Vec::with_capacity(alloc, usize::from(places))?;
+        for _ in 0..places {
+            rows.push(Row::open(alloc)?)?;
+        }
+        Ok(Deficits { rows })
+    }
+
+    /// How many places there are.
+    pub fn places(&self) -> u16
+        ensures count { result ≡ length self.now }
+        ensures valid { IsDeficits self.now }
+    {
+        self.rows.len() as u16
+    }
+
+    /// Counts a departure where the move leaves, and an arrival where it arrives. A vehicle may leave in the minute in
+    /// which it arrives, so both count in their own minute.
+    pub fn add<L: Ledger>(&mut self, added: &Move, steps: &mut Steps<L>)
+        requires from { added.now.from < length self.old }
+        requires to { added.now.to < length self.old }
+        requires forward { added.now.leaves < added.now.arrives }
+        requires in_day { added.now.arrives ≤ 8191 }
+        requires raised { change_at self.old added.now.from added.now.leaves <ℤ pos 65536 }
+        requires lowered { neg_ℤ (pos 65536) <ℤ change_at self.old added.now.to added.now.arrives }
+
+        ensures places { length self.new ≡ length self.old }
+        ensures changed { self.new ≡ with_move self.old added.now }
+        ensures held { (moves : List ModelMove) → Holds self.old moves
+            → Holds self.new (moves ++ added.now ∷ []) }
+        ensures counted { steps.new ≤ steps.old + 28 }
+    {
+        self.rows[usize::from(added.from)].change(added.leaves, 1);
+        self.rows[usize::from(added.to)].change(added.arrives, -1);
+    }
+
+    /// The value of a place at a minute.
+    pub fn value_at(&self, place: u16, minute: u16) -> i32
+        requires place { place < length self.now }
+        requires minute { minute ≤ 8191 }
+        ensures { result ≡ value self.now place minute }
+    {
+        self.rows[usize::from(place)].value_at(minute)
+    }
+
+    /// The greatest value of a place, and the first minute that has it.
+    pub fn max(&self, place: u16) -> (u32, u16)
+        requires { place < length self.now }
+        ensures computed { first_maximum (value self.now place) ≡ (pos result.0, result.1) }
+        ensures maximum { IsFirstMaximum (value self.now place) (pos result.0) result.1 }
+    {
+        self.rows[usize::from(place)].max()
+    }
+
+    /// The sum of the greatest values of all places.
+    pub fn total(&self) -> u64
+        ensures { pos result ≡ sum_of_maxima (value self.now) (length self.now) }
+    {
+        let mut total = 0;
+        for row in &self.rows {
+            total += u64::from(row.max().0);
+        }
+        total
+    }
+
+    /// The minutes at which the value of a place differs from that of the minute before, which is 0 before minute 0,
+    /// each with its new value.
+    pub fn step_list(&self, place: u16) -> Result<Vec<(u16, i32)>, Memory>
+        requires { place < length self.now }
+        ensures { IfOk result (λ list. list.items ≡ steps (value self.now place)) }
+    {
+        self.rows[usize::from(place)].step_list(*self.rows.allocator())
+    }
+}

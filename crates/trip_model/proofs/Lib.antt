@@ -1,0 +1,3 @@
+pub mod MaximumLemmas
+pub mod StepsLemmas
+pub mod TimetableLemmas

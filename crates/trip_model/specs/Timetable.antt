@@ -1,0 +1,70 @@
+-- What a timetable is seen as, and what holds of each one.
+use Rattle.std.specs.Prelude.{◌≢◌, ℕ, ◌≤◌, List, [], map, length, slice_index_or, Option, position, All, AllPairs, false, pos, String, string_bytes}
+use Rattle.std.specs.Str.{bytes_eq}
+use Rattle.trip_model.specs.declared.trip.Trip.{Trip}
+use Rattle.trip_model.specs.Trip.{IsValidTrip}
+
+-- a place with the minutes of layover that a trip has at its end there
+pub record Place : Type 0 where
+  pub name : List ℕ
+  pub layover : ℕ
+
+-- a slot with its trip, live or cancelled
+pub record Slot : Type 0 where
+  pub name : List ℕ
+  pub trip : Trip
+
+-- a timetable: places and slots in the order of their numbers, and the default tolerances in minutes
+pub record TimetableView : Type 0 where
+  pub places : List Place
+  pub slots : List Slot
+  pub early : ℕ
+  pub late : ℕ
+
+-- the names of the places, in order
+abbrev pub place_names : TimetableView → List (List ℕ)
+place_names timetable = map (λ p. p.name) timetable.places
+
+-- the names of the trips, in order
+abbrev pub slot_names : TimetableView → List (List ℕ)
+slot_names timetable = map (λ s. s.name) timetable.slots
+
+-- the number of a name in a list of names
+abbrev pub number_of : List (List ℕ) → List ℕ → Option ℕ
+number_of names name = position (bytes_eq name) names
+
+-- the place of that number, and past the last one a place with no name
+abbrev pub place_at : TimetableView → ℕ → Place
+place_at timetable p = slice_index_or timetable.places p (record { name = []; layover = 0 })
+
+-- the slot of that number, and past the last one a slot with no name and a trip that does not run
+abbrev pub slot_at : TimetableView → ℕ → Slot
+slot_at timetable s = slice_index_or timetable.slots s (record { name = []; trip = record { from = 0; to = 0; departs = 0; ends = 0; offset = pos 0; early = 0; late = 0; live = false } })
+
+-- no name stands twice
+abbrev pub AreDistinct : List (List ℕ) → Type 0
+AreDistinct names = AllPairs (λ x y. x ≢ y) names
+
+-- at most 512 places with layovers of at most four hours, at most 4,096 slots with valid trips, default tolerances of
+-- at most an hour, and names distinct in each list
+pub record IsTimetable (timetable : TimetableView) : Type 0 where
+  pub place_names : AreDistinct (place_names timetable)
+  pub slot_names : AreDistinct (slot_names timetable)
+  pub layovers : All (λ p. p.layover ≤ 240) timetable.places
+  pub trips : All (λ s. IsValidTrip (length timetable.places) s.trip) timetable.slots
+  pub places : length timetable.places ≤ 512
+  pub slots : length timetable.slots ≤ 4096
+  pub early : timetable.early ≤ 60
+  pub late : timetable.late ≤ 60
+
+-- the places that a map from names to layovers holds in order
+abbrev pub places_of : {Y : Type 0} → List (String Y × ℕ) → List Place
+places_of entries = map (λ e. record { name = string_bytes e.0; layover = e.1 }) entries
+
+-- the slots that a map from names to trips holds in order
+abbrev pub slots_of : {Y : Type 0} → List (String Y × Trip) → List Slot
+slots_of entries = map (λ e. record { name = string_bytes e.0; trip = e.1 }) entries
+
+-- the timetable whose places and slots two maps hold
+abbrev pub timetable_of : {Y : Type 0} → List (String Y × ℕ) → List (String Y × Trip) → ℕ → ℕ → TimetableView
+timetable_of layovers trips early late = record { places = places_of layovers; slots = slots_of trips; early = early; late = late }

@@ -1,0 +1,30 @@
+-- When a trip is valid, and what a deficit counts of it.
+use Rattle.std.specs.Prelude.{ℕ, ◌<◌, ◌≤◌, ℤ, pos, neg_ℤ, ◌-ℤ◌, ◌≤ℤ◌}
+use Rattle.trip_model.specs.declared.trip.Trip.{Trip}
+use Rattle.trip_model.specs.declared.trip.Move.{Move}
+
+-- the trip leaves its first place as it departs, and arrives at its last place as it ends
+abbrev pub move_of : Trip → Move
+move_of trip = record { from = trip.from; to = trip.to; leaves = trip.departs; arrives = trip.ends }
+
+-- the minute of the departure before the trip was moved
+abbrev pub published_departure : Trip → ℤ
+published_departure trip = pos trip.departs -ℤ trip.offset
+
+-- the minute of the end before the trip was moved
+abbrev pub published_end : Trip → ℤ
+published_end trip = pos trip.ends -ℤ trip.offset
+
+-- a trip between two of so many places, which ends after it departs, is moved within its tolerances of at most an hour,
+-- and is published to depart by 99:59 and to end by 104:00
+pub record IsValidTrip (places : ℕ) (trip : Trip) : Type 0 where
+  pub from : trip.from < places
+  pub to : trip.to < places
+  pub forward : trip.departs < trip.ends
+  pub early : trip.early ≤ 60
+  pub late : trip.late ≤ 60
+  pub not_too_early : neg_ℤ (pos trip.early) ≤ℤ trip.offset
+  pub not_too_late : trip.offset ≤ℤ pos trip.late
+  pub departs_from_midnight : pos 0 ≤ℤ (published_departure trip)
+  pub departs_in_day : (published_departure trip) ≤ℤ pos 5999
+  pub ends_in_day : (published_end trip) ≤ℤ pos 6240

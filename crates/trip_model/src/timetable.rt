@@ -1,0 +1,172 @@
+ghost use Rattle.std.specs.Prelude.{◌≡◌, ◌+◌, ◌<◌, ◌≤◌, [], ◌∷◌, ◌++◌, length, slice_get, Some, Contains, IfOk, IfSome, IfNone, OnErr};
+
+use crate::Trip;
+use desk_io::Memory;
+use indexmap::IndexMap;
+use std::alloc::Global;
+use std::marker::Model;
+
+/// The places and the trip slots of one service day, each numbered from 0 and found by name.
+#[derive(Drop)]
+pub struct Timetable {
+    layovers: IndexMap<String, u16>,
+    trips: IndexMap<String, Trip>,
+    early: u8,
+    late: u8,
+}
+
+impl Model for Timetable {
+    ghost use Rattle.trip_model.specs.Timetable.{TimetableView, IsTimetable, timetable_of};
+
+    ghost Value = { TimetableView };
+
+    ghost view = { λ t. timetable_of t.layovers.entries t.trips.entries t.early t.late };
+
+    ghost invariant = { λ t. IsTimetable (timetable_of t.layovers.entries t.trips.entries t.early t.late) };
+}
+
+impl Timetable {
+    ghost use Rattle.trip_model.specs.Trip.{IsValidTrip};
+    ghost use Rattle.trip_model.specs.Timetable.{Place, Slot, TimetableView, IsTimetable, place_names, slot_names, number_of, place_at, slot_at};
+
+    /// A timetable without places and slots. `early` and `late` are the tolerances, in minutes, of trips that have
+    /// none of their own.
+    pub fn open(alloc: Global, early: u8, late: u8) -> Timetable
+        requires early { early ≤ 60 }
+        requires late { late ≤ 60 }
+        ensures { result ≡ record { places = []; slots = []; early = early; late = late } }
+    {
+        Timetable {
+            layovers: IndexMap::new(alloc),
+            trips: IndexMap::new(alloc),
+            early,
+            late,
+        }
+    }
+
+    /// How many places there are.
+    pub fn places(&self) -> u16
+        ensures count { result ≡ length self.now.places }
+        ensures valid { IsTimetable self.now }
+    {
+        self.layovers.len() as u16
+    }
+
+    /// The name of a place.
+    pub fn place_name(&self, place: u16) -> &str
+        requires { place < length self.now.places }
+        ensures { result.now ≡ (place_at self.now place).name }
+    {
+        let (name, _) = self.layovers.get_index(usize::from(place)).unwrap();
+        name.as_str()
+    }
+
+    /// The minutes that a vehicle stays at a place after a trip that ends there.
+    pub fn layover(&self, place: u16) -> u16
+        requires { place < length self.now.places }
+        ensures value { result ≡ (place_at self.now place).layover }
+        ensures valid { result ≤ 240 }
+    {
+        let (_, layover) = self.layovers.get_index(usize::from(place)).unwrap();
+        *layover
+    }
+
+    /// The number of the place of that name.
+    pub fn find_place(&self, name: &str) -> Option<u16>
+        ensures number { result ≡ number_of (place_names self.now) name.now }
+        ensures found { IfSome result (λ p. slice_get (place_names self.now) p ≡ Some name.now) }
+        ensures within { IfSome result (λ p. p < length self.now.places) }
+        ensures missing { IfNone result (¬ Contains (place_names self.now) name.now) }
+    {
+        let place = self.layovers.get_index_of(name)?;
+        Some(place as u16)
+    }
+
+    /// By how many minutes a trip without tolerances of its own may be moved before its published times.
+    pub fn early(&self) -> u8
+        ensures value { result ≡ self.now.early }
+        ensures valid { result ≤ 60 }
+    {
+        self.early
+    }
+
+    /// By how many minutes a trip without tolerances of its own may be moved after its published times.
+    pub fn late(&self) -> u8
+        ensures value { result ≡ self.now.late }
+        ensures valid { result ≤ 60 }
+    {
+        self.late
+    }
+
+    /// Appends a place, with its layover in minutes, and answers its number.
+    pub fn push_place(&mut self, name: &str, layover: u16) -> Result<u16, Memory>
+        requires new { ¬ Contains (place_names self.old) name.now }
+        requires room { length self.old.places < 512 }
+        requires layover { layover ≤ 240 }
+        ensures number { IfOk result (λ p. p ≡ length self.old.places) }
+        ensures pushed { IfOk result (λ _. self.new ≡ record self.old {
+          places = self.old.places ++ record { name = name.now; layover = layover } ∷ [];
+        }) }
+        ensures err { OnErr result (self.new ≡ self.old) }
+    {
+        let number = self.layovers.len() as u16;
+        let name = String::from_str(*self.layovers.allocator(), name)?;
+        self.layovers.insert(name, layover)?;
+        Ok(number)
+    }
+
+    /// How many slots there are.
+    pub fn slots(&self) -> u16
+        ensures count { result ≡ length self.now.slots }
+        ensures valid { IsTimetable self.now }
+    {
+        self.trips.len() as u16
+    }
+
+    /// The trip in a slot, live or cancelled.
+    pub fn trip(&self, slot: u16) -> Trip
+        requires { slot < length self.now.slots }
+        ensures value { result ≡ (slot_at self.now slot).trip }
+        ensures valid { IsValidTrip (length self.now.places) result }
+    {
+        let (_, trip) = self.trips.get_index(usize::from(slot)).unwrap();
+        *trip
+    }
+
+    /// The name of the trip in a slot.
+    pub fn name(&self, slot: u16) -> &str
+        requires { slot < length self.now.slots }
+        ensures { result.now ≡ (slot_at self.now slot).name }
+    {
+        let (name, _) = self.trips.get_index(usize::from(slot)).unwrap();
+        name.as_str()
+    }
+
+    /// The slot of the trip of that name, live or cancelled.
+    pub fn find(&self, name: &str) -> Option<u16>
+        ensures slot { result ≡ number_of (slot_names self.now) name.now }
+        ensures found { IfSome result (λ s. slice_get (slot_names self.now) s ≡ Some name.now) }
+        ensures within { IfSome result (λ s. s < length self.now.slots) }
+        ensures missing { IfNone result (¬ Contains (slot_names self.now) name.now) }
+    {
+        let slot = self.trips.get_index_of(name)?;
+        Some(slot as u16)
+    }
+
+    /// Appends a trip, and answers its slot.
+    pub fn push_trip(&mut self, name: &str, trip: Trip) -> Result<u16, Memory>
+        requires new { ¬ Contains (slot_names self.old) name.now }
+        requires room { length self.old.slots < 4096 }
+        requires valid { IsValidTrip (length self.old.places) trip }
+        ensures slot { IfOk result (λ s. s ≡ length self.old.slots) }
+        ensures pushed { IfOk result (λ _. self.new ≡ record self.old {
+          slots = self.old.slots ++ record { name = name.now; trip = trip } ∷ [];
+        }) }
+        ensures err { OnErr result (self.new ≡ self.old) }
+    {
+        let slot = self.trips.len() as u16;
+        let name = String::from_str(*self.trips.allocator(), name)?;
+        self.trips.insert(name, trip)?;
+        Ok(slot)
+    }
+}
