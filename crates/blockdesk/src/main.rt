@@ -6,11 +6,23 @@
 //! The contracts cite `World` (what stands outside the program) and `Runs` (what a run does to it).
 #![tactic(auto)]
 
+mod command;
+mod deficits;
+mod feed;
+mod finish;
+mod journey;
+mod outcome;
+mod papers;
 mod start;
 mod status;
+mod stop_times;
 mod top;
+mod trips;
 mod usage;
 
+pub use command::{Command, command_of};
+pub use deficits::run_deficits;
+pub use outcome::{Outcome, RunFault};
 pub use status::status_line;
 use std::marker::Brand;
 use std::process::ExitCode;

@@ -1,0 +1,9 @@
+pub mod EachStatus
+pub mod Held
+pub mod JourneysRead
+pub mod Names
+pub mod Places
+pub mod Refusals
+pub mod RunsAs
+pub mod Slots
+pub mod Texts

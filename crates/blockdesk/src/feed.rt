@@ -1,0 +1,51 @@
+ghost use Rattle.blockdesk.specs.Reading.{Gives};
+ghost use Rattle.blockdesk.specs.Feed as spec;
+ghost use Rattle.blockdesk.specs.Papers.{HasSize, HaveSizes};
+
+use crate::journey::timetable_of;
+use crate::papers::Papers;
+use crate::stop_times::journeys;
+use crate::trips::{table_in, trip_names};
+use desk_io::Found;
+use gtfs_tables::{FeedFault, Paper};
+use std::alloc::Global;
+use trip_model::Timetable;
+
+// A paper that this version does not read yet must not be there.
+fn not_there(paper: Paper, found: &Found) -> Result<(), FeedFault>
+    ensures { Gives (λ done. done) result (spec.not_there paper found.now) }
+{
+    match found {
+        Found::Missing => Ok(()),
+        Found::TooLong | Found::File(_) => Err(FeedFault::NotYet(paper)),
+    }
+}
+
+// The timetable of the trips and their stop times.
+#[tactic(auto, unfolding(crate::specs::Feed::trips_of))]
+fn read_trips(alloc: Global, trips: &Found, stop_times: &Found) -> Result<Timetable, FeedFault>
+    requires trips { HasSize trips.now }
+    requires stop_times { HasSize stop_times.now }
+    ensures { Gives (λ timetable. timetable) result (spec.trips_of trips.now stop_times.now) }
+{
+    let trips = table_in(alloc, Paper::Trips, trips)?;
+    let names = trip_names(alloc, &trips)?;
+    let stop_times = table_in(alloc, Paper::StopTimes, stop_times)?;
+    let journeys = journeys(alloc, &names, &stop_times)?;
+    timetable_of(alloc, &journeys)
+}
+
+/// The base timetable of a feed, or the first refusal in the order in which its papers are judged.
+#[tactic(auto, unfolding(crate::specs::Feed::feed_of))]
+pub fn read_feed(alloc: Global, papers: &Papers) -> Result<Timetable, FeedFault>
+    requires { HaveSizes papers.now }
+    ensures { Gives (λ timetable. timetable) result (spec.feed_of papers.now) }
+{
+    not_there(Paper::Settings, &papers.settings)?;
+    not_there(Paper::Terminals, &papers.terminals)?;
+    not_there(Paper::Tolerances, &papers.tolerances)?;
+    let timetable = read_trips(alloc, &papers.trips, &papers.stop_times)?;
+    not_there(Paper::Deadheads, &papers.deadheads)?;
+    not_there(Paper::Edits, &papers.edits)?;
+    Ok(timetable)
+}

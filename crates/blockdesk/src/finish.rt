@@ -1,0 +1,18 @@
+ghost use Rattle.blockdesk.specs.Runs.{Finishes};
+
+use crate::outcome::{Outcome, RunFault};
+use desk_io::{Sink, put_all};
+
+/// Puts what a command made, by one call, and answers the status of the run.
+pub fn finish<O: Sink>(made: &Result<Outcome, RunFault>, out: &mut O) -> u8
+    ensures { Finishes made.now (O.state out.old) (O.state out.new) result }
+{
+    match made {
+        Ok(outcome) => match put_all(out, outcome.text.as_str().as_bytes()) {
+            Ok(()) => outcome.status,
+            Err(_) => 6,
+        },
+        Err(RunFault::Read) => 5,
+        Err(RunFault::Memory) => 8,
+    }
+}
