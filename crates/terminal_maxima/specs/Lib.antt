@@ -1,0 +1,5 @@
+pub mod MaxPrefix
+pub mod MaxPrefixLaws
+pub mod Nodes
+pub mod Reaching
+pub mod Summary
