@@ -1,7 +1,6 @@
 -- Reading journeys one after the other, as a loop does.
 use Rattle.std.proofs.Common.{◌≡◌, ℕ, suc, ◌+◌, ◌-◌, ◌*◌, ◌<◌, List, [], ◌∷◌, ◌++◌, length, get_or, drop, Result, Ok, Err, refl, sym, ap, ◌∙◌, subst, append_assoc, arith, add-one}
 use Rattle.std.proofs.Math.Seq.{drop-cons}
-use Rattle.std.proofs.lemmas.List.{append-nil}
 use Rattle.gtfs_tables.specs.declared.fault.FeedFault.{FeedFault}
 use Rattle.blockdesk.specs.declared.journey.Journey.{Journey}
 use Rattle.blockdesk.specs.declared.stop_times.Columns.{Columns}
@@ -65,9 +64,3 @@ journeys_end columns names rows i r name first last front refused all lt twice n
     let here = Fails-equal refused _ _ (this_journey columns names rows i r name first last next is at_first at_last) due in
     let left = Fails->>= refused _ (λ journey. rest >>= λ journeys. Ok (journey ∷ journeys)) here in
     Fails-equal refused _ all (ap (with_front front) (sym (at_turn columns names rows i lt twice)) ∙ so_far) (Fails->>= refused _ (λ journeys. Ok (front ++ journeys)) left)
-
--- all journeys were read
-pub journeys_done : (columns : Columns) (names : List (List ℕ)) (rows : List (List (List ℕ))) (i : ℕ) (front : List Journey) (all : Result (List Journey) FeedFault)
-    → drop i names ≡ [] → with_front front (journeys_from columns (drop i names) (drop (2 * i) rows)) ≡ all → all ≡ Ok front
-journeys_done columns names rows i front all none so_far =
-    sym so_far ∙ ap (λ ns. with_front front (journeys_from columns ns (drop (2 * i) rows))) none ∙ ap (λ (js : List Journey). Ok js) (append-nil front)

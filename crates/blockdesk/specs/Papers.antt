@@ -5,12 +5,9 @@ use Rattle.desk_io.specs.declared.shelf.Found.{Found}
 use Rattle.gtfs_tables.specs.Papers.{file_name_of}
 use Rattle.gtfs_tables.specs.declared.paper.Paper.TheVariants as paper
 use Rattle.blockdesk.specs.declared.papers.Papers.{Papers}
+use Rattle.blockdesk.specs.declared.papers.TheConstants.{MOST_BYTES}
 use Rattle.blockdesk.specs.declared.outcome.RunFault.{RunFault}
 use Rattle.blockdesk.specs.declared.outcome.RunFault.TheVariants as run_fault
-
--- the most bytes that a file may have
-abbrev pub MOST_BYTES : ℕ
-MOST_BYTES = 536870912
 
 -- each paper is what the shelf tells of the file of its name
 pub record AreRead (files : Option Files) (papers : Papers) : Type 0 where

@@ -94,17 +94,6 @@ pub record IsMaximumSoFar (changes : List ℤ) (n : ℕ) (sum high : ℤ) (at : 
   pub first : (t : ℕ) → t < at → value_in changes t <ℤ high
   pub positive : pos 0 ≤ℤ high
 
-pub IsMaximumSoFar-start : (changes : List ℤ) → IsMaximumSoFar changes 0 (pos 0) (pos 0) 0
-IsMaximumSoFar-start changes = record {
-  sum_is = refl;
-  starts = λ _. (refl, refl);
-  within = λ h. absurd (omega arith);
-  reached = λ h. absurd (omega arith);
-  greatest = λ t h. absurd (omega arith);
-  first = λ t h. absurd (omega arith);
-  positive = omega (arith, ints);
-}
-
 -- what holds below n and at n holds below n + 1
 below_next : (P : ℕ → Type 0) (n : ℕ) → ((t : ℕ) → t < n → P t) → P n → (t : ℕ) → t < n + 1 → P t
 below_next P n below here t h =

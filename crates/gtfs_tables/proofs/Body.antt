@@ -28,9 +28,6 @@ position-past p n (x ∷ front) rest none =
     let next : n + 1 + length front ≡ n + suc (length front) = omega arith in
     rw parts.0 (position-past p (n + 1) front rest parts.1 ∙ ap (λ (k : ℕ). position_from p k rest) next)
 
-pub body-start : (width : ℕ) (all rows : List (List (List ℕ))) → rows ≡ [] → IsReadSoFar width all rows all
-body-start width all rows none = record { done = []; split = refl; padded_done = none; fit = refl }
-
 -- one more row that is not too long
 pub body-more : (width : ℕ) (all rows more left next : List (List (List ℕ))) (fields row : List (List ℕ)) → IsReadSoFar width all rows left
     → left ≡ fields ∷ next → length fields ≤ width → row ≡ padded width fields → more ≡ rows ++ row ∷ [] → IsReadSoFar width all more next
@@ -57,10 +54,6 @@ body-long width all rows left next fields read first long =
     let at : position_from (is_longer width) 1 all ≡ Some (1 + length read.done) =
     rw (read.split, first) (position-past (is_longer width) 1 read.done (fields ∷ next) read.fit ∙ rw (lt-ltb width (length fields) long) refl) in
     rw (at, number) refl
-
-pub body-count : (width : ℕ) (all rows left : List (List (List ℕ))) → IsReadSoFar width all rows left → length rows + length left ≡ length all
-body-count width all rows left read =
-    omega (arith, ap length read.padded_done, length-map read.done (padded width), ap length read.split, length-append read.done left)
 
 -- a search from a front that finds nothing
 no-place : (b : Bool) (n : ℕ) (o : Option ℕ) → cond b (Some n) o ≡ None → (b ≡ false) × (o ≡ None)
