@@ -1,3 +1,4 @@
+pub mod Finding
 pub mod FoundFirst
 pub mod OthersStay
 pub mod PutsMore

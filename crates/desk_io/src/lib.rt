@@ -6,7 +6,7 @@
 //! which tell their bytes, and for a real folder and standard output, which tell nothing.
 //!
 //! The contract that the crates above use: a read gives the file, `Missing` or `TooLong` by the files; [`put_all`]
-//! appends all bytes or a prefix; `Failed` comes only where a count of that object rose, and every other answer
+//! appends all bytes or a front; `Failed` comes only where a count of that object rose, and every other answer
 //! leaves the counts as they were.
 //!
 //! ```text

@@ -76,6 +76,7 @@ impl Shelf for MemoryShelf {
         ensures fails { (result ≡ Err ShelfFault.Failed) ↔ (fails_next (reads_of self.old) ≡ true) }
         ensures counted { (reads_of self.new).made ≡ (after_call (reads_of self.old)).made }
         ensures listed { (reads_of self.new).listed ≡ (reads_of self.old).listed }
+        ensures once { result ≡ Err ShelfFault.Failed → reads_of self.new ≡ after_fault (after_call (reads_of self.old)) }
         ensures writes { writes_of self.new ≡ writes_of self.old }
     {
         if self.reads.enter() {
@@ -100,6 +101,7 @@ impl Shelf for MemoryShelf {
         ensures half { result ≡ Err ShelfFault.Failed → files_of self.new ≡ insert (files_of self.old) name.now (first_half bytes.now) }
         ensures counted { (writes_of self.new).made ≡ (after_call (writes_of self.old)).made }
         ensures listed { (writes_of self.new).listed ≡ (writes_of self.old).listed }
+        ensures once { result ≡ Err ShelfFault.Failed → writes_of self.new ≡ after_fault (after_call (writes_of self.old)) }
         ensures reads { reads_of self.new ≡ reads_of self.old }
     {
         let fails = self.writes.enter();

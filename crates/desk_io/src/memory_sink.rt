@@ -56,7 +56,7 @@ impl MemorySink {
 impl Sink for MemorySink {
     ghost use Rattle.std.specs.Prelude.{◌≡◌, ◌-◌, ◌<◌, ◌≤◌, ◌↔◌, true, length, take, IfOk, OnErr, IsErr};
     ghost use Rattle.desk_io.specs.Sink.{put_bytes, PutFailed};
-    ghost use Rattle.desk_io.specs.Calls.{after_call};
+    ghost use Rattle.desk_io.specs.Calls.{after_call, after_fault};
     ghost use Rattle.desk_io.specs.MemorySink.{puts_of, chunk_of, room_of, sink_state_of, taken_by_put, fails_put};
 
     ghost state = { sink_state_of };
@@ -74,6 +74,7 @@ impl Sink for MemorySink {
         ensures same_room { OnErr result (room_of self.new ≡ room_of self.old) }
         ensures counted { (puts_of self.new).made ≡ (after_call (puts_of self.old)).made }
         ensures listed { (puts_of self.new).listed ≡ (puts_of self.old).listed }
+        ensures once { OnErr result (puts_of self.new ≡ after_fault (after_call (puts_of self.old))) }
         ensures chunk { chunk_of self.new ≡ chunk_of self.old }
     {
         let fails = self.puts.enter();

@@ -1,4 +1,5 @@
 use crate::{Sink, SinkFault};
+use std::io;
 
 /// Standard output, or whatever the runtime `R` prints to. It tells nothing of what it has taken, and counts its faults.
 #[derive(Drop)]
@@ -8,24 +9,42 @@ pub struct OutSink<'a, R: Print> {
 }
 
 impl<'a, R: Print> OutSink<'a, R> {
-    pub fn over(rt: &'a R) -> OutSink<'a, R> {
+    ghost use Rattle.std.specs.Prelude.{◌≡◌, ◌<◌, None, IfOk, IfErr, OnErr};
+    ghost use Rattle.desk_io.specs.OutSink.{out_state_of};
+    ghost use Rattle.desk_io.specs.Sink.{PutFailed};
+
+    /// Standard output, of which no fault was counted.
+    pub fn over(rt: &'a R) -> OutSink<'a, R>
+        ensures { out_state_of result ≡ record { written = None; faults = 0 } }
+    {
         OutSink { rt, faults: 0 }
     }
-}
 
-impl<'a, R: Print> Sink for OutSink<'a, R> {
-    ghost use Rattle.std.specs.Prelude.{None};
-
-    ghost state = { λ sink. record { written = None; faults = sink.faults } };
-
-    fn put(&mut self, piece: &[u8]) -> Result<usize, SinkFault> {
-        match self.rt.write_some(piece) {
-            Ok(count) if count > 0 => Ok(count),
-            // At the last value of a u64 the count stays there.
+    // What a put answers to what the system answered: so many bytes, where that is one or more. Else a fault is counted;
+    // at the last value of a u64 the count stays there.
+    fn answer(&mut self, took: &io::Result<usize>) -> Result<usize, SinkFault>
+        ensures some { IfOk took.now (λ count. 0 < count → (result ≡ Ok count) × (out_state_of self.new ≡ out_state_of self.old)) }
+        ensures none { IfOk took.now (λ count. count ≡ 0 → result ≡ Err SinkFault.Failed) }
+        ensures refused { IfErr took.now (λ _. result ≡ Err SinkFault.Failed) }
+        ensures failed { OnErr result (PutFailed (out_state_of self.old) (out_state_of self.new)) }
+    {
+        match took {
+            Ok(count) if *count > 0 => Ok(*count),
             _ => {
                 self.faults = self.faults.saturating_add(1);
                 Err(SinkFault::Failed)
             }
         }
+    }
+}
+
+impl<'a, R: Print> Sink for OutSink<'a, R> {
+    ghost use Rattle.desk_io.specs.OutSink.{out_state_of};
+
+    ghost state = { out_state_of };
+
+    fn put(&mut self, piece: &[u8]) -> Result<usize, SinkFault> {
+        let took = self.rt.write_some(piece);
+        self.answer(&took)
     }
 }
