@@ -1,5 +1,10 @@
+pub mod Blocking
 pub mod Deficit
+pub mod Links
 pub mod Maximum
+pub mod Network
+pub mod Order
+pub mod Plain
 pub mod Steps
 pub mod Timetable
 pub mod Trip
