@@ -1,0 +1,2 @@
+pub mod BlocksMade
+pub mod LinesWritten

@@ -1,0 +1,69 @@
+-- Printed blocks, as they are written piece by piece.
+use Rattle.std.proofs.Common.{◌≡◌, ℕ, zero, suc, ◌+◌, ◌-◌, ◌<◌, ◌≤◌, List, [], ◌∷◌, ◌++◌, length, get_or, Option, refl, sym, ap, ◌∙◌, codes, append_assoc, arith}
+use Rattle.std.specs.Fmt.{decimal}
+use Rattle.std.specs.List.{flat_map, range_with_len}
+use Rattle.std.proofs.lemmas.Grind.{flat_map-append}
+use Rattle.std.proofs.lemmas.List.{append-nil, map-id}
+use Rattle.std.proofs.lemmas.List.FromFn.{map-range_with_len_more}
+use Rattle.trip_model.specs.Timetable.{TimetableView, slot_at}
+use Rattle.block_build.specs.Lines.{walk_between, deadhead_text, joint, trip_text, trips_text, block_line, block_text}
+
+flat_map-range_more : (f : ℕ → List ℕ) (n : ℕ) → flat_map f (range_with_len 0 (n + 1)) ≡ flat_map f (range_with_len 0 n) ++ f n
+flat_map-range_more f n =
+    ap (flat_map f) (sym (map-id (range_with_len 0 (n + 1))) ∙ map-range_with_len_more (λ x. x) 0 n n (omega arith) ∙ ap (λ xs. xs ++ n ∷ []) (map-id (range_with_len 0 n)))
+    ∙ flat_map-append f (range_with_len 0 n) (n ∷ [])
+    ∙ ap (λ xs. flat_map f (range_with_len 0 n) ++ xs) (append-nil (f n))
+
+-- what stands before a trip that is not the first
+pub joint-after : (t : TimetableView) (walk : ℕ → ℕ → Option ℕ) (block : List ℕ) (n : ℕ) → 0 < n
+    → joint t walk block n ≡ codes "; " ++ deadhead_text (walk_between t walk (get_or block (n - 1) 0) (get_or block n 0))
+joint-after t walk block zero h = absurd (omega arith)
+joint-after t walk block (suc n) h =
+    let before : n ≡ suc n - 1 = omega arith in
+    ap (λ m. codes "; " ++ deadhead_text (walk_between t walk (get_or block m 0) (get_or block (suc n) 0))) before
+
+pub joint-first : (t : TimetableView) (walk : ℕ → ℕ → Option ℕ) (block : List ℕ) (n : ℕ) → n ≤ 0 → joint t walk block n ≡ []
+joint-first t walk block zero h = refl
+joint-first t walk block (suc n) h = absurd (omega arith)
+
+-- the text after one trip more
+pub trips-more : (t : TimetableView) (walk : ℕ → ℕ → Option ℕ) (block : List ℕ) (before now next : List ℕ) (n : ℕ)
+    → now ≡ before ++ flat_map (λ n. joint t walk block n ++ trip_text (slot_at t (get_or block n 0))) (range_with_len 0 n)
+    → next ≡ now ++ (joint t walk block n ++ trip_text (slot_at t (get_or block n 0)))
+    → next ≡ before ++ flat_map (λ n. joint t walk block n ++ trip_text (slot_at t (get_or block n 0))) (range_with_len 0 (n + 1))
+trips-more t walk block before now next n so_far written =
+    let piece : ℕ → List ℕ = λ n. joint t walk block n ++ trip_text (slot_at t (get_or block n 0)) in
+    written ∙ ap (λ xs. xs ++ piece n) so_far ∙ append_assoc before (flat_map piece (range_with_len 0 n)) (piece n)
+    ∙ ap (λ xs. before ++ xs) (sym (flat_map-range_more piece n))
+
+pub trips-written : (t : TimetableView) (walk : ℕ → ℕ → Option ℕ) (block before now : List ℕ) (n : ℕ) → length block ≡ n
+    → now ≡ before ++ flat_map (λ n. joint t walk block n ++ trip_text (slot_at t (get_or block n 0))) (range_with_len 0 n)
+    → now ≡ before ++ trips_text t walk block
+unfolding trips_text
+trips-written t walk block before now n all so_far =
+    so_far ∙ ap (λ m. before ++ flat_map (λ n. joint t walk block n ++ trip_text (slot_at t (get_or block n 0))) (range_with_len 0 m)) (sym all)
+
+-- the text after the line of one block more
+pub lines-more : (t : TimetableView) (walk : ℕ → ℕ → Option ℕ) (prefix : List ℕ) (blocks : List (List ℕ)) (block now named trips next : List ℕ) (n : ℕ)
+    → block ≡ get_or blocks n []
+    → now ≡ flat_map (λ n. block_line t walk prefix n (get_or blocks n [])) (range_with_len 0 n)
+    → named ≡ now ++ (prefix ++ (decimal (n + 1) ++ 58 ∷ 32 ∷ []))
+    → trips ≡ named ++ trips_text t walk block
+    → next ≡ trips ++ 10 ∷ []
+    → next ≡ flat_map (λ n. block_line t walk prefix n (get_or blocks n [])) (range_with_len 0 (n + 1))
+unfolding block_line
+lines-more t walk prefix blocks block now named trips next n is so_far name all line =
+    let one : ℕ → List ℕ = λ n. block_line t walk prefix n (get_or blocks n []) in
+    line
+    ∙ ap (λ xs. xs ++ 10 ∷ []) (all ∙ (λ i. (name ∙ ap (λ xs. xs ++ (prefix ++ (decimal (n + 1) ++ 58 ∷ 32 ∷ []))) so_far) i ++ trips_text t walk (is i)))
+    ∙ regroup (flat_map one (range_with_len 0 n)) prefix (decimal (n + 1)) (trips_text t walk (get_or blocks n []))
+    ∙ sym (flat_map-range_more one n)
+  where
+    regroup : (before prefix number trips : List ℕ) → before ++ (prefix ++ (number ++ 58 ∷ 32 ∷ [])) ++ trips ++ 10 ∷ [] ≡ before ++ (prefix ++ number ++ 58 ∷ 32 ∷ [] ++ trips ++ 10 ∷ [])
+    regroup before prefix number trips = simp append_assoc
+
+pub lines-written : (t : TimetableView) (walk : ℕ → ℕ → Option ℕ) (prefix : List ℕ) (blocks : List (List ℕ)) (now : List ℕ) (n : ℕ) → length blocks ≡ n
+    → now ≡ flat_map (λ n. block_line t walk prefix n (get_or blocks n [])) (range_with_len 0 n) → now ≡ block_text t walk prefix blocks
+unfolding block_text
+lines-written t walk prefix blocks now n all so_far =
+    so_far ∙ ap (λ m. flat_map (λ n. block_line t walk prefix n (get_or blocks n [])) (range_with_len 0 m)) (sym all)

@@ -1,0 +1,42 @@
+-- The printed lines of blocks, where `walk` says in how many minutes a vehicle runs empty from place to place.
+use Rattle.std.specs.Prelude.{ℕ, zero, suc, ◌+◌, ◌==◌, List, [], ◌∷◌, ◌++◌, length, slice_index, slice_index_or, Option, None, Some, codes, if◌then◌else◌}
+use Rattle.std.specs.Fmt.{decimal}
+use Rattle.std.specs.List.{flat_map, range_with_len}
+use Rattle.gtfs_tables.specs.Times.{minute_digits}
+use Rattle.trip_model.specs.Timetable.{TimetableView, Slot, slot_at}
+
+-- the name of the block of that number, counted from 0: the prefix, and its number counted from 1
+abbrev pub block_name : List ℕ → ℕ → List ℕ
+block_name prefix number = prefix ++ decimal (number + 1)
+
+-- a trip: its name, its departure and its end
+unfoldable pub trip_text : Slot → List ℕ
+trip_text slot = slot.name ++ codes " " ++ minute_digits slot.trip.departs ++ codes " " ++ minute_digits slot.trip.ends
+
+-- a deadhead that takes time
+unfoldable pub deadhead_text : Option ℕ → List ℕ
+deadhead_text None = []
+deadhead_text (Some minutes) = if minutes == 0 then [] else codes "dh " ++ decimal minutes ++ codes "; "
+
+-- the minutes in which a vehicle runs empty from the trip of one slot to that of another
+abbrev pub walk_between : TimetableView → (ℕ → ℕ → Option ℕ) → ℕ → ℕ → Option ℕ
+walk_between timetable walk i j = walk (slot_at timetable i).trip.to (slot_at timetable j).trip.from
+
+-- what stands between the n-th trip of a block and the one before it; nothing before the first
+abbrev pub joint : TimetableView → (ℕ → ℕ → Option ℕ) → List ℕ → ℕ → List ℕ
+joint timetable walk block zero = []
+joint timetable walk block (suc n) = codes "; " ++ deadhead_text (walk_between timetable walk (slice_index block n) (slice_index block (suc n)))
+
+-- the trips of a block, each with what stands before it
+unfoldable pub trips_text : TimetableView → (ℕ → ℕ → Option ℕ) → List ℕ → List ℕ
+trips_text timetable walk block =
+    flat_map (λ n. joint timetable walk block n ++ trip_text (slot_at timetable (slice_index block n))) (range_with_len 0 (length block))
+
+-- the line of a block
+unfoldable pub block_line : TimetableView → (ℕ → ℕ → Option ℕ) → List ℕ → ℕ → List ℕ → List ℕ
+block_line timetable walk prefix number block = block_name prefix number ++ codes ": " ++ trips_text timetable walk block ++ 10 ∷ []
+
+-- the lines of blocks, in their order
+unfoldable pub block_text : TimetableView → (ℕ → ℕ → Option ℕ) → List ℕ → List (List ℕ) → List ℕ
+block_text timetable walk prefix blocks =
+    flat_map (λ number. block_line timetable walk prefix number (slice_index_or blocks number [])) (range_with_len 0 (length blocks))

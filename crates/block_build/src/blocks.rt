@@ -1,0 +1,49 @@
+ghost use Rattle.std.specs.Prelude.{◌≡◌, ◌<◌, [], length, slice_index_or, slice_index};
+
+use std::marker::Model;
+
+/// The slots of the trips that one vehicle makes one after the other.
+#[derive(Drop)]
+pub struct Block {
+    pub(crate) slots: Vec<u16>,
+}
+
+impl Model for Block {
+    ghost use Rattle.std.specs.Prelude.{List, ℕ};
+
+    ghost Value = { List ℕ };
+
+    ghost view = { λ b. b.slots.items };
+}
+
+/// The blocks of a timetable, each the slots of the trips that one vehicle makes one after the other.
+#[derive(Drop)]
+pub struct Blocks {
+    pub(crate) blocks: Vec<Block>,
+}
+
+impl Model for Blocks {
+    ghost use Rattle.std.specs.Prelude.{List, ℕ};
+
+    ghost Value = { List (List ℕ) };
+
+    ghost view = { λ b. b.blocks.items };
+}
+
+impl Blocks {
+    /// How many blocks there are, which is how many vehicles.
+    pub fn len(&self) -> usize
+        ensures { result ≡ length self.now }
+    {
+        self.blocks.len()
+    }
+
+    /// The slots of a block, in the order of its trips.
+    pub fn block(&self, number: usize) -> &[u16]
+        requires { number < length self.now }
+        ensures { result.now ≡ slice_index_or self.now number [] }
+    {
+        let block = &self.blocks[number];
+        &block.slots
+    }
+}

@@ -1,0 +1,113 @@
+ghost use Rattle.std.specs.Prelude.{◌≡◌, ◌<◌, ◌++◌, length, codes, string_bytes, IfOk, OnOk, All};
+ghost use Rattle.deadhead_matrix.specs.Matrix.{walk};
+ghost use Rattle.trip_model.specs.Timetable.{slot_at};
+ghost use Rattle.block_build.specs.Lines as spec;
+
+use crate::Blocks;
+use deadhead_matrix::Matrix;
+use desk_io::{Memory, Text};
+use gtfs_tables::minute_text;
+use std::alloc::Global;
+use std::fmt::Write;
+use trip_model::Timetable;
+
+#[tactic(auto, unfolding(crate::specs::Lines::trip_text))]
+fn push_trip(
+    alloc: Global,
+    text: &mut String,
+    timetable: &Timetable,
+    slot: u16,
+) -> Result<(), Memory>
+    requires { slot < length timetable.now.slots }
+    ensures { OnOk result (string_bytes text.new ≡ string_bytes text.old ++ spec.trip_text (slot_at timetable.now slot)) }
+{
+    let trip = timetable.trip(slot);
+    let departs = minute_text(alloc, trip.departs)?;
+    let ends = minute_text(alloc, trip.ends)?;
+    write!(
+        text,
+        "{} {} {}",
+        timetable.name(slot),
+        departs.as_str(),
+        ends.as_str()
+    )?;
+    Ok(())
+}
+
+#[tactic(auto, unfolding(crate::specs::Lines::deadhead_text))]
+fn push_deadhead(text: &mut String, minutes: Option<u32>) -> Result<(), Memory>
+    ensures { OnOk result (string_bytes text.new ≡ string_bytes text.old ++ spec.deadhead_text minutes) }
+{
+    let Some(minutes) = minutes else {
+        return Ok(())
+    };
+    if minutes == 0 {
+        return Ok(());
+    }
+    write!(text, "dh {minutes}; ")?;
+    Ok(())
+}
+
+// What stands between the trips of two slots, of which the second follows on the first.
+fn push_joint(
+    text: &mut String,
+    timetable: &Timetable,
+    matrix: &Matrix,
+    before: u16,
+    slot: u16,
+) -> Result<(), Memory>
+    requires before { before < length timetable.now.slots }
+    requires slot { slot < length timetable.now.slots }
+    requires places { length matrix.now.walks ≡ length timetable.now.places }
+    ensures { OnOk result (string_bytes text.new ≡ string_bytes text.old
+        ++ (codes "; " ++ spec.deadhead_text (spec.walk_between timetable.now (walk matrix.now) before slot))) }
+{
+    text.push_str("; ")?;
+    let from = timetable.trip(before).to;
+    let to = timetable.trip(slot).from;
+    push_deadhead(text, matrix.minutes(from, to))
+}
+
+// The trips of a block, each but the first behind what stands before it.
+fn push_trips(
+    alloc: Global,
+    text: &mut String,
+    timetable: &Timetable,
+    matrix: &Matrix,
+    block: &[u16],
+) -> Result<(), Memory>
+    requires slots { All (λ s. s < length timetable.now.slots) block.now }
+    requires places { length matrix.now.walks ≡ length timetable.now.places }
+    ensures { OnOk result (string_bytes text.new ≡ string_bytes text.old
+        ++ spec.trips_text timetable.now (walk matrix.now) block.now) }
+{
+    for n in 0..block.len() {
+        if n > 0 {
+            push_joint(text, timetable, matrix, block[n - 1], block[n])?;
+        }
+        push_trip(alloc, text, timetable, block[n])?;
+    }
+    Ok(())
+}
+
+/// The lines of blocks as they are printed: for each its name, which is the prefix and its number counted from 1, and its
+/// trips with the deadheads between them that take time.
+pub fn block_lines(
+    alloc: Global,
+    timetable: &Timetable,
+    matrix: &Matrix,
+    blocks: &Blocks,
+    prefix: &str,
+) -> Result<Text, Memory>
+    requires slots { All (All (λ s. s < length timetable.now.slots)) blocks.now }
+    requires places { length matrix.now.walks ≡ length timetable.now.places }
+    ensures { IfOk result (λ text. text ≡ spec.block_text timetable.now (walk matrix.now) prefix.now blocks.now) }
+{
+    let mut text = String::new(alloc);
+    for number in 0..blocks.len() {
+        write!(text, "{prefix}{}: ", number + 1)?;
+        push_trips(alloc, &mut text, timetable, matrix, blocks.block(number))?;
+        text.push_str("\n")?;
+    }
+    Ok(Text::wrap(text))
+}

@@ -1,0 +1,4 @@
+pub mod BlocksLemmas
+pub mod ColumnsLemmas
+pub mod DeficitsLemmas
+pub mod StepsLemmas

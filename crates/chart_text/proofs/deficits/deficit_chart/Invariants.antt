@@ -1,0 +1,11 @@
+use Rattle.std.proofs.Common.{◌≡◌, ◌++◌, take}
+use Rattle.std.specs.Prelude.{string_bytes}
+use Rattle.std.specs.List.{flat_map, enumerate_from}
+use Rattle.trip_model.specs.Timetable.{place_names}
+use Rattle.deficit_steps.specs.Changes.{value}
+use Rattle.chart_text.specs.Deficits.{place_line}
+use Rattle.chart_text.proofs.deficits.deficit_chart.Given as goal
+
+abbrev pub invariant-loop-place : goal.invariant-loop-place
+invariant-loop-place l =
+    string_bytes l.text ≡ string_bytes l.initial.text ++ flat_map (λ place. place_line l.columns.items place.1 (value l.deficits place.0)) (enumerate_from 0 (take l.place (place_names l.timetable)))

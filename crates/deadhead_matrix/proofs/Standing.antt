@@ -1,0 +1,56 @@
+-- The matrix without entries.
+use Rattle.std.proofs.Common.{◌≡◌, ℕ, ◌+◌, ◌<◌, ◌==◌, ◌&&◌, nat_le, Bool, true, false, List, [], ◌∷◌, length, map, get_or, Option, None, Some, if◌then◌else◌, refl, sym, ap, ◌∙◌, arith}
+use Rattle.std.specs.List.{range_with_len}
+use Rattle.std.proofs.lemmas.Bool.{eq-eqb, ne_eqb}
+use Rattle.std.proofs.lemmas.List.FromFn.{get_or-map-range_with_len, length-map-range_with_len}
+use Rattle.std.specs.Option.{is_some}
+use Rattle.trip_model.specs.declared.trip.Move.{Move}
+use Rattle.trip_model.specs.Plain.{move_at, meets, plain_network, AreMoves}
+use Rattle.deadhead_matrix.specs.Fitting.{in_time, empty_between, deadhead_network}
+use Rattle.deadhead_matrix.specs.Walks.{Entry, IsWalk}
+use Rattle.deadhead_matrix.specs.Matrix.{MatrixView, walk, standing, empty_matrix}
+
+pub length-empty : (places : ℕ) → length (empty_matrix places).walks ≡ places
+length-empty places = length-map-range_with_len (λ a. map (standing a) (range_with_len 0 places)) 0 places
+
+-- it has the walks that need no entries
+walk-empty : (places a b : ℕ) → a < places → b < places → walk (empty_matrix places) a b ≡ standing a b
+walk-empty places a b a_in b_in =
+    ap (λ row. get_or row b None) (get_or-map-range_with_len (λ a. map (standing a) (range_with_len 0 places)) 0 places a a [] a_in (omega arith))
+    ∙ get_or-map-range_with_len (standing a) 0 places b b None b_in (omega arith)
+
+pub walk-same : (matrix : MatrixView) (places a b : ℕ) → empty_matrix places ≡ matrix → a < places → b < places → a ≡ b → Some 0 ≡ walk matrix a b
+walk-same matrix places a b is a_in b_in same =
+    sym (ap (λ m. walk m a b) (sym is) ∙ walk-empty places a b a_in b_in ∙ ap (λ t. if t then Some 0 else None) (eq-eqb a b same))
+
+pub walk-other : (matrix : MatrixView) (places a b : ℕ) → empty_matrix places ≡ matrix → a < places → b < places → (a ≡ b → ⊥) → None ≡ walk matrix a b
+walk-other matrix places a b is a_in b_in other =
+    sym (ap (λ m. walk m a b) (sym is) ∙ walk-empty places a b a_in b_in ∙ ap (λ t. if t then Some 0 else None) (ne_eqb a b other))
+
+-- no list of no entries leads to another place
+pub no_walk : (entries es : List Entry) (a b : ℕ) → [] ≡ entries → (a ≡ b → ⊥) → IsWalk entries a es b → ⊥
+no_walk entries [] a b none other is = other is
+no_walk entries (e ∷ es) a b none other is = let within = is.0.1 in let empty = ap length none in omega (arith, within, empty)
+
+-- two moves: a vehicle that stands still is in time exactly where they meet
+in_time-standing : (places : ℕ) (a b : Move) → a.to < places → b.from < places
+    → in_time a b (walk (empty_matrix places) a.to b.from) ≡ (if (a.to == b.from) && nat_le a.arrives b.leaves then Some 0 else None)
+in_time-standing places a b a_in b_in = ap (in_time a b) (walk-empty places a.to b.from a_in b_in) ∙ by (a.to == b.from)
+  where
+    by : (same : Bool) → in_time a b (if same then Some 0 else None) ≡ (if same && nat_le a.arrives b.leaves then Some 0 else None)
+    by true = let none : a.arrives + 0 ≡ a.arrives = omega arith in ap (λ n. if nat_le n b.leaves then Some 0 else None) none
+    by false = refl
+
+empty-standing : (places : ℕ) (moves : List (Option Move)) → AreMoves places moves → (i j : ℕ) (m n : Option Move) → move_at moves i ≡ m → move_at moves j ≡ n
+    → empty_between (walk (empty_matrix places)) m n ≡ (if meets m n then Some 0 else None)
+empty-standing places moves are i j None n first second = refl
+empty-standing places moves are i j (Some a) None first second = refl
+empty-standing places moves are i j (Some a) (Some b) first second = in_time-standing places a b (are.each i a first).to (are.each j b second).from
+
+pub network-standing : (places : ℕ) (moves : List (Option Move)) → AreMoves places moves → deadhead_network moves (walk (empty_matrix places)) ≡ plain_network moves
+network-standing places moves are = λ k. record {
+  live = λ s. is_some (move_at moves s);
+  empty = λ i j. empty-standing places moves are i j (move_at moves i) (move_at moves j) refl refl k;
+  out = λ _. 0;
+  home = λ _. 0;
+}

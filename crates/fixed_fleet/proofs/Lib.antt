@@ -1,0 +1,4 @@
+pub mod FirstInFirstOut
+pub mod Forerunners
+pub mod LeastNumber
+pub mod PlainBlocks

@@ -1,0 +1,24 @@
+//! Blocks without deadheads: which trip follows on which where vehicles never run empty, and how many vehicles that takes.
+//!
+//! [`fixed_links`] links the trips of a timetable first in, first out: trip by trip in order of departure, each is made by
+//! the vehicle that has stood where it begins since the earliest minute, and by a new one where none stands there.
+//!
+//! The contract that the crates above use: the links number the trips less the sum of the maxima of the deficits, and no
+//! blocking without deadheads has fewer blocks than that sum ([`laws::plain_blocks_law`], over any list of moves).
+//!
+//! ```text
+//! let links = fixed_links(alloc, &timetable)?;
+//! let next = links.next(0);
+//! ```
+//!
+//! The contracts cite `Rule` (the links of the rule), and of `trip_model` `Blocking`, `Plain`, `Links`, `Order`, `Deficit`
+//! and `Maximum`.
+#![tactic(auto)]
+
+mod fixed;
+pub mod laws;
+
+pub use fixed::fixed_links;
+
+#[cfg(test)]
+mod tests;
