@@ -6,11 +6,10 @@ use Rattle.blockdesk.specs.Feed.{feed_of}
 use Rattle.blockdesk.specs.Papers.{papers_in}
 use Rattle.blockdesk.specs.World.{World, NoCountRose, NoFaultCounted}
 use Rattle.blockdesk.specs.declared.command.Command.{Command}
-use Rattle.blockdesk.specs.declared.command.Command.TheVariants.{Deficits}
 
 -- the status that told files ask for: 3 exactly where there is a first refusal, else the command's own
 abbrev pub Asks : Command → Files → ℕ → Type 0
-Asks Deficits files status = MatchResult (feed_of (papers_in files)) (λ _. status ≡ 0) (λ _. status ≡ 3)
+Asks command files status = MatchResult (feed_of (papers_in files)) (λ _. status ≡ 0) (λ _. status ≡ 3)
 
 pub record HasCause (command : Option Command) (before after : World) (status : ℕ) : Type 0 where
   -- 2 exactly where the words are of no form, and else what told files ask for

@@ -1,27 +1,59 @@
 -- Which command the words name, and what a command puts and answers.
-use Rattle.std.specs.Prelude.{◌≡◌, ℕ, List, [], ◌∷◌, Option, None, Some, Ok, Err, Result, codes, if◌then◌else◌}
+use Rattle.std.specs.Prelude.{◌≡◌, ℕ, List, [], ◌∷◌, Option, None, Some, Ok, Err, Result, codes, ⊤, if◌then◌else◌}
 use Rattle.std.specs.Str.{bytes_eq}
 use Rattle.desk_io.specs.Shelf.{Files}
+use Rattle.gtfs_tables.specs.Faults.{feed_line_of}
+use Rattle.gtfs_tables.specs.declared.fault.FeedFault.{FeedFault}
 use Rattle.blockdesk.specs.declared.command.Command.{Command}
-use Rattle.blockdesk.specs.declared.command.Command.TheVariants.{Deficits}
+use Rattle.blockdesk.specs.declared.command.Command.TheVariants.{Deficits, Fixed, Chart}
+use Rattle.blockdesk.specs.declared.feed.Feed.{Feed}
 use Rattle.blockdesk.specs.declared.outcome.Outcome.{Outcome}
+use Rattle.blockdesk.specs.declared.outcome.RunFault.{RunFault}
+use Rattle.blockdesk.specs.declared.outcome.RunFault.TheVariants as run_fault
 use Rattle.blockdesk.specs.declared.papers.Papers.{Papers}
-use Rattle.blockdesk.specs.Deficits.{deficits_outcome}
+use Rattle.blockdesk.specs.Chart.{IsChart}
+use Rattle.blockdesk.specs.Deficits.{deficits_text}
+use Rattle.blockdesk.specs.Feed.{feed_of}
+use Rattle.blockdesk.specs.Fixed.{IsFixed}
 use Rattle.blockdesk.specs.Papers.{AreRead}
 
 -- the command of that name
 abbrev pub command_named : List ℕ → Option Command
-command_named word = if bytes_eq word (codes "deficits") then Some Deficits else None
+command_named word =
+    if bytes_eq word (codes "deficits") then Some Deficits
+    else if bytes_eq word (codes "fixed") then Some Fixed
+    else if bytes_eq word (codes "chart") then Some Chart
+    else None
 
 -- the command that the words name: a command and a folder
 abbrev pub command_of : List (List ℕ) → Option Command
 command_of (command ∷ folder ∷ []) = command_named command
 command_of words = None
 
--- what a command makes of the files, where they are told, else of some papers
-abbrev pub GivesBy : Command → Option Files → Outcome → Type 0
-GivesBy Deficits files outcome = (papers : Papers) × AreRead files papers × (outcome ≡ deficits_outcome papers)
+-- the folder that is read and written: the second of two words, but for `sample`, which works on none
+abbrev pub folder_of : List (List ℕ) → List ℕ
+folder_of (command ∷ folder ∷ []) = if bytes_eq command (codes "sample") then codes "." else folder
+folder_of words = codes "."
 
--- a command puts this text and answers this status
+-- what a command may put of an accepted feed
+abbrev pub Shows : Command → Feed → List ℕ → Type 0
+Shows Deficits feed text = text ≡ deficits_text feed.timetable
+Shows Fixed feed text = IsFixed feed text
+Shows Chart feed text = IsChart feed text
+
+-- of an accepted feed what the command puts of it, and of a refused one the line of its first refusal
+abbrev pub Answers : (Feed → List ℕ → Type 0) → Result Feed FeedFault → Outcome → Type 0
+Answers shows (Ok feed) outcome = (outcome.status ≡ 0) × shows feed outcome.text
+Answers shows (Err refused) outcome = outcome ≡ record { text = feed_line_of refused; status = 3 }
+
+-- what a command makes of papers, or want of memory
+abbrev pub Makes : Command → Papers → Result Outcome RunFault → Type 0
+Makes command papers (Ok outcome) = Answers (Shows command) (feed_of papers) outcome
+Makes command papers (Err run_fault.Memory) = ⊤
+Makes command papers (Err run_fault.Read) = ⊥
+
+-- A command puts this text and answers this status: it makes them of the files, where they are told, else of some papers.
 pub record Outcomes (command : Command) (files : Option Files) (outcome : Outcome) : Type 0 where
-  pub how : GivesBy command files outcome
+  pub papers : Papers
+  pub read : AreRead files papers
+  pub answers : Answers (Shows command) (feed_of papers) outcome

@@ -1,7 +1,9 @@
 pub mod Causes
+pub mod Chart
 pub mod Commands
 pub mod Deficits
 pub mod Feed
+pub mod Fixed
 pub mod Journeys
 pub mod Papers
 pub mod Reading

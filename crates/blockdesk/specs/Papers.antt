@@ -5,30 +5,33 @@ use Rattle.desk_io.specs.declared.shelf.Found.{Found}
 use Rattle.gtfs_tables.specs.Papers.{file_name_of}
 use Rattle.gtfs_tables.specs.declared.paper.Paper.TheVariants as paper
 use Rattle.blockdesk.specs.declared.papers.Papers.{Papers}
-use Rattle.blockdesk.specs.declared.papers.TheConstants.{MOST_BYTES}
 use Rattle.blockdesk.specs.declared.outcome.RunFault.{RunFault}
 use Rattle.blockdesk.specs.declared.outcome.RunFault.TheVariants as run_fault
 
+-- the most bytes that a file may have
+abbrev pub most_bytes : ℕ
+most_bytes = 536870912
+
 -- each paper is what the shelf tells of the file of its name
 pub record AreRead (files : Option Files) (papers : Papers) : Type 0 where
-  pub settings : Tells files (file_name_of paper.Settings) MOST_BYTES papers.settings
-  pub terminals : Tells files (file_name_of paper.Terminals) MOST_BYTES papers.terminals
-  pub tolerances : Tells files (file_name_of paper.Tolerances) MOST_BYTES papers.tolerances
-  pub trips : Tells files (file_name_of paper.Trips) MOST_BYTES papers.trips
-  pub stop_times : Tells files (file_name_of paper.StopTimes) MOST_BYTES papers.stop_times
-  pub deadheads : Tells files (file_name_of paper.Deadheads) MOST_BYTES papers.deadheads
-  pub edits : Tells files (file_name_of paper.Edits) MOST_BYTES papers.edits
+  pub settings : Tells files (file_name_of paper.Settings) most_bytes papers.settings
+  pub terminals : Tells files (file_name_of paper.Terminals) most_bytes papers.terminals
+  pub tolerances : Tells files (file_name_of paper.Tolerances) most_bytes papers.tolerances
+  pub trips : Tells files (file_name_of paper.Trips) most_bytes papers.trips
+  pub stop_times : Tells files (file_name_of paper.StopTimes) most_bytes papers.stop_times
+  pub deadheads : Tells files (file_name_of paper.Deadheads) most_bytes papers.deadheads
+  pub edits : Tells files (file_name_of paper.Edits) most_bytes papers.edits
 
 -- the papers that stand in told files
 abbrev pub papers_in : Files → Papers
 papers_in files = record {
-  settings = found_in files (file_name_of paper.Settings) MOST_BYTES;
-  terminals = found_in files (file_name_of paper.Terminals) MOST_BYTES;
-  tolerances = found_in files (file_name_of paper.Tolerances) MOST_BYTES;
-  trips = found_in files (file_name_of paper.Trips) MOST_BYTES;
-  stop_times = found_in files (file_name_of paper.StopTimes) MOST_BYTES;
-  deadheads = found_in files (file_name_of paper.Deadheads) MOST_BYTES;
-  edits = found_in files (file_name_of paper.Edits) MOST_BYTES;
+  settings = found_in files (file_name_of paper.Settings) most_bytes;
+  terminals = found_in files (file_name_of paper.Terminals) most_bytes;
+  tolerances = found_in files (file_name_of paper.Tolerances) most_bytes;
+  trips = found_in files (file_name_of paper.Trips) most_bytes;
+  stop_times = found_in files (file_name_of paper.StopTimes) most_bytes;
+  deadheads = found_in files (file_name_of paper.Deadheads) most_bytes;
+  edits = found_in files (file_name_of paper.Edits) most_bytes;
 }
 
 -- what reading does to the shelf: nothing, but where a read failed
@@ -39,7 +42,7 @@ ReadsPapers (Err run_fault.Read) before after = ReadFailed before after
 
 -- a file that was read has no more bytes than were asked for
 abbrev pub HasSize : Found → Type 0
-HasSize found = FitsIn MOST_BYTES found
+HasSize found = FitsIn most_bytes found
 
 pub record HaveSizes (papers : Papers) : Type 0 where
   pub trips : HasSize papers.trips

@@ -1,5 +1,5 @@
 -- What a run does to the world, by its status.
-use Rattle.std.specs.Prelude.{◌≡◌, ◌⊎◌, ℕ, ◌≤◌, List, Option, None, Some, Result, Ok, Err}
+use Rattle.std.specs.Prelude.{◌≡◌, ◌⊎◌, ℕ, ◌≤◌, List, [], ◌∷◌, ◌++◌, codes, Option, None, Some, Result, Ok, Err}
 use Rattle.desk_io.specs.Shelf.{Files, ReadFailed}
 use Rattle.desk_io.specs.Sink.{SinkState, put_bytes, PutsFront}
 use Rattle.blockdesk.specs.Commands.{Outcomes}
@@ -8,7 +8,6 @@ use Rattle.blockdesk.specs.declared.command.Command.{Command}
 use Rattle.blockdesk.specs.declared.outcome.Outcome.{Outcome}
 use Rattle.blockdesk.specs.declared.outcome.RunFault.{RunFault}
 use Rattle.blockdesk.specs.declared.outcome.RunFault.TheVariants as run_fault
-use Rattle.blockdesk.specs.declared.usage.TheConstants.{USAGE_LINE}
 
 -- all of a text was put, and nothing else changed
 pub record PutsAll (text : List ℕ) (before after : World) : Type 0 where
@@ -30,9 +29,13 @@ pub record Chosen (command : Command) (files : Option Files) : Type 0 where
   pub outcome : Outcome
   pub outcomes : Outcomes command files outcome
 
+-- the line that is put for words of no form, with its line feed
+abbrev pub usage_line : List ℕ
+usage_line = codes "usage: blockdesk deficits|fixed|blocks|check|write|chart|chains|shifts|keep|kept FOLDER, or blockdesk sample N" ++ 10 ∷ []
+
 -- words of no form: 2 and the whole usage line, or 6 and a front of it
 abbrev pub IsUsage : World → World → ℕ → Type 0
-IsUsage before after status = ((status ≡ 2) × PutsAll USAGE_LINE.now before after) ⊎ ((status ≡ 6) × IsCutShort USAGE_LINE.now before after)
+IsUsage before after status = ((status ≡ 2) × PutsAll usage_line before after) ⊎ ((status ≡ 6) × IsCutShort usage_line before after)
 
 -- a command, by its status
 pub record RunsAs (command : Command) (before after : World) (status : ℕ) : Type 0 where

@@ -8,6 +8,22 @@ use desk_io::Text;
 pub enum Command {
     /// The deficit functions of a feed.
     Deficits,
+    /// Blocks without deadheads, and their number.
+    Fixed,
+    /// Charts of deficits and of blocks.
+    Chart,
+}
+
+// The command of that name.
+fn command_named(word: &str) -> Option<Command>
+    ensures { result ≡ spec.command_named word.now }
+{
+    match word {
+        "deficits" => Some(Command::Deficits),
+        "fixed" => Some(Command::Fixed),
+        "chart" => Some(Command::Chart),
+        _ => None,
+    }
 }
 
 /// The command that the words name, and None where they are of no form.
@@ -15,7 +31,7 @@ pub fn command_of(words: &[Text]) -> Option<Command>
     ensures { result ≡ spec.command_of words.now }
 {
     match words {
-        [command, _folder] if command.as_str() == "deficits" => Some(Command::Deficits),
+        [command, _folder] => command_named(command.as_str()),
         _ => None,
     }
 }

@@ -3,16 +3,21 @@
 //! [`run`] is the whole program over any shelf and any sink, and [`main`] hands it the folder, standard output and
 //! a count of steps. The one contract: by the words, the text that was put and the status are those of the files.
 //!
-//! The contracts cite `World` (what stands outside the program) and `Runs` (what a run does to it).
+//! The contracts cite `World` (what stands outside the program), `Commands` (what the words ask for, and what a command
+//! puts), `Papers` and `Feed` (from files to the timetable), `Deficits`, `Fixed` and `Chart` (what the commands put of an
+//! accepted feed), `Runs` (what is put under each status) and `Causes` (when each comes).
 #![tactic(auto)]
 
+mod chart;
 mod command;
 mod deficits;
 mod feed;
 mod finish;
+mod fixed;
 mod journey;
 mod outcome;
 mod papers;
+mod show;
 mod start;
 mod status;
 mod stop_times;
@@ -20,8 +25,10 @@ mod top;
 mod trips;
 mod usage;
 
+pub use chart::run_chart;
 pub use command::{Command, command_of};
 pub use deficits::run_deficits;
+pub use fixed::run_fixed;
 pub use outcome::{Outcome, RunFault};
 pub use status::status_line;
 use std::marker::Brand;

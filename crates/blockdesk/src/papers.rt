@@ -1,7 +1,7 @@
 ghost use Rattle.std.specs.Prelude.{IfOk};
 ghost use Rattle.desk_io.specs.Shelf.{Tells};
 ghost use Rattle.gtfs_tables.specs.Papers.{file_name_of};
-ghost use Rattle.blockdesk.specs.Papers.{AreRead, HasSize, HaveSizes, ReadsPapers};
+ghost use Rattle.blockdesk.specs.Papers.{AreRead, HasSize, HaveSizes, ReadsPapers, most_bytes};
 
 use crate::RunFault;
 use desk_io::{Found, Shelf, ShelfFault};
@@ -25,7 +25,7 @@ pub struct Papers {
 
 fn read_paper<S: Shelf>(alloc: Global, shelf: &mut S, paper: Paper) -> Result<Found, RunFault>
     ensures size { IfOk result HasSize }
-    ensures found { IfOk result (Tells (S.state shelf.old).files (file_name_of paper) MOST_BYTES) }
+    ensures found { IfOk result (Tells (S.state shelf.old).files (file_name_of paper) most_bytes) }
     ensures state { ReadsPapers result (S.state shelf.old) (S.state shelf.new) }
 {
     match shelf.read(alloc, paper.file_name(), MOST_BYTES) {

@@ -1,4 +1,5 @@
 ghost use Rattle.std.specs.Prelude.{◌≡◌, ◌<◌};
+ghost use Rattle.blockdesk.specs.Commands as spec;
 
 use crate::run;
 use desk_io::{FolderShelf, Memory, OutSink, Steps, Text};
@@ -44,7 +45,9 @@ fn words_of(rt: &(impl Env + AllocGlobal)) -> Result<Vec<Text>, Memory> {
 }
 
 // The folder that is read and written: the second of two words, but for `sample`, which works on none.
-fn folder_of(words: &[Text]) -> &str {
+fn folder_of(words: &[Text]) -> &str
+    ensures { result.now ≡ spec.folder_of words.now }
+{
     match words {
         [command, folder] if command.as_str() != "sample" => folder.as_str(),
         _ => ".",

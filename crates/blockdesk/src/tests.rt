@@ -22,6 +22,12 @@ const STOP_TIMES: &[u8] =
 const DEFICITS: &[u8] =
     b"A max 2 at 06:30\n 06:00 1\n 06:30 2\n 07:40 1\nB max 1 at 07:00\n 07:00 1\n 08:00 0\nC max 0 at 00:00\n 07:00 -1\n 07:10 0\n 07:30 -1\nsum 3\n";
 
+const FIXED: &[u8] =
+    b"B1: T1 06:00 06:40; T2 06:40 07:20; T6 07:20 08:00\nB2: T3 06:30 07:00; T4 07:10 07:40\nB3: T5 07:00 07:30\nfixed 3\n";
+
+const CHART: &[u8] =
+    b"chart from 06:00\n1112222222111 A\n0000001111110 B\n000000-00---- C\n############. B1\n...###.###... B2\n......###.... B3\n";
+
 // One trip.
 const TRIP: &[u8] = b"service_id,trip_id\nW,N1\n";
 
@@ -66,10 +72,11 @@ fn empty_shelf(alloc: Global) -> MemoryShelf {
     MemoryShelf::open(alloc, Vec::new(alloc), Vec::new(alloc))
 }
 
-// Runs `deficits` over two files and tests what it puts.
-fn puts(
+// Runs a command over two files and tests what it puts.
+fn command_puts(
     rt: &impl Abort,
     alloc: Global,
+    command: &str,
     trips: &[u8],
     stop_times: &[u8],
     status: u8,
@@ -79,10 +86,22 @@ fn puts(
     shelf.lay(alloc, "trips.txt", trips)?;
     shelf.lay(alloc, "stop_times.txt", stop_times)?;
     let mut out = MemorySink::open(alloc, 4096, Vec::new(alloc), 65536)?;
-    let answer = ran(alloc, &["deficits", "feed"], &mut shelf, &mut out)?;
+    let answer = ran(alloc, &[command, "feed"], &mut shelf, &mut out)?;
     assert_eq!(rt; out.written(), text);
     assert_eq!(rt; answer, status);
     Ok(())
+}
+
+// Runs `deficits` over two files and tests what it puts.
+fn puts(
+    rt: &impl Abort,
+    alloc: Global,
+    trips: &[u8],
+    stop_times: &[u8],
+    status: u8,
+    text: &[u8],
+) -> Result<(), Memory> {
+    command_puts(rt, alloc, "deficits", trips, stop_times, status, text)
 }
 
 #[test]
@@ -151,6 +170,56 @@ fn deficits_of_tidy_feeds(rt: HostRuntime) -> Result<(), Fail> {
         0,
         b"A, north max 1 at 06:00\n 06:00 1\nB max 0 at 00:00\n 06:31 -1\nsum 1\n",
     )?;
+    Ok(())
+}
+
+#[test]
+fn blocks_and_charts_of_tidy_feeds(rt: HostRuntime) -> Result<(), Fail> {
+    let alloc = rt.alloc();
+    const FIRST_STOP: &[u8] = b"trip_id,arrival_time,departure_time,stop_id,stop_sequence\n";
+    // A trip of one minute, and one whose first minute is not that of its column.
+    const SHORT: &[u8] =
+        b"trip_id,arrival_time,departure_time,stop_id,stop_sequence\nN1,10:00:30,10:00:30,A,1\nN1,10:00:40,10:00:40,B,2\n";
+    const ODD: &[u8] =
+        b"trip_id,arrival_time,departure_time,stop_id,stop_sequence\nN1,06:05:00,06:05:00,A,1\nN1,06:30:00,06:30:00,B,2\n";
+    let cases: [(&str, &[u8], &[u8], u8, &[u8]); 9] = [
+        ("fixed", TRIPS, STOP_TIMES, 0, FIXED),
+        ("chart", TRIPS, STOP_TIMES, 0, CHART),
+        (
+            "fixed",
+            b"service_id,trip_id\n",
+            FIRST_STOP,
+            0,
+            b"fixed 0\n",
+        ),
+        (
+            "chart",
+            b"service_id,trip_id\n",
+            FIRST_STOP,
+            0,
+            b"no trips\n",
+        ),
+        ("fixed", TRIP, SHORT, 0, b"B1: N1 10:00 10:01\nfixed 1\n"),
+        (
+            "chart",
+            TRIP,
+            SHORT,
+            0,
+            b"chart from 10:00\n1 A\n0 B\n# B1\n",
+        ),
+        (
+            "chart",
+            TRIP,
+            ODD,
+            0,
+            b"chart from 06:00\n1111 A\n000- B\n###. B1\n",
+        ),
+        ("fixed", b"", STOPS, 3, NOT_FIRST),
+        ("chart", TRIP, b"", 3, UNTIDY),
+    ];
+    for (command, trips, stop_times, status, text) in cases {
+        command_puts(&rt, alloc, command, trips, stop_times, status, text)?;
+    }
     Ok(())
 }
 

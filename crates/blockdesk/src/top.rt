@@ -3,7 +3,7 @@ ghost use Rattle.blockdesk.specs.Commands as spec;
 ghost use Rattle.blockdesk.specs.Runs.{IsRun, RunsAs};
 ghost use Rattle.blockdesk.specs.World.{world};
 
-use crate::{Command, command_of, put_usage, run_deficits};
+use crate::{Command, command_of, put_usage, run_chart, run_deficits, run_fixed};
 use desk_io::{Shelf, Sink, Steps, Text};
 use std::alloc::Global;
 use std::sync::ledger::Ledger;
@@ -21,6 +21,8 @@ fn run_command<S: Shelf, O: Sink, L: Ledger>(
 {
     match command {
         Command::Deficits => run_deficits(alloc, shelf, out, steps),
+        Command::Fixed => run_fixed(alloc, shelf, out, steps),
+        Command::Chart => run_chart(alloc, shelf, out, steps),
     }
 }
 

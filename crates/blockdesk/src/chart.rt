@@ -1,0 +1,60 @@
+ghost use Rattle.std.specs.Prelude.{◌≡◌, IfOk};
+ghost use Rattle.blockdesk.specs.declared.command.Command.TheVariants as command;
+ghost use Rattle.blockdesk.specs.Chart.{IsChart};
+ghost use Rattle.blockdesk.specs.Feed.{IsFeed};
+ghost use Rattle.blockdesk.specs.Runs.{RunsAs};
+ghost use Rattle.blockdesk.specs.World.{world};
+
+use crate::deficits::deficits_of;
+use crate::feed::Feed;
+use crate::fixed::{PREFIX, fixed_blocks};
+use crate::show::{Show, perform};
+use chart_text::{block_chart, deficit_chart};
+use deadhead_matrix::laws::standing_law;
+use desk_io::{Memory, Shelf, Sink, Steps, Text};
+use std::alloc::Global;
+use std::sync::ledger::Ledger;
+use trip_model::laws::plain_law;
+
+// The charts of the deficits and of the blocks of a feed. Without deadheads the fewest blocks are least.
+fn charts<L: Ledger>(alloc: Global, feed: &Feed, steps: &mut Steps<L>) -> Result<Text, Memory>
+    requires { IsFeed feed.now }
+    ensures { IfOk result (IsChart feed.now) }
+{
+    plain_law();
+    standing_law();
+    let timetable = &feed.timetable;
+    let deficits = deficits_of(alloc, timetable, steps)?;
+    let above = deficit_chart(alloc, timetable, &deficits)?;
+    let blocks = fixed_blocks(alloc, timetable)?;
+    let below = block_chart(alloc, timetable, &feed.matrix, &blocks, PREFIX)?;
+    Ok(Text::wrap(format!(in alloc; "{}{}", above.as_str(), below.as_str())?))
+}
+
+struct ShowChart;
+
+impl Show for ShowChart {
+    ghost command = { λ _. command.Chart };
+
+    fn text<L: Ledger>(
+        &self,
+        alloc: Global,
+        feed: &Feed,
+        steps: &mut Steps<L>,
+    ) -> Result<Text, Memory> {
+        charts(alloc, feed, steps)
+    }
+}
+
+/// The command `chart`: charts of the deficits and of the blocks, ten minutes a character. It answers the status.
+pub fn run_chart<S: Shelf, O: Sink, L: Ledger>(
+    alloc: Global,
+    shelf: &mut S,
+    out: &mut O,
+    steps: &mut Steps<L>,
+) -> u8
+    ensures { let at = world S.state O.state in
+        RunsAs command.Chart (at shelf.old out.old) (at shelf.new out.new) result }
+{
+    perform(&ShowChart, alloc, shelf, out, steps)
+}

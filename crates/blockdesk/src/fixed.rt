@@ -1,0 +1,79 @@
+ghost use Rattle.std.specs.Prelude.{◌≡◌, ◌<◌, pos, length, All, IfOk};
+ghost use Rattle.trip_model.specs.Blocking.{IsFewest};
+ghost use Rattle.trip_model.specs.Deficit.{deficit, live_moves};
+ghost use Rattle.trip_model.specs.Links.{blocks_along};
+ghost use Rattle.trip_model.specs.Maximum.{sum_of_maxima};
+ghost use Rattle.trip_model.specs.Order.{by_departure};
+ghost use Rattle.trip_model.specs.Plain.{plain_network, trip_moves};
+ghost use Rattle.fixed_fleet.specs.Rule.{first_in_first_out};
+ghost use Rattle.blockdesk.specs.declared.command.Command.TheVariants as command;
+ghost use Rattle.blockdesk.specs.Feed.{IsFeed};
+ghost use Rattle.blockdesk.specs.Fixed.{IsFixed};
+ghost use Rattle.blockdesk.specs.Runs.{RunsAs};
+ghost use Rattle.blockdesk.specs.World.{world};
+
+use crate::feed::Feed;
+use crate::show::{Show, perform};
+use block_build::{Blocks, block_lines, blocks_of};
+use desk_io::{Memory, Shelf, Sink, Steps, Text};
+use fixed_fleet::fixed_links;
+use std::alloc::Global;
+use std::sync::ledger::Ledger;
+use trip_model::Timetable;
+use trip_model::laws::plain_law;
+
+/// What stands before the number of a block in its name.
+pub const PREFIX: &str = "B";
+
+// The blocks that the trips make without deadheads, first in, first out.
+pub fn fixed_blocks(alloc: Global, timetable: &Timetable) -> Result<Blocks, Memory>
+    ensures rule { IfOk result (λ blocks. blocks ≡ blocks_along
+        (first_in_first_out (trip_moves timetable.now.slots)) (by_departure (trip_moves timetable.now.slots))) }
+    ensures fewest { IfOk result (IsFewest (plain_network (trip_moves timetable.now.slots))) }
+    ensures number { IfOk result (λ blocks. pos (length blocks)
+        ≡ sum_of_maxima (deficit (live_moves timetable.now.slots)) (length timetable.now.places)) }
+    ensures within { IfOk result (All (All (λ s. s < length timetable.now.slots))) }
+{
+    plain_law();
+    let links = fixed_links(alloc, timetable)?;
+    blocks_of(alloc, timetable, &links)
+}
+
+// The lines of the blocks without deadheads, and their number.
+fn fixed_text(alloc: Global, feed: &Feed) -> Result<Text, Memory>
+    requires { IsFeed feed.now }
+    ensures { IfOk result (IsFixed feed.now) }
+{
+    let blocks = fixed_blocks(alloc, &feed.timetable)?;
+    let lines = block_lines(alloc, &feed.timetable, &feed.matrix, &blocks, PREFIX)?;
+    let lines = lines.as_str();
+    Ok(Text::wrap(format!(in alloc; "{lines}fixed {}\n", blocks.len())?))
+}
+
+struct ShowFixed;
+
+impl Show for ShowFixed {
+    ghost command = { λ _. command.Fixed };
+
+    fn text<L: Ledger>(
+        &self,
+        alloc: Global,
+        feed: &Feed,
+        _steps: &mut Steps<L>,
+    ) -> Result<Text, Memory> {
+        fixed_text(alloc, feed)
+    }
+}
+
+/// The command `fixed`: blocks without deadheads, as few as there can be, and their number. It answers the status.
+pub fn run_fixed<S: Shelf, O: Sink, L: Ledger>(
+    alloc: Global,
+    shelf: &mut S,
+    out: &mut O,
+    steps: &mut Steps<L>,
+) -> u8
+    ensures { let at = world S.state O.state in
+        RunsAs command.Fixed (at shelf.old out.old) (at shelf.new out.new) result }
+{
+    perform(&ShowFixed, alloc, shelf, out, steps)
+}
