@@ -12,7 +12,7 @@ use Rattle.trip_model.specs.Links.{next_of, AreLinks, link_count, leads_to, is_f
 use Rattle.trip_model.proofs.Counting.{sum_below-list, sum_by-below, sum_by-standing, times-cons, length-ones}
 
 -- the slots are those to which the links lead from i, one after the other to the end
-abbrev GoesOn : List (Option ℕ) → ℕ → List ℕ → Type 0
+abbrev pub GoesOn : List (Option ℕ) → ℕ → List ℕ → Type 0
 GoesOn links i [] = next_of links i ≡ None
 GoesOn links i (j ∷ js) = (next_of links i ≡ Some j) × GoesOn links j js
 
@@ -117,8 +117,8 @@ times-filter q s (x ∷ xs) =
         (cases_eq x s)
 
 -- what a chain owes, of all blocks that begin with these slots
-record AreChains (links : List (Option ℕ)) : Type 0 where
-  goes_on : (s : ℕ) → GoesOn links s (along links 8191 (next_of links s))
+pub record AreChains (links : List (Option ℕ)) : Type 0 where
+  pub goes_on : (s : ℕ) → GoesOn links s (along links 8191 (next_of links s))
 
 -- in the blocks from some slots, one that is the next of b stands as often as it is a first one and as b stands
 times-blocks : (links : List (Option ℕ)) (b s : ℕ) → AreChains links → next_of links b ≡ Some s → ((c : ℕ) → next_of links c ≡ Some s → c ≡ b)
@@ -171,7 +171,7 @@ each-block network links are chains (i ∷ firsts) = (
   each-block network links are chains firsts,
 )
 
-chains-of : (network : Network) (departs : ℕ → ℕ) (links : List (Option ℕ)) → AreDepartures network departs → AreLinks network links → AreChains links
+pub chains-of : (network : Network) (departs : ℕ → ℕ) (links : List (Option ℕ)) → AreDepartures network departs → AreLinks network links → AreChains links
 chains-of network departs links clock are = record {
   goes_on = λ s. along-goes_on network departs links clock are 8191 s (next_of links s) refl (omega arith);
 }

@@ -142,7 +142,7 @@ one_below q s (suc n) = ⊎_elim
     zero_both false = refl
 
 -- so do the live ones below a bound
-StandsOnce-filter_range : (live : ℕ → Bool) (n : ℕ) → ((s : ℕ) → live s ≡ true → s < n) → StandsOnce live (filter live (range_with_len 0 n))
+pub StandsOnce-filter_range : (live : ℕ → Bool) (n : ℕ) → ((s : ℕ) → live s ≡ true → s < n) → StandsOnce live (filter live (range_with_len 0 n))
 StandsOnce-filter_range live n within = record {
   once = λ s. sum_by-filter_range live (λ x. cond (x == s) 1 0) n ∙ one_below live s n ∙ ap (λ b. cond b 1 0) (all s);
 }

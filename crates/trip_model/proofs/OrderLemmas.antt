@@ -1,5 +1,5 @@
 -- Slots in order of departure: each stands once, and departures rise.
-use Rattle.std.proofs.Common.{◌≡◌, ℕ, suc, ◌+◌, ◌<◌, ◌≤◌, ◌==◌, nat_le, Bool, true, false, cond, List, [], ◌∷◌, ◌++◌, length, get_or, take, drop, filter, fold, sum_by, All, Option, None, Some, if◌then◌else◌, refl, sym, ap, subst, ◌∙◌, arith}
+use Rattle.std.proofs.Common.{◌≡◌, ℕ, zero, suc, ◌+◌, ◌<◌, ◌≤◌, ◌==◌, nat_le, Bool, true, false, cond, List, [], ◌∷◌, ◌++◌, length, get_or, take, drop, filter, fold, sum_by, All, Option, None, Some, if◌then◌else◌, refl, sym, ap, subst, ◌∙◌, arith}
 use Rattle.std.specs.List.{range_with_len, insert, prefix_len, AllByRecursion}
 use Rattle.std.specs.Option.{is_some}
 use Rattle.std.proofs.lemmas.Bool.{leb-true, leb-false}
@@ -12,7 +12,7 @@ use Rattle.trip_model.specs.Blocking.{StandsOnce}
 use Rattle.trip_model.specs.Timetable.{TimetableView, Slot, slot_at}
 use Rattle.trip_model.specs.Trip.{move_of}
 use Rattle.trip_model.specs.Plain.{move_at, live_slots, move_of_slot, trip_moves}
-use Rattle.trip_model.specs.Order.{minute_left, placed_by, by_key, by_departure, RiseBy}
+use Rattle.trip_model.specs.Order.{minute_left, placed_by, by_key, by_departure, RiseBy, TiesRise}
 use Rattle.trip_model.proofs.Counting.{StandsOnce-live_slots}
 use Rattle.trip_model.proofs.StepsLemmas.{range_with_len-more}
 
@@ -82,6 +82,44 @@ rise-by_key key front (x ∷ xs) rise = rise-by_key key (placed_by key front x) 
 pub RiseBy-by_departure : (moves : List (Option Move)) → RiseBy (λ s. minute_left (move_at moves s)) (by_departure moves)
 unfolding by_departure
 RiseBy-by_departure moves = rise-by_key (λ s. minute_left (move_at moves s)) [] (live_slots moves) tt
+
+-- a slot that is greater than all of a list is put behind those of its key
+ties-placed : (key : ℕ → ℕ) (xs : List ℕ) (s : ℕ) → AllByRecursion (λ x. x < s) xs → RiseBy key xs → TiesRise key xs → TiesRise key (placed_by key xs s)
+ties-placed key [] s below rise ties = (tt, tt)
+ties-placed key (x ∷ xs) s below rise ties = by (nat_le (key x) (key s)) refl (ties-placed key xs s below.1 rise.1 ties.1)
+  where
+    by : (b : Bool) → nat_le (key x) (key s) ≡ b → TiesRise key (placed_by key xs s) → TiesRise key (if b then x ∷ placed_by key xs s else s ∷ x ∷ xs)
+    by true e rest = (all-placed (λ y. key x ≡ key y → x < y) key xs s ties.0 (λ _. below.0), rest)
+    by false e rest =
+        let above : key s < key x = leb-false (key x) (key s) e in (
+          ((λ same. absurd (omega arith)), all-weaker (λ y. key x ≤ key y) (λ y. key s ≡ key y → s < y) (λ y h same. absurd (omega arith)) xs rise.0),
+          ties,
+        )
+
+-- slots that are put in by their numbers
+ties-by_key : (key : ℕ → ℕ) (q : ℕ → Bool) (n a : ℕ) (front : List ℕ) → AllByRecursion (λ x. x < a) front → RiseBy key front → TiesRise key front
+    → TiesRise key (fold (placed_by key) front (filter q (range_with_len a n)))
+ties-by_key key q zero a front below rise ties = ties
+ties-by_key key q (suc n) a front below rise ties =
+    by (q a) (ties-by_key key q n (a + 1) (placed_by key front a) (all-placed (λ x. x < a + 1) key front a further here) (rise-placed key front a rise) (ties-placed key front a below rise ties))
+    (ties-by_key key q n (a + 1) front further rise ties)
+  where
+    further : AllByRecursion (λ x. x < a + 1) front
+    further = all-weaker (λ x. x < a) (λ x. x < a + 1) (λ x h. omega arith) front below
+
+    here : a < a + 1
+    here = omega arith
+
+    by : (b : Bool) → TiesRise key (fold (placed_by key) (placed_by key front a) (filter q (range_with_len (a + 1) n))) → TiesRise key (fold (placed_by key) front (filter q (range_with_len (a + 1) n)))
+        → TiesRise key (fold (placed_by key) front (cond b (a ∷ filter q (range_with_len (a + 1) n)) (filter q (range_with_len (a + 1) n))))
+    by true put passed = put
+    by false put passed = passed
+
+-- of one departure the lesser slot stands first
+pub TiesRise-by_departure : (moves : List (Option Move)) → TiesRise (λ s. minute_left (move_at moves s)) (by_departure moves)
+unfolding by_departure
+TiesRise-by_departure moves =
+    ties-by_key (λ s. minute_left (move_at moves s)) (λ s. is_some (move_at moves s)) (length moves) 0 [] tt tt tt
 
 -- the move of a slot of a timetable
 pub slot-move : (t : TimetableView) (s : ℕ) → move_at (trip_moves t.slots) s ≡ move_of_slot (slot_at t s)

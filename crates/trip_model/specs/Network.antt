@@ -13,7 +13,7 @@ pub record Network : Type 0 where
 abbrev pub Fits : Network → ℕ → ℕ → Type 0
 Fits network i j = IsSome (network.empty i j)
 
--- Trips that fit run both, and the one departs before the other, in the minutes 0 to 8,191.
+-- Of two trips that fit both run, and the first departs before the second, in the minutes 0 to 8,191.
 pub record AreDepartures (network : Network) (departs : ℕ → ℕ) : Type 0 where
   pub runs : (i j : ℕ) → Fits network i j → (network.live i ≡ true) × (network.live j ≡ true)
   pub rises : (i j : ℕ) → Fits network i j → departs i < departs j

@@ -1,5 +1,5 @@
 -- Slots in order of departure.
-use Rattle.std.specs.Prelude.{ℕ, ◌≤◌, nat_le, List, [], ◌∷◌, fold, Option, None, Some, ⊤, if◌then◌else◌}
+use Rattle.std.specs.Prelude.{◌≡◌, ℕ, ◌<◌, ◌≤◌, nat_le, List, [], ◌∷◌, fold, Option, None, Some, ⊤, if◌then◌else◌}
 use Rattle.std.specs.List.{AllByRecursion}
 use Rattle.trip_model.specs.Plain.{move_at, live_slots}
 use Rattle.trip_model.specs.declared.trip.Move.{Move}
@@ -26,3 +26,8 @@ by_departure moves = by_key (λ s. minute_left (move_at moves s)) (live_slots mo
 abbrev pub RiseBy : (ℕ → ℕ) → List ℕ → Type 0
 RiseBy key [] = ⊤
 RiseBy key (x ∷ xs) = AllByRecursion (λ y. key x ≤ key y) xs × RiseBy key xs
+
+-- of two slots with one key the lesser stands first
+abbrev pub TiesRise : (ℕ → ℕ) → List ℕ → Type 0
+TiesRise key [] = ⊤
+TiesRise key (x ∷ xs) = AllByRecursion (λ y. key x ≡ key y → x < y) xs × TiesRise key xs

@@ -1,4 +1,5 @@
--- Vehicles that never run empty. A list says of each slot which move its trip makes, and None where it does not run.
+-- Vehicles that never run empty, and vehicles that need no minute to get anywhere. A list says of each slot which move
+-- its trip makes, and None where it does not run.
 use Rattle.std.specs.Prelude.{◌≡◌, ℕ, ◌<◌, ◌≤◌, ◌==◌, ◌&&◌, nat_le, Bool, false, List, length, map, filter, slice_index_or, Option, None, Some, is_some, if◌then◌else◌}
 use Rattle.std.specs.List.{filter_map, range_with_len}
 use Rattle.trip_model.specs.Network.{Network}
@@ -61,6 +62,6 @@ pub record IsMove (places : ℕ) (m : Move) : Type 0 where
   pub forward : m.leaves < m.arrives
   pub in_day : m.arrives ≤ 8191
 
--- each move that is made is one
+-- each move that is made is such a move
 pub record AreMoves (places : ℕ) (moves : List (Option Move)) : Type 0 where
   pub each : (s : ℕ) (m : Move) → move_at moves s ≡ Some m → IsMove places m

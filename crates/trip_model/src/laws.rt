@@ -6,7 +6,7 @@ ghost use Rattle.trip_model.specs.Deficit.{deficit, live_moves};
 ghost use Rattle.trip_model.specs.Links.{AreLinks, link_count, blocks_along};
 ghost use Rattle.trip_model.specs.Maximum.{IsFirstMaximum, first_maximum};
 ghost use Rattle.trip_model.specs.Network.{Network, AreDepartures};
-ghost use Rattle.trip_model.specs.Order.{minute_left, by_departure, RiseBy};
+ghost use Rattle.trip_model.specs.Order.{minute_left, by_departure, RiseBy, TiesRise};
 ghost use Rattle.trip_model.specs.Plain.{move_at, made, plain_network, timely_network, trip_moves, AreMoves};
 ghost use Rattle.trip_model.specs.Steps.{steps, value_of_steps};
 ghost use Rattle.trip_model.specs.Timetable.{TimetableView, Slot, IsTimetable};
@@ -48,17 +48,21 @@ pub fn links_law()
         → length (blocks_along links order) + link_count links ≡ length order }
 {}
 
-/// In the order of departure each slot stands once whose trip runs, and departures rise.
+/// In the order of departure each slot stands once whose trip runs, departures rise, and of one departure the lesser slot
+/// stands first.
 pub fn departure_order_law()
     ensures stands { (moves : List (Option Move))
         → StandsOnce (λ s. is_some (move_at moves s)) (by_departure moves) }
     ensures rise { (moves : List (Option Move))
         → RiseBy (λ s. minute_left (move_at moves s)) (by_departure moves) }
+    ensures ties { (moves : List (Option Move))
+        → TiesRise (λ s. minute_left (move_at moves s)) (by_departure moves) }
 {}
 
-/// A slot whose trip runs is one of the slots. The moves that are made are the live ones. The trips of a timetable make moves that take time and arrive on the
-/// service day. Along trips that meet, and along
-/// trips that are in time, departures rise. A blocking without deadheads that has the fewest vehicles is least.
+/// A slot whose trip runs is one of the slots. The moves that are made are the live ones. The trips of a timetable make
+/// moves that take time and arrive on the service day. Along trips that meet, and along trips that are in time, departures
+/// rise. Links along which trips meet are links along which they are in time. A blocking without deadheads that has the
+/// fewest vehicles is least.
 pub fn plain_law()
     ensures within { (moves : List (Option Move)) (s : ℕ) → is_some (move_at moves s) ≡ true → s < length moves }
     ensures made { (slots : List Slot) → made (trip_moves slots) ≡ live_moves slots }

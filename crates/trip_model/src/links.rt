@@ -45,7 +45,7 @@ impl Links {
         self.nexts.len() as u16
     }
 
-    /// The next trip of a slot.
+    /// The slot of the trip that the vehicle of a slot makes next; None where it makes none.
     pub fn next(&self, slot: u16) -> Option<u16>
         requires { slot < length self.now }
         ensures { result ≡ next_of self.now slot }
@@ -53,7 +53,7 @@ impl Links {
         self.nexts[usize::from(slot)]
     }
 
-    /// Gives a slot another next trip, or none.
+    /// Gives a slot another next trip, or none. Whether that trip fits is not asked here.
     pub fn set(&mut self, slot: u16, next: Option<u16>)
         requires { slot < length self.old }
         ensures { self.new ≡ slice_set self.old slot next }
