@@ -1,5 +1,5 @@
 -- Deficits with an added move, and what follows from the moves that they hold.
-use Rattle.std.proofs.Common.{◌≡◌, ◌≢◌, ℕ, zero, suc, ◌+◌, ◌<◌, ◌≤◌, Bool, true, false, cond, ◌==◌, ◌&&◌, nat_le, List, [], ◌∷◌, ◌++◌, length, get_or, set, fold, take, count_by, ℤ, pos, neg_ℤ, ◌+ℤ◌, ◌-ℤ◌, ◌≤ℤ◌, ◌<ℤ◌, if◌then◌else◌, refl, sym, ap, subst, ◌∙◌, ⊎_elim, add-one, arith}
+use Rattle.std.proofs.Common.{◌≡◌, ◌≢◌, ℕ, zero, suc, ◌+◌, ◌<◌, ◌≤◌, Bool, true, false, cond, ◌==◌, ◌&&◌, nat_le, List, [], ◌∷◌, ◌++◌, length, get_or, set, fold, take, count_by, All, ℤ, pos, neg_ℤ, ◌+ℤ◌, ◌-ℤ◌, ◌≤ℤ◌, ◌<ℤ◌, if◌then◌else◌, refl, sym, ap, subst, ◌∙◌, ⊎_elim, add-one, arith}
 use lib.IntN.{negsuc}
 use Rattle.std.proofs.lemmas.Bool.{cases_eq, eq-eqb, ne_eqb, and_left, and_right}
 use Rattle.std.proofs.lemmas.Bool.Decides.{nat_tests}
@@ -11,7 +11,7 @@ use Rattle.trip_model.specs.declared.trip.Move.{Move}
 use Rattle.trip_model.specs.Deficit.{departures, arrivals, deficit}
 use Rattle.trip_model.specs.Maximum.{first_maximum, sum_of_maxima}
 use Rattle.trip_model.proofs.MaximumLemmas.{first_maximum-le, first_maximum-agree}
-use Rattle.deficit_steps.specs.Changes.{IsChange, AreChanges, IsDeficits, changes_of, change_at, value, with_change_in, with_change, with_move}
+use Rattle.deficit_steps.specs.Changes.{IsChange, AreChanges, IsDeficits, changes_of, change_at, value, with_change_in, with_change, with_move, without_move}
 use Rattle.deficit_steps.specs.Holds.{leaving, arriving, Holds}
 use Rattle.deficit_steps.proofs.RowLemmas.{sum_of-more, AreChanges-with}
 
@@ -127,7 +127,7 @@ row_written deficits rows place p row new minute by same at there read written =
 
 -- deficits stay such as one change is raised within its bounds
 pub IsDeficits-with_change : (deficits : List (List ℤ)) (place minute : ℕ) (by : ℤ) → IsDeficits deficits → place < length deficits → minute ≤ 8191
-    → IsChange (change_at deficits place minute +ℤ by) → (minute ≡ 0 → pos 0 ≤ℤ by) → IsDeficits (with_change deficits place minute by)
+    → IsChange (change_at deficits place minute +ℤ by) → (minute ≡ 0 → pos 0 ≤ℤ (change_at deficits place minute +ℤ by)) → IsDeficits (with_change deficits place minute by)
 unfolding with_change
 IsDeficits-with_change deficits place minute by valid there h bound begins =
     let row = AreChanges-with (changes_of deficits place) minute by (valid.changes place [] there) h bound begins in
@@ -194,7 +194,8 @@ IsDeficits-with_move deficits m valid from to forward in_day raised lowered =
     let row = valid.changes m.from [] from in
     let len = row.minutes in
     let first : IsDeficits (with_change deficits m.from m.leaves (pos 1)) =
-    IsDeficits-with_change deficits m.from m.leaves (pos 1) valid from (omega arith) (raised_bound _ (row.bounded m.leaves (pos 0) (omega arith)) raised) (λ _. omega (arith, ints)) in
+    IsDeficits-with_change deficits m.from m.leaves (pos 1) valid from (omega arith) (raised_bound _ (row.bounded m.leaves (pos 0) (omega arith)) raised)
+    (λ z. let same = ap (change_at deficits m.from) z in let begins = row.begins in omega (arith, ints, same, begins)) in
     let there : m.to < length (with_change deficits m.from m.leaves (pos 1)) = omega (arith, length-with_change deficits m.from m.leaves (pos 1)) in
     let row_to = first.changes m.to [] there in
     let len_to = row_to.minutes in
@@ -228,3 +229,80 @@ Holds-with_move deficits moves m valid' valid from to leaves arrives held =
     counted true false x y = omega (arith, ints)
     counted false true x y = omega (arith, ints)
     counted false false x y = omega (arith, ints)
+
+-- deficits stay such as a move is taken away, after its departure and after its arrival
+pub IsDeficits-without_move : (deficits : List (List ℤ)) (m : Move) → IsDeficits deficits → m.from < length deficits → m.to < length deficits → m.leaves < m.arrives → m.arrives ≤ 8191
+    → negsuc 65535 <ℤ change_at deficits m.from m.leaves → change_at deficits m.to m.arrives <ℤ pos 65536 → (m.leaves ≡ 0 → pos 0 <ℤ change_at deficits m.from 0)
+    → IsDeficits (with_change deficits m.from m.leaves (neg_ℤ (pos 1))) × IsDeficits (without_move deficits m)
+IsDeficits-without_move deficits m valid from to forward in_day lowered raised begins =
+    let row = valid.changes m.from [] from in
+    let len = row.minutes in
+    let first : IsDeficits (with_change deficits m.from m.leaves (neg_ℤ (pos 1))) =
+    IsDeficits-with_change deficits m.from m.leaves (neg_ℤ (pos 1)) valid from (omega arith) (lowered_bound _ (row.bounded m.leaves (pos 0) (omega arith)) lowered)
+    (λ z. let same = ap (change_at deficits m.from) z in let above = begins z in omega (arith, ints, same, above)) in
+    let there : m.to < length (with_change deficits m.from m.leaves (neg_ℤ (pos 1))) = omega (arith, length-with_change deficits m.from m.leaves (neg_ℤ (pos 1))) in
+    let row_to = first.changes m.to [] there in
+    let len_to = row_to.minutes in
+    let same = change_at-later deficits m.from m.leaves (neg_ℤ (pos 1)) m.to m.arrives from (omega arith) forward in (
+      first,
+      IsDeficits-with_change (with_change deficits m.from m.leaves (neg_ℤ (pos 1))) m.to m.arrives (pos 1) first there in_day
+          (raised_bound _ (row_to.bounded m.arrives (pos 0) (omega arith)) (subst (λ c. c <ℤ pos 65536) (sym same) raised)) (λ z. absurd (omega arith)),
+    )
+
+-- a count with one element more in its middle
+count_by-middle : {X : Type 0} (p : X → Bool) (before after : List X) (x : X) → count_by p (before ++ x ∷ after) ≡ count_by p (before ++ after) + cond (p x) 1 0
+count_by-middle p [] after x = sum_by-cons (λ x. cond (p x) 1 0) x after ∙ omega arith
+count_by-middle p (b ∷ before) after x =
+    let whole = sum_by-cons (λ x. cond (p x) 1 0) b (before ++ x ∷ after) in
+    let rest = sum_by-cons (λ x. cond (p x) 1 0) b (before ++ after) in
+    omega (arith, whole, rest, count_by-middle p before after x)
+
+-- where moves were held, they are held without the one that is taken away
+pub Holds-without_move : (deficits : List (List ℤ)) (before after : List Move) (m : Move) → IsDeficits (with_change deficits m.from m.leaves (neg_ℤ (pos 1))) → IsDeficits deficits
+    → m.from < length deficits → m.to < length deficits → m.leaves ≤ 8191 → m.arrives ≤ 8191 → Holds deficits (before ++ m ∷ after) → Holds (without_move deficits m) (before ++ after)
+Holds-without_move deficits before after m valid' valid from to leaves arrives held =
+    let first = with_change deficits m.from m.leaves (neg_ℤ (pos 1)) in
+    let len = length-with_change deficits m.from m.leaves (neg_ℤ (pos 1)) in
+    let len2 = length-with_change first m.to m.arrives (pos 1) in
+    let row_from = (valid.changes m.from [] from).minutes in
+    let row_to = (valid'.changes m.to [] (omega arith)).minutes in
+    record {
+      change = λ place minute there h.
+          change_at-with_change first m.to m.arrives (pos 1) place minute (omega arith) (omega arith)
+          ∙ ap (λ c. c +ℤ (if (m.to == place) && (m.arrives == minute) then pos 1 else pos 0))
+          (change_at-with_change deficits m.from m.leaves (neg_ℤ (pos 1)) place minute from (omega arith)
+          ∙ ap (λ c. c +ℤ (if (m.from == place) && (m.leaves == minute) then neg_ℤ (pos 1) else pos 0))
+          (held.change place minute (omega arith) h
+          ∙ (λ i. pos (count_by-middle (λ n. (n.from == place) && (n.leaves == minute)) before after m i) -ℤ pos (count_by-middle (λ n. (n.to == place) && (n.arrives == minute)) before after m i))))
+          ∙ counted ((m.from == place) && (m.leaves == minute)) ((m.to == place) && (m.arrives == minute)) (leaving (before ++ after) place minute) (arriving (before ++ after) place minute);
+    }
+  where
+    counted : (a b : Bool) (x y : ℕ) → (((pos (x + cond a 1 0) -ℤ pos (y + cond b 1 0)) +ℤ (if a then neg_ℤ (pos 1) else pos 0)) +ℤ (if b then pos 1 else pos 0)) ≡ (pos x -ℤ pos y)
+    counted true true x y = omega (arith, ints)
+    counted true false x y = omega (arith, ints)
+    counted false true x y = omega (arith, ints)
+    counted false false x y = omega (arith, ints)
+
+-- nothing that leaves before it arrives arrives in minute 0
+none-arrive : (moves : List Move) (place : ℕ) → All (λ n. n.leaves < n.arrives) moves → arriving moves place 0 ≡ 0
+none-arrive [] place forward = refl
+none-arrive (n ∷ moves) place forward =
+    let late : n.leaves < n.arrives = forward 0 n (omega arith) in
+    let other : n.arrives ≢ 0 = omega arith in
+    let here = and_right (n.to == place) (n.arrives == 0) (ne_eqb n.arrives 0 other) in
+    sum_by-cons (λ (n : Move). cond ((n.to == place) && (n.arrives == 0)) 1 0) n moves
+    ∙ (λ i. cond (here i) 1 0 + none-arrive moves place (λ s d h. forward (suc s) d (omega arith)) i)
+
+-- the change in minute 0 of a place that a held move leaves then
+pub begins-held : (deficits : List (List ℤ)) (before after : List Move) (m : Move) → Holds deficits (before ++ m ∷ after) → All (λ n. n.leaves < n.arrives) (before ++ m ∷ after)
+    → m.from < length deficits → m.leaves ≡ 0 → pos 0 <ℤ change_at deficits m.from 0
+begins-held deficits before after m held forward from z =
+    let here : (m.from == m.from) && (m.leaves == 0) ≡ true = λ i. eq-eqb m.from m.from refl i && eq-eqb m.leaves 0 z i in
+    let one : ◌≡◌ {A = ℕ} (cond ((m.from == m.from) && (m.leaves == 0)) 1 0) 1 = ap (λ b. cond b 1 0) here in
+    let counts = count_by-middle (λ n. (n.from == m.from) && (n.leaves == 0)) before after m in
+    let none = none-arrive (before ++ m ∷ after) m.from forward in
+    let at_least : 0 < leaving (before ++ m ∷ after) m.from 0 = omega (arith, counts, one) in
+    rw (held.change m.from 0 from (omega arith)) (rw none (above (leaving (before ++ m ∷ after) m.from 0) at_least))
+  where
+    above : (n : ℕ) → 0 < n → pos 0 <ℤ (pos n -ℤ pos 0)
+    above n h = omega (arith, ints)

@@ -200,7 +200,7 @@ raised changes items n m x by same at h read bounded fits bound =
     λ i. set (same i) (at i) ((ap (λ z. to_z w32 (of_z w32 z)) sum ∙ to_z-of_z w32 _ small) i)
 
 -- the changes of a place stay such as one is raised within its bounds
-pub AreChanges-with : (changes : List ℤ) (n : ℕ) (by : ℤ) → AreChanges changes → n ≤ 8191 → IsChange (get_or changes n (pos 0) +ℤ by) → (n ≡ 0 → pos 0 ≤ℤ by)
+pub AreChanges-with : (changes : List ℤ) (n : ℕ) (by : ℤ) → AreChanges changes → n ≤ 8191 → IsChange (get_or changes n (pos 0) +ℤ by) → (n ≡ 0 → pos 0 ≤ℤ (get_or changes n (pos 0) +ℤ by))
     → AreChanges (with_change_in changes n by)
 AreChanges-with changes n by valid h bound begins =
     let len = length-set changes n (get_or changes n (pos 0) +ℤ by) in
@@ -212,10 +212,7 @@ AreChanges-with changes n by valid h bound begins =
           (λ (k : n ≤ 0).
           let z : n ≡ 0 = omega arith in
           let l = valid.minutes in
-          let rise = begins z in
-          let start = valid.begins in
-          let same = ap (λ m. get_or changes m (pos 0)) z in
           let here : n < length changes = omega arith in
-          subst (λ m. pos 0 ≤ℤ get_or (with_change_in changes n by) m (pos 0)) z (rw get_or-set_same (grind (arith, ints))))
+          subst (λ m. pos 0 ≤ℤ get_or (with_change_in changes n by) m (pos 0)) z (rw get_or-set_same (begins z)))
           (cases_lt 0 n);
     }

@@ -44,3 +44,7 @@ with_change deficits place minute by = slice_set deficits place (with_change_in 
 -- the deficits, with one departure more where the move leaves and one arrival more where it arrives
 abbrev pub with_move : List (List ℤ) → Move → List (List ℤ)
 with_move deficits m = with_change (with_change deficits m.from m.leaves (pos 1)) m.to m.arrives (neg_ℤ (pos 1))
+
+-- the deficits, with one departure less where the move leaves and one arrival less where it arrives
+abbrev pub without_move : List (List ℤ) → Move → List (List ℤ)
+without_move deficits m = with_change (with_change deficits m.from m.leaves (neg_ℤ (pos 1))) m.to m.arrives (pos 1)

@@ -2,7 +2,7 @@ ghost use Rattle.std.specs.Prelude.{◌≡◌, ◌+◌, ◌<◌, ◌≤◌, List
 ghost use Rattle.trip_model.specs.declared.trip.Move.{Move as ModelMove};
 ghost use Rattle.trip_model.specs.Maximum.{IsFirstMaximum, first_maximum, sum_of_maxima};
 ghost use Rattle.trip_model.specs.Steps.{steps};
-ghost use Rattle.deficit_steps.specs.Changes.{IsDeficits, change_at, value, with_move};
+ghost use Rattle.deficit_steps.specs.Changes.{IsDeficits, change_at, value, with_move, without_move};
 ghost use Rattle.deficit_steps.specs.Holds.{Holds};
 
 use crate::row::Row;
@@ -72,6 +72,26 @@ impl Deficits {
     {
         self.rows[usize::from(added.from)].change(added.leaves, 1);
         self.rows[usize::from(added.to)].change(added.arrives, -1);
+    }
+
+    /// Counts one departure less where the move leaves, and one arrival less where it arrives.
+    pub fn take<L: Ledger>(&mut self, taken: &Move, steps: &mut Steps<L>)
+        requires from { taken.now.from < length self.old }
+        requires to { taken.now.to < length self.old }
+        requires forward { taken.now.leaves < taken.now.arrives }
+        requires in_day { taken.now.arrives ≤ 8191 }
+        requires lowered { neg_ℤ (pos 65536) <ℤ change_at self.old taken.now.from taken.now.leaves }
+        requires raised { change_at self.old taken.now.to taken.now.arrives <ℤ pos 65536 }
+        requires begins { taken.now.leaves ≡ 0 → pos 0 <ℤ change_at self.old taken.now.from 0 }
+
+        ensures places { length self.new ≡ length self.old }
+        ensures changed { self.new ≡ without_move self.old taken.now }
+        ensures held { (before after : List ModelMove) → Holds self.old (before ++ taken.now ∷ after)
+            → Holds self.new (before ++ after) }
+        ensures counted { steps.new ≤ steps.old + 28 }
+    {
+        self.rows[usize::from(taken.from)].change(taken.leaves, -1);
+        self.rows[usize::from(taken.to)].change(taken.arrives, 1);
     }
 
     /// The value of a place at a minute.

@@ -1,5 +1,5 @@
 //! Laws of the definitions that the contracts cite. Each is the contract of a function that does nothing.
-ghost use Rattle.std.specs.Prelude.{◌≡◌, ℕ, ◌<◌, ◌≤◌, ℤ, pos, neg_ℤ, ◌≤ℤ◌, List, length};
+ghost use Rattle.std.specs.Prelude.{◌≡◌, ℕ, ◌<◌, ◌≤◌, ℤ, pos, neg_ℤ, ◌≤ℤ◌, ◌<ℤ◌, List, ◌∷◌, ◌++◌, length, All};
 ghost use Rattle.trip_model.specs.declared.trip.Move.{Move};
 ghost use Rattle.trip_model.specs.Deficit.{deficit};
 ghost use Rattle.trip_model.specs.Maximum.{first_maximum, sum_of_maxima};
@@ -8,7 +8,8 @@ ghost use Rattle.deficit_steps.specs.Holds.{Holds};
 ghost use Rattle.deficit_steps.specs.Lines.{deficit_text};
 
 /// Where a list of moves is held, the value of each place at each minute is the deficit of that list, and so is the sum
-/// of the maxima. No maximum is below 0, and no change is greater than the number of the moves.
+/// of the maxima. No maximum is below 0, and no change is greater than the number of the moves. A place that a held move
+/// leaves in minute 0 has a change of at least 1 there.
 pub fn held_law()
     ensures deficit { (deficits : List (List ℤ)) (moves : List Move) (place minute : ℕ) → IsDeficits deficits
         → Holds deficits moves → place < length deficits → minute ≤ 8191
@@ -21,6 +22,9 @@ pub fn held_law()
         → place < length deficits → minute ≤ 8191
         → (neg_ℤ (pos (length moves)) ≤ℤ change_at deficits place minute)
         × (change_at deficits place minute ≤ℤ pos (length moves)) }
+    ensures begins { (deficits : List (List ℤ)) (before after : List Move) (m : Move)
+        → Holds deficits (before ++ m ∷ after) → All (λ n. n.leaves < n.arrives) (before ++ m ∷ after)
+        → m.from < length deficits → m.leaves ≡ 0 → pos 0 <ℤ change_at deficits m.from 0 }
 {}
 
 /// Where a list of moves is held, the printed text is that of the deficits of that list.

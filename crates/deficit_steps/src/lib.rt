@@ -1,13 +1,14 @@
 //! The deficits of all places, kept as one change for each place and minute.
 //!
-//! [`Deficits`] holds moves: [`Deficits::add`] counts a departure where a move leaves and an arrival where it arrives.
+//! [`Deficits`] holds moves: [`Deficits::add`] counts a departure where a move leaves and an arrival where it arrives, and
+//! [`Deficits::take`] counts them no more.
 //! The value of a place at a minute is the sum of its changes so far; `max` answers its greatest value and the first
 //! minute that has it, `total` the sum of these over all places, and `step_list` the minutes at which it changes.
 //! [`deficit_lines`] prints them.
 //!
 //! The contract that the crate above uses: deficits are seen as the list of the changes of each place, 8,192 for each.
 //! Where they hold a list of moves, the value of each place at each minute is the deficit of that list
-//! ([`laws::held_law`]), and a move that is added is held besides.
+//! ([`laws::held_law`]), a move that is added is held besides, and one that is taken away no more.
 //!
 //! ```text
 //! let mut deficits = Deficits::open(alloc, timetable.places())?;
@@ -15,7 +16,7 @@
 //! let (vehicles, minute) = deficits.max(0);
 //! ```
 //!
-//! The contracts cite `Changes` (values, and what an added move changes), `Holds` (when a list of moves is held) and
+//! The contracts cite `Changes` (values, and what a move changes that is added or taken away), `Holds` (when a list of moves is held) and
 //! `Lines` (the printed text), and of `trip_model` `Deficit`, `Maximum` and `Steps`.
 #![tactic(auto)]
 

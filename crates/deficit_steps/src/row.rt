@@ -47,7 +47,7 @@ impl Row {
         requires valid { AreChanges self.old }
         requires minute { minute ≤ 8191 }
         requires bounded { IsChange (slice_index_or self.old minute (pos 0) +ℤ by) }
-        requires begins { minute ≡ 0 → pos 0 ≤ℤ by }
+        requires begins { minute ≡ 0 → pos 0 ≤ℤ (slice_index_or self.old minute (pos 0) +ℤ by) }
         ensures changed { self.new ≡ with_change_in self.old minute by }
         ensures valid { AreChanges self.new }
     {

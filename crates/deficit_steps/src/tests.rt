@@ -35,6 +35,30 @@ fn holding<L: Ledger>(
     Ok(deficits)
 }
 
+/// Deficits that hold the moves, after one more was added and taken away again.
+fn taken_back<L: Ledger>(
+    rt: &impl Abort,
+    alloc: Global,
+    places: u16,
+    moves: &[Move],
+    more: &Move,
+    steps: &mut Steps<L>,
+) -> Result<Deficits, Memory>
+    ensures places { IfOk result (λ deficits. length deficits ≡ places) }
+{
+    assert!(rt; moves.len() < 65535);
+    assert!(rt; more.from < places);
+    assert!(rt; more.to < places);
+    assert!(rt; 0 < more.leaves);
+    assert!(rt; more.leaves < more.arrives);
+    assert!(rt; more.arrives <= 8191);
+    held_law();
+    let mut deficits = holding(rt, alloc, places, moves, steps)?;
+    deficits.add(more, steps);
+    deficits.take(more, steps);
+    Ok(deficits)
+}
+
 /// A timetable with places of these names.
 fn named(rt: &impl Abort, alloc: Global, names: &[&str]) -> Result<Timetable, Memory> {
     let mut timetable = Timetable::open(alloc, 0, 0);
@@ -90,6 +114,11 @@ fn rows<L: Ledger>(rt: &impl Abort, alloc: Global, blank: Blank) -> Result<(), F
     ];
     let feed = printed(rt, alloc, &["A", "B", "C"], &moves, &mut steps)?;
     assert_eq!(rt; feed.as_str(), FEED_TEXT);
+    let same = taken_back(rt, alloc, 3, &moves, &way(2, 1, 420, 430), &mut steps)?;
+    let timetable = named(rt, alloc, &["A", "B", "C"])?;
+    assert!(rt; same.places() == timetable.places());
+    let again = deficit_lines(alloc, &timetable, &same)?;
+    assert_eq!(rt; again.as_str(), FEED_TEXT);
     let night = printed(rt, alloc, &["P", "Q"], &[way(0, 1, 1510, 1556)], &mut steps)?;
     assert_eq!(rt; night.as_str(), NIGHT_TEXT);
     let empty = printed(rt, alloc, &[], &[], &mut steps)?;

@@ -1,5 +1,5 @@
 use Rattle.std.proofs.Common.{[]}
-use Rattle.deficit_steps.proofs.DeficitsLemmas.{value-held, sum_of_maxima-agree, maximum-positive, change-held}
+use Rattle.deficit_steps.proofs.DeficitsLemmas.{value-held, sum_of_maxima-agree, maximum-positive, change-held, begins-held}
 use Rattle.deficit_steps.proofs.laws.held_law.Goals as goal
 
 pub returns-clause-deficit : goal.returns-clause-deficit
@@ -15,3 +15,6 @@ returns-clause-maximum c = λ deficits place valid there. maximum-positive defic
 
 pub returns-clause-change : goal.returns-clause-change
 returns-clause-change c = change-held
+
+pub returns-clause-begins : goal.returns-clause-begins
+returns-clause-begins c = begins-held
