@@ -1,1 +1,3 @@
+pub mod Duality
+pub mod Looseness
 pub mod Standing

@@ -1,3 +1,4 @@
 pub mod Fitting
 pub mod Matrix
+pub mod Prices
 pub mod Walks

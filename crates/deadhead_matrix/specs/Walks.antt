@@ -7,7 +7,7 @@ pub record Entry : Type 0 where
   pub to : ℕ
   pub minutes : ℕ
 
--- the entries lead from a to b, each beginning where the one before ends; none lead from a place to itself
+-- the entries lead from a to b, each beginning where the one before ends; the empty list leads from a place to itself
 abbrev pub IsWalk : List Entry → ℕ → List Entry → ℕ → Type 0
 IsWalk entries a [] b = a ≡ b
 IsWalk entries a (e ∷ es) b = Contains entries e × (e.from ≡ a) × IsWalk entries e.to es b

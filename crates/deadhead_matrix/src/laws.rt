@@ -1,12 +1,32 @@
-//! A law of the definitions that the contracts cite. It is the contract of a function that does nothing.
-ghost use Rattle.std.specs.Prelude.{◌≡◌, ℕ, List, Option};
+//! Laws of the definitions that the contracts cite. Each is the contract of a function that does nothing.
+ghost use Rattle.std.specs.Prelude.{◌≡◌, ℕ, ◌<◌, true, List, length, Option, None};
 ghost use Rattle.deadhead_matrix.specs.Fitting.{deadhead_network};
 ghost use Rattle.deadhead_matrix.specs.Matrix.{empty_matrix, walk};
+ghost use Rattle.deadhead_matrix.specs.Prices.{Plan, IsCertified, IsDay, IsLoose};
 ghost use Rattle.trip_model.specs.declared.trip.Move.{Move};
+ghost use Rattle.trip_model.specs.Blocking.{StandsOnce, IsLeast};
+ghost use Rattle.trip_model.specs.Links.{blocks_along};
+ghost use Rattle.trip_model.specs.Network.{Network, AreDepartures};
 ghost use Rattle.trip_model.specs.Plain.{plain_network, AreMoves};
 
 /// Without entries a vehicle can go on exactly from a trip to one that it meets, and never runs empty.
 pub fn standing_law()
     ensures { (places : ℕ) (moves : List (Option Move)) → AreMoves places moves
         → deadhead_network moves (walk (empty_matrix places)) ≡ plain_network moves }
+{}
+
+/// The blocks of a certified plan are least over all blockings: no blocking weighs more than all its prices, and a vehicle
+/// weighs more than all empty minutes of a day.
+pub fn certified_law()
+    ensures { (network : Network) (slots : ℕ) (plan : Plan) (departs : ℕ → ℕ) → IsDay network slots
+        → length plan.next ≡ slots → IsCertified network plan → AreDepartures network departs
+        → (order : List ℕ) → StandsOnce network.live order → IsLeast network (blocks_along plan.next order) }
+{}
+
+/// A plan on the way of which nothing is left out is a certified one, and the other way round.
+pub fn loose_law()
+    ensures certified { (network : Network) (departs : ℕ → ℕ) (plan : Plan) → AreDepartures network departs
+        → ((s : ℕ) → network.live s ≡ true → s < length plan.next) → IsLoose network plan None None → IsCertified network plan }
+    ensures loose { (network : Network) (departs : ℕ → ℕ) (plan : Plan) → AreDepartures network departs
+        → ((s : ℕ) → network.live s ≡ true → s < length plan.next) → IsCertified network plan → IsLoose network plan None None }
 {}

@@ -45,6 +45,7 @@ impl Matrix {
         ensures walk { result ≡ walk self.now a b }
         ensures least { IsLeastWalk self.now.entries a b result }
     {
+        // What a matrix is seen as is known only where a field is used.
         let _ = &self.places;
         if a == b { Some(0) } else { None }
     }
