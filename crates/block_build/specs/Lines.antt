@@ -13,7 +13,7 @@ block_name prefix number = prefix ++ decimal (number + 1)
 unfoldable pub trip_text : Slot → List ℕ
 trip_text slot = slot.name ++ codes " " ++ minute_digits slot.trip.departs ++ codes " " ++ minute_digits slot.trip.ends
 
--- a deadhead that takes time
+-- a deadhead that takes time; nothing for one of no minutes, nor where there is no way
 unfoldable pub deadhead_text : Option ℕ → List ℕ
 deadhead_text None = []
 deadhead_text (Some minutes) = if minutes == 0 then [] else codes "dh " ++ decimal minutes ++ codes "; "

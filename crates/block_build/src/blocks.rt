@@ -38,7 +38,7 @@ impl Blocks {
         self.blocks.len()
     }
 
-    /// The slots of a block, in the order of its trips.
+    /// The slots of a block, in the order of its trips. Blocks are numbered from 0 here, and printed from 1.
     pub fn block(&self, number: usize) -> &[u16]
         requires { number < length self.now }
         ensures { result.now ≡ slice_index_or self.now number [] }

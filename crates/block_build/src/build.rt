@@ -11,7 +11,7 @@ use std::alloc::Global;
 use trip_model::laws::{departure_order_law, links_law, plain_law};
 use trip_model::{Links, Timetable, by_departure};
 
-/// How many minutes there are.
+/// How many minutes a service day has; no block has more trips.
 const MINUTES: u16 = 8192;
 
 // For each slot, whether its trip is the next of one.
@@ -48,7 +48,8 @@ fn block_from(alloc: Global, links: &Links, first: u16) -> Result<Block, Memory>
 }
 
 /// The blocks that links make: each goes on along the links to the end. They stand by the departures of their first
-/// trips, and those of one departure by the numbers of these.
+/// trips, and those of one departure by their slots. Each link has to lead to a trip that begins at or after the end of
+/// the one before.
 pub fn blocks_of(alloc: Global, timetable: &Timetable, links: &Links) -> Result<Blocks, Memory>
     requires slots { length links.now ≡ length timetable.now.slots }
     requires links { AreLinks (timely_network (trip_moves timetable.now.slots)) links.now }

@@ -10,7 +10,8 @@
 //! let text = block_lines(alloc, &timetable, &matrix, &blocks, "B")?;
 //! ```
 //!
-//! The contracts cite `Lines` (the printed text), and of `trip_model` `Links` and `Order`.
+//! The contracts cite `Lines` (the printed text), of `trip_model` `Blocking`, `Links`, `Order`, `Plain` and `Timetable`,
+//! and of `deadhead_matrix` `Matrix`.
 #![tactic(auto)]
 
 mod blocks;

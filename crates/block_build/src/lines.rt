@@ -91,7 +91,7 @@ fn push_trips(
 }
 
 /// The lines of blocks as they are printed: for each its name, which is the prefix and its number counted from 1, and its
-/// trips with the deadheads between them that take time.
+/// trips with the deadheads between them that take time. Between trips between which there is no way it prints none.
 pub fn block_lines(
     alloc: Global,
     timetable: &Timetable,

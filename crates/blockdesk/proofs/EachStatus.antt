@@ -5,7 +5,7 @@ use Rattle.desk_io.specs.Faults.{Rose, NoneCounted}
 use Rattle.desk_io.specs.Shelf.{Files}
 use Rattle.gtfs_tables.specs.declared.fault.FeedFault.{FeedFault}
 use Rattle.blockdesk.specs.Causes.{Asks, HasCause, IsComplete}
-use Rattle.blockdesk.specs.Commands.{Answers, Outcomes, Shows}
+use Rattle.blockdesk.specs.Commands.{Answers, HasOutcome, Shows}
 use Rattle.blockdesk.specs.Feed.{feed_of}
 use Rattle.blockdesk.specs.Papers.{AreRead, papers_in}
 use Rattle.blockdesk.specs.Runs.{RunsAs, IsRun, IsRunBy, PutsAll}
@@ -32,7 +32,7 @@ asked shows (Ok feed) outcome answers = answers.0
 asked shows (Err refused) outcome answers = ap (λ (o : Outcome). o.status) answers
 
 -- over told files a command answers what the files ask for
-asks_told : (command : Command) (told : Option Files) (files : Files) (outcome : Outcome) → told ≡ Some files → Outcomes command told outcome → Asks command files outcome.status
+asks_told : (command : Command) (told : Option Files) (files : Files) (outcome : Outcome) → told ≡ Some files → HasOutcome command told outcome → Asks command files outcome.status
 asks_told command told files outcome is made =
     let papers = papers_told files made.papers (subst (λ t. AreRead t made.papers) is made.read) in
     subst (λ ps. MatchResult (feed_of ps) (λ _. outcome.status ≡ 0) (λ _. outcome.status ≡ 3)) papers (asked (Shows command) (feed_of made.papers) outcome made.answers)
@@ -42,7 +42,7 @@ not_usage shows (Ok feed) outcome answers e = absurd (omega (arith, e, answers.0
 not_usage shows (Err refused) outcome answers e = absurd (omega (arith, e, ap (λ (o : Outcome). o.status) answers))
 
 -- no command answers the status of words of no form
-outcome-not_usage : (command : Command) (files : Option Files) (outcome : Outcome) → Outcomes command files outcome → outcome.status ≢ 2
+outcome-not_usage : (command : Command) (files : Option Files) (outcome : Outcome) → HasOutcome command files outcome → outcome.status ≢ 2
 outcome-not_usage command files outcome made = not_usage (Shows command) (feed_of made.papers) outcome made.answers
 
 -- a text that was put whole raises no count

@@ -6,7 +6,7 @@ use Rattle.desk_io.specs.Shelf.{Files}
 use Rattle.desk_io.specs.Sink.{put_bytes, PutsFront}
 use Rattle.gtfs_tables.specs.declared.fault.FeedFault.{FeedFault}
 use Rattle.blockdesk.specs.Feed.{feed_of}
-use Rattle.blockdesk.specs.Commands.{Answers, Outcomes, Shows}
+use Rattle.blockdesk.specs.Commands.{Answers, HasOutcome, Shows}
 use Rattle.blockdesk.specs.Papers.{ReadsPapers}
 use Rattle.blockdesk.specs.Runs.{Chosen, Finishes, RunsAs, PutsAll, IsCutShort}
 use Rattle.blockdesk.specs.World.{World}
@@ -17,7 +17,7 @@ use Rattle.blockdesk.specs.declared.outcome.RunFault.{RunFault}
 use Rattle.blockdesk.specs.declared.outcome.RunFault.TheVariants as run_fault
 
 -- an outcome is put whole or cut short, and its own status is at most 4
-outcome_runs : (command : Command) (before after : World) (status : ℕ) (outcome : Outcome) → Outcomes command before.shelf.files outcome → outcome.status ≤ 4 → after.shelf ≡ before.shelf
+outcome_runs : (command : Command) (before after : World) (status : ℕ) (outcome : Outcome) → HasOutcome command before.shelf.files outcome → outcome.status ≤ 4 → after.shelf ≡ before.shelf
     → ((status ≡ outcome.status) × (after.sink ≡ put_bytes outcome.text before.sink)) ⊎ ((status ≡ 6) × PutsFront outcome.text before.sink after.sink)
     → RunsAs command before after status
 outcome_runs command before after status outcome outcomes low shelf (inl put) = record {
@@ -40,10 +40,10 @@ answers-low shows (Ok feed) outcome answers = omega (arith, answers.0)
 answers-low shows (Err refused) outcome answers = omega (arith, ap (λ (o : Outcome). o.status) answers)
 
 -- a command's own status is at most 4
-outcome-low : (command : Command) (files : Option Files) (outcome : Outcome) → Outcomes command files outcome → outcome.status ≤ 4
+outcome-low : (command : Command) (files : Option Files) (outcome : Outcome) → HasOutcome command files outcome → outcome.status ≤ 4
 outcome-low command files outcome made = answers-low (Shows command) (feed_of made.papers) outcome made.answers
 
-pub runs_as : (command : Command) (before after : World) (status : ℕ) (made : Result Outcome RunFault) → IfOk made (Outcomes command before.shelf.files) → ReadsPapers made before.shelf after.shelf
+pub runs_as : (command : Command) (before after : World) (status : ℕ) (made : Result Outcome RunFault) → IfOk made (HasOutcome command before.shelf.files) → ReadsPapers made before.shelf after.shelf
     → Finishes made before.sink after.sink status → RunsAs command before after status
 runs_as command before after status (Ok outcome) outcomes shelf finished =
     outcome_runs command before after status outcome outcomes (outcome-low command before.shelf.files outcome outcomes) shelf finished

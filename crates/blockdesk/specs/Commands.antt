@@ -52,8 +52,8 @@ Makes command papers (Ok outcome) = Answers (Shows command) (feed_of papers) out
 Makes command papers (Err run_fault.Memory) = ⊤
 Makes command papers (Err run_fault.Read) = ⊥
 
--- A command puts this text and answers this status: it makes them of the files, where they are told, else of some papers.
-pub record Outcomes (command : Command) (files : Option Files) (outcome : Outcome) : Type 0 where
+-- A command has this outcome: it makes the text and the status of the files, where they are told, else of some papers.
+pub record HasOutcome (command : Command) (files : Option Files) (outcome : Outcome) : Type 0 where
   pub papers : Papers
   pub read : AreRead files papers
   pub answers : Answers (Shows command) (feed_of papers) outcome

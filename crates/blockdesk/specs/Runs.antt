@@ -2,7 +2,7 @@
 use Rattle.std.specs.Prelude.{◌≡◌, ◌⊎◌, ℕ, ◌≤◌, List, [], ◌∷◌, ◌++◌, codes, Option, None, Some, Result, Ok, Err}
 use Rattle.desk_io.specs.Shelf.{Files, ReadFailed}
 use Rattle.desk_io.specs.Sink.{SinkState, put_bytes, PutsFront}
-use Rattle.blockdesk.specs.Commands.{Outcomes}
+use Rattle.blockdesk.specs.Commands.{HasOutcome}
 use Rattle.blockdesk.specs.World.{World}
 use Rattle.blockdesk.specs.declared.command.Command.{Command}
 use Rattle.blockdesk.specs.declared.outcome.Outcome.{Outcome}
@@ -24,10 +24,10 @@ pub record IsUnread (before after : World) : Type 0 where
   pub shelf : ReadFailed before.shelf after.shelf
   pub sink : after.sink ≡ before.sink
 
--- the one outcome of a command that a run puts, whole or cut short
+-- the one outcome of a command that a run puts, whole or cut short; text and status are of one and the same
 pub record Chosen (command : Command) (files : Option Files) : Type 0 where
   pub outcome : Outcome
-  pub outcomes : Outcomes command files outcome
+  pub outcomes : HasOutcome command files outcome
 
 -- the line that is put for words of no form, with its line feed
 abbrev pub usage_line : List ℕ
@@ -50,6 +50,7 @@ abbrev pub IsRunBy : Option Command → World → World → ℕ → Type 0
 IsRunBy None before after status = IsUsage before after status
 IsRunBy (Some command) before after status = RunsAs command before after status
 
+-- the same as a record, so that a proof finds of which command, worlds and status it speaks
 pub record IsRun (command : Option Command) (before after : World) (status : ℕ) : Type 0 where
   pub how : IsRunBy command before after status
 

@@ -1,6 +1,6 @@
 ghost use Rattle.std.specs.Prelude.{◌≡◌, ℕ, List, IfOk};
 ghost use Rattle.blockdesk.specs.declared.command.Command.{Command as Asked};
-ghost use Rattle.blockdesk.specs.Commands.{Shows, Makes, Outcomes};
+ghost use Rattle.blockdesk.specs.Commands.{Shows, Makes, HasOutcome};
 ghost use Rattle.blockdesk.specs.Feed.{IsFeed};
 ghost use Rattle.blockdesk.specs.Papers.{HaveSizes, ReadsPapers};
 ghost use Rattle.blockdesk.specs.Runs.{RunsAs};
@@ -60,7 +60,7 @@ fn make<C: Show, S: Shelf, L: Ledger>(
     shelf: &mut S,
     steps: &mut Steps<L>,
 ) -> Result<Outcome, RunFault>
-    ensures outcomes { IfOk result (Outcomes (C.command show.now) (S.state shelf.old).files) }
+    ensures outcomes { IfOk result (HasOutcome (C.command show.now) (S.state shelf.old).files) }
     ensures state { ReadsPapers result (S.state shelf.old) (S.state shelf.new) }
 {
     let papers = read_papers(alloc, shelf)?;

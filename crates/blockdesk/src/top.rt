@@ -26,7 +26,7 @@ fn run_command<S: Shelf, O: Sink, L: Ledger>(
     }
 }
 
-// The run by the command that the words name.
+// The run by the command that the words name, apart from `run`, whose other two clauses follow from this one.
 fn run_words<S: Shelf, O: Sink, L: Ledger>(
     alloc: Global,
     words: &[Text],

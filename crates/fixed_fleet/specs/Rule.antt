@@ -5,7 +5,7 @@ use Rattle.trip_model.specs.Order.{by_departure}
 use Rattle.trip_model.specs.Plain.{move_at, meets}
 use Rattle.trip_model.specs.declared.trip.Move.{Move}
 
--- the vehicle of i is free, as no next trip was found for it yet, and stands where j begins when it departs
+-- the vehicle of i is free, as no next trip was found for it yet, and stands where j begins when j departs
 abbrev pub may_precede : List (Option Move) → List (Option ℕ) → ℕ → ℕ → Bool
 may_precede moves links j i = is_none (next_of links i) && meets (move_at moves i) (move_at moves j)
 
@@ -14,12 +14,12 @@ abbrev pub minute_arrived : Option Move → ℕ
 minute_arrived None = 0
 minute_arrived (Some m) = m.arrives
 
--- the trip of i ends before that of the other slot, where there is one
+-- the trip of i ends before that of the other slot; true where there is none yet
 abbrev pub ends_before : List (Option Move) → ℕ → Option ℕ → Bool
 ends_before moves i None = true
 ends_before moves i (Some other) = nat_lt (minute_arrived (move_at moves i)) (minute_arrived (move_at moves other))
 
--- the better forerunner of j: i, where it may precede j and ends before the best so far, and else that
+-- the better forerunner of j: i, where it may precede j and ends before the best so far; else the best so far
 abbrev pub better : List (Option Move) → List (Option ℕ) → ℕ → ℕ → Option ℕ → Option ℕ
 better moves links j i best = if may_precede moves links j i && ends_before moves i best then Some i else best
 
@@ -41,8 +41,8 @@ with_link links (Some i) j = slice_set links i (Some j)
 unfoldable pub first_in_first_out : List (Option Move) → List (Option ℕ)
 first_in_first_out moves = fold (λ links j. with_link links (forerunner moves links j) j) (replicate (length moves) None) (by_departure moves)
 
--- what a forerunner is: of the slots that may precede j none ends before it, nor together with it and has a lesser number;
--- and there is none only where no slot may precede j
+-- what a forerunner is: no slot that may precede j ends before it, and none that ends together with it has a lesser
+-- number; and there is none only where no slot may precede j
 abbrev pub IsForerunner : List (Option Move) → List (Option ℕ) → ℕ → Option ℕ → Type 0
 IsForerunner moves links j None = (h : ℕ) → h < length moves → may_precede moves links j h ≡ true → ⊥
 IsForerunner moves links j (Some i) =

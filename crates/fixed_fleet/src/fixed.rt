@@ -14,7 +14,7 @@ use std::alloc::Global;
 use trip_model::laws::plain_law;
 use trip_model::{Links, Timetable, by_departure};
 
-// Whether the vehicle of a slot is free, and stands where the trip of another begins when that departs.
+// Whether the vehicle of the slot `other` is free, and stands where the trip of `slot` begins when that departs.
 fn may_precede(timetable: &Timetable, links: &Links, slot: u16, other: u16) -> bool
     requires links { length links.now ≡ length timetable.now.slots }
     requires slot { slot < length timetable.now.slots }
@@ -31,7 +31,7 @@ fn may_precede(timetable: &Timetable, links: &Links, slot: u16, other: u16) -> b
         && before.ends <= trip.departs
 }
 
-// Whether the trip of a slot ends before the best so far, where there is one.
+// Whether the trip of a slot ends before the best so far; true where there is none yet.
 fn ends_before(timetable: &Timetable, slot: u16, best: Option<u16>) -> bool
     requires slot { slot < length timetable.now.slots }
     requires live { (slot_at timetable.now slot).trip.live ≡ true }
@@ -69,7 +69,7 @@ fn better(
     best
 }
 
-// The slot after which the trip of another is made, where there is one.
+// The slot after which the trip of a slot is made, where there is one.
 fn forerunner(timetable: &Timetable, links: &Links, slot: u16) -> Option<u16>
     requires links { length links.now ≡ length timetable.now.slots }
     requires slot { slot < length timetable.now.slots }
@@ -84,9 +84,10 @@ fn forerunner(timetable: &Timetable, links: &Links, slot: u16) -> Option<u16>
     best
 }
 
-/// Links the trips that run first in, first out. They are taken by departure, then by slot; each follows on that trip
-/// which ends at its first place at or before its departure, has no next trip yet and has ended first, and of those that
-/// ended together on the one with the least slot; where there is none it begins a block. It compares each two trips once.
+/// Links the trips that run first in, first out. They are taken by departure, then by slot; each follows on the trip that
+/// ends where it begins, at or before its departure, has no next trip yet and has ended first; of those that ended
+/// together on the one of the least slot; where there is none it begins a block. For each trip that runs it looks at every
+/// slot once.
 pub fn fixed_links(alloc: Global, timetable: &Timetable) -> Result<Links, Memory>
     ensures rule { IfOk result (λ links. links ≡ rule.first_in_first_out (trip_moves timetable.now.slots)) }
     ensures slots { IfOk result (λ links. length links ≡ length timetable.now.slots) }
