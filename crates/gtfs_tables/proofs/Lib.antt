@@ -3,3 +3,4 @@ pub mod CsvRecords
 pub mod Fields
 pub mod Body
 pub mod Digits
+pub mod ReadingLemmas

@@ -1,6 +1,7 @@
 pub mod Spaces
 pub mod Times
 pub mod Numbers
+pub mod Reading
 pub mod Records
 pub mod Rows
 pub mod Table

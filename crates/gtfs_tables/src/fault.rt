@@ -1,32 +1,136 @@
-ghost use Rattle.std.specs.Prelude.{◌≡◌, ◌≢◌, IfOk};
-ghost use Rattle.gtfs_tables.specs.Faults.{fault_text_of, feed_line_of};
+ghost use Rattle.std.specs.Prelude.{◌≡◌, ◌≢◌, IfOk, string_bytes};
+ghost use Rattle.gtfs_tables.specs.Faults.{record_text_of, trip_text_of, fault_text_of, feed_line_of};
 
-use crate::Paper;
+use crate::{Column, Paper};
 use desk_io::{Memory, Text};
 use std::alloc::{AllocError, AllocFailed, Global};
 
-/// Why the files of a feed are refused.
+/// Why the files of a feed are refused. Records are counted from 1 after the header.
 #[derive(Debug, Drop)]
 pub enum FeedFault {
     /// The file is not there.
     Missing(Paper),
+    /// The file has more bytes than may be read.
+    TooLong(Paper),
+    /// The table has no record.
+    NoHeader(Paper),
+    /// The record has more fields than the header.
+    RowTooLong(Paper, u32),
+    /// The header does not name the column.
+    NoColumn(Paper, Column),
+    /// The field is not UTF-8.
+    NotUtf8(Paper, u32, Column),
+    /// The field must not be empty, and is.
+    EmptyField(Paper, u32, Column),
+    /// The number is not of its form, or out of its range.
+    BadNumber(Paper, u32, Column),
+    /// The time is not of its form.
+    BadTime(Paper, u32, Column),
+    /// The record's key stands in an earlier record.
+    DuplicateRow(Paper, u32),
+    /// The settings are no TOML.
+    NotToml,
+    /// The key of the settings is unknown, or its value not of its form.
+    BadSettings(Text),
+    /// The record of a deadhead has one terminal twice.
+    SameTerminal(u32),
+    /// The record of `trips.txt` is selected when there are as many trips as there may be.
+    TooManyTrips(u32),
+    /// A place is met in the file when there are as many as there may be.
+    TooManyPlaces(Paper),
+    /// The trip has fewer than two stops.
+    TooFewStops(Text),
+    /// Two stops of the trip have one number.
+    DuplicateSequence(Text),
+    /// The first or the last stop of the trip has no time.
+    NoTime(Text),
+    /// The trip does not arrive after it departs.
+    NotForward(Text),
     /// The file is there, and this version does not read it.
     NotYet(Paper),
     /// No memory was found.
     Memory,
 }
 
-// What is printed of a refused file.
-fn fault_text(alloc: Global, fault: &FeedFault) -> Result<Text, AllocError>
-    requires { fault.now ≢ FeedFault.Memory }
-    ensures { IfOk result (λ text. text ≡ fault_text_of fault.now) }
+// What is printed of a record.
+fn record_text(alloc: Global, paper: Paper, number: u32, what: &str) -> Result<String, AllocError>
+    ensures { IfOk result (λ text. string_bytes text ≡ record_text_of paper number what.now) }
 {
-    let text = match fault {
-        FeedFault::Missing(paper) => format!(in alloc; "{}: missing", paper.file_name())?,
-        FeedFault::NotYet(paper) => format!(in alloc; "{}: not read yet", paper.file_name())?,
+    format!(in alloc; "{} record {number}: {what}", paper.file_name())
+}
+
+// What is printed of a trip.
+fn trip_text(alloc: Global, trip: &Text, what: &str) -> Result<String, AllocError>
+    ensures { IfOk result (λ text. string_bytes text ≡ trip_text_of trip.now what.now) }
+{
+    format!(in alloc; "stop_times.txt: trip {} {what}", trip.as_str())
+}
+
+// What is printed of a refused file.
+fn fault_text(alloc: Global, fault: &FeedFault) -> Result<String, AllocError>
+    requires { fault.now ≢ FeedFault.Memory }
+    ensures { IfOk result (λ text. string_bytes text ≡ fault_text_of fault.now) }
+{
+    match fault {
+        FeedFault::Missing(paper) => format!(in alloc; "{}: missing", paper.file_name()),
+        FeedFault::TooLong(paper) => format!(in alloc; "{}: too long", paper.file_name()),
+        FeedFault::NoHeader(paper) => format!(in alloc; "{}: no header", paper.file_name()),
+        FeedFault::NoColumn(paper, column) => {
+            format!(in alloc; "{}: no column {}", paper.file_name(), column.name())
+        }
+        FeedFault::TooManyPlaces(paper) => format!(in alloc;
+            "{}: too many places",
+            paper.file_name()
+        ),
+        FeedFault::NotYet(paper) => format!(in alloc; "{}: not read yet", paper.file_name()),
+        FeedFault::NotToml => format!(in alloc; "desk.toml: not TOML"),
+        FeedFault::BadSettings(key) => format!(in alloc; "desk.toml: bad {}", key.as_str()),
+        FeedFault::TooFewStops(trip) => trip_text(alloc, trip, "has too few stops"),
+        FeedFault::DuplicateSequence(trip) => trip_text(alloc, trip, "has a sequence twice"),
+        FeedFault::NoTime(trip) => trip_text(alloc, trip, "has no time at an end"),
+        FeedFault::NotForward(trip) => trip_text(alloc, trip, "not forward"),
+        FeedFault::RowTooLong(paper, number) => record_text(
+            alloc,
+            *paper,
+            *number,
+            "too many fields",
+        ),
+        FeedFault::DuplicateRow(paper, number) => record_text(alloc, *paper, *number, "duplicate"),
+        FeedFault::SameTerminal(number) => record_text(
+            alloc,
+            Paper::Deadheads,
+            *number,
+            "same terminal",
+        ),
+        FeedFault::TooManyTrips(number) => record_text(
+            alloc,
+            Paper::Trips,
+            *number,
+            "too many trips",
+        ),
+        FeedFault::NotUtf8(paper, number, column) => {
+            format!(in alloc;
+                "{} record {number}: {} not UTF-8",
+                paper.file_name(),
+                column.name()
+            )
+        }
+        FeedFault::EmptyField(paper, number, column) => {
+            format!(in alloc;
+                "{} record {number}: empty {}",
+                paper.file_name(),
+                column.name()
+            )
+        }
+        FeedFault::BadNumber(paper, number, column) | FeedFault::BadTime(paper, number, column) => {
+            format!(in alloc;
+                "{} record {number}: bad {}",
+                paper.file_name(),
+                column.name()
+            )
+        }
         FeedFault::Memory => unreachable!(),
-    };
-    Ok(Text::wrap(text))
+    }
 }
 
 /// The line that is printed where a feed is refused, with its line feed.
@@ -35,7 +139,6 @@ pub fn feed_line(alloc: Global, fault: &FeedFault) -> Result<Text, Memory>
     ensures { IfOk result (λ line. line ≡ feed_line_of fault.now) }
 {
     let text = fault_text(alloc, fault)?;
-    let text = text.as_str();
     Ok(Text::wrap(format!(in alloc; "feed refused: {text}\n")?))
 }
 

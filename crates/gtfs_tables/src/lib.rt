@@ -3,6 +3,8 @@
 //! [`read_rows`] gives the records of a file that has no header, [`Table::read`] a header and rows of as many fields.
 //! [`read_time`], [`read_number`] and [`minute_text`] go between texts and numbers, and take spaces round a value.
 //! [`Paper`] and [`Column`] name the files and their columns, and [`feed_line`] is the line of a [`FeedFault`].
+//! [`table_in`], [`column_in`], [`text_in`], [`filled_in`], [`number_in`] and [`time_in`] read a feed's table step by step,
+//! each up to its own refusal.
 //!
 //! The contract that the crates above use: a table is the record list of its bytes, as `csv` promises to read them,
 //! or the fault that is due, or there was no memory for it; a time and a number are the values of their grammars.
@@ -18,12 +20,13 @@
 //!
 //! The contracts cite `Records` (the records of a file), `Rows` and `Table` (padding, the table or its fault, the place
 //! of a column), `Times` and `Numbers` (the grammars, the rounding to minutes), `Spaces`, `Papers` and `Faults` (the
-//! printed names and lines).
+//! printed names and lines), and `Reading` (reading one part after another up to the first refusal).
 #![tactic(auto)]
 
 mod fault;
 mod numbers;
 mod paper;
+mod reading;
 mod records;
 mod row;
 mod spaces;
@@ -33,6 +36,7 @@ mod times;
 pub use fault::{FeedFault, feed_line};
 pub use numbers::read_number;
 pub use paper::{Column, Paper};
+pub use reading::{column_in, filled_in, number_in, table_in, text_in, time_in};
 pub use records::read_rows;
 pub use row::Row;
 pub use table::{Table, TableFault};

@@ -1,7 +1,9 @@
 use crate::{
-    Column, FeedFault, Paper, Row, Table, TableFault, feed_line, minute_down, minute_text,
-    minute_up, read_number, read_rows, read_time,
+    Column, FeedFault, Paper, Row, Table, TableFault, column_in, feed_line, filled_in, minute_down,
+    minute_text, minute_up, number_in, read_number, read_rows, read_time, table_in, text_in,
+    time_in,
 };
+use desk_io::{Bytes, Found};
 use std::alloc::{AllocError, Global};
 use std::test::Fail;
 
@@ -200,5 +202,47 @@ fn small_texts(rt: HostRuntime) -> Result<(), Fail> {
     );
     assert_eq!(rt; Column::BlockId.name(), "block_id");
     assert_eq!(rt; Column::Other.name(), "field");
+    Ok(())
+}
+
+#[test]
+fn fields_are_read_step_by_step(rt: HostRuntime) -> Result<(), Fail> {
+    let alloc = rt.alloc();
+    let paper = Paper::Tolerances;
+    let file = Found::File(Bytes::of(alloc, b"late,trip_id\n 07 ,N1\n")?);
+    let table = table_in(alloc, paper, &file).ok();
+    let columns = table.as_ref().map(|t| {
+        (
+            column_in(paper, Column::TripId, t).ok(),
+            column_in(paper, Column::Early, t).ok(),
+        )
+    });
+    assert_eq!(rt; columns, Some((Some(1), None)));
+    assert!(rt; table_in(alloc, paper, &Found::Missing).is_err());
+    assert!(rt; table_in(alloc, paper, &Found::TooLong).is_err());
+    let field = |bytes| text_in(paper, 1, Column::TripId, bytes).ok();
+    assert_eq!(rt; field(b"N1"), Some("N1"));
+    assert_eq!(rt; field(b"\xff"), None);
+    let filled = |text| filled_in(paper, 1, Column::TripId, text).ok();
+    assert_eq!(rt; filled("N1"), Some("N1"));
+    assert_eq!(rt; filled(""), None);
+    let late = |text| number_in(paper, 1, Column::Late, 2, 60, text).ok();
+    for (text, value) in [
+        (" 07 ", Some(7)),
+        ("60", Some(60)),
+        ("61", None),
+        ("007", None),
+    ] {
+        assert_eq!(rt; late(text), value, "{text}");
+    }
+    let arrival = |text| time_in(Paper::StopTimes, 1, Column::ArrivalTime, text).ok();
+    for (text, seconds) in [
+        (" 6:00:01 ", Some(Some(21601))),
+        ("", Some(None)),
+        ("  ", Some(None)),
+        ("6:5:00", None),
+    ] {
+        assert_eq!(rt; arrival(text), seconds, "{text}");
+    }
     Ok(())
 }

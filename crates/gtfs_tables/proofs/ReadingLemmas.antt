@@ -1,0 +1,50 @@
+-- What the bytes of a field are read as, and the reading of records one after the other, as a loop does it.
+use Rattle.std.proofs.Common.{◌≡◌, ℕ, ◌+◌, ◌-◌, ◌<◌, cond, List, [], length, get_or, drop, Result, Ok, Err, sym, ap, subst, ◌∙◌, arith, add-one}
+use Rattle.std.specs.Str.{IsUtf8, is_utf8}
+use Rattle.std.proofs.Math.Seq.{drop-cons}
+use Rattle.std.proofs.lemmas.Bool.{false_from_ne_true}
+use Rattle.std.proofs.lemmas.Str.{IsUtf8-from_is_utf8, is_utf8-from_IsUtf8}
+use Rattle.gtfs_tables.specs.declared.fault.FeedFault.{FeedFault}
+use Rattle.gtfs_tables.specs.declared.fault.FeedFault.TheVariants as fault
+use Rattle.gtfs_tables.specs.declared.paper.Paper.{Paper}
+use Rattle.gtfs_tables.specs.declared.paper.Column.{Column}
+use Rattle.gtfs_tables.specs.Reading.{◌>>=◌, Fails, text_in, each_record}
+
+pub text_in-utf8 : (paper : Paper) (number : ℕ) (column : Column) (bytes : List ℕ) → IsUtf8 bytes → text_in paper number column bytes ≡ Ok bytes
+text_in-utf8 paper number column bytes is = ap (λ b. cond b (Ok bytes) (Err (fault.NotUtf8 paper number column))) (is_utf8-from_IsUtf8 bytes is)
+
+pub text_in-other : (paper : Paper) (number : ℕ) (column : Column) (bytes : List ℕ) → ¬ IsUtf8 bytes → text_in paper number column bytes ≡ Err (fault.NotUtf8 paper number column)
+text_in-other paper number column bytes is_not =
+    ap (λ b. cond b (Ok bytes) (Err (fault.NotUtf8 paper number column))) (false_from_ne_true (is_utf8 bytes) (λ is. is_not (IsUtf8-from_is_utf8 bytes is)))
+
+-- what was refused is refused with all that follows
+pub Fails->>= : {A B : Type 0} (refused : FeedFault) (read : Result A FeedFault) (next : A → Result B FeedFault) → Fails refused read → Fails refused (read >>= next)
+Fails->>= fault.Memory read next due = tt
+Fails->>= refused read next due = ap (λ r. r >>= next) due
+
+-- equal readings refuse alike
+pub Fails-equal : {A : Type 0} (refused : FeedFault) (read other : Result A FeedFault) → read ≡ other → Fails refused read → Fails refused other
+Fails-equal refused read other same due = subst (λ r. Fails refused r) same due
+
+module _ {A X : Type 0} (read : ℕ → A → List X → Result A FeedFault) (rows : List (List X)) where
+  -- the next record's part in the reading of all that are left
+  records_next : (number : ℕ) (before : A) (fields : List X) (r : ℕ) → r < length rows → fields ≡ get_or rows (r + 1 - 1) []
+      → each_record read number before (drop r rows) ≡ (read number before fields >>= λ more. each_record read (number + 1) more (drop (r + 1) rows))
+  records_next number before fields r lt at =
+      let back : r + 1 - 1 ≡ r = omega arith in
+      ap (each_record read number before) (drop-cons rows r [] lt)
+      ∙ ap (λ n. read number before (get_or rows r []) >>= λ more. each_record read (number + 1) more (drop n rows)) (sym (add-one r))
+      ∙ ap (λ fields. read number before fields >>= λ more. each_record read (number + 1) more (drop (r + 1) rows)) (sym (at ∙ ap (λ n. get_or rows n []) back))
+
+  -- a record was read
+  pub records_go_on : (number : ℕ) (before after : A) (fields : List X) (r : ℕ) (all : Result A FeedFault) → r < length rows → fields ≡ get_or rows (r + 1 - 1) []
+      → read number before fields ≡ Ok after → each_record read number before (drop r rows) ≡ all → each_record read (number + 1) after (drop (r + 1) rows) ≡ all
+  records_go_on number before after fields r all lt at is so_far =
+      sym (ap (λ step. step >>= λ more. each_record read (number + 1) more (drop (r + 1) rows)) is) ∙ sym (records_next number before fields r lt at) ∙ so_far
+
+  -- a record was refused
+  pub records_end : (number : ℕ) (before : A) (fields : List X) (r : ℕ) (refused : FeedFault) (all : Result A FeedFault) → r < length rows → fields ≡ get_or rows (r + 1 - 1) []
+      → Fails refused (read number before fields) → each_record read number before (drop r rows) ≡ all → Fails refused all
+  records_end number before fields r refused all lt at due so_far =
+      Fails-equal refused _ all (sym (records_next number before fields r lt at) ∙ so_far)
+      (Fails->>= refused (read number before fields) (λ more. each_record read (number + 1) more (drop (r + 1) rows)) due)
