@@ -1,0 +1,85 @@
+-- What `desk.toml` says. The members of its table stand in the byte order of their keys.
+use Rattle.std.specs.Prelude.{◌≡◌, ℕ, true, ⊤, ◌++◌, ℤ, pos, List, [], ◌∷◌, length, nat_le, Option, Some, None, option_map, option_and_then, Result, Ok, Err, codes, if◌then◌else◌}
+use Rattle.std.specs.Option.{ok_or}
+use Rattle.std.specs.Str.{is_utf8, bytes_eq}
+use Rattle.desk_io.specs.declared.shelf.Found.{Found}
+use Rattle.desk_io.specs.declared.shelf.Found.TheVariants.{File, Missing, TooLong}
+use Rattle.gtfs_tables.specs.declared.fault.FeedFault.{FeedFault}
+use Rattle.gtfs_tables.specs.declared.fault.FeedFault.TheVariants as fault
+use Rattle.gtfs_tables.specs.declared.paper.Paper.TheVariants as paper
+use Rattle.gtfs_tables.specs.Reading.{◌>>=◌, provided}
+use Rattle.toml.specs.Data.{Data, Items, no_items, item, Members, no_members, member, is_before, as_integer, as_str, as_array, as_table}
+use Rattle.toml.specs.Parse.{parse_document}
+use Rattle.desk_settings.specs.Entries.{Name, Entries}
+use Rattle.desk_settings.specs.Names.{with_name}
+use Rattle.desk_settings.specs.declared.desk.Desk.{Desk}
+
+-- an integer from 0 to `most`
+abbrev pub count_from : ℕ → Option ℤ → Option ℕ
+count_from most (Some (pos count)) = if nat_le count most then Some count else None
+count_from most other = None
+
+-- a value that is an integer from 0 to `most`
+abbrev pub minutes_in : ℕ → Data → Option ℕ
+minutes_in most value = count_from most (as_integer value)
+
+-- a text of at most 32 bytes
+abbrev pub short_text : List ℕ → Option (List ℕ)
+short_text text = if nat_le (length text) 32 then Some text else None
+
+-- a value that is a string of at most 32 bytes
+abbrev pub prefix_in : Data → Option (List ℕ)
+prefix_in value = option_and_then short_text (as_str value)
+
+-- the strings of a list, each where it first stands, after the names before them
+abbrev pub names_from : List Name → Items → Option (List Name)
+names_from before no_items = Some before
+names_from before (item value rest) = option_and_then (λ name. names_from (with_name before name) rest) (as_str value)
+
+-- a value that is a list of strings
+abbrev pub names_in : Data → Option (List Name)
+names_in value = option_and_then (names_from []) (as_array value)
+
+-- the places of a table with their minutes, each an integer from 0 to 240, after those before them
+abbrev pub layovers_from : Entries ℕ → Members → Option (Entries ℕ)
+layovers_from before no_members = Some before
+layovers_from before (member place value rest) = option_and_then (λ minutes. layovers_from (before ++ (place, minutes) ∷ []) rest) (minutes_in 240 value)
+
+-- a value that is a table from places to minutes
+abbrev pub layovers_in : Data → Option (Entries ℕ)
+layovers_in value = option_and_then (layovers_from []) (as_table value)
+
+-- what holds where `desk.toml` does not say otherwise
+abbrev pub standard_desk : Desk
+standard_desk = record { services = None; layover = 0; layovers = []; early = 0; late = 0; prefix = codes "B" }
+
+-- the keys of members ascend in byte order
+abbrev pub Ascend : Members → Type 0
+Ascend no_members = ⊤
+Ascend (member key value rest) = (is_before key rest ≡ true) × Ascend rest
+
+-- what the desk says with this key and its value; nothing where the key is unknown or its value of another form
+unfoldable pub with_key : Desk → Name → Data → Option Desk
+with_key desk key value =
+    if bytes_eq key (codes "services") then option_map (λ names. record desk { services = Some names }) (names_in value)
+    else if bytes_eq key (codes "layover") then option_map (λ minutes. record desk { layover = minutes }) (minutes_in 240 value)
+    else if bytes_eq key (codes "layovers") then option_map (λ layovers. record desk { layovers = layovers }) (layovers_in value)
+    else if bytes_eq key (codes "early") then option_map (λ minutes. record desk { early = minutes }) (minutes_in 60 value)
+    else if bytes_eq key (codes "late") then option_map (λ minutes. record desk { late = minutes }) (minutes_in 60 value)
+    else if bytes_eq key (codes "block_prefix") then option_map (λ prefix. record desk { prefix = prefix }) (prefix_in value)
+    else None
+
+-- the keys one after the other, up to the first that is unknown or has a value of another form
+abbrev pub desk_from : Desk → Members → Result Desk FeedFault
+desk_from desk no_members = Ok desk
+desk_from desk (member key value rest) = ok_or (with_key desk key value) (fault.BadSettings key) >>= λ more. desk_from more rest
+
+-- the table of a TOML document, of whose bytes one leading byte-order mark is taken off
+unfoldable pub document_in : List ℕ → Result Members FeedFault
+document_in bytes = provided (is_utf8 bytes) fault.NotToml (ok_or (parse_document bytes) fault.NotToml)
+
+-- what the file says; without one the standard holds
+abbrev pub desk_of : Found → Result Desk FeedFault
+desk_of Missing = Ok standard_desk
+desk_of TooLong = Err (fault.TooLong paper.Settings)
+desk_of (File bytes) = document_in bytes >>= desk_from standard_desk

@@ -1,0 +1,13 @@
+-- A list of names without repeats.
+use Rattle.std.specs.Prelude.{Bool, List, [], ◌∷◌, ◌++◌, if◌then◌else◌}
+use Rattle.std.specs.List.{list_any}
+use Rattle.std.specs.Str.{bytes_eq}
+use Rattle.desk_settings.specs.Entries.{Name}
+
+-- whether the name is one of the names
+abbrev pub is_among : Name → List Name → Bool
+is_among name names = list_any (bytes_eq name) names
+
+-- the names, and this one at the end if it is new
+abbrev pub with_name : List Name → Name → List Name
+with_name names name = if is_among name names then names else names ++ name ∷ []

@@ -1,0 +1,65 @@
+-- The settings of a desk, read from three files, and what they answer.
+use Rattle.std.specs.Prelude.{ℕ, Bool, true, List, Option, None, Some, Result, Ok, unwrap_or}
+use Rattle.desk_io.specs.declared.shelf.Found.{Found}
+use Rattle.gtfs_tables.specs.declared.fault.FeedFault.{FeedFault}
+use Rattle.gtfs_tables.specs.Reading.{◌>>=◌}
+use Rattle.desk_settings.specs.Entries.{Name, Entries, value_of}
+use Rattle.desk_settings.specs.Names.{is_among}
+use Rattle.desk_settings.specs.Desk.{desk_of}
+use Rattle.desk_settings.specs.Terminals.{terminals_of}
+use Rattle.desk_settings.specs.Tolerances.{tolerances_of}
+use Rattle.desk_settings.specs.declared.desk.Desk.{Desk}
+
+-- the services that are selected, None where all are; minutes of layover, and those of places; minutes of tolerance;
+-- what the names of blocks begin with; the terminals of stops; the tolerances of trips, early before late
+pub record SettingsView : Type 0 where
+  pub services : Option (List (List ℕ))
+  pub layover : ℕ
+  pub layovers : List (List ℕ × ℕ)
+  pub early : ℕ
+  pub late : ℕ
+  pub prefix : List ℕ
+  pub terminals : List (List ℕ × List ℕ)
+  pub tolerances : List (List ℕ × (ℕ × ℕ))
+
+-- the settings of a desk with its terminals and tolerances
+abbrev pub settings_with : Desk → Entries Name → Entries (ℕ × ℕ) → SettingsView
+settings_with desk terminals tolerances = record {
+  services = desk.services;
+  layover = desk.layover;
+  layovers = desk.layovers;
+  early = desk.early;
+  late = desk.late;
+  prefix = desk.prefix;
+  terminals = terminals;
+  tolerances = tolerances;
+}
+
+-- the settings of `desk.toml`, `terminals.csv` and `tolerances.csv`, judged in this order
+unfoldable pub settings_of : Found → Found → Found → Result SettingsView FeedFault
+settings_of desk_found terminals_found tolerances_found = do
+  desk ← desk_of desk_found
+  terminals ← terminals_of terminals_found
+  tolerances ← tolerances_of tolerances_found
+  Ok (settings_with desk terminals tolerances)
+
+-- whether a service is one of those named
+abbrev pub is_in : Option (List Name) → Name → Bool
+is_in None service = true
+is_in (Some services) service = is_among service services
+
+-- whether the trips of a service are selected
+abbrev pub is_chosen : SettingsView → Name → Bool
+is_chosen settings service = is_in settings.services service
+
+-- the layover of a place
+abbrev pub layover_at : SettingsView → Name → ℕ
+layover_at settings place = unwrap_or (value_of place settings.layovers) settings.layover
+
+-- the terminal of a stop
+abbrev pub terminal_of : SettingsView → Name → Name
+terminal_of settings stop = unwrap_or (value_of stop settings.terminals) stop
+
+-- the tolerances of a trip, early before late
+abbrev pub tolerance_of : SettingsView → Name → ℕ × ℕ
+tolerance_of settings trip = unwrap_or (value_of trip settings.tolerances) (settings.early, settings.late)

@@ -1,0 +1,184 @@
+ghost use Rattle.std.specs.Prelude.{◌≡◌, ◌⊎◌, ℕ, ◌≤◌, [], List, Ok, Err, IfOk, IfSome, option_map};
+ghost use Rattle.std.specs.Option.{ok_or};
+ghost use Rattle.desk_io.specs.Shelf.{FitsIn};
+ghost use Rattle.gtfs_tables.specs.Reading.{Gives};
+ghost use Rattle.toml.specs.Data.{Members};
+ghost use Rattle.toml.specs.View.{view, items_view, table_view};
+ghost use Rattle.desk_settings.specs.Desk as spec;
+
+use crate::entries::Entries;
+use crate::minutes::{Layover, Tolerance};
+use crate::names::Names;
+use desk_io::{Found, Memory, Text};
+use gtfs_tables::{FeedFault, Paper};
+use std::alloc::Global;
+use toml::{Table, Value};
+
+/// What `desk.toml` says.
+#[derive(Drop)]
+pub(crate) struct Desk {
+    /// The services whose trips are selected; None where all are.
+    pub(crate) services: Option<Names>,
+    /// How long a vehicle stays after a trip where `layovers` does not name the place.
+    pub(crate) layover: Layover,
+    /// How long a vehicle stays at these places.
+    pub(crate) layovers: Entries<Layover>,
+    /// By how much a trip may be moved before its published times.
+    pub(crate) early: Tolerance,
+    /// By how much a trip may be moved after its published times.
+    pub(crate) late: Tolerance,
+    /// What the names of blocks begin with.
+    pub(crate) prefix: Text,
+}
+
+// An integer from 0 to `most`.
+fn minutes_in(value: &Value, most: u16) -> Option<u16>
+    ensures value { result ≡ spec.minutes_in most (view value.now) }
+    ensures within { IfSome result (λ minutes. minutes ≤ most) }
+{
+    match value.as_integer() {
+        Some(minutes) if minutes >= 0 && minutes <= i64::from(most) => Some(minutes as u16),
+        _ => None,
+    }
+}
+
+// A string of at most 32 bytes.
+fn prefix_in(value: &Value) -> Option<&str>
+    ensures { option_map (λ text. text.now) result ≡ spec.prefix_in (view value.now) }
+{
+    match value.as_str() {
+        Some(text) if text.len() <= 32 => Some(text),
+        _ => None,
+    }
+}
+
+// The strings of a list, each where it first stands; None where an item is no string.
+fn names_from(alloc: Global, items: &[Value]) -> Result<Option<Names>, Memory>
+    ensures { IfOk result (λ names. names ≡ spec.names_from [] (items_view items.now)) }
+{
+    let mut names = Names::new(alloc);
+    for item in items {
+        let Some(name) = item.as_str() else {
+            return Ok(None);
+        };
+        names.add(name)?;
+    }
+    Ok(Some(names))
+}
+
+// A list of strings.
+fn names_in(alloc: Global, value: &Value) -> Result<Option<Names>, Memory>
+    ensures { IfOk result (λ names. names ≡ spec.names_in (view value.now)) }
+{
+    match value.as_array() {
+        Some(items) => names_from(alloc, items),
+        None => Ok(None),
+    }
+}
+
+// The places of a table with their minutes; None where a value is no integer from 0 to 240.
+fn layovers_from(alloc: Global, table: &Table) -> Result<Option<Entries<Layover>>, Memory>
+    ensures { IfOk result (λ layovers. layovers ≡ spec.layovers_from [] (table_view table.now)) }
+{
+    let mut layovers = Entries::new(alloc);
+    for (place, value) in table.iter() {
+        let Some(minutes) = minutes_in(value, 240) else {
+            return Ok(None);
+        };
+        layovers.push(place.as_str(), Layover::of(minutes))?;
+    }
+    Ok(Some(layovers))
+}
+
+// A table from places to minutes.
+fn layovers_in(alloc: Global, value: &Value) -> Result<Option<Entries<Layover>>, Memory>
+    ensures { IfOk result (λ layovers. layovers ≡ spec.layovers_in (view value.now)) }
+{
+    match value.as_table() {
+        Some(table) => layovers_from(alloc, table),
+        None => Ok(None),
+    }
+}
+
+impl Desk {
+    // What holds where `desk.toml` does not say otherwise.
+    fn standard(alloc: Global) -> Result<Desk, Memory>
+        ensures { IfOk result (λ desk. desk ≡ spec.standard_desk) }
+    {
+        Ok(Desk {
+            services: None,
+            layover: Layover::of(0),
+            layovers: Entries::new(alloc),
+            early: Tolerance::of(0),
+            late: Tolerance::of(0),
+            prefix: Text::of(alloc, "B")?,
+        })
+    }
+
+    // Puts the value of a key in its place.
+    #[tactic(auto, unfolding(crate::specs::Desk::with_key))]
+    fn set(&mut self, alloc: Global, key: &str, value: &Value) -> Result<(), FeedFault>
+        ensures { Gives (λ _. self.new) result (ok_or (spec.with_key self.old key.now (view value.now)) (FeedFault.BadSettings key.now)) }
+    {
+        let bad = FeedFault::BadSettings(Text::of(alloc, key)?);
+        match key {
+            "services" => self.services = Some(names_in(alloc, value)?.ok_or(bad)?),
+            "layover" => self.layover = Layover::of(minutes_in(value, 240).ok_or(bad)?),
+            "layovers" => self.layovers = layovers_in(alloc, value)?.ok_or(bad)?,
+            "early" => self.early = Tolerance::of(minutes_in(value, 60).ok_or(bad)? as u8),
+            "late" => self.late = Tolerance::of(minutes_in(value, 60).ok_or(bad)? as u8),
+            "block_prefix" => self.prefix = Text::of(alloc, prefix_in(value).ok_or(bad)?)?,
+            _ => return Err(bad),
+        }
+        Ok(())
+    }
+
+    // Puts the values of all keys in their places, key after key in byte order.
+    fn set_all(&mut self, alloc: Global, table: &Table) -> Result<(), FeedFault>
+        ensures gives { Gives (λ _. self.new) result (spec.desk_from self.old (table_view table.now)) }
+        ensures order { spec.Ascend (table_view table.now) }
+    {
+        for (key, value) in table.iter() {
+            self.set(alloc, key.as_str(), value)?;
+        }
+        Ok(())
+    }
+}
+
+// The table of a TOML document.
+#[tactic(auto, unfolding(crate::specs::Desk::document_in))]
+fn document_in(alloc: Global, bytes: &[u8]) -> Result<Table, FeedFault>
+    ensures { Gives (λ table. table_view table) result (spec.document_in bytes.now) }
+{
+    match str::from_utf8(bytes) {
+        Ok(text) => match toml::table_from_str(alloc, text) {
+            Ok(table) => Ok(table),
+            Err(error) if error.is_memory() => Err(FeedFault::Memory),
+            Err(_) => Err(FeedFault::NotToml),
+        },
+        Err(_) => Err(FeedFault::NotToml),
+    }
+}
+
+// What the table of a document says.
+fn desk_from(alloc: Global, table: &Table) -> Result<Desk, FeedFault>
+    ensures gives { Gives (λ desk. desk) result (spec.desk_from spec.standard_desk (table_view table.now)) }
+    ensures order { (result ≡ Err FeedFault.Memory) ⊎ spec.Ascend (table_view table.now) }
+{
+    let mut desk = Desk::standard(alloc)?;
+    desk.set_all(alloc, table)?;
+    Ok(desk)
+}
+
+/// What the file says; the standard where it is not there.
+pub(crate) fn desk_of(alloc: Global, found: &Found) -> Result<Desk, FeedFault>
+    ensures gives { Gives (λ desk. desk) result (spec.desk_of found.now) }
+    ensures order { (bytes : List ℕ) (members : Members) → found.now ≡ Found.File bytes → spec.document_in bytes ≡ Ok members
+        → (result ≡ Err FeedFault.Memory) ⊎ spec.Ascend members }
+{
+    match found {
+        Found::Missing => Ok(Desk::standard(alloc)?),
+        Found::TooLong => Err(FeedFault::TooLong(Paper::Settings)),
+        Found::File(bytes) => desk_from(alloc, &document_in(alloc, bytes.as_slice())?),
+    }
+}

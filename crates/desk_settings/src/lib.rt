@@ -1,0 +1,38 @@
+//! The settings of a desk: which services are selected, layovers, tolerances, the prefix of block names, and the
+//! terminals of stops.
+//!
+//! [`Settings::read`] makes them of three files, each as it was found: `desk.toml`, `terminals.csv`, `tolerances.csv`. A
+//! file that is not there has no entries. Look-ups by name take time that hardly grows with the number of entries.
+//!
+//! [`Names`] are names without repeats, each with its number.
+//!
+//! The contract that the crates above use: the settings are a function of the three files, `settings_of`, or its first
+//! refusal; each call answers by the definition of its name, and layovers are at most 240 minutes, tolerances at most 60.
+//!
+//! ```text
+//! let settings = Settings::read(alloc, &settings, &terminals, &tolerances)?;
+//! if settings.chosen(service) {
+//!     let place = settings.terminal(stop);
+//!     let minutes = settings.layover(place);
+//!     let (early, late) = settings.tolerance(trip);
+//! }
+//! ```
+//!
+//! The contracts cite `Settings` (what the settings are seen as, and what they answer), `Desk` (the table of `desk.toml`,
+//! key after key), `Terminals` and `Tolerances` (the two tables, record after record), `Entries` (names with a value
+//! each) and `Names` (names without repeats).
+#![tactic(auto)]
+
+mod desk;
+mod entries;
+mod minutes;
+mod names;
+mod settings;
+mod terminals;
+mod tolerances;
+
+pub use names::Names;
+pub use settings::Settings;
+
+#[cfg(test)]
+mod tests;

@@ -1,0 +1,74 @@
+ghost use Rattle.std.specs.Prelude.{◌≡◌, ◌≢◌, ◌<◌, AllPairs, [], length, slice_index_or, position, IfSome, OnOk, OnErr};
+ghost use Rattle.std.specs.Str.{bytes_eq};
+ghost use Rattle.desk_settings.specs.Names.{is_among, with_name};
+
+use desk_io::Memory;
+use indexmap::IndexSet;
+use std::alloc::Global;
+use std::marker::Model;
+
+/// Names, each once, in the order in which they first stand; one is found without going over the others.
+#[derive(Drop)]
+pub struct Names {
+    set: IndexSet<String>,
+}
+
+impl Model for Names {
+    ghost use Rattle.std.specs.Prelude.{List, ℕ, map, string_bytes};
+
+    ghost Value = { List (List ℕ) };
+
+    ghost view = { λ n. map string_bytes n.set.keys };
+}
+
+impl Names {
+    /// No names.
+    pub fn new(alloc: Global) -> Names
+        ensures { result ≡ [] }
+    {
+        Names {
+            set: IndexSet::new(alloc),
+        }
+    }
+
+    /// How many names there are.
+    pub fn len(&self) -> usize
+        ensures count { result ≡ length self.now }
+        ensures distinct { AllPairs (λ x y. x ≢ y) self.now }
+    {
+        self.set.len()
+    }
+
+    /// The name of that number, from 0.
+    pub fn get(&self, number: usize) -> &str
+        requires { number < length self.now }
+        ensures { result.now ≡ slice_index_or self.now number [] }
+    {
+        self.set.get_index(number).unwrap().as_str()
+    }
+
+    /// The number of a name, from 0.
+    pub fn number(&self, name: &str) -> Option<usize>
+        ensures number { result ≡ position (bytes_eq name.now) self.now }
+        ensures within { IfSome result (λ number. number < length self.now) }
+    {
+        self.set.get_index_of(name)
+    }
+
+    /// Whether the name is one of them.
+    pub fn has(&self, name: &str) -> bool
+        ensures { result ≡ is_among name.now self.now }
+    {
+        self.set.contains(name)
+    }
+
+    /// Appends the name, if it is new.
+    pub fn add(&mut self, name: &str) -> Result<(), Memory>
+        ensures added { OnOk result (self.new ≡ with_name self.old name.now) }
+        ensures err { OnErr result (self.new ≡ self.old) }
+    {
+        let name = String::from_str(*self.set.allocator(), name)?;
+        self.set.insert(name)?;
+        Ok(())
+    }
+}
