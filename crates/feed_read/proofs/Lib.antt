@@ -1,0 +1,6 @@
+mod EndsLemmas
+mod JourneyLemmas
+mod KeptLemmas
+mod Places
+mod Slots
+mod StopsLemmas

@@ -1,0 +1,4 @@
+pub mod Trips
+pub mod Visits
+pub mod Journeys
+pub mod Base

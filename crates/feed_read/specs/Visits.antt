@@ -1,0 +1,72 @@
+-- The records of `stop_times.txt` that belong to selected trips.
+use Rattle.std.specs.Prelude.{ℕ, ◌<◌, List, [], ◌∷◌, ◌++◌, position, Option, Some, None, Result, Ok}
+use Rattle.std.specs.Str.{bytes_eq}
+use Rattle.gtfs_tables.specs.declared.fault.FeedFault.{FeedFault}
+use Rattle.gtfs_tables.specs.declared.paper.Column.TheVariants as column
+use Rattle.gtfs_tables.specs.declared.paper.Paper.TheVariants as paper
+use Rattle.gtfs_tables.specs.Reading.{◌>>=◌, column_in, field_at, text_in, filled_in, number_in, time_in, each_record}
+use Rattle.gtfs_tables.specs.Table.{TableView}
+use Rattle.desk_settings.specs.Entries.{Name}
+use Rattle.feed_read.specs.declared.visits.Columns.{Columns}
+use Rattle.feed_read.specs.declared.visit.Visit.{Visit}
+
+-- a record: the slot of its trip, its stop, its times in seconds where they are there, and its number along the trip
+pub record VisitView : Type 0 where
+  pub trip : ℕ
+  pub stop : Name
+  pub arrival : Option ℕ
+  pub departure : Option ℕ
+  pub sequence : ℕ
+
+-- what a clause sees of a visit
+abbrev pub seen : Visit → VisitView
+seen visit = record { trip = visit.trip; stop = visit.stop.now; arrival = visit.arrival; departure = visit.departure; sequence = visit.sequence }
+
+-- where the required columns stand
+unfoldable pub columns_in : List (List ℕ) → Result Columns FeedFault
+columns_in header = do
+  trip ← column_in paper.StopTimes column.TripId header
+  arrival ← column_in paper.StopTimes column.ArrivalTime header
+  departure ← column_in paper.StopTimes column.DepartureTime header
+  stop ← column_in paper.StopTimes column.StopId header
+  sequence ← column_in paper.StopTimes column.StopSequence header
+  Ok (record { trip = trip; arrival = arrival; departure = departure; stop = stop; sequence = sequence })
+
+-- the record of the trip of a slot
+unfoldable pub visit_in : Columns → ℕ → ℕ → List (List ℕ) → Result VisitView FeedFault
+visit_in columns number trip fields = do
+  arrival_text ← text_in paper.StopTimes number column.ArrivalTime (field_at fields columns.arrival)
+  departure_text ← text_in paper.StopTimes number column.DepartureTime (field_at fields columns.departure)
+  stop ← text_in paper.StopTimes number column.StopId (field_at fields columns.stop)
+  sequence_text ← text_in paper.StopTimes number column.StopSequence (field_at fields columns.sequence)
+  _ ← filled_in paper.StopTimes number column.StopId stop
+  _ ← filled_in paper.StopTimes number column.StopSequence sequence_text
+  sequence ← number_in paper.StopTimes number column.StopSequence 9 999999999 sequence_text
+  arrival ← time_in paper.StopTimes number column.ArrivalTime arrival_text
+  departure ← time_in paper.StopTimes number column.DepartureTime departure_text
+  Ok (record { trip = trip; stop = stop; arrival = arrival; departure = departure; sequence = sequence })
+
+-- the visits, and that of a record of the trip of that slot; of a record of no selected trip nothing more is examined
+abbrev pub with_visit_of : Columns → ℕ → List VisitView → List (List ℕ) → Option ℕ → Result (List VisitView) FeedFault
+with_visit_of columns number before fields None = Ok before
+with_visit_of columns number before fields (Some trip) = visit_in columns number trip fields >>= λ visit. Ok (before ++ visit ∷ [])
+
+-- the visits with that of one record, among selected trips of these names
+unfoldable pub with_visit : Columns → List Name → ℕ → List VisitView → List (List ℕ) → Result (List VisitView) FeedFault
+with_visit columns names number before fields = do
+  name ← text_in paper.StopTimes number column.TripId (field_at fields columns.trip)
+  with_visit_of columns number before fields (position (bytes_eq name) names)
+
+-- the visits of a table, in the order of its records
+unfoldable pub visits_in : List Name → TableView → Result (List VisitView) FeedFault
+visits_in names table = do
+  columns ← columns_in table.header
+  each_record (with_visit columns names) 1 [] table.rows
+
+-- the columns stand among so many
+pub record StandWithin (width : ℕ) (columns : Columns) : Type 0 where
+  pub trip : columns.trip < width
+  pub arrival : columns.arrival < width
+  pub departure : columns.departure < width
+  pub stop : columns.stop < width
+  pub sequence : columns.sequence < width

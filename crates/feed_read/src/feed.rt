@@ -1,0 +1,61 @@
+ghost use Rattle.std.specs.Prelude.{◌≡◌, ◌<◌, length, map, All, IfOk};
+ghost use Rattle.desk_io.specs.Shelf.{FitsIn};
+ghost use Rattle.gtfs_tables.specs.Reading.{Gives};
+ghost use Rattle.trip_model.specs.Timetable.{AreDistinct};
+ghost use Rattle.feed_read.specs.Base as spec;
+ghost use Rattle.feed_read.specs.Journeys.{IsJourney, journeys_of};
+ghost use Rattle.feed_read.specs.Visits.{seen};
+
+use crate::journey::{Journey, journeys_of};
+use crate::stops::stops_of;
+use crate::timetable::timetable_of;
+use crate::trips::trips_in;
+use crate::visit::Visit;
+use crate::visits::visits_in;
+use desk_io::Found;
+use desk_settings::{Names, Settings};
+use gtfs_tables::{FeedFault, Paper, table_in};
+use std::alloc::Global;
+use trip_model::Timetable;
+
+// The trips of these names, by their visits.
+fn journeys_by(
+    alloc: Global,
+    settings: &Settings,
+    names: &Names,
+    visits: &[Visit],
+) -> Result<Vec<Journey>, FeedFault>
+    requires { All (λ visit. visit.trip < length names.now) visits.now }
+    ensures gives { Gives (λ journeys. journeys.items) result (journeys_of settings.now names.now (map seen visits.now)) }
+    ensures valid { IfOk result (λ journeys. All IsJourney journeys.items) }
+    ensures distinct { IfOk result (λ journeys. AreDistinct (map (λ journey. journey.name) journeys.items)) }
+    ensures count { IfOk result (λ journeys. length journeys.items ≡ length names.now) }
+{
+    let stops = stops_of(alloc, names.len(), visits)?;
+    journeys_of(alloc, settings, names, &stops)
+}
+
+/// The base timetable of a feed: the trips of the chosen services, in the order of `trips.txt`, all live and as published;
+/// or the first refusal in the order of judging. A trip departs in the minute of its first departure and ends in that of its
+/// last arrival, rounded up, plus the layover of its last place. Places are numbered as the trips meet them, slot by slot,
+/// from before to.
+///
+/// Each file has at most 536,870,912 bytes.
+#[tactic(auto, unfolding(crate::specs::Base::base_of))]
+pub fn read_feed(
+    alloc: Global,
+    trips: &Found,
+    stop_times: &Found,
+    settings: &Settings,
+) -> Result<Timetable, FeedFault>
+    requires trips { FitsIn 536870912 trips.now }
+    requires stop_times { FitsIn 536870912 stop_times.now }
+    ensures { Gives (λ timetable. timetable) result (spec.base_of settings.now trips.now stop_times.now) }
+{
+    let trips = table_in(alloc, Paper::Trips, trips)?;
+    let names = trips_in(alloc, settings, &trips)?;
+    let stop_times = table_in(alloc, Paper::StopTimes, stop_times)?;
+    let visits = visits_in(alloc, &names, &stop_times)?;
+    let journeys = journeys_by(alloc, settings, &names, &visits)?;
+    timetable_of(alloc, settings, &journeys)
+}

@@ -1,0 +1,32 @@
+//! From a feed, as an agency publishes it, to its timetable.
+//!
+//! [`read_feed`] makes the base timetable of `trips.txt`, `stop_times.txt` and the settings of a desk: the trips of the
+//! chosen services, in the order of their records, each from its first stop to its last by `stop_sequence`, wherever these
+//! rows stand in the file.
+//!
+//! The contract that the crates above use: the timetable is `base_of` the three, or the refusal is the first of the order
+//! of judging.
+//!
+//! ```text
+//! let settings = Settings::read(alloc, &settings, &terminals, &tolerances)?;
+//! let timetable = read_feed(alloc, &trips, &stop_times, &settings)?;
+//! ```
+//!
+//! The contracts cite `Base` (the timetable of a feed), and by it `Trips` (the selected trips), `Visits` (their records of
+//! `stop_times.txt`) and `Journeys` (the first and the last of these, of which [`laws::ends_law`] speaks, and what the trip is
+//! by them).
+#![tactic(auto)]
+
+mod feed;
+mod journey;
+pub mod laws;
+mod stops;
+mod timetable;
+mod trips;
+mod visit;
+mod visits;
+
+pub use feed::read_feed;
+
+#[cfg(test)]
+mod tests;

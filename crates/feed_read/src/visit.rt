@@ -1,0 +1,15 @@
+ghost use Rattle.std.specs.Prelude.{◌≤◌, IfSome};
+ghost use Rattle.std.proofs.Props.{props};
+
+/// A record of a selected trip: the slot of the trip, the stop, its times in seconds of the service day, and its number
+/// along the trip.
+#[derive(Clone, Copy, Debug)]
+pub(crate) struct Visit<'a> {
+    pub(crate) trip: usize,
+    pub(crate) stop: &'a str,
+    pub(crate) arrival: Option<u32>,
+    pub(crate) departure: Option<u32>,
+    pub(crate) sequence: u64,
+    ghost arrival_on_day: { IfSome arrival (λ seconds. seconds ≤ 359999) } by { Prim.hlevel props },
+    ghost departure_on_day: { IfSome departure (λ seconds. seconds ≤ 359999) } by { Prim.hlevel props },
+}
