@@ -40,15 +40,13 @@ fn shuttles(
 #[test]
 fn blocks_stand_by_their_first_departures(rt: HostRuntime) -> Result<(), Fail> {
     let alloc = rt.alloc();
-    let timetable = shuttles(
+    let mut timetable = shuttles(
         &rt,
         alloc,
         &[(1, 600), (0, 360), (0, 1510), (1, 360), (0, 480)],
     )?;
+    let matrix = Matrix::read(alloc, &Found::Missing, &mut timetable).expect(&rt, "no deadheads");
     let links = Links::open(alloc, timetable.slots())?;
-    let matrix = Matrix::read(&Found::Missing, &timetable);
-    assert!(rt; matrix.is_ok());
-    let Ok(matrix) = matrix else { return Ok(()) };
     let blocks = blocks_of(alloc, &timetable, &links)?;
     assert_eq!(rt; blocks.len(), 5);
     let text = block_lines(alloc, &timetable, &matrix, &blocks, "line 7/")?;

@@ -160,10 +160,10 @@ fn no_trip_runs(rt: HostRuntime) -> Result<(), Fail> {
 }
 
 /// The matrix of a timetable without deadheads.
-fn no_deadheads(rt: &impl Abort, timetable: &Timetable) -> Matrix
-    ensures { length result.walks ≡ length timetable.now.places }
+fn no_deadheads(rt: &impl Abort, alloc: Global, timetable: &mut Timetable) -> Matrix
+    ensures { length result.walks ≡ length timetable.new.places }
 {
-    Matrix::read(&Found::Missing, timetable).expect(rt, "no deadheads")
+    Matrix::read(alloc, &Found::Missing, timetable).expect(rt, "no deadheads")
 }
 
 /// The line of a block that makes some of the six trips.
@@ -173,8 +173,8 @@ fn block_drawn(
     number: usize,
     block: &[u16],
 ) -> Result<String, Fail> {
-    let timetable = with_trips(rt, alloc, &["A", "B", "C"], &six_trips(), true)?;
-    let matrix = no_deadheads(rt, &timetable);
+    let mut timetable = with_trips(rt, alloc, &["A", "B", "C"], &six_trips(), true)?;
+    let matrix = no_deadheads(rt, alloc, &mut timetable);
     let columns = column_list(alloc, &timetable)?;
     assert!(rt; block.iter().all(|slot| *slot < timetable.slots()) && number < 4096);
     let mut text = String::new(alloc);
@@ -204,8 +204,8 @@ fn blocks_of_six_trips(rt: HostRuntime) -> Result<(), Fail> {
 /// Two trips that no link joins, each a block of its own.
 fn unlinked_rows(rt: &impl Abort, alloc: Global) -> Result<(), Fail> {
     let two = [ride(0, 1, 360, 390), ride(2, 0, 420, 450)];
-    let timetable = with_trips(rt, alloc, &["A", "B", "C"], &two, true)?;
-    let matrix = no_deadheads(rt, &timetable);
+    let mut timetable = with_trips(rt, alloc, &["A", "B", "C"], &two, true)?;
+    let matrix = no_deadheads(rt, alloc, &mut timetable);
     let links = Links::open(alloc, timetable.slots())?;
     let blocks = blocks_of(alloc, &timetable, &links)?;
     let chart = block_chart(alloc, &timetable, &matrix, &blocks, "Bus ")?;

@@ -7,7 +7,8 @@ use Rattle.std.specs.Option.{is_some}
 use Rattle.trip_model.specs.declared.trip.Move.{Move}
 use Rattle.trip_model.specs.Plain.{move_at, meets, plain_network, AreMoves}
 use Rattle.deadhead_matrix.specs.Fitting.{in_time, empty_between, deadhead_network}
-use Rattle.deadhead_matrix.specs.Walks.{Entry, IsWalk}
+use Rattle.deadhead_matrix.specs.declared.entry.Entry.{Entry}
+use Rattle.deadhead_matrix.specs.Walks.{IsWalk}
 use Rattle.deadhead_matrix.specs.Matrix.{MatrixView, walk, standing, empty_matrix}
 
 pub length-empty : (places : ℕ) → length (empty_matrix places).walks ≡ places

@@ -1,4 +1,6 @@
+pub mod Deadheads
 pub mod Fitting
 pub mod Matrix
 pub mod Prices
+pub mod Search
 pub mod Walks

@@ -1,11 +1,6 @@
 -- Walks of a vehicle that runs empty, from place to place.
 use Rattle.std.specs.Prelude.{◌≡◌, ℕ, ◌≤◌, List, [], ◌∷◌, sum_by, Contains, Option, None, Some}
-
--- a vehicle can run empty from one place to another in so many minutes
-pub record Entry : Type 0 where
-  pub from : ℕ
-  pub to : ℕ
-  pub minutes : ℕ
+use Rattle.deadhead_matrix.specs.declared.entry.Entry.{Entry}
 
 -- the entries lead from a to b, each beginning where the one before ends; the empty list leads from a place to itself
 abbrev pub IsWalk : List Entry → ℕ → List Entry → ℕ → Type 0

@@ -1,23 +1,34 @@
 //! Least walks between the places of a timetable, over the deadheads that the planner allows.
 //!
-//! [`Matrix::read`] makes the matrix of a timetable of what was found of `deadheads.csv`, and [`Matrix::minutes`] answers
-//! in how many minutes a vehicle can run empty from one place to another. In this version only a missing file is read,
-//! which has no entries: a vehicle then runs empty from no place to another.
+//! [`Matrix::read`] reads what was found of `deadheads.csv`, adds the places that it names to the timetable, and makes the
+//! matrix over all places; its records are seen as entries ([`Entry`]). [`Matrix::minutes`] answers by a look-up in how
+//! many minutes a vehicle can run empty from one place to another, along as many entries as it takes.
 //!
-//! The contract that the crates above use: `minutes` is the least walk; and the blocks of a certified plan are least
-//! ([`laws::certified_law`]).
+//! The contract that the crates above use: the entries are those of the file, or the first refusal that is due; `minutes`
+//! is the least walk of the entries; and the blocks of a certified plan are least ([`laws::certified_law`]).
 //!
 //! ```text
-//! let matrix = Matrix::read(&found, &timetable)?;
+//! let matrix = Matrix::read(alloc, &found, &mut timetable)?;
 //! let minutes = matrix.minutes(from, to);
 //! ```
 //!
-//! The contracts cite `Walks` (walks of entries, and the least), `Matrix` (what a matrix is seen as) and `Fitting` (which
-//! trips a vehicle can make one after the other); the laws besides `Prices` (plans of next trips whose prices prove that
-//! they are least).
+//! The contracts cite `Walks` (walks of entries, and the least), `Matrix` (what a matrix is seen as), `Deadheads` (the
+//! entries and the places of a file) and `Fitting` (which trips a vehicle can make one after the other); the laws besides
+//! `Prices` (plans of next trips whose prices prove that they are least). `Search` has the terms of the search from one
+//! place for proofs alone.
 #![tactic(auto)]
 
+mod deadheads;
+mod distances;
+mod entry;
 pub mod laws;
 mod matrix;
+mod read;
+mod search;
+mod ways;
 
+pub use entry::Entry;
 pub use matrix::Matrix;
+
+#[cfg(test)]
+mod tests;

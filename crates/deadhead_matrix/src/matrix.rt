@@ -1,52 +1,72 @@
-ghost use Rattle.std.specs.Prelude.{◌≡◌, ◌<◌, length, IfOk};
+ghost use Rattle.std.specs.Prelude.{◌≡◌, ◌<◌, [], length, IfOk};
+ghost use Rattle.desk_io.specs.Shelf.{FitsIn};
+ghost use Rattle.gtfs_tables.specs.Reading.{Gives};
+ghost use Rattle.deadhead_matrix.specs.Deadheads as spec;
 ghost use Rattle.deadhead_matrix.specs.Walks.{IsLeastWalk};
-ghost use Rattle.deadhead_matrix.specs.Matrix.{empty_matrix, matrix_of, walk};
+ghost use Rattle.deadhead_matrix.specs.Matrix.{AreLeastWalks, empty_matrix, walk};
 
+use crate::distances::Distances;
+use crate::entry::Entry;
+use crate::read::deadheads_of;
 use desk_io::Found;
-use gtfs_tables::{FeedFault, Paper};
+use gtfs_tables::FeedFault;
+use std::alloc::Global;
 use std::marker::Model;
 use trip_model::Timetable;
 
-/// For each two places the minutes in which a vehicle can run empty from the one to the other.
+/// For each two places the minutes in which a vehicle can run empty from the one to the other, along the entries of the
+/// planner.
 #[derive(Drop)]
 pub struct Matrix {
-    places: u16,
+    entries: Vec<Entry>,
+    rows: Vec<Distances>,
 }
 
 impl Model for Matrix {
-    ghost use Rattle.deadhead_matrix.specs.Matrix.{MatrixView, empty_matrix};
+    ghost use Rattle.deadhead_matrix.specs.Search.{AreLeastRows};
+    ghost use Rattle.deadhead_matrix.specs.Matrix.{MatrixView, matrix_from};
 
     ghost Value = { MatrixView };
 
-    ghost view = { λ m. empty_matrix m.places };
+    ghost view = { λ m. matrix_from m.entries.items m.rows.items };
+
+    ghost invariant = { λ m. AreLeastRows m.entries.items m.rows.items };
 }
 
 impl Matrix {
-    /// The matrix over the places of a timetable, of what was found of `deadheads.csv`. A missing file has no entries;
-    /// any other is refused as not read yet.
-    pub fn read(deadheads: &Found, timetable: &Timetable) -> Result<Matrix, FeedFault>
-        ensures matrix { result ≡ matrix_of deadheads.now timetable.now }
-        ensures standing { IfOk result (λ matrix. matrix ≡ empty_matrix (length timetable.now.places)) }
-        ensures places { IfOk result (λ matrix. length matrix.walks ≡ length timetable.now.places) }
+    /// The matrix of what was found of `deadheads.csv`; a missing file has no records. The places that a record names are
+    /// added to the timetable where they are new, without layover, the first before the second. The file is refused as a
+    /// whole at the first record that is not of its form, of which the fields are judged before the places; the places of
+    /// the records before it may have been added then. `FeedFault::Memory` may come at any time.
+    pub fn read(
+        alloc: Global,
+        deadheads: &Found,
+        timetable: &mut Timetable,
+    ) -> Result<Matrix, FeedFault>
+        requires { FitsIn 536870912 deadheads.now }
+        ensures gives { Gives (λ matrix. (timetable.new, matrix.entries)) result (spec.deadheads_of deadheads.now timetable.old) }
+        ensures least { IfOk result AreLeastWalks }
+        ensures places { IfOk result (λ matrix. length matrix.walks ≡ length timetable.new.places) }
+        ensures standing { IfOk result (λ matrix. matrix.entries ≡ [] → matrix ≡ empty_matrix (length timetable.new.places)) }
+        ensures kept { timetable.new ≡ record timetable.old { places = timetable.new.places } }
     {
-        match deadheads {
-            Found::Missing => Ok(Matrix {
-                places: timetable.places(),
-            }),
-            Found::TooLong | Found::File(_) => Err(FeedFault::NotYet(Paper::Deadheads)),
-        }
+        let deadheads = deadheads_of(alloc, deadheads, timetable)?;
+        let rows = deadheads.distances(alloc, timetable.places())?;
+        Ok(Matrix {
+            entries: deadheads.into_entries(),
+            rows,
+        })
     }
 
-    /// In how many minutes a vehicle can run empty from the place `a` to the place `b`; 0 from a place to itself, and None
-    /// where there is no walk.
+    /// In how many minutes a vehicle can run empty from the place `a` to the place `b`: 0 from a place to itself, up to
+    /// 735,840 over 512 places, and None where there is no walk. A look-up, which takes no memory.
     pub fn minutes(&self, a: u16, b: u16) -> Option<u32>
         requires a { a < length self.now.walks }
         requires b { b < length self.now.walks }
         ensures walk { result ≡ walk self.now a b }
         ensures least { IsLeastWalk self.now.entries a b result }
     {
-        // What a matrix is seen as is known only where a field is used.
-        let _ = &self.places;
-        if a == b { Some(0) } else { None }
+        let row = &self.rows[usize::from(a)];
+        row.to(usize::from(b))
     }
 }

@@ -16,8 +16,8 @@
 //! let (vehicles, minute) = deficits.max(0);
 //! ```
 //!
-//! The contracts cite `Changes` (values, and what a move changes that is added or taken away), `Holds` (when a list of moves is held) and
-//! `Lines` (the printed text), and of `trip_model` `Deficit`, `Maximum` and `Steps`.
+//! The contracts cite `Changes` (values, and what a move changes that is added or taken away), `Holds` (when a list of
+//! moves is held) and `Lines` (the printed text), and of `trip_model` `Deficit`, `Maximum` and `Steps`.
 #![tactic(auto)]
 
 mod deficits;

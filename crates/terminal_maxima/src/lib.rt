@@ -16,8 +16,8 @@
 //! ```
 //!
 //! The contracts cite `Summary` (the laws of a summary), `MaxPrefix` (the greatest prefix sum) and `Reaching` (the
-//! greatest prefix sum, and the first place whose prefix sum reaches a value). That the nodes are the summaries of their leaves, `Nodes`, is the
-//! invariant of the type alone.
+//! greatest prefix sum, and the first place whose prefix sum reaches a value). That the nodes are the summaries of their
+//! leaves, `Nodes`, is the invariant of the type alone.
 #![tactic(auto)]
 
 mod descent;

@@ -1,0 +1,65 @@
+-- What a matrix of entries and rows of minutes is seen as.
+use Rattle.std.proofs.Common.{◌≡◌, ℕ, ◌<◌, List, [], ◌∷◌, length, map, get_or, Option, None, Some, if◌then◌else◌, refl, sym, ap, subst, ◌∙◌, arith}
+use Rattle.std.specs.List.{range_with_len}
+use Rattle.std.proofs.lemmas.Bool.{eq-eqb, ne_eqb}
+use Rattle.std.proofs.lemmas.List.{get_or-map, length-map, ext_get_or}
+use Rattle.std.proofs.lemmas.List.FromFn.{get_or-map-range_with_len, length-map-range_with_len}
+use Rattle.deadhead_matrix.specs.declared.entry.Entry.{Entry}
+use Rattle.deadhead_matrix.specs.Walks.{IsWalk, walk_minutes, IsLeastWalk}
+use Rattle.deadhead_matrix.specs.Search.{found_at, AreLeastRows}
+use Rattle.deadhead_matrix.specs.Matrix.{walk, standing, empty_matrix, matrix_from, AreLeastWalks}
+
+-- as many walks as rows
+pub length-walks : (entries : List Entry) (rows : List (List ℕ)) → length (matrix_from entries rows).walks ≡ length rows
+length-walks entries rows = length-map rows _
+
+pub walk-from : (entries : List Entry) (rows : List (List ℕ)) (a b : ℕ) → a < length rows → b < length rows → walk (matrix_from entries rows) a b ≡ found_at (get_or rows a []) b
+walk-from entries rows a b a_in b_in =
+    ap (λ row. get_or row b None) (get_or-map (λ row. map (found_at row) (range_with_len 0 (length rows))) rows a [] [] a_in)
+    ∙ get_or-map-range_with_len (found_at (get_or rows a [])) 0 (length rows) b b None b_in (omega arith)
+
+pub AreLeastWalks-from : (entries : List Entry) (rows : List (List ℕ)) → AreLeastRows entries rows → AreLeastWalks (matrix_from entries rows)
+AreLeastWalks-from entries rows are = λ a b a_in b_in.
+    let a_row : a < length rows = omega (arith, a_in, length-walks entries rows) in
+    let b_row : b < length rows = omega (arith, b_in, length-walks entries rows) in
+    subst (λ m. IsLeastWalk entries a b m) (sym (walk-from entries rows a b a_row b_row)) (are.least a b a_row)
+
+-- a walk of no entries goes nowhere
+nowhere : (es : List Entry) (a b : ℕ) → IsWalk [] a es b → (a ≡ b) × (walk_minutes es ≡ 0)
+nowhere [] a b is = (is, refl)
+nowhere (e ∷ es) a b is = absurd (let within = is.0.1 in omega (arith, within))
+
+-- without entries a least walk stands still
+least-standing : (a b : ℕ) (found : Option ℕ) → IsLeastWalk [] a b found → found ≡ standing a b
+least-standing a b None none = sym (ap (λ t. if t then Some 0 else None) (ne_eqb a b (λ same. none [] same)))
+least-standing a b (Some m) is =
+    let walk = nowhere is.reached.0 a b is.reached.1 in
+    ap Some (sym is.reached.2 ∙ walk.1) ∙ sym (ap (λ t. if t then Some 0 else None) (eq-eqb a b walk.0))
+
+row-standing : (rows : List (List ℕ)) → AreLeastRows [] rows → (a : ℕ) → a < length rows
+    → map (found_at (get_or rows a [])) (range_with_len 0 (length rows)) ≡ map (standing a) (range_with_len 0 (length rows))
+row-standing rows are a a_in =
+    let n = length rows in
+    let far = found_at (get_or rows a []) in
+    let len = length-map-range_with_len far 0 n in
+    ext_get_or None (map far (range_with_len 0 n)) (map (standing a) (range_with_len 0 n)) (len ∙ sym (length-map-range_with_len (standing a) 0 n))
+    (λ b b_in. let within : b < n = omega (arith, b_in, len) in
+    get_or-map-range_with_len far 0 n b b None within (omega arith)
+    ∙ least-standing a b (far b) (are.least a b a_in)
+    ∙ sym (get_or-map-range_with_len (standing a) 0 n b b None within (omega arith)))
+
+walks-standing : (rows : List (List ℕ)) → AreLeastRows [] rows → (matrix_from [] rows).walks ≡ (empty_matrix (length rows)).walks
+walks-standing rows are =
+    let n = length rows in
+    let len = length-walks [] rows in
+    ext_get_or [] (matrix_from [] rows).walks (empty_matrix n).walks (len ∙ sym (length-map-range_with_len (λ a. map (standing a) (range_with_len 0 n)) 0 n))
+    (λ a a_in. let within : a < n = omega (arith, a_in, len) in
+    get_or-map (λ row. map (found_at row) (range_with_len 0 n)) rows a [] [] within
+    ∙ row-standing rows are a within
+    ∙ sym (get_or-map-range_with_len (λ a. map (standing a) (range_with_len 0 n)) 0 n a a [] within (omega arith)))
+
+-- without entries the matrix is the empty one
+pub matrix-standing : (entries : List Entry) (rows : List (List ℕ)) → AreLeastRows entries rows → entries ≡ [] → matrix_from entries rows ≡ empty_matrix (length rows)
+matrix-standing entries rows are none =
+    let walks = walks-standing rows (subst (λ (es : List Entry). AreLeastRows es rows) none are) in
+    (λ i. record { entries = none i; walks = walks i })
