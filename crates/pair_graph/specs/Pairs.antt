@@ -1,0 +1,26 @@
+-- What the pairs of a timetable are seen as.
+use Rattle.std.specs.Prelude.{◌≡◌, ℕ, ◌<◌, ◌≤◌, List, length, slice_set, Option, None, Some, IfSome}
+use Rattle.deadhead_matrix.specs.Fitting.{deadhead_network}
+use Rattle.deadhead_matrix.specs.Matrix.{MatrixView, walk}
+use Rattle.trip_model.specs.Network.{Network}
+use Rattle.trip_model.specs.Plain.{trip_moves, AreMoves}
+use Rattle.trip_model.specs.Timetable.{TimetableView, IsTimetable}
+use Rattle.trip_model.specs.declared.trip.Move.{Move}
+
+-- the moves of the slots, and the walks between their places
+pub record PairsView : Type 0 where
+  pub moves : List (Option Move)
+  pub matrix : MatrixView
+
+-- the moves but that of one slot, which does not run
+abbrev pub moves_without : List (Option Move) → Option ℕ → List (Option Move)
+moves_without moves None = moves
+moves_without moves (Some slot) = slice_set moves slot None
+
+-- the pairs of a timetable and a matrix without a slot
+abbrev pub pairs_of : TimetableView → MatrixView → Option ℕ → PairsView
+pairs_of timetable matrix without = record { moves = moves_without (trip_moves timetable.slots) without; matrix = matrix }
+
+-- a vehicle goes on from a trip to every one that it can reach in time along a least walk
+abbrev pub pairs_network : PairsView → Network
+pairs_network pairs = deadhead_network pairs.moves (walk pairs.matrix)

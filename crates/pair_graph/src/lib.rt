@@ -1,0 +1,23 @@
+//! Which trip one vehicle can make next after which, and what making it saves.
+//!
+//! [`Pairs`] only borrows a timetable and a matrix of least walks. [`Pairs::weight`] answers for two slots whether the
+//! second trip can follow on the first, by a few look-ups and without memory. [`Pairs::without`] takes one slot as not
+//! live.
+//!
+//! The contract that the crates above use: a weight exactly where the pair fits, and then it is the weight of the network
+//! of deadheads; that network is one of one day.
+//!
+//! ```text
+//! let pairs = Pairs::of(&timetable, &matrix);
+//! let saved = pairs.weight(0, 1, &mut steps);
+//! ```
+//!
+//! The contracts cite `Pairs` (what the pairs are seen as), and of `deadhead_matrix` `Fitting` and `Prices`.
+#![tactic(auto)]
+
+mod pairs;
+
+pub use pairs::Pairs;
+
+#[cfg(test)]
+mod tests;

@@ -1,0 +1,101 @@
+ghost use Rattle.std.specs.Prelude.{◌≡◌, ◌+◌, ◌<◌, ◌≤◌, length, None, Some, IfSome, option_map};
+ghost use Rattle.deadhead_matrix.specs.Prices.{weight};
+ghost use Rattle.trip_model.specs.Plain.{move_at};
+ghost use Rattle.trip_model.specs.Trip.{IsValidTrip, move_of};
+ghost use Rattle.pair_graph.specs.Pairs.{pairs_of, pairs_network};
+
+use deadhead_matrix::Matrix;
+use desk_io::Steps;
+use std::marker::Model;
+use std::sync::ledger::Ledger;
+use trip_model::{Timetable, Trip};
+
+/// What a vehicle that is saved weighs against empty minutes.
+const VEHICLE: u64 = 67_108_864;
+
+/// The pairs of trips of a timetable, with the least walks of a matrix between their places.
+#[derive(Drop)]
+pub struct Pairs<'a> {
+    timetable: &'a Timetable,
+    matrix: &'a Matrix,
+    without: Option<u16>,
+}
+
+impl<'a> Model for Pairs<'a> {
+    ghost use Rattle.pair_graph.specs.Pairs.{PairsView, pairs_of};
+    ghost use Rattle.std.specs.Prelude.{◌≡◌, ◌<◌, length, IfSome};
+
+    ghost Value = { PairsView };
+
+    ghost view = { λ p. pairs_of p.timetable.now p.matrix.now p.without };
+
+    ghost invariant = { λ p. (length p.timetable.now.places ≡ length p.matrix.now.walks)
+        × IfSome p.without (λ slot. slot < length p.timetable.now.slots) };
+}
+
+impl<'a> Pairs<'a> {
+    /// The pairs of a timetable and of the matrix over its places.
+    pub fn of(timetable: &'a Timetable, matrix: &'a Matrix) -> Pairs<'a>
+        requires places { length timetable.now.places ≡ length matrix.now.walks }
+        ensures { result ≡ pairs_of timetable.now matrix.now None }
+    {
+        Pairs {
+            timetable,
+            matrix,
+            without: None,
+        }
+    }
+
+    /// The same pairs but that the trip of one slot does not run.
+    pub fn without(timetable: &'a Timetable, matrix: &'a Matrix, slot: u16) -> Pairs<'a>
+        requires places { length timetable.now.places ≡ length matrix.now.walks }
+        requires slot { slot < length timetable.now.slots }
+        ensures { result ≡ pairs_of timetable.now matrix.now (Some slot) }
+    {
+        Pairs {
+            timetable,
+            matrix,
+            without: Some(slot),
+        }
+    }
+
+    /// How many slots there are.
+    pub fn slots(&self) -> u16
+        ensures count { result ≡ length self.now.moves }
+        ensures few { result ≤ 4096 }
+    {
+        self.timetable.slots()
+    }
+
+    // The trip of a slot, where it runs.
+    fn live(&self, slot: u16) -> Option<Trip>
+        requires { slot < length self.now.moves }
+        ensures made { option_map move_of result ≡ move_at self.now.moves slot }
+        ensures valid { IfSome result (IsValidTrip (length self.now.matrix.walks)) }
+    {
+        if self.without == Some(slot) {
+            return None;
+        }
+        let trip = self.timetable.trip(slot);
+        if trip.live { Some(trip) } else { None }
+    }
+
+    /// What it saves to make the trip of `j` next after that of `i`, where one vehicle can: 67,108,864 for a vehicle,
+    /// less the minutes of the least walk between them. One step.
+    pub fn weight<L: Ledger>(&self, i: u16, j: u16, steps: &mut Steps<L>) -> Option<u64>
+        requires i { i < length self.now.moves }
+        requires j { j < length self.now.moves }
+        ensures weight { result ≡ weight (pairs_network self.now) i j }
+        ensures counted { steps.new ≡ steps.old + 1 }
+    {
+        steps.tick();
+        let before = self.live(i)?;
+        let after = self.live(j)?;
+        let spare = u32::from(after.departs.checked_sub(before.ends)?);
+        let minutes = self.matrix.minutes(before.to, after.from)?;
+        if minutes > spare {
+            return None;
+        }
+        Some(VEHICLE - u64::from(minutes))
+    }
+}
