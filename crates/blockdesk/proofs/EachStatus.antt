@@ -1,17 +1,16 @@
 -- When each status of a run comes, from what the run did.
-use Rattle.std.proofs.Common.{◌≡◌, ◌≢◌, ◌⊎◌, ℕ, ◌+◌, ◌≤◌, ◌<◌, List, inl, inr, Result, Ok, Err, Some, None, refl, sym, ap, ◌∙◌, subst, arith}
+use Rattle.std.proofs.Common.{◌≡◌, ◌≢◌, ◌⊎◌, ℕ, inl, inr, Result, Ok, Err, Some, None, refl, sym, ap, ◌∙◌, subst, arith}
 use Rattle.std.specs.Prelude.{Option, IfSome, MatchResult}
 use Rattle.desk_io.specs.Faults.{Rose, NoneCounted}
 use Rattle.desk_io.specs.Shelf.{Files}
 use Rattle.gtfs_tables.specs.declared.fault.FeedFault.{FeedFault}
 use Rattle.blockdesk.specs.Causes.{Asks, HasCause, IsComplete}
-use Rattle.blockdesk.specs.Commands.{Answers, HasOutcome, Shows}
-use Rattle.blockdesk.specs.Feed.{feed_of}
+use Rattle.blockdesk.specs.Commands.{Answers, HasOutcome, told_by}
+use Rattle.blockdesk.specs.Feed.{Said}
 use Rattle.blockdesk.specs.Papers.{AreRead, papers_in}
-use Rattle.blockdesk.specs.Runs.{RunsAs, IsRun, IsRunBy, PutsAll}
+use Rattle.blockdesk.specs.Runs.{RunsAs, IsRunBy, PutsAll}
 use Rattle.blockdesk.specs.World.{World, NoCountRose, NoFaultCounted}
 use Rattle.blockdesk.specs.declared.command.Command.{Command}
-use Rattle.blockdesk.specs.declared.feed.Feed.{Feed}
 use Rattle.blockdesk.specs.declared.outcome.Outcome.{Outcome}
 use Rattle.blockdesk.specs.declared.papers.Papers.{Papers}
 
@@ -27,23 +26,23 @@ papers_told files papers read = λ i. record {
   edits = read.edits i;
 }
 
-asked : (shows : Feed → List ℕ → Type 0) (read : Result Feed FeedFault) (outcome : Outcome) → Answers shows read outcome → MatchResult read (λ _. outcome.status ≡ 0) (λ _. outcome.status ≡ 3)
-asked shows (Ok feed) outcome answers = answers.0
-asked shows (Err refused) outcome answers = ap (λ (o : Outcome). o.status) answers
+asked : (command : Command) (read : Result Said FeedFault) (outcome : Outcome) → Answers command read outcome → MatchResult read (λ _. outcome.status ≡ 0) (λ _. outcome.status ≡ 3)
+asked command (Ok said) outcome answers = answers.0
+asked command (Err refused) outcome answers = ap (λ (o : Outcome). o.status) answers
 
 -- over told files a command answers what the files ask for
 asks_told : (command : Command) (told : Option Files) (files : Files) (outcome : Outcome) → told ≡ Some files → HasOutcome command told outcome → Asks command files outcome.status
 asks_told command told files outcome is made =
     let papers = papers_told files made.papers (subst (λ t. AreRead t made.papers) is made.read) in
-    subst (λ ps. MatchResult (feed_of ps) (λ _. outcome.status ≡ 0) (λ _. outcome.status ≡ 3)) papers (asked (Shows command) (feed_of made.papers) outcome made.answers)
+    subst (λ ps. MatchResult (told_by command ps) (λ _. outcome.status ≡ 0) (λ _. outcome.status ≡ 3)) papers (asked command (told_by command made.papers) outcome made.answers)
 
-not_usage : (shows : Feed → List ℕ → Type 0) (read : Result Feed FeedFault) (outcome : Outcome) → Answers shows read outcome → outcome.status ≢ 2
-not_usage shows (Ok feed) outcome answers e = absurd (omega (arith, e, answers.0))
-not_usage shows (Err refused) outcome answers e = absurd (omega (arith, e, ap (λ (o : Outcome). o.status) answers))
+not_usage : (command : Command) (read : Result Said FeedFault) (outcome : Outcome) → Answers command read outcome → outcome.status ≢ 2
+not_usage command (Ok said) outcome answers e = absurd (omega (arith, e, answers.0))
+not_usage command (Err refused) outcome answers e = absurd (omega (arith, e, ap (λ (o : Outcome). o.status) answers))
 
 -- no command answers the status of words of no form
 outcome-not_usage : (command : Command) (files : Option Files) (outcome : Outcome) → HasOutcome command files outcome → outcome.status ≢ 2
-outcome-not_usage command files outcome made = not_usage (Shows command) (feed_of made.papers) outcome made.answers
+outcome-not_usage command files outcome made = not_usage command (told_by command made.papers) outcome made.answers
 
 -- a text that was put whole raises no count
 quiet : (before after : World) (text : _) → PutsAll text before after → NoCountRose before after

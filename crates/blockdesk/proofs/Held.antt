@@ -1,8 +1,8 @@
 -- The moves of the trips that run, one slot after the other.
-use Rattle.std.proofs.Common.{◌≡◌, ℕ, ◌+◌, ◌<◌, ◌≤◌, true, false, Bool, cond, List, [], ◌∷◌, ◌++◌, length, map, get_or, take, refl, sym, ap, ◌∙◌, subst, arith}
+use Rattle.std.proofs.Common.{◌≡◌, ℕ, ◌+◌, ◌<◌, ◌≤◌, true, false, Bool, cond, List, [], ◌∷◌, ◌++◌, length, map, get_or, take, refl, sym, ap, ◌∙◌, arith}
 use Rattle.std.specs.Prelude.{filter, ℤ, pos, negsuc, neg_ℤ, ◌≤ℤ◌, ◌<ℤ◌}
 use Rattle.std.proofs.lemmas.Int.{ints}
-use Rattle.std.proofs.lemmas.List.{take_more, append-nil, length-take}
+use Rattle.std.proofs.lemmas.List.{take_more, length-take}
 use Rattle.trip_model.specs.Deficit.{live_moves}
 use Rattle.trip_model.specs.Timetable.{Slot}
 use Rattle.trip_model.specs.Trip.{move_of}

@@ -1,9 +1,4 @@
 pub mod EachStatus
 pub mod Held
-pub mod JourneysRead
-pub mod Names
-pub mod Places
-pub mod Refusals
 pub mod RunsAs
-pub mod Slots
-pub mod Texts
+pub mod SaidLemmas

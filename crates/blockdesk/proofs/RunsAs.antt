@@ -1,17 +1,16 @@
 -- From what a command made, and what became of that, to the run by its status.
-use Rattle.std.proofs.Common.{◌≡◌, ◌⊎◌, ℕ, ◌≤◌, List, inl, inr, Result, Ok, Err, refl, sym, ap, ◌∙◌, subst, arith}
+use Rattle.std.proofs.Common.{◌≡◌, ◌⊎◌, ℕ, ◌≤◌, inl, inr, Result, Ok, Err, ap, arith}
 use Rattle.std.specs.Prelude.{IfOk}
 use Rattle.std.specs.Prelude.{Option}
 use Rattle.desk_io.specs.Shelf.{Files}
 use Rattle.desk_io.specs.Sink.{put_bytes, PutsFront}
 use Rattle.gtfs_tables.specs.declared.fault.FeedFault.{FeedFault}
-use Rattle.blockdesk.specs.Feed.{feed_of}
-use Rattle.blockdesk.specs.Commands.{Answers, HasOutcome, Shows}
+use Rattle.blockdesk.specs.Feed.{Said}
+use Rattle.blockdesk.specs.Commands.{Answers, HasOutcome, told_by}
 use Rattle.blockdesk.specs.Papers.{ReadsPapers}
-use Rattle.blockdesk.specs.Runs.{Chosen, Finishes, RunsAs, PutsAll, IsCutShort}
+use Rattle.blockdesk.specs.Runs.{Finishes, RunsAs}
 use Rattle.blockdesk.specs.World.{World}
 use Rattle.blockdesk.specs.declared.command.Command.{Command}
-use Rattle.blockdesk.specs.declared.feed.Feed.{Feed}
 use Rattle.blockdesk.specs.declared.outcome.Outcome.{Outcome}
 use Rattle.blockdesk.specs.declared.outcome.RunFault.{RunFault}
 use Rattle.blockdesk.specs.declared.outcome.RunFault.TheVariants as run_fault
@@ -35,13 +34,13 @@ outcome_runs command before after status outcome outcomes low shelf (inr cut) = 
   no_other = inr (inr (inl cut.0));
 }
 
-answers-low : (shows : Feed → List ℕ → Type 0) (read : Result Feed FeedFault) (outcome : Outcome) → Answers shows read outcome → outcome.status ≤ 4
-answers-low shows (Ok feed) outcome answers = omega (arith, answers.0)
-answers-low shows (Err refused) outcome answers = omega (arith, ap (λ (o : Outcome). o.status) answers)
+answers-low : (command : Command) (read : Result Said FeedFault) (outcome : Outcome) → Answers command read outcome → outcome.status ≤ 4
+answers-low command (Ok said) outcome answers = omega (arith, answers.0)
+answers-low command (Err refused) outcome answers = omega (arith, ap (λ (o : Outcome). o.status) answers)
 
 -- a command's own status is at most 4
 outcome-low : (command : Command) (files : Option Files) (outcome : Outcome) → HasOutcome command files outcome → outcome.status ≤ 4
-outcome-low command files outcome made = answers-low (Shows command) (feed_of made.papers) outcome made.answers
+outcome-low command files outcome made = answers-low command (told_by command made.papers) outcome made.answers
 
 pub runs_as : (command : Command) (before after : World) (status : ℕ) (made : Result Outcome RunFault) → IfOk made (HasOutcome command before.shelf.files) → ReadsPapers made before.shelf after.shelf
     → Finishes made before.sink after.sink status → RunsAs command before after status

@@ -2,14 +2,14 @@
 use Rattle.std.specs.Prelude.{◌≡◌, ◌⊎◌, ℕ, ◌≤◌, Option, None, Some, IsSome, MatchOption, IfSome, MatchResult}
 use Rattle.desk_io.specs.Faults.{Rose}
 use Rattle.desk_io.specs.Shelf.{Files}
-use Rattle.blockdesk.specs.Feed.{feed_of}
+use Rattle.blockdesk.specs.Commands.{told_by}
 use Rattle.blockdesk.specs.Papers.{papers_in}
 use Rattle.blockdesk.specs.World.{World, NoCountRose, NoFaultCounted}
 use Rattle.blockdesk.specs.declared.command.Command.{Command}
 
 -- the status that told files ask for: 3 exactly where there is a first refusal, else the command's own
 abbrev pub Asks : Command → Files → ℕ → Type 0
-Asks command files status = MatchResult (feed_of (papers_in files)) (λ _. status ≡ 0) (λ _. status ≡ 3)
+Asks command files status = MatchResult (told_by command (papers_in files)) (λ _. status ≡ 0) (λ _. status ≡ 3)
 
 pub record HasCause (command : Option Command) (before after : World) (status : ℕ) : Type 0 where
   -- 2 exactly where the words are of no form, and else what told files ask for

@@ -13,7 +13,7 @@ use Rattle.blockdesk.specs.declared.outcome.RunFault.TheVariants as run_fault
 use Rattle.blockdesk.specs.declared.papers.Papers.{Papers}
 use Rattle.blockdesk.specs.Chart.{IsChart}
 use Rattle.blockdesk.specs.Deficits.{deficits_text}
-use Rattle.blockdesk.specs.Feed.{feed_of}
+use Rattle.blockdesk.specs.Feed.{Said, IsFeed, reads_deadheads, said_by, said_of}
 use Rattle.blockdesk.specs.Fixed.{IsFixed}
 use Rattle.blockdesk.specs.Papers.{AreRead}
 
@@ -41,14 +41,25 @@ Shows Deficits feed text = text ≡ deficits_text feed.timetable
 Shows Fixed feed text = IsFixed feed text
 Shows Chart feed text = IsChart feed text
 
+-- of an accepted feed what the command puts of it, with the least walks along its deadheads
+pub record Puts (command : Command) (said : Said) (text : List ℕ) : Type 0 where
+  pub feed : Feed
+  pub says : said_of feed ≡ said
+  pub is : IsFeed (reads_deadheads command) feed
+  pub shows : Shows command feed text
+
 -- of an accepted feed what the command puts of it, and of a refused one the line of its first refusal
-abbrev pub Answers : (Feed → List ℕ → Type 0) → Result Feed FeedFault → Outcome → Type 0
-Answers shows (Ok feed) outcome = (outcome.status ≡ 0) × shows feed outcome.text
-Answers shows (Err refused) outcome = outcome ≡ record { text = feed_line_of refused; status = 3 }
+abbrev pub Answers : Command → Result Said FeedFault → Outcome → Type 0
+Answers command (Ok said) outcome = (outcome.status ≡ 0) × Puts command said outcome.text
+Answers command (Err refused) outcome = outcome ≡ record { text = feed_line_of refused; status = 3 }
+
+-- what a command is told by papers
+abbrev pub told_by : Command → Papers → Result Said FeedFault
+told_by command papers = said_by (reads_deadheads command) papers
 
 -- what a command makes of papers, or want of memory
 abbrev pub Makes : Command → Papers → Result Outcome RunFault → Type 0
-Makes command papers (Ok outcome) = Answers (Shows command) (feed_of papers) outcome
+Makes command papers (Ok outcome) = Answers command (told_by command papers) outcome
 Makes command papers (Err run_fault.Memory) = ⊤
 Makes command papers (Err run_fault.Read) = ⊥
 
@@ -56,4 +67,4 @@ Makes command papers (Err run_fault.Read) = ⊥
 pub record HasOutcome (command : Command) (files : Option Files) (outcome : Outcome) : Type 0 where
   pub papers : Papers
   pub read : AreRead files papers
-  pub answers : Answers (Shows command) (feed_of papers) outcome
+  pub answers : Answers command (told_by command papers) outcome

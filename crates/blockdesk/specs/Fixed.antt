@@ -15,7 +15,7 @@ use Rattle.blockdesk.specs.declared.feed.Feed.{Feed}
 -- the lines of the blocks, and then their number
 abbrev pub fixed_text : Feed → List (List ℕ) → List ℕ
 fixed_text feed blocks =
-    block_text feed.timetable (walk feed.matrix) (codes "B") blocks ++ (codes "fixed " ++ (decimal (length blocks) ++ 10 ∷ []))
+    block_text feed.timetable (walk feed.matrix) feed.settings.prefix blocks ++ (codes "fixed " ++ (decimal (length blocks) ++ 10 ∷ []))
 
 -- The text is that of the blocks which the rule of first in, first out makes. No blocking without deadheads has fewer, and
 -- they are as many as the sum of the maxima.

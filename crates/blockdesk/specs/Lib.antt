@@ -4,11 +4,7 @@ pub mod Commands
 pub mod Deficits
 pub mod Feed
 pub mod Fixed
-pub mod Journeys
 pub mod Papers
-pub mod Reading
 pub mod Runs
 pub mod Status
-pub mod StopTimes
-pub mod Trips
 pub mod World

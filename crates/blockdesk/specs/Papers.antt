@@ -1,5 +1,5 @@
 -- The papers of a feed, and which of a folder's files they are.
-use Rattle.std.specs.Prelude.{◌≡◌, ℕ, List, Option, Result, Ok, Err}
+use Rattle.std.specs.Prelude.{◌≡◌, ℕ, Option, Result, Ok, Err}
 use Rattle.desk_io.specs.Shelf.{Files, ShelfState, Tells, FitsIn, ReadFailed, found_in}
 use Rattle.desk_io.specs.declared.shelf.Found.{Found}
 use Rattle.gtfs_tables.specs.Papers.{file_name_of}
@@ -45,5 +45,9 @@ abbrev pub HasSize : Found → Type 0
 HasSize found = FitsIn most_bytes found
 
 pub record HaveSizes (papers : Papers) : Type 0 where
+  pub settings : HasSize papers.settings
+  pub terminals : HasSize papers.terminals
+  pub tolerances : HasSize papers.tolerances
   pub trips : HasSize papers.trips
   pub stop_times : HasSize papers.stop_times
+  pub deadheads : HasSize papers.deadheads

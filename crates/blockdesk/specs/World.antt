@@ -1,5 +1,5 @@
 -- What stands outside the program: the files of a folder, and what was printed.
-use Rattle.std.specs.Prelude.{◌≡◌, List, ℕ}
+use Rattle.std.specs.Prelude.{◌≡◌}
 use Rattle.desk_io.specs.Faults.{NoneCounted}
 use Rattle.desk_io.specs.Shelf.{ShelfState}
 use Rattle.desk_io.specs.Sink.{SinkState}

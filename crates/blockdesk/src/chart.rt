@@ -1,13 +1,14 @@
-ghost use Rattle.std.specs.Prelude.{◌≡◌, IfOk};
+ghost use Rattle.std.specs.Prelude.{◌≡◌, false, IfOk};
 ghost use Rattle.blockdesk.specs.declared.command.Command.TheVariants as command;
 ghost use Rattle.blockdesk.specs.Chart.{IsChart};
 ghost use Rattle.blockdesk.specs.Feed.{IsFeed};
 ghost use Rattle.blockdesk.specs.Runs.{RunsAs};
 ghost use Rattle.blockdesk.specs.World.{world};
 
+use crate::command::Command;
 use crate::deficits::deficits_of;
 use crate::feed::Feed;
-use crate::fixed::{PREFIX, fixed_blocks};
+use crate::fixed::fixed_blocks;
 use crate::show::{Show, perform};
 use chart_text::{block_chart, deficit_chart};
 use deadhead_matrix::laws::standing_law;
@@ -18,7 +19,7 @@ use trip_model::laws::plain_law;
 
 // The charts of the deficits and of the blocks of a feed. Without deadheads the fewest blocks are least.
 fn charts<L: Ledger>(alloc: Global, feed: &Feed, steps: &mut Steps<L>) -> Result<Text, Memory>
-    requires { IsFeed feed.now }
+    requires { IsFeed false feed.now }
     ensures { IfOk result (IsChart feed.now) }
 {
     plain_law();
@@ -27,7 +28,13 @@ fn charts<L: Ledger>(alloc: Global, feed: &Feed, steps: &mut Steps<L>) -> Result
     let deficits = deficits_of(alloc, timetable, steps)?;
     let above = deficit_chart(alloc, timetable, &deficits)?;
     let blocks = fixed_blocks(alloc, timetable)?;
-    let below = block_chart(alloc, timetable, &feed.matrix, &blocks, PREFIX)?;
+    let below = block_chart(
+        alloc,
+        timetable,
+        &feed.matrix,
+        &blocks,
+        feed.settings.prefix(),
+    )?;
     Ok(Text::wrap(format!(in alloc; "{}{}", above.as_str(), below.as_str())?))
 }
 
@@ -35,6 +42,10 @@ struct ShowChart;
 
 impl Show for ShowChart {
     ghost command = { λ _. command.Chart };
+
+    fn asked(&self) -> Command {
+        Command::Chart
+    }
 
     fn text<L: Ledger>(
         &self,

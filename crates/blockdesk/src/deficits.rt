@@ -7,6 +7,7 @@ ghost use Rattle.blockdesk.specs.Deficits as spec;
 ghost use Rattle.blockdesk.specs.Runs.{RunsAs};
 ghost use Rattle.blockdesk.specs.World.{world};
 
+use crate::command::Command;
 use crate::feed::Feed;
 use crate::show::{Show, perform};
 use deficit_steps::laws::held_law;
@@ -53,6 +54,10 @@ struct ShowDeficits;
 
 impl Show for ShowDeficits {
     ghost command = { λ _. command.Deficits };
+
+    fn asked(&self) -> Command {
+        Command::Deficits
+    }
 
     fn text<L: Ledger>(
         &self,

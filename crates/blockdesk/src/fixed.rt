@@ -1,4 +1,4 @@
-ghost use Rattle.std.specs.Prelude.{◌≡◌, ◌<◌, pos, length, All, IfOk};
+ghost use Rattle.std.specs.Prelude.{◌≡◌, ◌<◌, true, pos, length, All, IfOk};
 ghost use Rattle.trip_model.specs.Blocking.{IsFewest};
 ghost use Rattle.trip_model.specs.Deficit.{deficit, live_moves};
 ghost use Rattle.trip_model.specs.Links.{blocks_along};
@@ -12,6 +12,7 @@ ghost use Rattle.blockdesk.specs.Fixed.{IsFixed};
 ghost use Rattle.blockdesk.specs.Runs.{RunsAs};
 ghost use Rattle.blockdesk.specs.World.{world};
 
+use crate::command::Command;
 use crate::feed::Feed;
 use crate::show::{Show, perform};
 use block_build::{Blocks, block_lines, blocks_of};
@@ -21,9 +22,6 @@ use std::alloc::Global;
 use std::sync::ledger::Ledger;
 use trip_model::Timetable;
 use trip_model::laws::plain_law;
-
-/// What stands before the number of a block in its name.
-pub const PREFIX: &str = "B";
 
 // The blocks that the trips make without deadheads, first in, first out.
 pub fn fixed_blocks(alloc: Global, timetable: &Timetable) -> Result<Blocks, Memory>
@@ -41,11 +39,17 @@ pub fn fixed_blocks(alloc: Global, timetable: &Timetable) -> Result<Blocks, Memo
 
 // The lines of the blocks without deadheads, and their number.
 fn fixed_text(alloc: Global, feed: &Feed) -> Result<Text, Memory>
-    requires { IsFeed feed.now }
+    requires { IsFeed true feed.now }
     ensures { IfOk result (IsFixed feed.now) }
 {
     let blocks = fixed_blocks(alloc, &feed.timetable)?;
-    let lines = block_lines(alloc, &feed.timetable, &feed.matrix, &blocks, PREFIX)?;
+    let lines = block_lines(
+        alloc,
+        &feed.timetable,
+        &feed.matrix,
+        &blocks,
+        feed.settings.prefix(),
+    )?;
     let lines = lines.as_str();
     Ok(Text::wrap(format!(in alloc; "{lines}fixed {}\n", blocks.len())?))
 }
@@ -54,6 +58,10 @@ struct ShowFixed;
 
 impl Show for ShowFixed {
     ghost command = { λ _. command.Fixed };
+
+    fn asked(&self) -> Command {
+        Command::Fixed
+    }
 
     fn text<L: Ledger>(
         &self,

@@ -4,8 +4,9 @@
 //! a count of steps. The one contract: by the words, the text that was put and the status are those of the files.
 //!
 //! The contracts cite `World` (what stands outside the program), `Commands` (what the words ask for, and what a command
-//! puts), `Papers` and `Feed` (from files to the timetable), `Deficits`, `Fixed` and `Chart` (what the commands put of an
-//! accepted feed), `Runs` (what is put under each status) and `Causes` (when each comes).
+//! puts), `Papers` and `Feed` (from files to the settings, the timetable and the deadheads), `Deficits`, `Fixed` and
+//! `Chart` (what the commands put of an accepted feed), `Runs` (what is put under each status) and `Causes` (when each
+//! comes).
 #![tactic(auto)]
 
 mod chart;
@@ -14,15 +15,12 @@ mod deficits;
 mod feed;
 mod finish;
 mod fixed;
-mod journey;
 mod outcome;
 mod papers;
 mod show;
 mod start;
 mod status;
-mod stop_times;
 mod top;
-mod trips;
 mod usage;
 
 pub use chart::run_chart;

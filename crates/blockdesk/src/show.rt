@@ -1,11 +1,12 @@
 ghost use Rattle.std.specs.Prelude.{◌≡◌, ℕ, List, IfOk};
 ghost use Rattle.blockdesk.specs.declared.command.Command.{Command as Asked};
 ghost use Rattle.blockdesk.specs.Commands.{Shows, Makes, HasOutcome};
-ghost use Rattle.blockdesk.specs.Feed.{IsFeed};
+ghost use Rattle.blockdesk.specs.Feed.{IsFeed, reads_deadheads};
 ghost use Rattle.blockdesk.specs.Papers.{HaveSizes, ReadsPapers};
 ghost use Rattle.blockdesk.specs.Runs.{RunsAs};
 ghost use Rattle.blockdesk.specs.World.{world};
 
+use crate::command::Command;
 use crate::feed::{Feed, read_feed};
 use crate::finish::finish;
 use crate::outcome::{Outcome, RunFault};
@@ -20,6 +21,10 @@ pub trait Show {
     /// Which command it is.
     ghost command: { Self → Asked };
 
+    /// Which command it is, for the code.
+    fn asked(&self) -> Command
+        ensures { result ≡ command self.now };
+
     /// What is put of an accepted feed.
     fn text<L: Ledger>(
         &self,
@@ -27,7 +32,7 @@ pub trait Show {
         feed: &Feed,
         steps: &mut Steps<L>,
     ) -> Result<Text, Memory>
-        requires { IsFeed feed.now }
+        requires { IsFeed (reads_deadheads (command self.now)) feed.now }
         ensures { IfOk result (Shows (command self.now) feed.now) };
 }
 
@@ -41,7 +46,7 @@ fn outcome<C: Show, L: Ledger>(
     requires { HaveSizes papers.now }
     ensures { Makes (C.command show.now) papers.now result }
 {
-    match read_feed(alloc, papers) {
+    match read_feed(alloc, show.asked().reads_deadheads(), papers) {
         Ok(feed) => Ok(Outcome {
             text: show.text(alloc, &feed, steps)?,
             status: 0,

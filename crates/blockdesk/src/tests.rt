@@ -34,10 +34,6 @@ const TRIP: &[u8] = b"service_id,trip_id\nW,N1\n";
 const STOPS: &[u8] =
     b"trip_id,arrival_time,departure_time,stop_id,stop_sequence\nN1,06:00:00,06:00:00,A,1\nN1,06:30:00,06:30:00,B,2\n";
 
-const UNTIDY: &[u8] = b"feed refused: stop_times.txt: not read yet\n";
-
-const NOT_FIRST: &[u8] = b"feed refused: trips.txt: not read yet\n";
-
 // A run over words, a shelf and a sink, in the ledger that the blank becomes.
 fn counted<L: Ledger>(
     alloc: Global,
@@ -142,7 +138,7 @@ fn faults_and_want_of_memory_have_a_line(rt: HostRuntime) {
 }
 
 #[test]
-fn deficits_of_tidy_feeds(rt: HostRuntime) -> Result<(), Fail> {
+fn deficits_of_feeds(rt: HostRuntime) -> Result<(), Fail> {
     let alloc = rt.alloc();
     puts(&rt, alloc, TRIPS, STOP_TIMES, 0, DEFICITS)?;
     puts(
@@ -174,7 +170,7 @@ fn deficits_of_tidy_feeds(rt: HostRuntime) -> Result<(), Fail> {
 }
 
 #[test]
-fn blocks_and_charts_of_tidy_feeds(rt: HostRuntime) -> Result<(), Fail> {
+fn blocks_and_charts_of_feeds(rt: HostRuntime) -> Result<(), Fail> {
     let alloc = rt.alloc();
     const FIRST_STOP: &[u8] = b"trip_id,arrival_time,departure_time,stop_id,stop_sequence\n";
     // A trip of one minute, and one whose first minute is not that of its column.
@@ -214,8 +210,20 @@ fn blocks_and_charts_of_tidy_feeds(rt: HostRuntime) -> Result<(), Fail> {
             0,
             b"chart from 06:00\n1111 A\n000- B\n###. B1\n",
         ),
-        ("fixed", b"", STOPS, 3, NOT_FIRST),
-        ("chart", TRIP, b"", 3, UNTIDY),
+        (
+            "fixed",
+            b"",
+            STOPS,
+            3,
+            b"feed refused: trips.txt: no header\n",
+        ),
+        (
+            "chart",
+            TRIP,
+            b"",
+            3,
+            b"feed refused: stop_times.txt: no header\n",
+        ),
     ];
     for (command, trips, stop_times, status, text) in cases {
         command_puts(&rt, alloc, command, trips, stop_times, status, text)?;
@@ -223,153 +231,291 @@ fn blocks_and_charts_of_tidy_feeds(rt: HostRuntime) -> Result<(), Fail> {
     Ok(())
 }
 
-#[test]
-fn feeds_that_are_not_tidy_are_refused(rt: HostRuntime) -> Result<(), Fail> {
-    let alloc = rt.alloc();
-    // Trips: no record, a longer record, each column missing, bytes that are no text, no name, a name twice.
-    let trips: [&[u8]; 8] = [
-        b"",
-        b"service_id,trip_id\nW,N1,x\n",
-        b"service,trip_id\nW,N1\n",
-        b"service_id,trip\nW,N1\n",
-        b"service_id,trip_id\n\xff,N1\n",
-        b"service_id,trip_id\nW,\xff\n",
-        b"service_id,trip_id\nW,\n",
-        b"service_id,trip_id\nW,N1\nW,N1\n",
-    ];
-    for trips in trips {
-        puts(&rt, alloc, trips, STOPS, 3, NOT_FIRST)?;
-    }
-    // Stop times: no record, a longer record, each column missing, one record too few and too many.
-    let stop_times: [&[u8]; 9] = [
-        b"",
-        b"trip_id,arrival_time,departure_time,stop_id,stop_sequence\nN1,06:00:00,06:00:00,A,1,x\nN1,06:30:00,06:30:00,B,2\n",
-        b"trip,arrival_time,departure_time,stop_id,stop_sequence\nN1,06:00:00,06:00:00,A,1\nN1,06:30:00,06:30:00,B,2\n",
-        b"trip_id,arrival,departure_time,stop_id,stop_sequence\nN1,06:00:00,06:00:00,A,1\nN1,06:30:00,06:30:00,B,2\n",
-        b"trip_id,arrival_time,departure,stop_id,stop_sequence\nN1,06:00:00,06:00:00,A,1\nN1,06:30:00,06:30:00,B,2\n",
-        b"trip_id,arrival_time,departure_time,stop,stop_sequence\nN1,06:00:00,06:00:00,A,1\nN1,06:30:00,06:30:00,B,2\n",
-        b"trip_id,arrival_time,departure_time,stop_id,sequence\nN1,06:00:00,06:00:00,A,1\nN1,06:30:00,06:30:00,B,2\n",
-        b"trip_id,arrival_time,departure_time,stop_id,stop_sequence\nN1,06:00:00,06:00:00,A,1\n",
-        b"trip_id,arrival_time,departure_time,stop_id,stop_sequence\nN1,06:00:00,06:00:00,A,1\nN1,06:30:00,06:30:00,B,2\nN1,06:40:00,06:40:00,C,3\n",
-    ];
-    for stop_times in stop_times {
-        puts(&rt, alloc, TRIP, stop_times, 3, UNTIDY)?;
-    }
-    // One record of two: another trip, bytes that are no text, no stop, times and numbers out of form.
-    let records: [&[u8]; 14] = [
-        b"N2,06:30:00,06:30:00,B,2",
-        b"\xff,06:30:00,06:30:00,B,2",
-        b"N1,\xff,06:30:00,B,2",
-        b"N1,06:30:00,\xff,B,2",
-        b"N1,06:30:00,06:30:00,\xff,2",
-        b"N1,06:30:00,06:30:00,B,\xff",
-        b"N1,06:30:00,06:30:00,,2",
-        b"N1,6:5:00,06:30:00,B,2",
-        b"N1,06:30:00,,B,2",
-        b"N1,06:30:00,06:60:00,B,2",
-        b"N1,06:30:00,06:30:00,B,1234567890",
-        b"N1,06:30:00,06:30:00,B,two",
-        b"N1,06:30:00,06:30:00,B,1",
-        b"N1,06:00:00,06:30:00,B,2",
-    ];
-    for record in records {
-        let mut text =
-            b"trip_id,arrival_time,departure_time,stop_id,stop_sequence\nN1,06:00:00,06:00:00,A,1\n".to_vec(
-                alloc,
-            )?;
-        text.extend_from_slice(record)?;
-        puts(&rt, alloc, TRIP, &text, 3, UNTIDY)?;
-    }
-    // An arrival that is ten seconds late is an arrival.
-    puts(
-        &rt,
+// The bytes of an operator's day: 15 lines, both ways, 40 trips each way in turn of the services WK and WS, and the same
+// trips under three other services.
+fn operators_day(alloc: Global) -> Result<(String, String, String), AllocError> {
+    let mut terminals = String::from_str(alloc, "stop_id,terminal\n")?;
+    let mut trips = String::from_str(alloc, "route_id,service_id,trip_id\n")?;
+    let mut times = String::from_str(
         alloc,
-        TRIP,
-        b"trip_id,arrival_time,departure_time,stop_id,stop_sequence\nN1,10:00:30,10:00:30,A,1\nN1,10:00:40,10:00:40,B,2\n",
-        0,
-        b"A max 1 at 10:00\n 10:00 1\nB max 0 at 00:00\n 10:01 -1\nsum 1\n",
+        "trip_id,arrival_time,departure_time,stop_id,stop_sequence\n",
     )?;
+    for line in 0..15 {
+        for end in ["W", "E"] {
+            writeln!(
+                terminals,
+                "{end}{line}_1,{end}{line}\n{end}{line}_2,{end}{line}"
+            )?;
+        }
+        for way in 0..2 {
+            let (from, to) = if way == 0 { ("W", "E") } else { ("E", "W") };
+            for number in 0..40 {
+                let day = if number % 2 == 0 { "WK" } else { "WS" };
+                let platform = number % 2 + 1;
+                let leaves = 300 + 20 * number;
+                let arrives = leaves + 45;
+                let (hour, minute) = (leaves / 60, leaves % 60);
+                let (end_hour, end_minute) = (arrives / 60, arrives % 60);
+                for (service, mark) in [(day, ""), ("SA", "SA"), ("SU", "SU"), ("HO", "HO")] {
+                    let trip = format!(in alloc; "{mark}L{line}D{way}N{number}")?;
+                    writeln!(trips, "R,{service},{trip}")?;
+                    writeln!(
+                        times,
+                        "{trip},{hour:02}:{minute:02}:00,{hour:02}:{minute:02}:00,{from}{line}_{platform},10"
+                    )?;
+                    writeln!(times, "{trip},,,L{line}M1,20")?;
+                    writeln!(
+                        times,
+                        "{trip},{end_hour:02}:{end_minute:02}:00,{end_hour:02}:{end_minute:02}:00,{to}{line}_{platform},200"
+                    )?;
+                }
+            }
+        }
+    }
+    Ok((terminals, trips, times))
+}
+
+#[test]
+fn an_operators_day_takes_three_vehicles_a_terminal(rt: HostRuntime) -> Result<(), Fail> {
+    let alloc = rt.alloc();
+    let (terminals, trips, times) = operators_day(alloc)?;
+    let mut shelf = empty_shelf(alloc);
+    shelf.lay(
+        alloc,
+        "desk.toml",
+        b"services = [\"WK\", \"WS\"]\nlayover = 5\n",
+    )?;
+    shelf.lay(alloc, "terminals.csv", terminals.as_bytes())?;
+    shelf.lay(alloc, "trips.txt", trips.as_bytes())?;
+    shelf.lay(alloc, "stop_times.txt", times.as_bytes())?;
+    let mut out = MemorySink::open(alloc, 4096, Vec::new(alloc), 1_048_576)?;
+    assert_eq!(rt; ran(alloc, &["deficits", "feed"], &mut shelf, &mut out)?, 0);
+    let text = str::from_utf8(out.written())?;
+    let mut terminals = 0;
+    for line in text.lines() {
+        if !line.starts_with(' ') && line.ends_with(" max 3 at 05:40") {
+            terminals += 1;
+        }
+    }
+    assert_eq!(rt; terminals, 30);
+    assert!(rt; text.ends_with("\nsum 90\n"));
+    let mut out = MemorySink::open(alloc, 4096, Vec::new(alloc), 1_048_576)?;
+    assert_eq!(rt; ran(alloc, &["fixed", "feed"], &mut shelf, &mut out)?, 0);
+    assert!(rt; out.written().ends_with(b"\nfixed 90\n"));
+    Ok(())
+}
+
+#[test]
+fn a_published_feed_puts_what_its_plain_form_puts(rt: HostRuntime) -> Result<(), Fail> {
+    let alloc = rt.alloc();
+    // Rows in another order, numbers 5, 10 and 90, a stop without times, a byte-order mark, CRLF, a quoted comma.
+    const PUBLISHED: &[u8] =
+        b"\xef\xbb\xbftrip_id,stop_headsign,arrival_time,departure_time,stop_id,stop_sequence\r\nU2,\"A, north\",07:30:00,,A,90\r\nU1,,06:30:00,06:30:00,B,90\r\nU1,,,,M,10\r\nU2,,07:00:00,07:00:00,C,5\r\nU1,\"B, \"\"old\"\"\",,06:00:00,A,5\r\n";
+    let cases: [(&str, &[u8]); 3] = [
+        (
+            "deficits",
+            b"A max 1 at 06:00\n 06:00 1\n 07:30 0\nB max 0 at 00:00\n 06:30 -1\nC max 1 at 07:00\n 07:00 1\nsum 2\n",
+        ),
+        (
+            "fixed",
+            b"B1: U1 06:00 06:30\nB2: U2 07:00 07:30\nfixed 2\n",
+        ),
+        (
+            "chart",
+            b"chart from 06:00\n1111111110 A\n000------- B\n0000001111 C\n###....... B1\n......###. B2\n",
+        ),
+    ];
+    for (command, text) in cases {
+        command_puts(&rt, alloc, command, TWO_TRIPS, TWO_RUNS, 0, text)?;
+        command_puts(&rt, alloc, command, TWO_TRIPS, PUBLISHED, 0, text)?;
+    }
     Ok(())
 }
 
 #[test]
 fn papers_are_judged_in_order(rt: HostRuntime) -> Result<(), Fail> {
     let alloc = rt.alloc();
-    // The files that are there, and the first refusal.
-    let cases: [(&[(&str, &[u8])], &[u8]); 10] = [
+    const FEED: [(&str, &[u8]); 2] = [("trips.txt", TRIP), ("stop_times.txt", STOPS)];
+    // What stands beside the feed, what stands in place of its files, and what is put.
+    let cases: [(&[(&str, &[u8])], &[u8]); 14] = [
         (
-            &[
-                ("trips.txt", TRIP),
-                ("stop_times.txt", STOPS),
-                ("desk.toml", b""),
-            ],
-            b"feed refused: desk.toml: not read yet\n",
+            &[("desk.toml", b"layover = 5\nblock_prefix = \"V\"")],
+            b"A max 1 at 06:00\n 06:00 1\nB max 0 at 00:00\n 06:35 -1\nsum 1\n",
+        ),
+        (&[("desk.toml", b"services = []")], b"sum 0\n"),
+        (
+            &[("terminals.csv", b"stop_id,terminal\nA,B\nX,Y\n")],
+            b"B max 1 at 06:00\n 06:00 1\n 06:30 0\nsum 1\n",
         ),
         (
-            &[
-                ("trips.txt", TRIP),
-                ("stop_times.txt", STOPS),
-                ("terminals.csv", b""),
-            ],
-            b"feed refused: terminals.csv: not read yet\n",
+            &[("desk.toml", b"zone = 1\nlayover = 241\n")],
+            b"feed refused: desk.toml: bad layover\n",
         ),
         (
-            &[
-                ("trips.txt", TRIP),
-                ("stop_times.txt", STOPS),
-                ("tolerances.csv", b""),
-            ],
-            b"feed refused: tolerances.csv: not read yet\n",
+            &[("terminals.csv", b"")],
+            b"feed refused: terminals.csv: no header\n",
         ),
         (
-            &[
-                ("trips.txt", TRIP),
-                ("stop_times.txt", STOPS),
-                ("deadheads.csv", b""),
-            ],
-            b"feed refused: deadheads.csv: not read yet\n",
+            &[("tolerances.csv", b"trip_id,early,late\nN1,0,61\n")],
+            b"feed refused: tolerances.csv record 1: bad late\n",
         ),
         (
-            &[
-                ("trips.txt", TRIP),
-                ("stop_times.txt", STOPS),
-                ("edits.csv", b""),
-            ],
+            &[("deadheads.csv", b"")],
+            b"feed refused: deadheads.csv: no header\n",
+        ),
+        (
+            &[("edits.csv", b"")],
             b"feed refused: edits.csv: not read yet\n",
         ),
+        (
+            &[("stop_times.txt", b"")],
+            b"feed refused: stop_times.txt: no header\n",
+        ),
+        // Two at once.
+        (
+            &[("terminals.csv", b""), ("desk.toml", b"=")],
+            b"feed refused: desk.toml: not TOML\n",
+        ),
+        (
+            &[("tolerances.csv", b""), ("terminals.csv", b"")],
+            b"feed refused: terminals.csv: no header\n",
+        ),
+        (
+            &[("trips.txt", b""), ("tolerances.csv", b"")],
+            b"feed refused: tolerances.csv: no header\n",
+        ),
+        (
+            &[("stop_times.txt", b""), ("trips.txt", b"")],
+            b"feed refused: trips.txt: no header\n",
+        ),
+        (
+            &[("deadheads.csv", b""), ("stop_times.txt", b"trip_id\n")],
+            b"feed refused: stop_times.txt: no column arrival_time\n",
+        ),
+    ];
+    for (files, text) in cases {
+        let mut shelf = empty_shelf(alloc);
+        for (name, bytes) in FEED {
+            shelf.lay(alloc, name, bytes)?;
+        }
+        for (name, bytes) in files {
+            shelf.lay(alloc, name, bytes)?;
+        }
+        let mut out = MemorySink::open(alloc, 4096, Vec::new(alloc), 4096)?;
+        let status = ran(alloc, &["deficits", "feed"], &mut shelf, &mut out)?;
+        assert_eq!(rt; out.written(), text);
+        assert_eq!(rt;
+            status,
+            if text.starts_with(b"feed refused") {
+                3
+            } else {
+                0
+            }
+        );
+    }
+    // Of the feed's own two files, each missing.
+    let missing: [(&[(&str, &[u8])], &[u8]); 3] = [
         (&[], b"feed refused: trips.txt: missing\n"),
         (
             &[("trips.txt", TRIP), ("edits.csv", b"")],
             b"feed refused: stop_times.txt: missing\n",
         ),
         (
-            &[
-                ("stop_times.txt", STOPS),
-                ("desk.toml", b""),
-                ("tolerances.csv", b""),
-            ],
-            b"feed refused: desk.toml: not read yet\n",
-        ),
-        (
-            &[("trips.txt", b""), ("deadheads.csv", b"")],
-            b"feed refused: trips.txt: not read yet\n",
-        ),
-        (
-            &[
-                ("trips.txt", TRIP),
-                ("stop_times.txt", b""),
-                ("deadheads.csv", b""),
-            ],
-            b"feed refused: stop_times.txt: not read yet\n",
+            &[("stop_times.txt", STOPS), ("deadheads.csv", b"")],
+            b"feed refused: trips.txt: missing\n",
         ),
     ];
-    for (files, text) in cases {
+    for (files, text) in missing {
         let mut shelf = empty_shelf(alloc);
         for (name, bytes) in files {
             shelf.lay(alloc, name, bytes)?;
         }
         let mut out = MemorySink::open(alloc, 4096, Vec::new(alloc), 4096)?;
         assert_eq!(rt; ran(alloc, &["deficits", "feed"], &mut shelf, &mut out)?, 3);
+        assert_eq!(rt; out.written(), text);
+    }
+    Ok(())
+}
+
+// Two trips, the second from another place than that at which the first ends.
+const TWO_TRIPS: &[u8] = b"route_id,service_id,trip_id\nR,W,U1\nR,W,U2\n";
+
+const TWO_RUNS: &[u8] =
+    b"trip_id,arrival_time,departure_time,stop_id,stop_sequence\nU1,06:00:00,06:00:00,A,1\nU1,06:30:00,06:30:00,B,2\nU2,07:00:00,07:00:00,C,1\nU2,07:30:00,07:30:00,A,2\n";
+
+#[test]
+fn feeds_with_deadheads(rt: HostRuntime) -> Result<(), Fail> {
+    let alloc = rt.alloc();
+    const WITHOUT: &[u8] = b"B1: U1 06:00 06:30\nB2: U2 07:00 07:30\nfixed 2\n";
+    let cases: [(&str, &[u8], u8, &[u8]); 8] = [
+        (
+            "deficits",
+            b"from,to,minutes\nB,X,5\nX,C,10\n",
+            0,
+            b"A max 1 at 06:00\n 06:00 1\n 07:30 0\nB max 0 at 00:00\n 06:30 -1\nC max 1 at 07:00\n 07:00 1\nX max 0 at 00:00\nsum 2\n",
+        ),
+        ("fixed", b"from,to,minutes\nB,X,5\nX,C,10\n", 0, WITHOUT),
+        ("fixed", b"minutes,to,from\r\n7,Y,X\r\n", 0, WITHOUT),
+        (
+            "deficits",
+            b"from,to,minutes\nB,C,0\n",
+            3,
+            b"feed refused: deadheads.csv record 1: bad minutes\n",
+        ),
+        (
+            "fixed",
+            b"from,to,minutes\nB,B,5\n",
+            3,
+            b"feed refused: deadheads.csv record 1: same terminal\n",
+        ),
+        (
+            "deficits",
+            b"from,to,minutes\nB,C,20\nB,C,20\n",
+            3,
+            b"feed refused: deadheads.csv record 2: duplicate\n",
+        ),
+        (
+            "chart",
+            b"from,to,minutes\n",
+            3,
+            b"feed refused: deadheads.csv: not read yet\n",
+        ),
+        (
+            "chart",
+            b"",
+            3,
+            b"feed refused: deadheads.csv: not read yet\n",
+        ),
+    ];
+    for (command, deadheads, status, text) in cases {
+        let mut shelf = empty_shelf(alloc);
+        shelf.lay(alloc, "trips.txt", TWO_TRIPS)?;
+        shelf.lay(alloc, "stop_times.txt", TWO_RUNS)?;
+        shelf.lay(alloc, "deadheads.csv", deadheads)?;
+        let mut out = MemorySink::open(alloc, 4096, Vec::new(alloc), 4096)?;
+        assert_eq!(rt;
+            ran(alloc, &[command, "feed"], &mut shelf, &mut out)?,
+            status
+        );
+        assert_eq!(rt; out.written(), text);
+    }
+    Ok(())
+}
+
+#[test]
+fn blocks_are_named_by_the_prefix(rt: HostRuntime) -> Result<(), Fail> {
+    let alloc = rt.alloc();
+    let cases: [(&str, &[u8]); 2] = [
+        ("fixed", b"V-1: N1 06:00 06:30\nfixed 1\n"),
+        ("chart", b"chart from 06:00\n1111 A\n000- B\n###. V-1\n"),
+    ];
+    for (command, text) in cases {
+        let mut shelf = empty_shelf(alloc);
+        shelf.lay(alloc, "desk.toml", b"block_prefix = \"V-\"")?;
+        shelf.lay(alloc, "trips.txt", TRIP)?;
+        shelf.lay(alloc, "stop_times.txt", STOPS)?;
+        let mut out = MemorySink::open(alloc, 4096, Vec::new(alloc), 4096)?;
+        assert_eq!(rt; ran(alloc, &[command, "feed"], &mut shelf, &mut out)?, 0);
         assert_eq!(rt; out.written(), text);
     }
     Ok(())
@@ -431,9 +577,19 @@ fn the_limits_on_trips_and_stops(rt: HostRuntime) -> Result<(), Fail> {
             0,
             b"S0 max 4095 at 06:00\n 06:00 4095\n 07:00 -1\nS1 max 1 at 06:00\n 06:00 1\nsum 4096\n",
         ),
-        (4097, 2, 3, NOT_FIRST),
+        (
+            4097,
+            2,
+            3,
+            b"feed refused: trips.txt record 4097: too many trips\n",
+        ),
         (512, 512, 0, b""),
-        (513, 513, 3, UNTIDY),
+        (
+            513,
+            513,
+            3,
+            b"feed refused: stop_times.txt: too many places\n",
+        ),
     ];
     for (trips, stops, status, text) in cases {
         let (names, times) = generated(alloc, trips, stops)?;

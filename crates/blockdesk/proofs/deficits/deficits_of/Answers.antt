@@ -1,4 +1,4 @@
-use Rattle.std.proofs.Common.{◌<◌, ◌≡◌, ◌≤◌, length, arith, sym, ap, ◌∙◌, subst, take, true, false, ◌++◌, ◌∷◌, []}
+use Rattle.std.proofs.Common.{◌<◌, ◌≤◌, length, arith, sym, ap, ◌∙◌, take, true, false, ◌++◌, ◌∷◌, []}
 use Rattle.std.proofs.lemmas.List.{append-nil}
 use Rattle.std.proofs.lemmas.Int.{ints}
 use Rattle.trip_model.specs.Deficit.{live_moves}

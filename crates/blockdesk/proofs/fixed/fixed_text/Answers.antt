@@ -1,11 +1,12 @@
-use Rattle.std.proofs.Common.{◌≡◌, ◌∷◌, [], ◌++◌, codes, ◌∙◌}
+use Rattle.std.proofs.Common.{◌∷◌, [], ◌++◌, ap, codes, ◌∙◌}
 use Rattle.std.specs.Fmt.{decimal}
-use Rattle.blockdesk.specs.Fixed.{fixed_text}
+use Rattle.block_build.specs.Lines.{block_text}
+use Rattle.deadhead_matrix.specs.Matrix.{walk}
 use Rattle.blockdesk.proofs.fixed.fixed_text.Goals as goal
 
 pub returns : goal.returns
 returns c =
-    let lines = c.as_str-lines.ensures ∙ c.in_ok-lines.ensures in
+    let lines = c.as_str-lines.ensures ∙ c.in_ok-lines.ensures ∙ ap (λ prefix. block_text c.args.feed.now.timetable (walk c.args.feed.now.matrix) prefix c.in_ok-blocks.blocks) c.prefix.ensures in
     let number = c.len.ensures in
     record {
       blocks = c.in_ok-blocks.blocks;
