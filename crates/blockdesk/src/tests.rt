@@ -337,7 +337,7 @@ fn papers_are_judged_in_order(rt: HostRuntime) -> Result<(), Fail> {
     let alloc = rt.alloc();
     const FEED: [(&str, &[u8]); 2] = [("trips.txt", TRIP), ("stop_times.txt", STOPS)];
     // What stands beside the feed, what stands in place of its files, and what is put.
-    let cases: [(&[(&str, &[u8])], &[u8]); 14] = [
+    let cases: [(&[(&str, &[u8])], &[u8]); 15] = [
         (
             &[("desk.toml", b"layover = 5\nblock_prefix = \"V\"")],
             b"A max 1 at 06:00\n 06:00 1\nB max 0 at 00:00\n 06:35 -1\nsum 1\n",
@@ -391,6 +391,13 @@ fn papers_are_judged_in_order(rt: HostRuntime) -> Result<(), Fail> {
         (
             &[("deadheads.csv", b""), ("stop_times.txt", b"trip_id\n")],
             b"feed refused: stop_times.txt: no column arrival_time\n",
+        ),
+        (
+            &[
+                ("edits.csv", b""),
+                ("deadheads.csv", b"from,to,minutes\nA,A,1\n"),
+            ],
+            b"feed refused: deadheads.csv record 1: same terminal\n",
         ),
     ];
     for (files, text) in cases {
