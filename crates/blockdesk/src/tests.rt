@@ -68,6 +68,14 @@ fn empty_shelf(alloc: Global) -> MemoryShelf {
     MemoryShelf::open(alloc, Vec::new(alloc), Vec::new(alloc))
 }
 
+// Lays files on a shelf.
+fn lay_all(alloc: Global, shelf: &mut MemoryShelf, files: &[(&str, &[u8])]) -> Result<(), Memory> {
+    for (name, bytes) in files {
+        shelf.lay(alloc, name, bytes)?;
+    }
+    Ok(())
+}
+
 // Runs a command over two files and tests what it puts.
 fn command_puts(
     rt: &impl Abort,
@@ -240,16 +248,16 @@ fn operators_day(alloc: Global) -> Result<(String, String, String), AllocError> 
         alloc,
         "trip_id,arrival_time,departure_time,stop_id,stop_sequence\n",
     )?;
-    for line in 0..15 {
+    for line in 0..15u32 {
         for end in ["W", "E"] {
             writeln!(
                 terminals,
                 "{end}{line}_1,{end}{line}\n{end}{line}_2,{end}{line}"
             )?;
         }
-        for way in 0..2 {
+        for way in 0..2u32 {
             let (from, to) = if way == 0 { ("W", "E") } else { ("E", "W") };
-            for number in 0..40 {
+            for number in 0..40u32 {
                 let day = if number % 2 == 0 { "WK" } else { "WS" };
                 let platform = number % 2 + 1;
                 let leaves = 300 + 20 * number;
@@ -291,10 +299,10 @@ fn an_operators_day_takes_three_vehicles_a_terminal(rt: HostRuntime) -> Result<(
     let mut out = MemorySink::open(alloc, 4096, Vec::new(alloc), 1_048_576)?;
     assert_eq!(rt; ran(alloc, &["deficits", "feed"], &mut shelf, &mut out)?, 0);
     let text = str::from_utf8(out.written())?;
-    let mut terminals = 0;
+    let mut terminals = 0u32;
     for line in text.lines() {
         if !line.starts_with(' ') && line.ends_with(" max 3 at 05:40") {
-            terminals += 1;
+            terminals = terminals.saturating_add(1);
         }
     }
     assert_eq!(rt; terminals, 30);
@@ -402,12 +410,8 @@ fn papers_are_judged_in_order(rt: HostRuntime) -> Result<(), Fail> {
     ];
     for (files, text) in cases {
         let mut shelf = empty_shelf(alloc);
-        for (name, bytes) in FEED {
-            shelf.lay(alloc, name, bytes)?;
-        }
-        for (name, bytes) in files {
-            shelf.lay(alloc, name, bytes)?;
-        }
+        lay_all(alloc, &mut shelf, &FEED)?;
+        lay_all(alloc, &mut shelf, files)?;
         let mut out = MemorySink::open(alloc, 4096, Vec::new(alloc), 4096)?;
         let status = ran(alloc, &["deficits", "feed"], &mut shelf, &mut out)?;
         assert_eq!(rt; out.written(), text);
@@ -434,9 +438,7 @@ fn papers_are_judged_in_order(rt: HostRuntime) -> Result<(), Fail> {
     ];
     for (files, text) in missing {
         let mut shelf = empty_shelf(alloc);
-        for (name, bytes) in files {
-            shelf.lay(alloc, name, bytes)?;
-        }
+        lay_all(alloc, &mut shelf, files)?;
         let mut out = MemorySink::open(alloc, 4096, Vec::new(alloc), 4096)?;
         assert_eq!(rt; ran(alloc, &["deficits", "feed"], &mut shelf, &mut out)?, 3);
         assert_eq!(rt; out.written(), text);
