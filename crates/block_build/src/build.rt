@@ -9,10 +9,7 @@ use crate::blocks::{Block, Blocks};
 use desk_io::Memory;
 use std::alloc::Global;
 use trip_model::laws::{departure_order_law, links_law, plain_law};
-use trip_model::{Links, Timetable, by_departure};
-
-/// How many minutes a service day has; no block has more trips.
-const MINUTES: u16 = 8192;
+use trip_model::{Links, MINUTES, Timetable, by_departure};
 
 // For each slot, whether its trip is the next of one.
 fn followers(alloc: Global, links: &Links) -> Result<Vec<bool>, Memory>
@@ -30,7 +27,7 @@ fn followers(alloc: Global, links: &Links) -> Result<Vec<bool>, Memory>
     Ok(marks)
 }
 
-// The block that begins with a slot.
+// The block that begins with a slot. It has no more trips than there are minutes, since departures rise along links.
 fn block_from(alloc: Global, links: &Links, first: u16) -> Result<Block, Memory>
     requires first { first < length links.now }
     requires within { (i j : ℕ) → next_of links.now i ≡ Some j → j < length links.now }

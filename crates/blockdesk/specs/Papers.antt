@@ -1,16 +1,12 @@
 -- The papers of a feed, and which of a folder's files they are.
 use Rattle.std.specs.Prelude.{◌≡◌, ℕ, Option, Result, Ok, Err}
-use Rattle.desk_io.specs.Shelf.{Files, ShelfState, Tells, FitsIn, ReadFailed, found_in}
+use Rattle.desk_io.specs.Shelf.{Files, ShelfState, Tells, ReadFailed, found_in}
 use Rattle.desk_io.specs.declared.shelf.Found.{Found}
-use Rattle.gtfs_tables.specs.Papers.{file_name_of}
+use Rattle.gtfs_tables.specs.Papers.{file_name_of, most_bytes, IsWithinLimit}
 use Rattle.gtfs_tables.specs.declared.paper.Paper.TheVariants as paper
 use Rattle.blockdesk.specs.declared.papers.Papers.{Papers}
 use Rattle.blockdesk.specs.declared.outcome.RunFault.{RunFault}
 use Rattle.blockdesk.specs.declared.outcome.RunFault.TheVariants as run_fault
-
--- the most bytes that a file may have
-abbrev pub most_bytes : ℕ
-most_bytes = 536870912
 
 -- each paper is what the shelf tells of the file of its name
 pub record AreRead (files : Option Files) (papers : Papers) : Type 0 where
@@ -40,14 +36,11 @@ ReadsPapers (Ok x) before after = after ≡ before
 ReadsPapers (Err run_fault.Memory) before after = after ≡ before
 ReadsPapers (Err run_fault.Read) before after = ReadFailed before after
 
--- a file that was read has no more bytes than were asked for
-abbrev pub HasSize : Found → Type 0
-HasSize found = FitsIn most_bytes found
-
-pub record HaveSizes (papers : Papers) : Type 0 where
-  pub settings : HasSize papers.settings
-  pub terminals : HasSize papers.terminals
-  pub tolerances : HasSize papers.tolerances
-  pub trips : HasSize papers.trips
-  pub stop_times : HasSize papers.stop_times
-  pub deadheads : HasSize papers.deadheads
+-- no paper has more bytes than a file may have
+pub record AreWithinLimit (papers : Papers) : Type 0 where
+  pub settings : IsWithinLimit papers.settings
+  pub terminals : IsWithinLimit papers.terminals
+  pub tolerances : IsWithinLimit papers.tolerances
+  pub trips : IsWithinLimit papers.trips
+  pub stop_times : IsWithinLimit papers.stop_times
+  pub deadheads : IsWithinLimit papers.deadheads

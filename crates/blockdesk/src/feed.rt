@@ -1,9 +1,9 @@
 ghost use Rattle.std.specs.Prelude.{◌≡◌, false, length, IfOk};
-ghost use Rattle.desk_io.specs.Shelf.{FitsIn};
+ghost use Rattle.gtfs_tables.specs.Papers.{IsWithinLimit};
 ghost use Rattle.deadhead_matrix.specs.Matrix.{AreLeastWalks, empty_matrix};
 ghost use Rattle.gtfs_tables.specs.Reading.{Gives};
 ghost use Rattle.blockdesk.specs.Feed as spec;
-ghost use Rattle.blockdesk.specs.Papers.{HaveSizes};
+ghost use Rattle.blockdesk.specs.Papers.{AreWithinLimit};
 
 use crate::papers::Papers;
 use deadhead_matrix::Matrix;
@@ -39,7 +39,7 @@ fn read_deadheads(
     deadheads: &Found,
     timetable: &mut Timetable,
 ) -> Result<Matrix, FeedFault>
-    requires { FitsIn 536870912 deadheads.now }
+    requires { IsWithinLimit deadheads.now }
     ensures gives { Gives (λ matrix. (timetable.new, matrix.entries)) result (spec.deadheads_for reads deadheads.now timetable.old) }
     ensures least { IfOk result AreLeastWalks }
     ensures places { IfOk result (λ matrix. length matrix.walks ≡ length timetable.new.places) }
@@ -55,7 +55,7 @@ fn read_deadheads(
 /// judged. Where the deadheads are not read there must be no file of them.
 #[tactic(auto, unfolding(crate::specs::Feed::said_by))]
 pub fn read_feed(alloc: Global, reads: bool, papers: &Papers) -> Result<Feed, FeedFault>
-    requires { HaveSizes papers.now }
+    requires { AreWithinLimit papers.now }
     ensures gives { Gives spec.said_of result (spec.said_by reads papers.now) }
     ensures valid { IfOk result (spec.IsFeed reads) }
 {

@@ -1,15 +1,12 @@
 ghost use Rattle.std.specs.Prelude.{IfOk};
 ghost use Rattle.desk_io.specs.Shelf.{Tells};
-ghost use Rattle.gtfs_tables.specs.Papers.{file_name_of};
-ghost use Rattle.blockdesk.specs.Papers.{AreRead, HasSize, HaveSizes, ReadsPapers, most_bytes};
+ghost use Rattle.gtfs_tables.specs.Papers.{file_name_of, most_bytes, IsWithinLimit};
+ghost use Rattle.blockdesk.specs.Papers.{AreRead, AreWithinLimit, ReadsPapers};
 
 use crate::RunFault;
 use desk_io::{Found, Shelf, ShelfFault};
-use gtfs_tables::Paper;
+use gtfs_tables::{MOST_BYTES, Paper};
 use std::alloc::Global;
-
-/// The most bytes that a file may have.
-pub const MOST_BYTES: u64 = 536_870_912;
 
 /// The papers of a feed, as the shelf told them.
 #[derive(Debug, Drop)]
@@ -24,7 +21,7 @@ pub struct Papers {
 }
 
 fn read_paper<S: Shelf>(alloc: Global, shelf: &mut S, paper: Paper) -> Result<Found, RunFault>
-    ensures size { IfOk result HasSize }
+    ensures within { IfOk result IsWithinLimit }
     ensures found { IfOk result (Tells (S.state shelf.old).files (file_name_of paper) most_bytes) }
     ensures state { ReadsPapers result (S.state shelf.old) (S.state shelf.new) }
 {
@@ -37,7 +34,7 @@ fn read_paper<S: Shelf>(alloc: Global, shelf: &mut S, paper: Paper) -> Result<Fo
 
 /// Reads the papers of a feed, one after the other. The first read that fails ends it.
 pub fn read_papers<S: Shelf>(alloc: Global, shelf: &mut S) -> Result<Papers, RunFault>
-    ensures sizes { IfOk result HaveSizes }
+    ensures within { IfOk result AreWithinLimit }
     ensures read { IfOk result (AreRead (S.state shelf.old).files) }
     ensures state { ReadsPapers result (S.state shelf.old) (S.state shelf.new) }
 {

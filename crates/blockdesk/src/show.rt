@@ -2,7 +2,7 @@ ghost use Rattle.std.specs.Prelude.{◌≡◌, ℕ, List, IfOk};
 ghost use Rattle.blockdesk.specs.declared.command.Command.{Command as Asked};
 ghost use Rattle.blockdesk.specs.Commands.{Shows, Makes, HasOutcome};
 ghost use Rattle.blockdesk.specs.Feed.{IsFeed, reads_deadheads};
-ghost use Rattle.blockdesk.specs.Papers.{HaveSizes, ReadsPapers};
+ghost use Rattle.blockdesk.specs.Papers.{AreWithinLimit, ReadsPapers};
 ghost use Rattle.blockdesk.specs.Runs.{RunsAs};
 ghost use Rattle.blockdesk.specs.World.{world};
 
@@ -11,6 +11,7 @@ use crate::feed::{Feed, read_feed};
 use crate::finish::finish;
 use crate::outcome::{Outcome, RunFault};
 use crate::papers::{Papers, read_papers};
+use crate::status::{DONE, FEED_REFUSED};
 use desk_io::{Memory, Shelf, Sink, Steps, Text};
 use gtfs_tables::{FeedFault, feed_line};
 use std::alloc::Global;
@@ -43,18 +44,18 @@ fn outcome<C: Show, L: Ledger>(
     papers: &Papers,
     steps: &mut Steps<L>,
 ) -> Result<Outcome, RunFault>
-    requires { HaveSizes papers.now }
+    requires { AreWithinLimit papers.now }
     ensures { Makes (C.command show.now) papers.now result }
 {
     match read_feed(alloc, show.asked().reads_deadheads(), papers) {
         Ok(feed) => Ok(Outcome {
             text: show.text(alloc, &feed, steps)?,
-            status: 0,
+            status: DONE,
         }),
         Err(FeedFault::Memory) => Err(RunFault::Memory),
         Err(fault) => Ok(Outcome {
             text: feed_line(alloc, &fault)?,
-            status: 3,
+            status: FEED_REFUSED,
         }),
     }
 }

@@ -2,14 +2,12 @@ ghost use Rattle.std.specs.Prelude.{◌≡◌, ◌<◌};
 ghost use Rattle.blockdesk.specs.Commands as spec;
 
 use crate::run;
+use crate::status::NO_MEMORY;
 use desk_io::{FolderShelf, Memory, OutSink, Steps, Text};
 use std::env;
 use std::io::ErrorKind;
 use std::rt::{Env, Files};
 use std::sync::ledger::{Blank, Ledger};
-
-// Want of memory, found before the run began.
-const NO_MEMORY: u8 = 8;
 
 /// The run over the program's own words, a real folder and standard output. It answers the status.
 pub fn start<L: Ledger>(rt: &(impl Env + Files + Print + AllocGlobal), blank: Blank) -> u8

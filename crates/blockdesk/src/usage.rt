@@ -1,6 +1,7 @@
 ghost use Rattle.blockdesk.specs.World.{world};
 ghost use Rattle.blockdesk.specs.Runs.{IsUsage};
 
+use crate::status::{USAGE, WRITE_FAULT};
 use desk_io::{Shelf, Sink, put_all};
 
 /// What is put for words of no form.
@@ -13,7 +14,7 @@ pub fn put_usage<S: Shelf, O: Sink>(shelf: &mut S, out: &mut O) -> u8
     ensures { let at = world S.state O.state in IsUsage (at shelf.old out.old) (at shelf.new out.new) result }
 {
     match put_all(out, USAGE_LINE.as_bytes()) {
-        Ok(()) => 2,
-        Err(_) => 6,
+        Ok(()) => USAGE,
+        Err(_) => WRITE_FAULT,
     }
 }

@@ -13,10 +13,7 @@ use desk_io::{Memory, Text};
 use gtfs_tables::minute_text;
 use std::alloc::Global;
 use std::fmt::Write;
-use trip_model::Timetable;
-
-/// How many minutes there are.
-const MINUTES: u16 = 8192;
+use trip_model::{MINUTES, Timetable};
 
 // The values of a place at the minutes 0 to 8,191. A value stays until the next step.
 fn minute_values(alloc: Global, deficits: &Deficits, place: u16) -> Result<Vec<i32>, Memory>

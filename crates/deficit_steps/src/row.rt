@@ -6,9 +6,7 @@ ghost use Rattle.deficit_steps.specs.Changes.{IsChange, AreChanges, value_in, wi
 use desk_io::Memory;
 use std::alloc::{AllocError, Global};
 use std::marker::Model;
-
-/// How many minutes there are.
-const MINUTES: usize = 8192;
+use trip_model::MINUTES;
 
 /// The changes of one place, one for each minute.
 #[derive(Drop)]
@@ -38,7 +36,7 @@ impl Row {
         ensures valid { IfOk result AreChanges }
     {
         Ok(Row {
-            changes: zeros(alloc, MINUTES)?,
+            changes: zeros(alloc, usize::from(MINUTES))?,
         })
     }
 

@@ -1,6 +1,5 @@
 ghost use Rattle.std.specs.Prelude.{◌≡◌, ◌⊎◌, ℕ, ◌≤◌, [], List, Ok, Err, IfOk, IfSome, option_map};
 ghost use Rattle.std.specs.Option.{ok_or};
-ghost use Rattle.desk_io.specs.Shelf.{FitsIn};
 ghost use Rattle.gtfs_tables.specs.Reading.{Gives};
 ghost use Rattle.toml.specs.Data.{Members};
 ghost use Rattle.toml.specs.View.{view, items_view, table_view};

@@ -1,5 +1,5 @@
 ghost use Rattle.std.specs.Prelude.{◌≡◌, ◌⊎◌, ℕ, ◌≤◌, List, Ok, Err};
-ghost use Rattle.desk_io.specs.Shelf.{FitsIn};
+ghost use Rattle.gtfs_tables.specs.Papers.{IsWithinLimit};
 ghost use Rattle.gtfs_tables.specs.Reading.{Gives};
 ghost use Rattle.toml.specs.Data.{Members};
 ghost use Rattle.desk_settings.specs.Desk.{Ascend, document_in};
@@ -35,8 +35,8 @@ impl Model for Settings {
 }
 
 impl Settings {
-    /// The settings of the files, of at most 536,870,912 bytes each, or the first refusal: of `desk.toml`, then of
-    /// `terminals.csv`, then of `tolerances.csv`. A file that is not there has no entries.
+    /// The settings of the files, of at most [`gtfs_tables::MOST_BYTES`] bytes each, or the first refusal: of `desk.toml`,
+    /// then of `terminals.csv`, then of `tolerances.csv`. A file that is not there has no entries.
     #[tactic(auto, unfolding(crate::specs::Settings::settings_of))]
     pub fn read(
         alloc: Global,
@@ -44,9 +44,9 @@ impl Settings {
         terminals: &Found,
         tolerances: &Found,
     ) -> Result<Settings, FeedFault>
-        requires settings { FitsIn 536870912 settings.now }
-        requires terminals { FitsIn 536870912 terminals.now }
-        requires tolerances { FitsIn 536870912 tolerances.now }
+        requires settings { IsWithinLimit settings.now }
+        requires terminals { IsWithinLimit terminals.now }
+        requires tolerances { IsWithinLimit tolerances.now }
         ensures gives { Gives (λ read. read) result (spec.settings_of settings.now terminals.now tolerances.now) }
         // The keys of the document are judged in byte order.
         ensures order { (bytes : List ℕ) (members : Members) → settings.now ≡ Found.File bytes → document_in bytes ≡ Ok members

@@ -1,5 +1,5 @@
 ghost use Rattle.std.specs.Prelude.{◌≡◌, ◌<◌, [], length};
-ghost use Rattle.desk_io.specs.Shelf.{FitsIn};
+ghost use Rattle.gtfs_tables.specs.Papers.{IsWithinLimit};
 ghost use Rattle.gtfs_tables.specs.Reading.{Gives, each_record};
 ghost use Rattle.desk_settings.specs.Terminals as spec;
 
@@ -83,7 +83,7 @@ fn terminals_in(alloc: Global, table: &Table) -> Result<Entries<Text>, FeedFault
 
 /// The terminals that the file names for stops; none where it is not there.
 pub(crate) fn terminals_of(alloc: Global, found: &Found) -> Result<Entries<Text>, FeedFault>
-    requires { FitsIn 536870912 found.now }
+    requires { IsWithinLimit found.now }
     ensures { Gives (λ entries. entries) result (spec.terminals_of found.now) }
 {
     match found {

@@ -1,5 +1,5 @@
 ghost use Rattle.std.specs.Prelude.{◌≤◌, length, IfOk};
-ghost use Rattle.desk_io.specs.Shelf.{FitsIn};
+ghost use Rattle.gtfs_tables.specs.Papers.{IsWithinLimit};
 
 use crate::{Names, Settings};
 use desk_io::{Bytes, Found, Text};
@@ -9,7 +9,7 @@ use std::test::Fail;
 
 // The file of these bytes, or no file.
 fn found(alloc: Global, bytes: Option<&[u8]>) -> Result<Found, Fail>
-    ensures { IfOk result (FitsIn 536870912) }
+    ensures { IfOk result IsWithinLimit }
 {
     match bytes {
         None => Ok(Found::Missing),

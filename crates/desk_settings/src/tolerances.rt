@@ -1,5 +1,5 @@
 ghost use Rattle.std.specs.Prelude.{◌≡◌, ◌<◌, [], length};
-ghost use Rattle.desk_io.specs.Shelf.{FitsIn};
+ghost use Rattle.gtfs_tables.specs.Papers.{IsWithinLimit};
 ghost use Rattle.gtfs_tables.specs.Reading.{Gives, each_record};
 ghost use Rattle.desk_settings.specs.Tolerances as spec;
 
@@ -99,7 +99,7 @@ pub(crate) fn tolerances_of(
     alloc: Global,
     found: &Found,
 ) -> Result<Entries<(Tolerance, Tolerance)>, FeedFault>
-    requires { FitsIn 536870912 found.now }
+    requires { IsWithinLimit found.now }
     ensures { Gives (λ entries. entries) result (spec.tolerances_of found.now) }
 {
     match found {

@@ -1,5 +1,5 @@
 ghost use Rattle.std.specs.Prelude.{◌≡◌, ◌<◌, length, map, All, IfOk};
-ghost use Rattle.desk_io.specs.Shelf.{FitsIn};
+ghost use Rattle.gtfs_tables.specs.Papers.{IsWithinLimit};
 ghost use Rattle.gtfs_tables.specs.Reading.{Gives};
 ghost use Rattle.trip_model.specs.Timetable.{AreDistinct};
 ghost use Rattle.feed_read.specs.Base as spec;
@@ -40,7 +40,7 @@ fn journeys_by(
 /// last arrival, rounded up, plus the layover of its last place. Places are numbered as the trips meet them, slot by slot,
 /// from before to.
 ///
-/// Each file has at most 536,870,912 bytes.
+/// Each file has at most [`gtfs_tables::MOST_BYTES`] bytes.
 #[tactic(auto, unfolding(crate::specs::Base::base_of))]
 pub fn read_feed(
     alloc: Global,
@@ -48,8 +48,8 @@ pub fn read_feed(
     stop_times: &Found,
     settings: &Settings,
 ) -> Result<Timetable, FeedFault>
-    requires trips { FitsIn 536870912 trips.now }
-    requires stop_times { FitsIn 536870912 stop_times.now }
+    requires trips { IsWithinLimit trips.now }
+    requires stop_times { IsWithinLimit stop_times.now }
     ensures { Gives (λ timetable. timetable) result (spec.base_of settings.now trips.now stop_times.now) }
 {
     let trips = table_in(alloc, Paper::Trips, trips)?;

@@ -1,5 +1,5 @@
 ghost use Rattle.std.specs.Prelude.{◌≤◌, length, IfOk};
-ghost use Rattle.desk_io.specs.Shelf.{FitsIn};
+ghost use Rattle.gtfs_tables.specs.Papers.{IsWithinLimit};
 
 use crate::read_feed;
 use desk_io::{Bytes, Found, Text};
@@ -461,7 +461,7 @@ static SLOTS_REFUSED: [(&[u8], &str); 17] = [
 
 // The file of these bytes; one of more than 65,536 bytes is too long, and where there are none there is no file.
 fn found(alloc: Global, bytes: &[u8]) -> Result<Found, Fail>
-    ensures { IfOk result (FitsIn 536870912) }
+    ensures { IfOk result IsWithinLimit }
 {
     match bytes.len() {
         0 => Ok(Found::Missing),

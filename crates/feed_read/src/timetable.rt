@@ -10,10 +10,7 @@ use desk_io::{Memory, Text};
 use desk_settings::Settings;
 use gtfs_tables::{FeedFault, Paper};
 use std::alloc::Global;
-use trip_model::{Timetable, Trip};
-
-// The most places that a timetable may have.
-const MOST_PLACES: u16 = 512;
+use trip_model::{MOST_PLACES, Timetable, Trip};
 
 // Puts a place of that name at the end, where there is none yet.
 fn push_place(settings: &Settings, timetable: &mut Timetable, name: &Text) -> Result<(), FeedFault>

@@ -5,9 +5,7 @@ ghost use Rattle.feed_read.specs.Trips as spec;
 use desk_settings::{Names, Settings};
 use gtfs_tables::{Column, FeedFault, Paper, Row, Table, column_in, filled_in, text_in};
 use std::alloc::Global;
-
-// The most trips that may be selected.
-const MOST_TRIPS: usize = 4096;
+use trip_model::MOST_SLOTS;
 
 // Adds the name of a selected record.
 #[tactic(auto, unfolding(crate::specs::Trips::with_name))]
@@ -19,7 +17,7 @@ fn add_name(number: u32, name: &str, names: &mut Names) -> Result<(), FeedFault>
     if names.has(name) {
         return Err(FeedFault::DuplicateRow(Paper::Trips, number));
     }
-    if names.len() >= MOST_TRIPS {
+    if names.len() >= usize::from(MOST_SLOTS) {
         return Err(FeedFault::TooManyTrips(number));
     }
     names.add(name)?;

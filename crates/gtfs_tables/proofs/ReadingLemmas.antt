@@ -1,5 +1,5 @@
 -- What the bytes of a field are read as, and the reading of records one after the other, as a loop does it.
-use Rattle.std.proofs.Common.{◌≡◌, ℕ, ◌+◌, ◌-◌, ◌<◌, cond, List, [], length, get_or, drop, Result, Ok, Err, sym, ap, subst, ◌∙◌, arith, add-one}
+use Rattle.std.proofs.Common.{◌≡◌, ◌≢◌, refl, ℕ, ◌+◌, ◌-◌, ◌<◌, cond, List, [], length, get_or, drop, Result, Ok, Err, sym, ap, subst, ◌∙◌, arith, add-one}
 use Rattle.std.specs.Str.{IsUtf8, is_utf8}
 use Rattle.std.proofs.Math.Seq.{drop-cons}
 use Rattle.std.proofs.lemmas.Bool.{false_from_ne_true}
@@ -21,6 +21,11 @@ text_in-other paper number column bytes is_not =
 pub Fails->>= : {A B : Type 0} (refused : FeedFault) (read : Result A FeedFault) (next : A → Result B FeedFault) → Fails refused read → Fails refused (read >>= next)
 Fails->>= fault.Memory read next due = tt
 Fails->>= refused read next due = ap (λ r. r >>= next) due
+
+-- a refusal other than want of memory was due
+pub Fails-due : {A : Type 0} (refused : FeedFault) (read : Result A FeedFault) → refused ≢ fault.Memory → Fails refused read → read ≡ Err refused
+Fails-due fault.Memory read other due = absurd (other refl)
+Fails-due refused read other due = due
 
 -- equal readings refuse alike
 pub Fails-equal : {A : Type 0} (refused : FeedFault) (read other : Result A FeedFault) → read ≡ other → Fails refused read → Fails refused other

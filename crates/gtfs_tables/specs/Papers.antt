@@ -1,5 +1,7 @@
--- The files that are read, by their printed names, and the columns that are asked of them.
+-- The files that are read, by their printed names, how long they may be, and the columns that are asked of them.
 use Rattle.std.specs.Prelude.{ℕ, List, codes}
+use Rattle.desk_io.specs.Shelf.{FitsIn}
+use Rattle.desk_io.specs.declared.shelf.Found.{Found}
 use Rattle.gtfs_tables.specs.declared.paper.Paper.{Paper}
 use Rattle.gtfs_tables.specs.declared.paper.Paper.TheVariants as paper
 use Rattle.gtfs_tables.specs.declared.paper.Column.{Column}
@@ -17,6 +19,14 @@ file_name_of paper.Edits = codes "edits.csv"
 file_name_of paper.Journal = codes "journal"
 file_name_of paper.Blocks = codes "blocks.csv"
 file_name_of paper.Prices = codes "prices.csv"
+
+-- the most bytes that a file may have
+abbrev pub most_bytes : ℕ
+most_bytes = 536870912
+
+-- what was found of a file has no more bytes than a file may have
+abbrev pub IsWithinLimit : Found → Type 0
+IsWithinLimit found = FitsIn most_bytes found
 
 -- the name of a column, as it stands in a header and is printed; `field` for any other
 abbrev pub column_name_of : Column → List ℕ

@@ -35,7 +35,7 @@ mod times;
 
 pub use fault::{FeedFault, feed_line};
 pub use numbers::read_number;
-pub use paper::{Column, Paper};
+pub use paper::{Column, MOST_BYTES, Paper};
 pub use reading::{column_in, filled_in, number_in, table_in, text_in, time_in};
 pub use records::read_rows;
 pub use row::Row;

@@ -1,6 +1,9 @@
 ghost use Rattle.std.specs.Prelude.{◌≡◌};
 ghost use Rattle.gtfs_tables.specs.Papers.{column_name_of, file_name_of};
 
+/// The most bytes that a file may have.
+pub const MOST_BYTES: u64 = 536_870_912;
+
 /// A file that is read.
 #[derive(Clone, Copy, Debug, PartialEq, Eq)]
 pub enum Paper {

@@ -1,5 +1,5 @@
 ghost use Rattle.std.specs.Prelude.{◌≡◌, ◌<◌, ◌≤◌, ◌^◌, length, IfOk, IfSome};
-ghost use Rattle.desk_io.specs.Shelf.{FitsIn};
+ghost use Rattle.gtfs_tables.specs.Papers.{IsWithinLimit};
 ghost use Rattle.gtfs_tables.specs.Reading as spec;
 ghost use Rattle.gtfs_tables.specs.Reading.{Gives};
 
@@ -10,7 +10,7 @@ use std::alloc::Global;
 
 /// The table of a file that must be there.
 pub fn table_in(alloc: Global, paper: Paper, found: &Found) -> Result<Table, FeedFault>
-    requires { FitsIn 536870912 found.now }
+    requires { IsWithinLimit found.now }
     ensures { Gives (λ table. table) result (spec.table_in paper found.now) }
 {
     match found {

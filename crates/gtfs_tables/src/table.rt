@@ -1,4 +1,5 @@
 ghost use Rattle.std.specs.Prelude.{◌≡◌, ◌+◌, ◌-◌, ◌<◌, ◌≤◌, IfErr, IfOk, IfSome, [], Ok, length, slice_index_or};
+ghost use Rattle.gtfs_tables.specs.Papers.{most_bytes};
 ghost use Rattle.gtfs_tables.specs.Records.{records_left, IsReading};
 ghost use Rattle.gtfs_tables.specs.Table.{body_of, column_of, table_of, IsFaultOf};
 
@@ -79,7 +80,7 @@ fn read_body(
     width: usize,
 ) -> Result<Vec<Row>, TableFault>
     requires reading { IsReading reader.old }
-    requires count { length (records_left reader.old) ≤ 536870912 }
+    requires count { length (records_left reader.old) ≤ most_bytes }
     ensures rows { IfOk result (λ rows. body_of width (records_left reader.old) ≡ Ok rows.items) }
     ensures fault { IfErr result (λ fault. IsFaultOf (body_of width (records_left reader.old)) fault) }
 {
@@ -94,9 +95,9 @@ fn read_body(
 }
 
 impl Table {
-    /// The table of a file of at most 536,870,912 bytes. The first record is the header.
+    /// The table of a file of at most [`MOST_BYTES`](crate::MOST_BYTES) bytes. The first record is the header.
     pub fn read(alloc: Global, bytes: &[u8]) -> Result<Table, TableFault>
-        requires { length bytes.now ≤ 536870912 }
+        requires { length bytes.now ≤ most_bytes }
         ensures table { IfOk result (λ table. table_of bytes.now ≡ Ok table) }
         ensures fault { IfErr result (λ fault. IsFaultOf (table_of bytes.now) fault) }
     {

@@ -1,12 +1,10 @@
 ghost use Rattle.std.specs.Prelude.{◌≡◌, ◌-◌, ◌<◌, ◌≤◌, ◌++◌, length, take, replicate, slice_set, IfOk};
 ghost use Rattle.trip_model.specs.Links.{next_of};
 
+use crate::MOST_SLOTS;
 use desk_io::Memory;
 use std::alloc::Global;
 use std::marker::Model;
-
-/// The most slots that a timetable may have.
-const MOST_SLOTS: usize = 4096;
 
 /// For each slot the trip that its vehicle makes next, by the number of its slot.
 #[derive(Drop)]
@@ -31,7 +29,7 @@ impl Links {
         ensures { IfOk result (λ links. links ≡ replicate slots None) }
     {
         let mut links = Links {
-            nexts: Vec::with_capacity(alloc, MOST_SLOTS)?,
+            nexts: Vec::with_capacity(alloc, usize::from(MOST_SLOTS))?,
         };
         links.set_slots(slots);
         Ok(links)
