@@ -1,6 +1,7 @@
 pub mod Closed
 pub mod Days
 pub mod Duality
+pub mod LeftLemmas
 pub mod Looseness
 pub mod MatrixLemmas
 pub mod SearchLemmas

@@ -65,13 +65,19 @@ with_deadhead columns number before fields = do
   entries ← with_entry number before.1 (record { from = from.1; to = to.1; minutes = deadhead.2 })
   Ok (to.0, entries)
 
+-- where the required columns stand
+unfoldable pub columns_in : List (List ℕ) → Result Columns FeedFault
+columns_in header = do
+  from ← column_in paper.Deadheads column.From header
+  to ← column_in paper.Deadheads column.To header
+  minutes ← column_in paper.Deadheads column.Minutes header
+  Ok (record { from = from; to = to; minutes = minutes })
+
 -- the timetable and the entries of a table, record by record
 unfoldable pub deadheads_in : TimetableView → TableView → Result (TimetableView × List Entry) FeedFault
 deadheads_in timetable table = do
-  from ← column_in paper.Deadheads column.From table.header
-  to ← column_in paper.Deadheads column.To table.header
-  minutes ← column_in paper.Deadheads column.Minutes table.header
-  each_record (with_deadhead (record { from = from; to = to; minutes = minutes })) 1 (timetable, []) table.rows
+  columns ← columns_in table.header
+  each_record (with_deadhead columns) 1 (timetable, []) table.rows
 
 -- the timetable and the entries of the file; without one there are no entries
 abbrev pub deadheads_of : Found → TimetableView → Result (TimetableView × List Entry) FeedFault

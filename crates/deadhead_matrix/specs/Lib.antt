@@ -1,5 +1,6 @@
 pub mod Deadheads
 pub mod Fitting
+pub mod Left
 pub mod Matrix
 pub mod Prices
 pub mod Search

@@ -11,9 +11,7 @@ use desk_io::Memory;
 use gtfs_tables::{FeedFault, Paper};
 use std::alloc::Global;
 use std::marker::Model;
-
-/// The most places that there are.
-const PLACES: usize = 512;
+use trip_model::MOST_PLACES;
 
 /// Entries in the order in which a file names them, at most one from each place to each. It is found without going over
 /// the others.
@@ -65,7 +63,7 @@ impl Deadheads {
     {
         Ok(Deadheads {
             entries: Vec::new(alloc),
-            ways: no_ways(alloc, PLACES)?,
+            ways: no_ways(alloc, usize::from(MOST_PLACES))?,
         })
     }
 

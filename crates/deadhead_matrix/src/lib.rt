@@ -13,9 +13,9 @@
 //! ```
 //!
 //! The contracts cite `Walks` (walks of entries, and the least), `Matrix` (what a matrix is seen as), `Deadheads` (the
-//! entries and the places of a file) and `Fitting` (which trips a vehicle can make one after the other); the laws besides
-//! `Prices` (plans of next trips whose prices prove that they are least). `Search` has the terms of the search from one
-//! place for proofs alone.
+//! entries and the places of a file), `Left` (the places that stand where it is refused) and `Fitting` (which trips a
+//! vehicle can make one after the other); the laws besides `Prices` (plans of next trips whose prices prove that they are
+//! least). `Search` has the terms of the search from one place for proofs alone.
 #![tactic(auto)]
 
 mod deadheads;

@@ -1,7 +1,8 @@
-ghost use Rattle.std.specs.Prelude.{◌≡◌, ◌<◌, [], length, IfOk};
-ghost use Rattle.desk_io.specs.Shelf.{FitsIn};
+ghost use Rattle.std.specs.Prelude.{◌≡◌, ◌≢◌, ◌<◌, [], length, Err, IfOk};
+ghost use Rattle.gtfs_tables.specs.Papers.{IsWithinLimit};
 ghost use Rattle.gtfs_tables.specs.Reading.{Gives};
 ghost use Rattle.deadhead_matrix.specs.Deadheads as spec;
+ghost use Rattle.deadhead_matrix.specs.Left.{timetable_left};
 ghost use Rattle.deadhead_matrix.specs.Walks.{IsLeastWalk};
 ghost use Rattle.deadhead_matrix.specs.Matrix.{AreLeastWalks, empty_matrix, walk};
 
@@ -37,17 +38,19 @@ impl Matrix {
     /// The matrix of what was found of `deadheads.csv`; a missing file has no records. The places that a record names are
     /// added to the timetable where they are new, without layover, the first before the second. The file is refused as a
     /// whole at the first record that is not of its form, of which the fields are judged before the places; the places of
-    /// the records before it may have been added then. `FeedFault::Memory` may come at any time.
+    /// the records before it have been added then, and its own as far as they were met. `FeedFault::Memory` may come at
+    /// any time, after any of these places.
     pub fn read(
         alloc: Global,
         deadheads: &Found,
         timetable: &mut Timetable,
     ) -> Result<Matrix, FeedFault>
-        requires { FitsIn 536870912 deadheads.now }
+        requires { IsWithinLimit deadheads.now }
         ensures gives { Gives (λ matrix. (timetable.new, matrix.entries)) result (spec.deadheads_of deadheads.now timetable.old) }
         ensures least { IfOk result AreLeastWalks }
         ensures places { IfOk result (λ matrix. length matrix.walks ≡ length timetable.new.places) }
         ensures standing { IfOk result (λ matrix. matrix.entries ≡ [] → matrix ≡ empty_matrix (length timetable.new.places)) }
+        ensures left { result ≢ Err FeedFault.Memory → timetable.new ≡ timetable_left deadheads.now timetable.old }
         ensures kept { timetable.new ≡ record timetable.old { places = timetable.new.places } }
     {
         let deadheads = deadheads_of(alloc, deadheads, timetable)?;

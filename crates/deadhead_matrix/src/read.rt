@@ -1,8 +1,9 @@
-ghost use Rattle.std.specs.Prelude.{◌≡◌, ◌<◌, ◌≤◌, [], length, IfOk};
-ghost use Rattle.desk_io.specs.Shelf.{FitsIn};
+ghost use Rattle.std.specs.Prelude.{◌≡◌, ◌≢◌, ◌<◌, ◌≤◌, [], length, Err, IfOk, OnErr};
+ghost use Rattle.gtfs_tables.specs.Papers.{IsWithinLimit};
 ghost use Rattle.gtfs_tables.specs.Reading.{Gives, each_record};
 ghost use Rattle.deadhead_matrix.specs.Deadheads as spec;
 ghost use Rattle.deadhead_matrix.specs.Deadheads.{HaveColumns};
+ghost use Rattle.deadhead_matrix.specs.Left as left;
 
 use crate::deadheads::Deadheads;
 use crate::entry::Entry;
@@ -11,7 +12,7 @@ use gtfs_tables::{
     Column, FeedFault, Paper, Row, Table, column_in, filled_in, number_in, table_in, text_in,
 };
 use std::alloc::Global;
-use trip_model::Timetable;
+use trip_model::{MOST_PLACES, Timetable};
 
 /// The columns of a record's fields, each counted from 0.
 #[derive(Clone, Copy)]
@@ -19,6 +20,18 @@ pub(crate) struct Columns {
     from: usize,
     to: usize,
     minutes: usize,
+}
+
+// Where the required columns stand.
+#[tactic(auto, unfolding(crate::specs::Deadheads::columns_in))]
+fn columns_in(table: &Table) -> Result<Columns, FeedFault>
+    ensures gives { Gives (λ columns. columns) result (spec.columns_in table.now.header) }
+    ensures within { IfOk result (HaveColumns (length table.now.header)) }
+{
+    let from = column_in(Paper::Deadheads, Column::From, table)?;
+    let to = column_in(Paper::Deadheads, Column::To, table)?;
+    let minutes = column_in(Paper::Deadheads, Column::Minutes, table)?;
+    Ok(Columns { from, to, minutes })
 }
 
 // The minutes of a record, from 1 to 1,440.
@@ -59,6 +72,7 @@ fn deadhead_in(row: &Row, columns: Columns, number: u32) -> Result<(&str, &str, 
 // The place of that name, a new one at the end where there is none.
 fn place_of(timetable: &mut Timetable, name: &str) -> Result<u16, FeedFault>
     ensures gives { Gives (λ place. (timetable.new, place)) result (spec.with_place timetable.old name.now) }
+    ensures err { OnErr result (timetable.new ≡ timetable.old) }
     ensures kept { timetable.new ≡ record timetable.old { places = timetable.new.places } }
     ensures within { IfOk result (λ place. place < 512) }
 {
@@ -66,14 +80,14 @@ fn place_of(timetable: &mut Timetable, name: &str) -> Result<u16, FeedFault>
     if let Some(place) = timetable.find_place(name) {
         return Ok(place);
     }
-    if places >= 512 {
+    if places >= MOST_PLACES {
         return Err(FeedFault::TooManyPlaces(Paper::Deadheads));
     }
     Ok(timetable.push_place(name, 0)?)
 }
 
 // Adds the entry of a record, and its places to the timetable.
-#[tactic(auto, unfolding(crate::specs::Deadheads::with_deadhead))]
+#[tactic(auto, unfolding(crate::specs::Deadheads::with_deadhead, crate::specs::Left::left_by))]
 fn add_deadhead(
     row: &Row,
     columns: Columns,
@@ -83,6 +97,7 @@ fn add_deadhead(
 ) -> Result<(), FeedFault>
     requires columns { HaveColumns (length row.now) columns }
     ensures gives { Gives (λ _. (timetable.new, deadheads.new)) result (spec.with_deadhead columns number (timetable.old, deadheads.old) row.now) }
+    ensures left { result ≢ Err FeedFault.Memory → timetable.new ≡ left.left_by columns number timetable.old row.now }
     ensures kept { timetable.new ≡ record timetable.old { places = timetable.new.places } }
 {
     let (from, to, minutes) = deadhead_in(row, columns, number)?;
@@ -100,6 +115,7 @@ fn deadheads_from(
 ) -> Result<Deadheads, FeedFault>
     requires columns { HaveColumns (length table.now.header) columns }
     ensures gives { Gives (λ deadheads. (timetable.new, deadheads)) result (each_record (spec.with_deadhead columns) 1 (timetable.old, []) table.now.rows) }
+    ensures left { result ≢ Err FeedFault.Memory → timetable.new ≡ left.left_by_each columns 1 (timetable.old, []) table.now.rows }
     ensures kept { timetable.new ≡ record timetable.old { places = timetable.new.places } }
 {
     let mut deadheads = Deadheads::none(alloc)?;
@@ -110,20 +126,17 @@ fn deadheads_from(
 }
 
 // The entries of a table.
-#[tactic(auto, unfolding(crate::specs::Deadheads::deadheads_in))]
+#[tactic(auto, unfolding(crate::specs::Deadheads::deadheads_in, crate::specs::Left::left_by_table))]
 fn deadheads_in(
     alloc: Global,
     table: &Table,
     timetable: &mut Timetable,
 ) -> Result<Deadheads, FeedFault>
     ensures gives { Gives (λ deadheads. (timetable.new, deadheads)) result (spec.deadheads_in timetable.old table.now) }
+    ensures left { result ≢ Err FeedFault.Memory → timetable.new ≡ left.left_by_table timetable.old table.now }
     ensures kept { timetable.new ≡ record timetable.old { places = timetable.new.places } }
 {
-    let columns = Columns {
-        from: column_in(Paper::Deadheads, Column::From, table)?,
-        to: column_in(Paper::Deadheads, Column::To, table)?,
-        minutes: column_in(Paper::Deadheads, Column::Minutes, table)?,
-    };
+    let columns = columns_in(table)?;
     deadheads_from(alloc, table, columns, timetable)
 }
 
@@ -133,8 +146,9 @@ pub(crate) fn deadheads_of(
     found: &Found,
     timetable: &mut Timetable,
 ) -> Result<Deadheads, FeedFault>
-    requires { FitsIn 536870912 found.now }
+    requires { IsWithinLimit found.now }
     ensures gives { Gives (λ deadheads. (timetable.new, deadheads)) result (spec.deadheads_of found.now timetable.old) }
+    ensures left { result ≢ Err FeedFault.Memory → timetable.new ≡ left.timetable_left found.now timetable.old }
     ensures kept { timetable.new ≡ record timetable.old { places = timetable.new.places } }
 {
     match found {

@@ -1,5 +1,5 @@
 ghost use Rattle.std.specs.Prelude.{◌≤◌, ◌≡◌, length, IfOk};
-ghost use Rattle.desk_io.specs.Shelf.{FitsIn};
+ghost use Rattle.gtfs_tables.specs.Papers.{IsWithinLimit};
 
 use crate::Matrix;
 use desk_io::{Bytes, Found, Memory};
@@ -11,7 +11,7 @@ use trip_model::Timetable;
 
 // The file of these bytes, or no file.
 fn found(alloc: Global, bytes: Option<&[u8]>) -> Result<Found, Fail>
-    ensures { IfOk result (FitsIn 536870912) }
+    ensures { IfOk result IsWithinLimit }
 {
     match bytes {
         None => Ok(Found::Missing),
@@ -203,7 +203,7 @@ fn refusals_and_their_lines(rt: HostRuntime) -> Result<(), Fail> {
 
 // A chain of 511 entries of a day each, over 512 places, and one more record.
 fn chain(alloc: Global, last: &str) -> Result<Found, Fail>
-    ensures { IfOk result (FitsIn 536870912) }
+    ensures { IfOk result IsWithinLimit }
 {
     let mut text = String::from_str(alloc, "from,to,minutes\n")?;
     for place in 0..511u16 {
@@ -252,6 +252,35 @@ fn as_many_places_as_there_may_be(rt: HostRuntime) -> Result<(), Fail> {
     ];
     for (last, answer) in cases {
         assert_eq!(rt; read_chain(rt.alloc(), last)?.as_str(), answer);
+    }
+    Ok(())
+}
+
+// The names of the places of a timetable.
+fn place_names(alloc: Global, timetable: &Timetable) -> Result<String, Fail> {
+    let mut names = String::new(alloc);
+    for place in 0..timetable.places() {
+        names.push_str(timetable.place_name(place))?;
+    }
+    Ok(names)
+}
+
+#[test]
+fn places_that_stand_after_a_refusal(rt: HostRuntime) -> Result<(), Fail> {
+    let files: [(&[u8], &str); 5] = [
+        (b"from,to\nX,Y\n", "ABC"),
+        (b"from,to,minutes\nX,B,1,\nY,Z,1\n", "ABC"),
+        // The fields of a record are judged before its places are met.
+        (b"from,to,minutes\nX,B,1\nY,Z,0\n", "ABCX"),
+        (b"from,to,minutes\nX,Y,1\nZ,Z,1\nW,B,1\n", "ABCXY"),
+        (b"from,to,minutes\nX,B,1\nB,X,1\nX,B,2\nY,Z,1\n", "ABCX"),
+    ];
+    for (file, names) in files {
+        let mut timetable = three_places(&rt, rt.alloc())?;
+        let line = read(rt.alloc(), Some(file), &mut timetable)?;
+        assert!(rt; line.starts_with("feed refused: "));
+        let stand = place_names(rt.alloc(), &timetable)?;
+        assert_eq!(rt; stand.as_str(), names);
     }
     Ok(())
 }
