@@ -341,11 +341,11 @@ fn a_published_feed_puts_what_its_plain_form_puts(rt: HostRuntime) -> Result<(),
 }
 
 #[test]
-fn papers_are_judged_in_order(rt: HostRuntime) -> Result<(), Fail> {
+fn papers_beside_a_feed_are_read(rt: HostRuntime) -> Result<(), Fail> {
     let alloc = rt.alloc();
     const FEED: [(&str, &[u8]); 2] = [("trips.txt", TRIP), ("stop_times.txt", STOPS)];
-    // What stands beside the feed, what stands in place of its files, and what is put.
-    let cases: [(&[(&str, &[u8])], &[u8]); 15] = [
+    // What stands beside the feed or in place of its files, and what is put.
+    let cases: [(&[(&str, &[u8])], &[u8]); 9] = [
         (
             &[("desk.toml", b"layover = 5\nblock_prefix = \"V\"")],
             b"A max 1 at 06:00\n 06:00 1\nB max 0 at 00:00\n 06:35 -1\nsum 1\n",
@@ -378,34 +378,6 @@ fn papers_are_judged_in_order(rt: HostRuntime) -> Result<(), Fail> {
         (
             &[("stop_times.txt", b"")],
             b"feed refused: stop_times.txt: no header\n",
-        ),
-        // Two at once.
-        (
-            &[("terminals.csv", b""), ("desk.toml", b"=")],
-            b"feed refused: desk.toml: not TOML\n",
-        ),
-        (
-            &[("tolerances.csv", b""), ("terminals.csv", b"")],
-            b"feed refused: terminals.csv: no header\n",
-        ),
-        (
-            &[("trips.txt", b""), ("tolerances.csv", b"")],
-            b"feed refused: tolerances.csv: no header\n",
-        ),
-        (
-            &[("stop_times.txt", b""), ("trips.txt", b"")],
-            b"feed refused: trips.txt: no header\n",
-        ),
-        (
-            &[("deadheads.csv", b""), ("stop_times.txt", b"trip_id\n")],
-            b"feed refused: stop_times.txt: no column arrival_time\n",
-        ),
-        (
-            &[
-                ("edits.csv", b""),
-                ("deadheads.csv", b"from,to,minutes\nA,A,1\n"),
-            ],
-            b"feed refused: deadheads.csv record 1: same terminal\n",
         ),
     ];
     for (files, text) in cases {
@@ -442,6 +414,52 @@ fn papers_are_judged_in_order(rt: HostRuntime) -> Result<(), Fail> {
         let mut out = MemorySink::open(alloc, 4096, Vec::new(alloc), 4096)?;
         assert_eq!(rt; ran(alloc, &["deficits", "feed"], &mut shelf, &mut out)?, 3);
         assert_eq!(rt; out.written(), text);
+    }
+    Ok(())
+}
+
+// For each paper, in the order in which they are judged, a file that is refused and the line of its refusal.
+const REFUSED: [(&str, &[u8], &[u8]); 7] = [
+    ("desk.toml", b"=", b"feed refused: desk.toml: not TOML\n"),
+    (
+        "terminals.csv",
+        b"",
+        b"feed refused: terminals.csv: no header\n",
+    ),
+    (
+        "tolerances.csv",
+        b"trip_id\n",
+        b"feed refused: tolerances.csv: no column early\n",
+    ),
+    ("trips.txt", b"", b"feed refused: trips.txt: no header\n"),
+    (
+        "stop_times.txt",
+        b"trip_id\n",
+        b"feed refused: stop_times.txt: no column arrival_time\n",
+    ),
+    (
+        "deadheads.csv",
+        b"from,to,minutes\nA,A,1\n",
+        b"feed refused: deadheads.csv record 1: same terminal\n",
+    ),
+    ("edits.csv", b"", b"feed refused: edits.csv: not read yet\n"),
+];
+
+#[test]
+fn of_two_papers_the_one_that_is_judged_first_is_told(rt: HostRuntime) -> Result<(), Fail> {
+    let alloc = rt.alloc();
+    for (number, (later, later_bytes, _)) in REFUSED.iter().enumerate() {
+        for (earlier, earlier_bytes, line) in &REFUSED[..number] {
+            let mut shelf = empty_shelf(alloc);
+            shelf.lay(alloc, "trips.txt", TRIP)?;
+            shelf.lay(alloc, "stop_times.txt", STOPS)?;
+            shelf.lay(alloc, later, later_bytes)?;
+            shelf.lay(alloc, earlier, earlier_bytes)?;
+            let mut out = MemorySink::open(alloc, 4096, Vec::new(alloc), 4096)?;
+            let status = ran(alloc, &["deficits", "feed"], &mut shelf, &mut out)?;
+            assert_eq!(rt; out.written(), *line, "{earlier} and {later}");
+            assert_eq!(rt; status, 3, "{earlier} and {later}");
+        }
     }
     Ok(())
 }
