@@ -2,7 +2,8 @@
 use Rattle.std.specs.Prelude.{◌≡◌, ℕ, Option, Result, Ok, Err}
 use Rattle.desk_io.specs.Shelf.{Files, ShelfState, Tells, ReadFailed, found_in}
 use Rattle.desk_io.specs.declared.shelf.Found.{Found}
-use Rattle.gtfs_tables.specs.Papers.{file_name_of, most_bytes, IsWithinLimit}
+use Rattle.gtfs_tables.specs.Papers.{file_name_of, IsWithinLimit}
+use Rattle.gtfs_tables.specs.declared.paper.TheConstants.{MOST_BYTES}
 use Rattle.gtfs_tables.specs.declared.paper.Paper.TheVariants as paper
 use Rattle.blockdesk.specs.declared.papers.Papers.{Papers}
 use Rattle.blockdesk.specs.declared.outcome.RunFault.{RunFault}
@@ -10,24 +11,24 @@ use Rattle.blockdesk.specs.declared.outcome.RunFault.TheVariants as run_fault
 
 -- each paper is what the shelf tells of the file of its name
 pub record AreRead (files : Option Files) (papers : Papers) : Type 0 where
-  pub settings : Tells files (file_name_of paper.Settings) most_bytes papers.settings
-  pub terminals : Tells files (file_name_of paper.Terminals) most_bytes papers.terminals
-  pub tolerances : Tells files (file_name_of paper.Tolerances) most_bytes papers.tolerances
-  pub trips : Tells files (file_name_of paper.Trips) most_bytes papers.trips
-  pub stop_times : Tells files (file_name_of paper.StopTimes) most_bytes papers.stop_times
-  pub deadheads : Tells files (file_name_of paper.Deadheads) most_bytes papers.deadheads
-  pub edits : Tells files (file_name_of paper.Edits) most_bytes papers.edits
+  pub settings : Tells files (file_name_of paper.Settings) MOST_BYTES papers.settings
+  pub terminals : Tells files (file_name_of paper.Terminals) MOST_BYTES papers.terminals
+  pub tolerances : Tells files (file_name_of paper.Tolerances) MOST_BYTES papers.tolerances
+  pub trips : Tells files (file_name_of paper.Trips) MOST_BYTES papers.trips
+  pub stop_times : Tells files (file_name_of paper.StopTimes) MOST_BYTES papers.stop_times
+  pub deadheads : Tells files (file_name_of paper.Deadheads) MOST_BYTES papers.deadheads
+  pub edits : Tells files (file_name_of paper.Edits) MOST_BYTES papers.edits
 
 -- the papers that stand in told files
 abbrev pub papers_in : Files → Papers
 papers_in files = record {
-  settings = found_in files (file_name_of paper.Settings) most_bytes;
-  terminals = found_in files (file_name_of paper.Terminals) most_bytes;
-  tolerances = found_in files (file_name_of paper.Tolerances) most_bytes;
-  trips = found_in files (file_name_of paper.Trips) most_bytes;
-  stop_times = found_in files (file_name_of paper.StopTimes) most_bytes;
-  deadheads = found_in files (file_name_of paper.Deadheads) most_bytes;
-  edits = found_in files (file_name_of paper.Edits) most_bytes;
+  settings = found_in files (file_name_of paper.Settings) MOST_BYTES;
+  terminals = found_in files (file_name_of paper.Terminals) MOST_BYTES;
+  tolerances = found_in files (file_name_of paper.Tolerances) MOST_BYTES;
+  trips = found_in files (file_name_of paper.Trips) MOST_BYTES;
+  stop_times = found_in files (file_name_of paper.StopTimes) MOST_BYTES;
+  deadheads = found_in files (file_name_of paper.Deadheads) MOST_BYTES;
+  edits = found_in files (file_name_of paper.Edits) MOST_BYTES;
 }
 
 -- what reading does to the shelf: nothing, but where a read failed

@@ -1,6 +1,7 @@
 ghost use Rattle.std.specs.Prelude.{IfOk};
 ghost use Rattle.desk_io.specs.Shelf.{Tells};
-ghost use Rattle.gtfs_tables.specs.Papers.{file_name_of, most_bytes, IsWithinLimit};
+ghost use Rattle.gtfs_tables.specs.declared.paper.TheConstants.{MOST_BYTES};
+ghost use Rattle.gtfs_tables.specs.Papers.{file_name_of, IsWithinLimit};
 ghost use Rattle.blockdesk.specs.Papers.{AreRead, AreWithinLimit, ReadsPapers};
 
 use crate::RunFault;
@@ -22,7 +23,7 @@ pub struct Papers {
 
 fn read_paper<S: Shelf>(alloc: Global, shelf: &mut S, paper: Paper) -> Result<Found, RunFault>
     ensures within { IfOk result IsWithinLimit }
-    ensures found { IfOk result (Tells (S.state shelf.old).files (file_name_of paper) most_bytes) }
+    ensures found { IfOk result (Tells (S.state shelf.old).files (file_name_of paper) MOST_BYTES) }
     ensures state { ReadsPapers result (S.state shelf.old) (S.state shelf.new) }
 {
     match shelf.read(alloc, paper.file_name(), MOST_BYTES) {

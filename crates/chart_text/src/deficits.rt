@@ -1,4 +1,5 @@
 ghost use Rattle.std.specs.Prelude.{◌≡◌, ℕ, ◌<◌, ◌≤◌, ◌++◌, List, All, map, length, vec_len, string_bytes, IfOk, OnOk};
+ghost use Rattle.trip_model.specs.declared.limits.TheConstants.{LAST_MINUTE, MINUTES};
 ghost use Rattle.trip_model.specs.declared.trip.Move.{Move};
 ghost use Rattle.trip_model.specs.Deficit.{deficit};
 ghost use Rattle.deficit_steps.specs.Changes.{value};
@@ -18,8 +19,8 @@ use trip_model::{MINUTES, Timetable};
 // The values of a place at the minutes 0 to 8,191. A value stays until the next step.
 fn minute_values(alloc: Global, deficits: &Deficits, place: u16) -> Result<Vec<i32>, Memory>
     requires { place < length deficits.now }
-    ensures minutes { IfOk result (λ values. vec_len values ≡ 8192) }
-    ensures values { IfOk result (λ values. (t : ℕ) → t ≤ 8191
+    ensures minutes { IfOk result (λ values. vec_len values ≡ MINUTES) }
+    ensures values { IfOk result (λ values. (t : ℕ) → t ≤ LAST_MINUTE
         → spec.value_in values.items t ≡ value deficits.now place t) }
 {
     let steps = deficits.step_list(place)?;
@@ -40,7 +41,7 @@ fn minute_values(alloc: Global, deficits: &Deficits, place: u16) -> Result<Vec<i
 
 // The greatest value in the minutes of a column, of the values at the minutes 0 to 8,191.
 fn greatest_in(values: &[i32], column: u16) -> i32
-    requires minutes { length values.now ≡ 8192 }
+    requires minutes { length values.now ≡ MINUTES }
     requires column { IsColumn column }
     ensures { result ≡ spec.greatest_in (spec.value_in values.now) column }
 {
@@ -65,7 +66,7 @@ fn mark(value: i32) -> char
 }
 
 fn push_marks(text: &mut String, values: &[i32], columns: &[u16]) -> Result<(), Memory>
-    requires minutes { length values.now ≡ 8192 }
+    requires minutes { length values.now ≡ MINUTES }
     requires columns { All IsColumn columns.now }
     ensures { OnOk result (string_bytes text.new ≡ string_bytes text.old
         ++ map (λ c. spec.mark_of (spec.greatest_in (spec.value_in values.now) c)) columns.now) }

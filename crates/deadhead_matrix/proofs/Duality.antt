@@ -12,7 +12,8 @@ use Rattle.trip_model.specs.Links.{next_of, is_first, along, block_from, blocks_
 use Rattle.trip_model.specs.Network.{Network, Fits, AreDepartures}
 use Rattle.trip_model.proofs.Chains.{GoesOn, AreChains, chains-of, block_from-is, IsBlocking-blocks_along}
 use Rattle.trip_model.proofs.Counting.{sum_below, sum_below-add, sum_below-list, sum_by-below, sum_by-standing, StandsOnce-filter_range, length-ones}
-use Rattle.deadhead_matrix.specs.Prices.{vehicle_weight, weight, Plan, price, weight_to, link_weights, IsCertified, IsDay}
+use Rattle.deadhead_matrix.specs.declared.limits.TheConstants.{VEHICLE_WEIGHT}
+use Rattle.deadhead_matrix.specs.Prices.{weight, Plan, price, weight_to, link_weights, IsCertified, IsDay}
 
 -- the weight of two trips that fit
 pub fitting : (network : Network) (i j : ℕ) → Fits network i j → (m : ℕ) × (network.empty i j ≡ Some m)
@@ -31,10 +32,10 @@ worth : Network → List ℕ → ℕ
 worth network [] = 0
 worth network (i ∷ js) = worth_after network i js
 
-pub weight_is : (network : Network) (i j m : ℕ) → network.empty i j ≡ Some m → weight network i j ≡ Some (vehicle_weight + network.home i + network.out j - m)
-weight_is network i j m e = ap (option_map (λ minutes. vehicle_weight + network.home i + network.out j - minutes)) e
+pub weight_is : (network : Network) (i j m : ℕ) → network.empty i j ≡ Some m → weight network i j ≡ Some (VEHICLE_WEIGHT + network.home i + network.out j - m)
+weight_is network i j m e = ap (option_map (λ minutes. VEHICLE_WEIGHT + network.home i + network.out j - minutes)) e
 
-worth_is : (network : Network) (i j m : ℕ) → network.empty i j ≡ Some m → unwrap_or (weight network i j) 0 ≡ vehicle_weight + network.home i + network.out j - m
+worth_is : (network : Network) (i j m : ℕ) → network.empty i j ≡ Some m → unwrap_or (weight network i j) 0 ≡ VEHICLE_WEIGHT + network.home i + network.out j - m
 worth_is network i j m e = ap (λ w. unwrap_or w 0) (weight_is network i j m e)
 
 walk_is : (network : Network) (i j m : ℕ) → network.empty i j ≡ Some m → unwrap_or (network.empty i j) 0 ≡ m
@@ -70,7 +71,7 @@ pulls network s = network.out s + network.home s
 
 -- what a chain weighs and how long it runs empty are together the same for all chains of as many trips, but for the pulls
 chain-balance : (network : Network) (slots : ℕ) → IsDay network slots → (i : ℕ) (js : List ℕ) → Follow network i js
-    → worth_after network i js + minutes_after network i js ≡ vehicle_weight * length js + network.home i + sum_by (pulls network) js
+    → worth_after network i js + minutes_after network i js ≡ VEHICLE_WEIGHT * length js + network.home i + sum_by (pulls network) js
 unfolding worth_after pulls
 chain-balance network slots day i [] follows = omega arith
 chain-balance network slots day i (j ∷ js) follows =
@@ -79,7 +80,7 @@ chain-balance network slots day i (j ∷ js) follows =
     omega (arith, worth_is network i j m.0 m.1, walk_is network i j m.0 m.1, short, sum_by-cons (pulls network) j js, chain-balance network slots day j js follows.1)
 
 blocks-balance : (network : Network) (slots : ℕ) → IsDay network slots → (blocks : List (List ℕ)) → AllByRecursion (IsBlock network) blocks
-    → sum_by (worth network) blocks + empty_minutes network blocks + vehicle_weight * length blocks ≡ vehicle_weight * length (slots_in blocks) + sum_by (pulls network) (slots_in blocks)
+    → sum_by (worth network) blocks + empty_minutes network blocks + VEHICLE_WEIGHT * length blocks ≡ VEHICLE_WEIGHT * length (slots_in blocks) + sum_by (pulls network) (slots_in blocks)
 unfolding worth pulls
 blocks-balance network slots day [] each = omega arith
 blocks-balance network slots day ([] ∷ blocks) each = absurd each.0
@@ -193,7 +194,7 @@ standing-length live n slots within stands =
 -- the plan's own blocks cost no more than any others
 own-cost : (network : Network) (slots : ℕ) (plan : Plan) (departs : ℕ → ℕ) → IsDay network slots → length plan.next ≡ slots → IsCertified network plan → AreDepartures network departs
     → (order : List ℕ) → StandsOnce network.live order → (others : List (List ℕ)) → IsBlocking network others
-    → let own = blocks_along plan.next order in (vehicle_weight * length own + empty_minutes network own ≤ vehicle_weight * length others + empty_minutes network others)
+    → let own = blocks_along plan.next order in (VEHICLE_WEIGHT * length own + empty_minutes network own ≤ VEHICLE_WEIGHT * length others + empty_minutes network others)
     × (empty_minutes network others ≤ empty_minutes network own + 45346816)
 own-cost network slots plan departs day len proved clock order stands others other =
     let own = blocks_along plan.next order in

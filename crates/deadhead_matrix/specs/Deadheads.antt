@@ -1,5 +1,5 @@
 -- The entries that `deadheads.csv` allows, and the places that it names.
-use Rattle.std.specs.Prelude.{ℕ, ◌<◌, not, ◌==◌, ◌&&◌, nat_lt, Bool, List, [], ◌∷◌, ◌++◌, length, Option, None, Some, Result, Ok}
+use Rattle.std.specs.Prelude.{ℕ, not, ◌==◌, ◌&&◌, nat_lt, Bool, List, [], ◌∷◌, ◌++◌, length, Option, None, Some, Result, Ok}
 use Rattle.std.specs.List.{list_any}
 use Rattle.std.specs.Str.{bytes_eq}
 use Rattle.desk_io.specs.declared.shelf.Found.{Found}
@@ -8,21 +8,17 @@ use Rattle.gtfs_tables.specs.declared.fault.FeedFault.{FeedFault}
 use Rattle.gtfs_tables.specs.declared.fault.FeedFault.TheVariants as fault
 use Rattle.gtfs_tables.specs.declared.paper.Column.TheVariants as column
 use Rattle.gtfs_tables.specs.declared.paper.Paper.TheVariants as paper
-use Rattle.gtfs_tables.specs.Reading.{◌>>=◌, provided, table_in, column_in, field_at, text_in, filled_in, number_in, each_record}
-use Rattle.gtfs_tables.specs.Table.{TableView}
+use Rattle.gtfs_tables.specs.Fold.{paper_read}
+use Rattle.gtfs_tables.specs.Reading.{◌>>=◌, provided, column_in, field_at, text_in, filled_in, number_in}
+use Rattle.trip_model.specs.declared.limits.TheConstants.{MOST_PLACES}
 use Rattle.trip_model.specs.Timetable.{TimetableView, place_names, number_of}
 use Rattle.deadhead_matrix.specs.declared.entry.Entry.{Entry}
+use Rattle.deadhead_matrix.specs.declared.limits.TheConstants.{MOST_DEADHEAD}
 use Rattle.deadhead_matrix.specs.declared.read.Columns.{Columns}
-
--- a record of so many fields has the columns
-pub record HaveColumns (width : ℕ) (columns : Columns) : Type 0 where
-  pub from : columns.from < width
-  pub to : columns.to < width
-  pub minutes : columns.minutes < width
 
 -- the value of a field that has to be a number of at most four digits from 1 to 1,440
 abbrev pub minutes_in : ℕ → List ℕ → Result ℕ FeedFault
-minutes_in number text = number_in paper.Deadheads number column.Minutes 4 1440 text
+minutes_in number text = number_in paper.Deadheads number column.Minutes 4 MOST_DEADHEAD text
     >>= λ minutes. provided (not (minutes == 0)) (fault.BadNumber paper.Deadheads number column.Minutes) (Ok minutes)
 
 -- the names of the two terminals of one record, which differ, and its minutes
@@ -40,7 +36,7 @@ deadhead_in columns number fields = do
 -- the place that was found, or a new one without layover, where there are fewer than 512
 abbrev pub or_new_place : TimetableView → List ℕ → Option ℕ → Result (TimetableView × ℕ) FeedFault
 or_new_place timetable name (Some place) = Ok (timetable, place)
-or_new_place timetable name None = provided (nat_lt (length timetable.places) 512) (fault.TooManyPlaces paper.Deadheads)
+or_new_place timetable name None = provided (nat_lt (length timetable.places) MOST_PLACES) (fault.TooManyPlaces paper.Deadheads)
     (Ok (record timetable { places = timetable.places ++ record { name = name; layover = 0 } ∷ [] }, length timetable.places))
 
 -- the timetable with a place of that name, and the place's number
@@ -73,13 +69,7 @@ columns_in header = do
   minutes ← column_in paper.Deadheads column.Minutes header
   Ok (record { from = from; to = to; minutes = minutes })
 
--- the timetable and the entries of a table, record by record
-unfoldable pub deadheads_in : TimetableView → TableView → Result (TimetableView × List Entry) FeedFault
-deadheads_in timetable table = do
-  columns ← columns_in table.header
-  each_record (with_deadhead columns) 1 (timetable, []) table.rows
-
--- the timetable and the entries of the file; without one there are no entries
+-- the timetable and the entries of the file, record by record; without one there are no entries
 abbrev pub deadheads_of : Found → TimetableView → Result (TimetableView × List Entry) FeedFault
 deadheads_of Missing timetable = Ok (timetable, [])
-deadheads_of found timetable = table_in paper.Deadheads found >>= deadheads_in timetable
+deadheads_of found timetable = paper_read paper.Deadheads columns_in with_deadhead (timetable, []) found

@@ -1,5 +1,5 @@
 -- The places that a timetable has gained of `deadheads.csv`, also where the file is refused.
-use Rattle.std.specs.Prelude.{ℕ, ◌+◌, List, [], ◌∷◌, Result, Ok, Err}
+use Rattle.std.specs.Prelude.{◌≡◌, ℕ, ◌+◌, List, [], ◌∷◌, take, Result, Ok, Err}
 use Rattle.desk_io.specs.declared.shelf.Found.{Found}
 use Rattle.desk_io.specs.declared.shelf.Found.TheVariants.{Missing}
 use Rattle.gtfs_tables.specs.declared.fault.FeedFault.{FeedFault}
@@ -30,11 +30,23 @@ left_by_each columns number before [] = before.0
 left_by_each columns number before (fields ∷ rows) =
     left_after (with_deadhead columns number before fields) (λ more. left_by_each columns (number + 1) more rows) (left_by columns number before.0 fields)
 
--- the timetable that a table leaves, up to its first refusal
-unfoldable pub left_by_table : TimetableView → TableView → TimetableView
-left_by_table timetable table = left_after (columns_in table.header) (λ columns. left_by_each columns 1 (timetable, []) table.rows) timetable
+-- the timetable that the records of a table leave after those of these entries, up to its first refusal
+abbrev pub left_by_table : TimetableView → List Entry → TableView → TimetableView
+left_by_table timetable entries table = left_after (columns_in table.header) (λ columns. left_by_each columns 1 (timetable, entries) table.rows) timetable
+
+-- the timetable that a paper leaves
+abbrev pub left_by_paper : Found → TimetableView → List Entry → TimetableView
+left_by_paper found timetable entries = left_after (table_in paper.Deadheads found) (left_by_table timetable entries) timetable
 
 -- the timetable that the file leaves, up to its first refusal
 abbrev pub timetable_left : Found → TimetableView → TimetableView
 timetable_left Missing timetable = timetable
-timetable_left found timetable = left_after (table_in paper.Deadheads found) (left_by_table timetable) timetable
+timetable_left found timetable = left_by_paper found timetable []
+
+-- what a refused record leaves of the timetable and the entries of those before it
+abbrev pub Leaves : Columns → ℕ → TimetableView × List Entry → List (List ℕ) → TimetableView × List Entry → Type 0
+Leaves columns number before fields after = after.0 ≡ left_by columns number before.0 fields
+
+-- a timetable without the places after so many
+abbrev pub as_before : ℕ → TimetableView → TimetableView
+as_before places timetable = record timetable { places = take places timetable.places }

@@ -2,17 +2,15 @@
 use Rattle.std.specs.Prelude.{◌≡◌, ◌≢◌, ℕ, ◌+◌, ◌-◌, ◌<◌, ◌≤◌, true, false, List, length, sum, sum_by, slice_index_or, Option, None, Some, IfSome, unwrap_or}
 use Rattle.std.specs.List.{range_with_len}
 use Rattle.std.specs.Option.{option_map}
+use Rattle.trip_model.specs.declared.limits.TheConstants.{LAST_MINUTE, MOST_SLOTS}
+use Rattle.deadhead_matrix.specs.declared.limits.TheConstants.{MOST_DEADHEAD, VEHICLE_WEIGHT}
 use Rattle.trip_model.specs.Links.{next_of, AreLinks}
 use Rattle.trip_model.specs.Network.{Network}
-
--- what one vehicle weighs against minutes: more than all empty minutes of a day together
-abbrev pub vehicle_weight : ℕ
-vehicle_weight = 67108864
 
 -- what it saves to make j next after i: a vehicle, and the empty minutes home after i and out to j, less those of the walk;
 -- None where they do not fit
 abbrev pub weight : Network → ℕ → ℕ → Option ℕ
-weight network i j = option_map (λ minutes. vehicle_weight + network.home i + network.out j - minutes) (network.empty i j)
+weight network i j = option_map (λ minutes. VEHICLE_WEIGHT + network.home i + network.out j - minutes) (network.empty i j)
 
 -- for each slot the trip that its vehicle makes next, and two prices: one for leaving it, and one for entering it
 pub record Plan : Type 0 where
@@ -46,11 +44,11 @@ pub record IsCertified (network : Network) (plan : Plan) : Type 0 where
 -- A network of one day: its live slots are below a number of at most 4,096, no walk between trips that fit is longer than
 -- the day, and no way out of the depot or home takes more than 1,440 minutes.
 pub record IsDay (network : Network) (slots : ℕ) : Type 0 where
-  pub few : slots ≤ 4096
+  pub few : slots ≤ MOST_SLOTS
   pub within : (s : ℕ) → network.live s ≡ true → s < slots
-  pub walks : (i j m : ℕ) → network.empty i j ≡ Some m → m ≤ 8191
-  pub out : (s : ℕ) → network.out s ≤ 1440
-  pub home : (s : ℕ) → network.home s ≤ 1440
+  pub walks : (i j m : ℕ) → network.empty i j ≡ Some m → m ≤ LAST_MINUTE
+  pub out : (s : ℕ) → network.out s ≤ MOST_DEADHEAD
+  pub home : (s : ℕ) → network.home s ≤ MOST_DEADHEAD
 
 -- A plan on the way to a certified one: as such a plan, but that a has no next trip and b is the next of none, and that
 -- nothing is asked of pairs that leave a or enter b. In place of the sums, on each link the two prices are its weight, and

@@ -1,5 +1,7 @@
 -- The search for least walks from one place: how far the places are so far, and which are done.
 use Rattle.std.specs.Prelude.{◌≡◌, ◌≢◌, ℕ, ◌+◌, ◌*◌, ◌<◌, ◌≤◌, nat_lt, Bool, true, false, not, List, [], length, slice_index_or, count_by, Contains, Option, Some, None, if◌then◌else◌}
+use Rattle.trip_model.specs.declared.limits.TheConstants.{MOST_PLACES}
+use Rattle.deadhead_matrix.specs.declared.limits.TheConstants.{MOST_DEADHEAD}
 use Rattle.deadhead_matrix.specs.declared.entry.Entry.{Entry}
 use Rattle.deadhead_matrix.specs.Walks.{IsWalk, walk_minutes, IsLeastWalk}
 
@@ -48,7 +50,7 @@ pub record AreWays (places : ℕ) (entries : List Entry) (ways : List (List ℕ)
 
 -- no entry takes more than a day
 abbrev pub AreShort : List (List ℕ) → Type 0
-AreShort ways = (a b : ℕ) → way ways a b ≤ 1440
+AreShort ways = (a b : ℕ) → way ways a b ≤ MOST_DEADHEAD
 
 -- A search from one place that has come so far. Places that are done are not farther than `reach`, the others not nearer,
 -- and from those that are done every entry was looked at.
@@ -60,7 +62,7 @@ pub record IsSearch (ways : List (List ℕ)) (start reach : ℕ) (done : List Bo
   pub closed : (a b : ℕ) → a < length dist → b < length dist → is_done done a ≡ true → way ways a b ≢ 0 → dist_at dist b ≤ dist_at dist a + way ways a b
   pub before : (a : ℕ) → a < length dist → is_done done a ≡ true → dist_at dist a ≤ reach
   pub later : (a : ℕ) → a < length dist → is_done done a ≡ false → reach ≤ dist_at dist a
-  pub bounded : (b : ℕ) → dist_at dist b < far → dist_at dist b + 1440 * count_by not done ≤ 1440 * length dist
+  pub bounded : (b : ℕ) → dist_at dist b < far → dist_at dist b + MOST_DEADHEAD * count_by not done ≤ MOST_DEADHEAD * length dist
 
 -- the minutes to a place, where one is reached
 abbrev pub found_at : List ℕ → ℕ → Option ℕ
@@ -77,12 +79,12 @@ AreLeastFrom ways start dist = (entries : List Entry) → AreWays (length dist) 
 
 -- rows of minutes between 512 places tell the entries
 pub record AreTold (entries : List Entry) (ways : List (List ℕ)) : Type 0 where
-  pub rows : AreRows 512 ways
+  pub rows : AreRows MOST_PLACES ways
   pub short : AreShort ways
-  pub told : AreWays 512 entries ways
+  pub told : AreWays MOST_PLACES entries ways
 
 -- rows of minutes, each from one place to all, are those of least walks
 pub record AreLeastRows (entries : List Entry) (rows : List (List ℕ)) : Type 0 where
-  pub few : length rows ≤ 512
-  pub columns : (a : ℕ) → a < length rows → length (slice_index_or rows a []) ≡ 512
+  pub few : length rows ≤ MOST_PLACES
+  pub columns : (a : ℕ) → a < length rows → length (slice_index_or rows a []) ≡ MOST_PLACES
   pub least : (a b : ℕ) → a < length rows → IsLeastWalk entries a b (found_at (slice_index_or rows a []) b)

@@ -1,5 +1,7 @@
 ghost use Rattle.std.specs.Prelude.{◌≡◌, ℕ, ◌<◌, ◌≤◌, [], ◌∷◌, ◌++◌, length, slice_index_or, slice_set, IfOk};
 ghost use Rattle.gtfs_tables.specs.Reading.{Gives};
+ghost use Rattle.trip_model.specs.declared.limits.TheConstants.{MOST_PLACES};
+ghost use Rattle.deadhead_matrix.specs.declared.limits.TheConstants.{MOST_DEADHEAD};
 ghost use Rattle.deadhead_matrix.specs.Deadheads.{has_entry, with_entry};
 ghost use Rattle.deadhead_matrix.specs.Search.{way, AreRows, AreLeastRows};
 
@@ -69,8 +71,8 @@ impl Deadheads {
 
     /// Whether an entry leads from one place to the other.
     pub(crate) fn has(&self, from: u16, to: u16) -> bool
-        requires from { from < 512 }
-        requires to { to < 512 }
+        requires from { from < MOST_PLACES }
+        requires to { to < MOST_PLACES }
         ensures { result ≡ has_entry self.now from to }
     {
         let row = &self.ways[usize::from(from)];
@@ -79,10 +81,10 @@ impl Deadheads {
 
     /// Appends the entry of a record, where no earlier one leads from the one place to the other.
     pub(crate) fn add_record(&mut self, number: u32, entry: Entry) -> Result<(), FeedFault>
-        requires from { entry.from < 512 }
-        requires to { entry.to < 512 }
+        requires from { entry.from < MOST_PLACES }
+        requires to { entry.to < MOST_PLACES }
         requires lasting { 1 ≤ entry.minutes }
-        requires short { entry.minutes ≤ 1440 }
+        requires short { entry.minutes ≤ MOST_DEADHEAD }
         ensures { Gives (λ _. self.new) result (with_entry number self.old entry) }
     {
         if self.has(entry.from, entry.to) {
@@ -100,7 +102,7 @@ impl Deadheads {
 
     /// How far each of the first places is from each.
     pub(crate) fn distances(&self, alloc: Global, places: u16) -> Result<Vec<Distances>, Memory>
-        requires { places ≤ 512 }
+        requires { places ≤ MOST_PLACES }
         ensures count { IfOk result (λ rows. length rows.items ≡ places) }
         ensures least { IfOk result (λ rows. AreLeastRows self.now rows.items) }
     {

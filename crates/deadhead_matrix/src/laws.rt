@@ -3,6 +3,7 @@ ghost use Rattle.std.specs.Prelude.{◌≡◌, ℕ, ◌<◌, ◌≤◌, true, Li
 ghost use Rattle.deadhead_matrix.specs.Fitting.{deadhead_network};
 ghost use Rattle.deadhead_matrix.specs.Matrix.{empty_matrix, walk};
 ghost use Rattle.deadhead_matrix.specs.Prices.{Plan, IsCertified, IsDay, IsLoose};
+ghost use Rattle.trip_model.specs.declared.limits.TheConstants.{MOST_SLOTS};
 ghost use Rattle.trip_model.specs.declared.trip.Move.{Move};
 ghost use Rattle.trip_model.specs.Blocking.{StandsOnce, IsLeast};
 ghost use Rattle.trip_model.specs.Links.{blocks_along};
@@ -21,7 +22,7 @@ pub fn deadhead_law()
     ensures departures { (places : ℕ) (moves : List (Option Move)) (walk : ℕ → ℕ → Option ℕ) → AreMoves places moves
         → AreDepartures (deadhead_network moves walk) (λ s. minute_left (move_at moves s)) }
     ensures day { (places : ℕ) (moves : List (Option Move)) (walk : ℕ → ℕ → Option ℕ) → AreMoves places moves
-        → length moves ≤ 4096 → IsDay (deadhead_network moves walk) (length moves) }
+        → length moves ≤ MOST_SLOTS → IsDay (deadhead_network moves walk) (length moves) }
 {}
 
 /// The blocks of a certified plan are least over all blockings: no blocking weighs more than all its prices, and a vehicle

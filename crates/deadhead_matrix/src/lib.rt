@@ -22,12 +22,14 @@ mod deadheads;
 mod distances;
 mod entry;
 pub mod laws;
+mod limits;
 mod matrix;
 mod read;
 mod search;
 mod ways;
 
 pub use entry::Entry;
+pub use limits::{MOST_DEADHEAD, VEHICLE_WEIGHT};
 pub use matrix::Matrix;
 
 #[cfg(test)]

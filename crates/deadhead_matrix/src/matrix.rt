@@ -2,7 +2,7 @@ ghost use Rattle.std.specs.Prelude.{◌≡◌, ◌≢◌, ◌<◌, [], length, E
 ghost use Rattle.gtfs_tables.specs.Papers.{IsWithinLimit};
 ghost use Rattle.gtfs_tables.specs.Reading.{Gives};
 ghost use Rattle.deadhead_matrix.specs.Deadheads as spec;
-ghost use Rattle.deadhead_matrix.specs.Left.{timetable_left};
+ghost use Rattle.deadhead_matrix.specs.Left.{as_before, timetable_left};
 ghost use Rattle.deadhead_matrix.specs.Walks.{IsLeastWalk};
 ghost use Rattle.deadhead_matrix.specs.Matrix.{AreLeastWalks, empty_matrix, walk};
 
@@ -51,7 +51,8 @@ impl Matrix {
         ensures places { IfOk result (λ matrix. length matrix.walks ≡ length timetable.new.places) }
         ensures standing { IfOk result (λ matrix. matrix.entries ≡ [] → matrix ≡ empty_matrix (length timetable.new.places)) }
         ensures left { result ≢ Err FeedFault.Memory → timetable.new ≡ timetable_left deadheads.now timetable.old }
-        ensures kept { timetable.new ≡ record timetable.old { places = timetable.new.places } }
+        // Also after want of memory, the timetable is as it was but for places at the end of its list.
+        ensures kept { as_before (length timetable.old.places) timetable.new ≡ timetable.old }
     {
         let deadheads = deadheads_of(alloc, deadheads, timetable)?;
         let rows = deadheads.distances(alloc, timetable.places())?;

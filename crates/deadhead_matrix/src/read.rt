@@ -1,17 +1,21 @@
 ghost use Rattle.std.specs.Prelude.{◌≡◌, ◌≢◌, ◌<◌, ◌≤◌, [], length, Err, IfOk, OnErr};
 ghost use Rattle.gtfs_tables.specs.Papers.{IsWithinLimit};
-ghost use Rattle.gtfs_tables.specs.Reading.{Gives, each_record};
+ghost use Rattle.gtfs_tables.specs.Reading.{Gives};
+ghost use Rattle.trip_model.specs.declared.limits.TheConstants.{MOST_PLACES};
+ghost use Rattle.deadhead_matrix.specs.declared.limits.TheConstants.{MOST_DEADHEAD};
 ghost use Rattle.deadhead_matrix.specs.Deadheads as spec;
-ghost use Rattle.deadhead_matrix.specs.Deadheads.{HaveColumns};
 ghost use Rattle.deadhead_matrix.specs.Left as left;
 
 use crate::deadheads::Deadheads;
 use crate::entry::Entry;
+use crate::limits::MOST_DEADHEAD;
 use desk_io::Found;
 use gtfs_tables::{
-    Column, FeedFault, Paper, Row, Table, column_in, filled_in, number_in, table_in, text_in,
+    Column, FeedFault, Paper, RecordReader, Row, column_in, filled_in, judge_table, number_in,
+    read_records, text_in,
 };
 use std::alloc::Global;
+use std::mem;
 use trip_model::{MOST_PLACES, Timetable};
 
 /// The columns of a record's fields, each counted from 0.
@@ -22,25 +26,14 @@ pub(crate) struct Columns {
     minutes: usize,
 }
 
-// Where the required columns stand.
-#[tactic(auto, unfolding(crate::specs::Deadheads::columns_in))]
-fn columns_in(table: &Table) -> Result<Columns, FeedFault>
-    ensures gives { Gives (λ columns. columns) result (spec.columns_in table.now.header) }
-    ensures within { IfOk result (HaveColumns (length table.now.header)) }
-{
-    let from = column_in(Paper::Deadheads, Column::From, table)?;
-    let to = column_in(Paper::Deadheads, Column::To, table)?;
-    let minutes = column_in(Paper::Deadheads, Column::Minutes, table)?;
-    Ok(Columns { from, to, minutes })
-}
-
 // The minutes of a record, from 1 to 1,440.
 fn minutes_in(number: u32, text: &str) -> Result<u16, FeedFault>
     ensures gives { Gives (λ minutes. minutes) result (spec.minutes_in number text.now) }
-    ensures short { IfOk result (λ minutes. minutes ≤ 1440) }
+    ensures short { IfOk result (λ minutes. minutes ≤ MOST_DEADHEAD) }
     ensures lasting { IfOk result (λ minutes. 1 ≤ minutes) }
 {
-    let minutes = number_in(Paper::Deadheads, number, Column::Minutes, 4, 1440, text)?;
+    let most = u64::from(MOST_DEADHEAD);
+    let minutes = number_in(Paper::Deadheads, number, Column::Minutes, 4, most, text)?;
     if minutes == 0 {
         return Err(FeedFault::BadNumber(Paper::Deadheads, number, Column::Minutes));
     }
@@ -49,10 +42,13 @@ fn minutes_in(number: u32, text: &str) -> Result<u16, FeedFault>
 
 // The two terminals of a record and its minutes.
 #[tactic(auto, unfolding(crate::specs::Deadheads::deadhead_in))]
-fn deadhead_in(row: &Row, columns: Columns, number: u32) -> Result<(&str, &str, u16), FeedFault>
-    requires columns { HaveColumns (length row.now) columns }
-    ensures gives { Gives (λ deadhead. (deadhead.0.now, deadhead.1.now, deadhead.2)) result (spec.deadhead_in columns number row.now) }
-    ensures short { IfOk result (λ deadhead. deadhead.2 ≤ 1440) }
+fn deadhead_in<'a>(
+    row: &'a Row,
+    columns: &Columns,
+    number: u32,
+) -> Result<(&'a str, &'a str, u16), FeedFault>
+    ensures gives { Gives (λ deadhead. (deadhead.0.now, deadhead.1.now, deadhead.2)) result (spec.deadhead_in columns.now number row.now) }
+    ensures short { IfOk result (λ deadhead. deadhead.2 ≤ MOST_DEADHEAD) }
     ensures lasting { IfOk result (λ deadhead. 1 ≤ deadhead.2) }
 {
     let paper = Paper::Deadheads;
@@ -73,8 +69,9 @@ fn deadhead_in(row: &Row, columns: Columns, number: u32) -> Result<(&str, &str, 
 fn place_of(timetable: &mut Timetable, name: &str) -> Result<u16, FeedFault>
     ensures gives { Gives (λ place. (timetable.new, place)) result (spec.with_place timetable.old name.now) }
     ensures err { OnErr result (timetable.new ≡ timetable.old) }
-    ensures kept { timetable.new ≡ record timetable.old { places = timetable.new.places } }
-    ensures within { IfOk result (λ place. place < 512) }
+    ensures kept { left.as_before (length timetable.old.places) timetable.new ≡ timetable.old }
+    ensures longer { length timetable.old.places ≤ length timetable.new.places }
+    ensures within { IfOk result (λ place. place < MOST_PLACES) }
 {
     let places = timetable.places();
     if let Some(place) = timetable.find_place(name) {
@@ -86,58 +83,72 @@ fn place_of(timetable: &mut Timetable, name: &str) -> Result<u16, FeedFault>
     Ok(timetable.push_place(name, 0)?)
 }
 
-// Adds the entry of a record, and its places to the timetable.
-#[tactic(auto, unfolding(crate::specs::Deadheads::with_deadhead, crate::specs::Left::left_by))]
-fn add_deadhead(
-    row: &Row,
-    columns: Columns,
-    number: u32,
-    timetable: &mut Timetable,
-    deadheads: &mut Deadheads,
-) -> Result<(), FeedFault>
-    requires columns { HaveColumns (length row.now) columns }
-    ensures gives { Gives (λ _. (timetable.new, deadheads.new)) result (spec.with_deadhead columns number (timetable.old, deadheads.old) row.now) }
-    ensures left { result ≢ Err FeedFault.Memory → timetable.new ≡ left.left_by columns number timetable.old row.now }
-    ensures kept { timetable.new ≡ record timetable.old { places = timetable.new.places } }
-{
-    let (from, to, minutes) = deadhead_in(row, columns, number)?;
-    let from = place_of(timetable, from)?;
-    let to = place_of(timetable, to)?;
-    deadheads.add_record(number, Entry { from, to, minutes })
+// The timetable with the places of the records that were read, and their entries; how many places it had before.
+#[derive(Drop)]
+struct Reading {
+    before: u16,
+    timetable: Timetable,
+    deadheads: Deadheads,
+    ghost gained: { before ≤ length timetable.places },
 }
 
-// The entries of the records of a table, whose places it adds to the timetable.
-fn deadheads_from(
-    alloc: Global,
-    table: &Table,
-    columns: Columns,
-    timetable: &mut Timetable,
-) -> Result<Deadheads, FeedFault>
-    requires columns { HaveColumns (length table.now.header) columns }
-    ensures gives { Gives (λ deadheads. (timetable.new, deadheads)) result (each_record (spec.with_deadhead columns) 1 (timetable.old, []) table.now.rows) }
-    ensures left { result ≢ Err FeedFault.Memory → timetable.new ≡ left.left_by_each columns 1 (timetable.old, []) table.now.rows }
-    ensures kept { timetable.new ≡ record timetable.old { places = timetable.new.places } }
-{
-    let mut deadheads = Deadheads::none(alloc)?;
-    for r in 0..table.records() {
-        add_deadhead(table.row(r + 1), columns, r + 1, timetable, &mut deadheads)?;
+impl RecordReader for Reading {
+    ghost use Rattle.std.specs.Prelude.{◌≡◌, ℕ, List, take};
+    ghost use Rattle.trip_model.specs.Timetable.{TimetableView};
+    ghost use Rattle.deadhead_matrix.specs.declared.entry.Entry.{Entry};
+    ghost use Rattle.deadhead_matrix.specs.Deadheads as spec;
+    ghost use Rattle.deadhead_matrix.specs.Left as left;
+
+    type Columns = Columns;
+
+    ghost Kept = { ℕ × TimetableView };
+
+    ghost State = { TimetableView × List Entry };
+
+    ghost kept = { λ read. (read.before, left.as_before read.before read.timetable) };
+
+    ghost state = { λ read. (read.timetable, read.deadheads) };
+
+    ghost columns_in = { spec.columns_in };
+
+    ghost step = { λ _. spec.with_deadhead };
+
+    ghost Leaves = { λ _. left.Leaves };
+
+    #[tactic(auto, unfolding(crate::specs::Deadheads::columns_in))]
+    fn columns(&self, header: &Row) -> Result<Columns, FeedFault> {
+        let from = column_in(Paper::Deadheads, Column::From, header)?;
+        let to = column_in(Paper::Deadheads, Column::To, header)?;
+        let minutes = column_in(Paper::Deadheads, Column::Minutes, header)?;
+        Ok(Columns { from, to, minutes })
     }
-    Ok(deadheads)
+
+    #[tactic(auto, unfolding(crate::specs::Deadheads::with_deadhead, crate::specs::Left::left_by))]
+    fn record(&mut self, columns: &Columns, number: u32, row: &Row) -> Result<(), FeedFault> {
+        let (from, to, minutes) = deadhead_in(row, columns, number)?;
+        let from = place_of(&mut self.timetable, from)?;
+        let to = place_of(&mut self.timetable, to)?;
+        self.deadheads
+            .add_record(number, Entry { from, to, minutes })
+    }
 }
 
-// The entries of a table.
-#[tactic(auto, unfolding(crate::specs::Deadheads::deadheads_in, crate::specs::Left::left_by_table))]
-fn deadheads_in(
-    alloc: Global,
-    table: &Table,
-    timetable: &mut Timetable,
-) -> Result<Deadheads, FeedFault>
-    ensures gives { Gives (λ deadheads. (timetable.new, deadheads)) result (spec.deadheads_in timetable.old table.now) }
-    ensures left { result ≢ Err FeedFault.Memory → timetable.new ≡ left.left_by_table timetable.old table.now }
-    ensures kept { timetable.new ≡ record timetable.old { places = timetable.new.places } }
+// Takes the records of the file in; none where it is not there. A record that is too long refuses the file before any
+// place is added.
+fn read_all(alloc: Global, found: &Found, reading: &mut Reading) -> Result<(), FeedFault>
+    requires within { IsWithinLimit found.now }
+    requires begun { reading.old.deadheads ≡ [] }
+    ensures gives { Gives (λ _. (reading.new.timetable, reading.new.deadheads)) result (spec.deadheads_of found.now reading.old.timetable) }
+    ensures left { result ≢ Err FeedFault.Memory → reading.new.timetable ≡ left.timetable_left found.now reading.old.timetable }
+    ensures kept { left.as_before reading.old.before reading.new.timetable ≡ left.as_before reading.old.before reading.old.timetable }
 {
-    let columns = columns_in(table)?;
-    deadheads_from(alloc, table, columns, timetable)
+    match found {
+        Found::Missing => Ok(()),
+        Found::TooLong | Found::File(_) => {
+            judge_table(alloc, Paper::Deadheads, found)?;
+            read_records(alloc, Paper::Deadheads, found, reading)
+        }
+    }
 }
 
 /// The entries of the file, whose places it adds to the timetable; none where it is not there.
@@ -149,14 +160,17 @@ pub(crate) fn deadheads_of(
     requires { IsWithinLimit found.now }
     ensures gives { Gives (λ deadheads. (timetable.new, deadheads)) result (spec.deadheads_of found.now timetable.old) }
     ensures left { result ≢ Err FeedFault.Memory → timetable.new ≡ left.timetable_left found.now timetable.old }
-    ensures kept { timetable.new ≡ record timetable.old { places = timetable.new.places } }
+    ensures kept { left.as_before (length timetable.old.places) timetable.new ≡ timetable.old }
 {
-    match found {
-        Found::Missing => Ok(Deadheads::none(alloc)?),
-        Found::TooLong | Found::File(_) => deadheads_in(
-            alloc,
-            &table_in(alloc, Paper::Deadheads, found)?,
-            timetable,
-        ),
-    }
+    let deadheads = Deadheads::none(alloc)?;
+    let none = Timetable::open(alloc, 0, 0);
+    let mut reading = Reading {
+        before: timetable.places(),
+        timetable: mem::replace(timetable, none),
+        deadheads,
+    };
+    let read = read_all(alloc, found, &mut reading);
+    *timetable = reading.timetable;
+    read?;
+    Ok(reading.deadheads)
 }

@@ -1,4 +1,5 @@
 ghost use Rattle.std.specs.Prelude.{◌≡◌, ℕ, ◌+◌, ◌<◌, ◌≤◌, false, List, length, IfSome, IfNone, IfOk};
+ghost use Rattle.trip_model.specs.declared.limits.TheConstants.{MOST_PLACES};
 ghost use Rattle.deadhead_matrix.specs.Search.{far, dist_at, is_done, AreLedOn, IsNearest, AreShort, AreRows, IsSearch, AreLeastFrom};
 
 use crate::distances::FAR;
@@ -52,7 +53,7 @@ fn search_on(ways: &[Ways], start: usize, done: &mut [bool], dist: &mut [u32])
     requires begun { IsSearch ways.now start 0 done.old dist.old }
     requires rows { AreRows (length dist.old) ways.now }
     requires short { AreShort ways.now }
-    requires few { length dist.old ≤ 512 }
+    requires few { length dist.old ≤ MOST_PLACES }
     ensures len { length dist.new ≡ length dist.old }
     ensures least { AreLeastFrom ways.now start dist.new }
 {
@@ -68,7 +69,7 @@ fn search_on(ways: &[Ways], start: usize, done: &mut [bool], dist: &mut [u32])
 pub(crate) fn search(alloc: Global, ways: &[Ways], start: usize) -> Result<Vec<u32>, Memory>
     requires rows { AreRows (length ways.now) ways.now }
     requires short { AreShort ways.now }
-    requires few { length ways.now ≤ 512 }
+    requires few { length ways.now ≤ MOST_PLACES }
     requires start { start < length ways.now }
     ensures len { IfOk result (λ dist. length dist.items ≡ length ways.now) }
     ensures least { IfOk result (λ dist. AreLeastFrom ways.now start dist.items) }

@@ -1,5 +1,6 @@
 -- The changes of deficits: for each place the number by which its deficit rises or falls in each minute.
 use Rattle.std.specs.Prelude.{◌≡◌, ℕ, ◌+◌, ◌^◌, ◌<◌, List, [], length, slice_index_or, slice_set, take, fold, All, ℤ, pos, neg_ℤ, ◌+ℤ◌, ◌≤ℤ◌}
+use Rattle.trip_model.specs.declared.limits.TheConstants.{MINUTES}
 use Rattle.trip_model.specs.declared.trip.Move.{Move}
 
 -- a change of at most 65,536 either way
@@ -8,7 +9,7 @@ IsChange c = (neg_ℤ (pos 65536) ≤ℤ c) × (c ≤ℤ pos 65536)
 
 -- the changes of one place: one for each minute from 0 to 8,191, and that of minute 0 is not below 0
 pub record AreChanges (changes : List ℤ) : Type 0 where
-  pub minutes : length changes ≡ 8192
+  pub minutes : length changes ≡ MINUTES
   pub bounded : All IsChange changes
   pub begins : pos 0 ≤ℤ slice_index_or changes 0 (pos 0)
 

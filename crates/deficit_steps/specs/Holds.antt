@@ -1,5 +1,6 @@
 -- When deficits hold a list of moves.
 use Rattle.std.specs.Prelude.{◌≡◌, ℕ, ◌<◌, ◌≤◌, ◌==◌, ◌&&◌, List, length, count_by, ℤ, pos, ◌-ℤ◌}
+use Rattle.trip_model.specs.declared.limits.TheConstants.{LAST_MINUTE}
 use Rattle.trip_model.specs.declared.trip.Move.{Move}
 use Rattle.deficit_steps.specs.Changes.{change_at}
 
@@ -13,5 +14,5 @@ arriving moves place minute = count_by (λ m. (m.to == place) && (m.arrives == m
 
 -- each change is the number of the moves that leave the place in the minute less the number that arrive there in it
 pub record Holds (deficits : List (List ℤ)) (moves : List Move) : Type 0 where
-  pub change : (place minute : ℕ) → place < length deficits → minute ≤ 8191
+  pub change : (place minute : ℕ) → place < length deficits → minute ≤ LAST_MINUTE
       → change_at deficits place minute ≡ pos (leaving moves place minute) -ℤ pos (arriving moves place minute)

@@ -1,4 +1,5 @@
 ghost use Rattle.std.specs.Prelude.{◌≡◌, ◌+◌, ◌<◌, ◌≤◌, List, [], ◌∷◌, ◌++◌, length, ℤ, pos, neg_ℤ, ◌<ℤ◌, All, IfOk};
+ghost use Rattle.trip_model.specs.declared.limits.TheConstants.{LAST_MINUTE};
 ghost use Rattle.trip_model.specs.declared.trip.Move.{Move as ModelMove};
 ghost use Rattle.trip_model.specs.Maximum.{IsFirstMaximum, first_maximum, sum_of_maxima};
 ghost use Rattle.trip_model.specs.Steps.{steps};
@@ -60,7 +61,7 @@ impl Deficits {
         requires from { added.now.from < length self.old }
         requires to { added.now.to < length self.old }
         requires forward { added.now.leaves < added.now.arrives }
-        requires in_day { added.now.arrives ≤ 8191 }
+        requires in_day { added.now.arrives ≤ LAST_MINUTE }
         requires raised { change_at self.old added.now.from added.now.leaves <ℤ pos 65536 }
         requires lowered { neg_ℤ (pos 65536) <ℤ change_at self.old added.now.to added.now.arrives }
 
@@ -79,7 +80,7 @@ impl Deficits {
         requires from { taken.now.from < length self.old }
         requires to { taken.now.to < length self.old }
         requires forward { taken.now.leaves < taken.now.arrives }
-        requires in_day { taken.now.arrives ≤ 8191 }
+        requires in_day { taken.now.arrives ≤ LAST_MINUTE }
         requires lowered { neg_ℤ (pos 65536) <ℤ change_at self.old taken.now.from taken.now.leaves }
         requires raised { change_at self.old taken.now.to taken.now.arrives <ℤ pos 65536 }
         requires begins { taken.now.leaves ≡ 0 → pos 0 <ℤ change_at self.old taken.now.from 0 }
@@ -97,7 +98,7 @@ impl Deficits {
     /// The value of a place at a minute.
     pub fn value_at(&self, place: u16, minute: u16) -> i32
         requires place { place < length self.now }
-        requires minute { minute ≤ 8191 }
+        requires minute { minute ≤ LAST_MINUTE }
         ensures { result ≡ value self.now place minute }
     {
         self.rows[usize::from(place)].value_at(minute)

@@ -1,4 +1,5 @@
 ghost use Rattle.std.specs.Prelude.{◌≡◌, ◌≤◌, ◌+◌, ℕ, ℤ, pos, ◌+ℤ◌, ◌≤ℤ◌, All, IfOk, slice_index_or, vec_len};
+ghost use Rattle.trip_model.specs.declared.limits.TheConstants.{LAST_MINUTE};
 ghost use Rattle.trip_model.specs.Maximum.{first_maximum};
 ghost use Rattle.trip_model.specs.Steps.{steps};
 ghost use Rattle.deficit_steps.specs.Changes.{IsChange, AreChanges, value_in, with_change_in};
@@ -43,7 +44,7 @@ impl Row {
     /// Raises the change of one minute.
     pub fn change(&mut self, minute: u16, by: i32)
         requires valid { AreChanges self.old }
-        requires minute { minute ≤ 8191 }
+        requires minute { minute ≤ LAST_MINUTE }
         requires bounded { IsChange (slice_index_or self.old minute (pos 0) +ℤ by) }
         requires begins { minute ≡ 0 → pos 0 ≤ℤ (slice_index_or self.old minute (pos 0) +ℤ by) }
         ensures changed { self.new ≡ with_change_in self.old minute by }
@@ -55,7 +56,7 @@ impl Row {
     /// The sum of the changes up to and including a minute.
     pub fn value_at(&self, minute: u16) -> i32
         requires valid { AreChanges self.now }
-        requires minute { minute ≤ 8191 }
+        requires minute { minute ≤ LAST_MINUTE }
         ensures { result ≡ value_in self.now minute }
     {
         let mut value = 0;

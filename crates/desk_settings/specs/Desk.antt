@@ -4,6 +4,7 @@ use Rattle.std.specs.Option.{ok_or}
 use Rattle.std.specs.Str.{is_utf8, bytes_eq}
 use Rattle.desk_io.specs.declared.shelf.Found.{Found}
 use Rattle.desk_io.specs.declared.shelf.Found.TheVariants.{File, Missing, TooLong}
+use Rattle.trip_model.specs.declared.limits.TheConstants.{MOST_LAYOVER, MOST_TOLERANCE}
 use Rattle.gtfs_tables.specs.declared.fault.FeedFault.{FeedFault}
 use Rattle.gtfs_tables.specs.declared.fault.FeedFault.TheVariants as fault
 use Rattle.gtfs_tables.specs.declared.paper.Paper.TheVariants as paper
@@ -40,10 +41,10 @@ names_from before (item value rest) = option_and_then (λ name. names_from (with
 abbrev pub names_in : Data → Option (List Name)
 names_in value = option_and_then (names_from []) (as_array value)
 
--- the places of a table with their minutes, each an integer from 0 to 240, after those before them
+-- the places of a table with their minutes, each an integer of at most 240, after those before them
 abbrev pub layovers_from : Entries ℕ → Members → Option (Entries ℕ)
 layovers_from before no_members = Some before
-layovers_from before (member place value rest) = option_and_then (λ minutes. layovers_from (before ++ (place, minutes) ∷ []) rest) (minutes_in 240 value)
+layovers_from before (member place value rest) = option_and_then (λ minutes. layovers_from (before ++ (place, minutes) ∷ []) rest) (minutes_in MOST_LAYOVER value)
 
 -- a value that is a table from places to minutes
 abbrev pub layovers_in : Data → Option (Entries ℕ)
@@ -62,10 +63,10 @@ Ascend (member key value rest) = (is_before key rest ≡ true) × Ascend rest
 unfoldable pub with_key : Desk → Name → Data → Option Desk
 with_key desk key value =
     if bytes_eq key (codes "services") then option_map (λ names. record desk { services = Some names }) (names_in value)
-    else if bytes_eq key (codes "layover") then option_map (λ minutes. record desk { layover = minutes }) (minutes_in 240 value)
+    else if bytes_eq key (codes "layover") then option_map (λ minutes. record desk { layover = minutes }) (minutes_in MOST_LAYOVER value)
     else if bytes_eq key (codes "layovers") then option_map (λ layovers. record desk { layovers = layovers }) (layovers_in value)
-    else if bytes_eq key (codes "early") then option_map (λ minutes. record desk { early = minutes }) (minutes_in 60 value)
-    else if bytes_eq key (codes "late") then option_map (λ minutes. record desk { late = minutes }) (minutes_in 60 value)
+    else if bytes_eq key (codes "early") then option_map (λ minutes. record desk { early = minutes }) (minutes_in MOST_TOLERANCE value)
+    else if bytes_eq key (codes "late") then option_map (λ minutes. record desk { late = minutes }) (minutes_in MOST_TOLERANCE value)
     else if bytes_eq key (codes "block_prefix") then option_map (λ prefix. record desk { prefix = prefix }) (prefix_in value)
     else None
 

@@ -12,6 +12,7 @@ use desk_io::{Found, Memory, Text};
 use gtfs_tables::{FeedFault, Paper};
 use std::alloc::Global;
 use toml::{Table, Value};
+use trip_model::{MOST_LAYOVER, MOST_TOLERANCE};
 
 /// What `desk.toml` says.
 #[derive(Drop)]
@@ -81,7 +82,7 @@ fn layovers_from(alloc: Global, table: &Table) -> Result<Option<Entries<Layover>
 {
     let mut layovers = Entries::new(alloc);
     for (place, value) in table.iter() {
-        let Some(minutes) = minutes_in(value, 240) else {
+        let Some(minutes) = minutes_in(value, MOST_LAYOVER) else {
             return Ok(None);
         };
         layovers.push(place.as_str(), Layover::of(minutes))?;
@@ -122,10 +123,14 @@ impl Desk {
         let bad = FeedFault::BadSettings(Text::of(alloc, key)?);
         match key {
             "services" => self.services = Some(names_in(alloc, value)?.ok_or(bad)?),
-            "layover" => self.layover = Layover::of(minutes_in(value, 240).ok_or(bad)?),
+            "layover" => self.layover = Layover::of(minutes_in(value, MOST_LAYOVER).ok_or(bad)?),
             "layovers" => self.layovers = layovers_in(alloc, value)?.ok_or(bad)?,
-            "early" => self.early = Tolerance::of(minutes_in(value, 60).ok_or(bad)? as u8),
-            "late" => self.late = Tolerance::of(minutes_in(value, 60).ok_or(bad)? as u8),
+            "early" => self.early = Tolerance::of(
+                minutes_in(value, u16::from(MOST_TOLERANCE)).ok_or(bad)? as u8,
+            ),
+            "late" => self.late = Tolerance::of(
+                minutes_in(value, u16::from(MOST_TOLERANCE)).ok_or(bad)? as u8,
+            ),
             "block_prefix" => self.prefix = Text::of(alloc, prefix_in(value).ok_or(bad)?)?,
             _ => return Err(bad),
         }

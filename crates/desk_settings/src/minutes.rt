@@ -1,4 +1,5 @@
 ghost use Rattle.std.specs.Prelude.{◌≡◌, ◌≤◌};
+ghost use Rattle.trip_model.specs.declared.limits.TheConstants.{MOST_LAYOVER, MOST_TOLERANCE};
 
 use std::marker::Model;
 
@@ -10,17 +11,18 @@ pub(crate) struct Layover {
 
 impl Model for Layover {
     ghost use Rattle.std.specs.Prelude.{ℕ, ◌≤◌};
+    ghost use Rattle.trip_model.specs.declared.limits.TheConstants.{MOST_LAYOVER};
 
     ghost Value = { ℕ };
 
     ghost view = { λ l. l.minutes };
 
-    ghost invariant = { λ l. l.minutes ≤ 240 };
+    ghost invariant = { λ l. l.minutes ≤ MOST_LAYOVER };
 }
 
 impl Layover {
     pub(crate) fn of(minutes: u16) -> Layover
-        requires { minutes ≤ 240 }
+        requires { minutes ≤ MOST_LAYOVER }
         ensures { result ≡ minutes }
     {
         Layover { minutes }
@@ -28,7 +30,7 @@ impl Layover {
 
     pub(crate) fn minutes(&self) -> u16
         ensures value { result ≡ self.now }
-        ensures most { result ≤ 240 }
+        ensures most { result ≤ MOST_LAYOVER }
     {
         self.minutes
     }
@@ -42,17 +44,18 @@ pub(crate) struct Tolerance {
 
 impl Model for Tolerance {
     ghost use Rattle.std.specs.Prelude.{ℕ, ◌≤◌};
+    ghost use Rattle.trip_model.specs.declared.limits.TheConstants.{MOST_TOLERANCE};
 
     ghost Value = { ℕ };
 
     ghost view = { λ t. t.minutes };
 
-    ghost invariant = { λ t. t.minutes ≤ 60 };
+    ghost invariant = { λ t. t.minutes ≤ MOST_TOLERANCE };
 }
 
 impl Tolerance {
     pub(crate) fn of(minutes: u8) -> Tolerance
-        requires { minutes ≤ 60 }
+        requires { minutes ≤ MOST_TOLERANCE }
         ensures { result ≡ minutes }
     {
         Tolerance { minutes }
@@ -60,7 +63,7 @@ impl Tolerance {
 
     pub(crate) fn minutes(&self) -> u8
         ensures value { result ≡ self.now }
-        ensures most { result ≤ 60 }
+        ensures most { result ≤ MOST_TOLERANCE }
     {
         self.minutes
     }

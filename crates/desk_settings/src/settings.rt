@@ -1,4 +1,5 @@
 ghost use Rattle.std.specs.Prelude.{◌≡◌, ◌⊎◌, ℕ, ◌≤◌, List, Ok, Err};
+ghost use Rattle.trip_model.specs.declared.limits.TheConstants.{MOST_LAYOVER, MOST_TOLERANCE};
 ghost use Rattle.gtfs_tables.specs.Papers.{IsWithinLimit};
 ghost use Rattle.gtfs_tables.specs.Reading.{Gives};
 ghost use Rattle.toml.specs.Data.{Members};
@@ -76,7 +77,7 @@ impl Settings {
     /// The minutes that a vehicle stays at a place after a trip that ends there: those of `layovers`, or else `layover`.
     pub fn layover(&self, place: &str) -> u16
         ensures value { result ≡ spec.layover_at self.now place.now }
-        ensures valid { result ≤ 240 }
+        ensures valid { result ≤ MOST_LAYOVER }
     {
         match self.desk.layovers.find(place) {
             Some(layover) => layover.minutes(),
@@ -87,7 +88,7 @@ impl Settings {
     /// By how many minutes a trip without tolerances of its own may be moved before its published times.
     pub fn early(&self) -> u8
         ensures value { result ≡ self.now.early }
-        ensures valid { result ≤ 60 }
+        ensures valid { result ≤ MOST_TOLERANCE }
     {
         self.desk.early.minutes()
     }
@@ -95,7 +96,7 @@ impl Settings {
     /// By how many minutes a trip without tolerances of its own may be moved after its published times.
     pub fn late(&self) -> u8
         ensures value { result ≡ self.now.late }
-        ensures valid { result ≤ 60 }
+        ensures valid { result ≤ MOST_TOLERANCE }
     {
         self.desk.late.minutes()
     }
@@ -121,8 +122,8 @@ impl Settings {
     /// else `early` and `late`.
     pub fn tolerance(&self, trip: &str) -> (u8, u8)
         ensures value { result ≡ spec.tolerance_of self.now trip.now }
-        ensures early { result.0 ≤ 60 }
-        ensures late { result.1 ≤ 60 }
+        ensures early { result.0 ≤ MOST_TOLERANCE }
+        ensures late { result.1 ≤ MOST_TOLERANCE }
     {
         match self.tolerances.find(trip) {
             Some((early, late)) => (early.minutes(), late.minutes()),

@@ -1,84 +1,79 @@
-ghost use Rattle.std.specs.Prelude.{◌≡◌, ◌<◌, [], length};
+ghost use Rattle.std.specs.Prelude.{◌≡◌};
 ghost use Rattle.gtfs_tables.specs.Papers.{IsWithinLimit};
-ghost use Rattle.gtfs_tables.specs.Reading.{Gives, each_record};
+ghost use Rattle.gtfs_tables.specs.Reading.{Gives};
 ghost use Rattle.desk_settings.specs.Terminals as spec;
 
 use crate::entries::Entries;
 use desk_io::{Found, Text};
-use gtfs_tables::{Column, FeedFault, Paper, Row, Table, column_in, filled_in, table_in, text_in};
+use gtfs_tables::{
+    Column, FeedFault, Paper, RecordReader, Row, column_in, filled_in, read_records, text_in,
+};
 use std::alloc::Global;
 
-// The stop and the terminal of a record, whose fields they are at these places.
+/// Where the required columns of `terminals.csv` stand.
+#[derive(Clone, Copy)]
+pub(crate) struct Columns {
+    stop: usize,
+    terminal: usize,
+}
+
+// The stop and the terminal of a record.
 #[tactic(auto, unfolding(crate::specs::Terminals::terminal_in))]
-fn terminal_in(
-    row: &Row,
-    stop_at: usize,
-    terminal_at: usize,
+fn terminal_in<'a>(
+    row: &'a Row,
+    columns: &Columns,
     number: u32,
-) -> Result<(&str, &str), FeedFault>
-    requires stop { stop_at < length row.now }
-    requires terminal { terminal_at < length row.now }
-    ensures { Gives (λ entry. (entry.0.now, entry.1.now)) result (spec.terminal_in stop_at terminal_at number row.now) }
+) -> Result<(&'a str, &'a str), FeedFault>
+    ensures { Gives (λ entry. (entry.0.now, entry.1.now)) result (spec.terminal_in columns.now number row.now) }
 {
     let paper = Paper::Terminals;
-    let stop = text_in(paper, number, Column::StopId, row.field(stop_at))?;
-    let terminal = text_in(paper, number, Column::Terminal, row.field(terminal_at))?;
+    let stop = text_in(paper, number, Column::StopId, row.field(columns.stop))?;
+    let terminal = text_in(paper, number, Column::Terminal, row.field(columns.terminal))?;
     filled_in(paper, number, Column::StopId, stop)?;
     filled_in(paper, number, Column::Terminal, terminal)?;
     Ok((stop, terminal))
 }
 
-// Adds the terminal of a record.
-fn add_terminal(
+// The terminals of the records that were read.
+#[derive(Drop)]
+struct Terminals {
     alloc: Global,
-    row: &Row,
-    stop_at: usize,
-    terminal_at: usize,
-    number: u32,
-    entries: &mut Entries<Text>,
-) -> Result<(), FeedFault>
-    requires stop { stop_at < length row.now }
-    requires terminal { terminal_at < length row.now }
-    ensures { Gives (λ _. entries.new) result (spec.with_terminal stop_at terminal_at number entries.old row.now) }
-{
-    let (stop, terminal) = terminal_in(row, stop_at, terminal_at, number)?;
-    let terminal = Text::of(alloc, terminal)?;
-    entries.add_record(Paper::Terminals, number, stop, terminal)
+    entries: Entries<Text>,
 }
 
-// The terminals of the records of a table, whose fields they are at these places.
-fn terminals_from(
-    alloc: Global,
-    table: &Table,
-    stop_at: usize,
-    terminal_at: usize,
-) -> Result<Entries<Text>, FeedFault>
-    requires stop { stop_at < length table.now.header }
-    requires terminal { terminal_at < length table.now.header }
-    ensures { Gives (λ entries. entries) result (each_record (spec.with_terminal stop_at terminal_at) 1 [] table.now.rows) }
-{
-    let mut entries = Entries::new(alloc);
-    for r in 0..table.records() {
-        add_terminal(
-            alloc,
-            table.row(r + 1),
-            stop_at,
-            terminal_at,
-            r + 1,
-            &mut entries,
-        )?;
+impl RecordReader for Terminals {
+    ghost use Rattle.desk_settings.specs.Entries.{Entries, Name};
+    ghost use Rattle.desk_settings.specs.Terminals as spec;
+
+    type Columns = Columns;
+
+    ghost Kept = { Unit {0} };
+
+    ghost State = { Entries Name };
+
+    ghost kept = { λ _. tt };
+
+    ghost state = { λ read. read.entries };
+
+    ghost columns_in = { spec.columns_in };
+
+    ghost step = { λ _. spec.with_terminal };
+
+    ghost Leaves = { λ _ _ _ _ _ _. Unit {0} };
+
+    #[tactic(auto, unfolding(crate::specs::Terminals::columns_in))]
+    fn columns(&self, header: &Row) -> Result<Columns, FeedFault> {
+        let stop = column_in(Paper::Terminals, Column::StopId, header)?;
+        let terminal = column_in(Paper::Terminals, Column::Terminal, header)?;
+        Ok(Columns { stop, terminal })
     }
-    Ok(entries)
-}
 
-// The terminals of a table.
-#[tactic(auto, unfolding(crate::specs::Terminals::terminals_in))]
-fn terminals_in(alloc: Global, table: &Table) -> Result<Entries<Text>, FeedFault>
-    ensures { Gives (λ entries. entries) result (spec.terminals_in table.now) }
-{
-    let stop_at = column_in(Paper::Terminals, Column::StopId, table)?;
-    let terminal_at = column_in(Paper::Terminals, Column::Terminal, table)?;
-    terminals_from(alloc, table, stop_at, terminal_at)
+    fn record(&mut self, columns: &Columns, number: u32, row: &Row) -> Result<(), FeedFault> {
+        let (stop, terminal) = terminal_in(row, columns, number)?;
+        let terminal = Text::of(self.alloc, terminal)?;
+        self.entries
+            .add_record(Paper::Terminals, number, stop, terminal)
+    }
 }
 
 /// The terminals that the file names for stops; none where it is not there.
@@ -86,11 +81,13 @@ pub(crate) fn terminals_of(alloc: Global, found: &Found) -> Result<Entries<Text>
     requires { IsWithinLimit found.now }
     ensures { Gives (λ entries. entries) result (spec.terminals_of found.now) }
 {
+    let mut read = Terminals {
+        alloc,
+        entries: Entries::new(alloc),
+    };
     match found {
-        Found::Missing => Ok(Entries::new(alloc)),
-        Found::TooLong | Found::File(_) => terminals_in(
-            alloc,
-            &table_in(alloc, Paper::Terminals, found)?,
-        ),
+        Found::Missing => {}
+        Found::TooLong | Found::File(_) => read_records(alloc, Paper::Terminals, found, &mut read)?,
     }
+    Ok(read.entries)
 }

@@ -1,6 +1,7 @@
 -- A trip by what is kept of its visits, and the trips one after the other.
-use Rattle.std.proofs.Common.{◌≡◌, ℕ, ◌+◌, ◌-◌, ◌<◌, ◌≤◌, true, not, cond, List, [], ◌∷◌, ◌++◌, length, get_or, drop, Some, Result, Ok, Err, sym, ap, ◌∙◌, arith}
+use Rattle.std.proofs.Common.{◌≡◌, ℕ, ◌+◌, ◌-◌, ◌<◌, ◌≤◌, true, not, cond, List, [], ◌∷◌, ◌++◌, length, map, get_or, drop, Some, Result, Ok, Err, sym, ap, ◌∙◌, arith}
 use Rattle.std.proofs.lemmas.Bool.{le-leb}
+use Rattle.std.proofs.Math.ListN.{get_or-map}
 use Rattle.std.proofs.lemmas.List.{length-map}
 use Rattle.std.proofs.lemmas.Option.{slice_get-get_or}
 use Rattle.gtfs_tables.specs.declared.fault.FeedFault.{FeedFault}
@@ -11,7 +12,8 @@ use Rattle.desk_settings.specs.Entries.{Name}
 use Rattle.desk_settings.specs.Settings.{SettingsView}
 use Rattle.feed_read.specs.declared.journey.Journey.{Journey}
 use Rattle.feed_read.specs.declared.stops.Stops.{Stops}
-use Rattle.feed_read.specs.Journeys.{sequences, visits_of, has_repeat, first_visit, last_visit, journey_from, journey_of, with_journey, AreStops, AreKept}
+use Rattle.feed_read.specs.Journeys.{sequences, visits_of, has_repeat, first_visit, last_visit, journey_from, journey_of, with_journey}
+use Rattle.feed_read.specs.Kept.{AreStops, AreKept, stops_seen}
 use Rattle.feed_read.specs.Visits.{VisitView}
 use Rattle.feed_read.proofs.StopsLemmas.{has_repeat-two}
 
@@ -26,10 +28,10 @@ journey_of-repeated settings name visits repeats =
     ∙ ap (λ b. cond (not b) (journey_from settings name (first_visit visits) (last_visit visits)) (Err (fault.DuplicateSequence name))) repeats
 
 -- what is kept at a slot is that of its visits
-kept_at : (visits : List VisitView) (stops : List Stops) (slot : ℕ) (kept : Stops) → AreKept visits stops → slot < length stops → kept ≡ get_or stops slot kept → AreStops (visits_of slot visits) kept
-kept_at visits stops slot kept are lt is = are slot kept (slice_get-get_or stops slot kept lt ∙ ap Some (sym is))
+kept_at : (visits : List VisitView) (stops : List Stops) (slot : ℕ) (kept : Stops) → AreKept visits (map stops_seen stops) → slot < length stops → kept ≡ get_or stops slot kept → AreStops (visits_of slot visits) (stops_seen kept)
+kept_at visits stops slot kept are lt is = are slot (stops_seen kept) (slice_get-get_or (map stops_seen stops) slot (stops_seen kept) (rw length-map lt) ∙ ap Some (get_or-map stops_seen stops slot kept ∙ ap stops_seen (sym is)))
 
-module _ (settings : SettingsView) (visits : List VisitView) (stops : List Stops) (names : List Name) (are : AreKept visits stops) where
+module _ (settings : SettingsView) (visits : List VisitView) (stops : List Stops) (names : List Name) (are : AreKept visits (map stops_seen stops)) where
   -- the name of a slot
   name_at : (slot : ℕ) (name : Name) → name ≡ get_or names slot [] → name ≡ get_or names (slot + 1 - 1) []
   name_at slot name is =
@@ -39,7 +41,7 @@ module _ (settings : SettingsView) (visits : List VisitView) (stops : List Stops
   -- a trip was read
   pub journeys_go_on : (before : List Journey) (slot : ℕ) (name : Name) (kept : Stops) (journey : Journey) (all : Result (List Journey) FeedFault)
       → slot < length names → slot < length stops → name ≡ get_or names slot [] → kept ≡ get_or stops slot kept
-      → ((own : List VisitView) → AreStops own kept → journey_of settings name own ≡ Ok journey)
+      → ((own : List VisitView) → AreStops own (stops_seen kept) → journey_of settings name own ≡ Ok journey)
       → each_record (with_journey settings visits) slot before (drop slot names) ≡ all
       → each_record (with_journey settings visits) (slot + 1) (before ++ journey ∷ []) (drop (slot + 1) names) ≡ all
   journeys_go_on before slot name kept journey all lt within is at gives so_far =
@@ -49,7 +51,7 @@ module _ (settings : SettingsView) (visits : List VisitView) (stops : List Stops
   -- a trip was refused
   pub journeys_end : (before : List Journey) (slot : ℕ) (name : Name) (kept : Stops) (refused : FeedFault) (all : Result (List Journey) FeedFault)
       → slot < length names → slot < length stops → name ≡ get_or names slot [] → kept ≡ get_or stops slot kept
-      → ((own : List VisitView) → AreStops own kept → Fails refused (journey_of settings name own))
+      → ((own : List VisitView) → AreStops own (stops_seen kept) → Fails refused (journey_of settings name own))
       → each_record (with_journey settings visits) slot before (drop slot names) ≡ all → Fails refused all
   journeys_end before slot name kept refused all lt within is at gives so_far =
       records_end (with_journey settings visits) names slot before name slot refused all lt (name_at slot name is)

@@ -4,11 +4,9 @@ use Rattle.std.specs.List.{list_any}
 use Rattle.std.proofs.lemmas.Bool.{false≢true}
 use Rattle.std.proofs.lemmas.Grind.{fold-append}
 use Rattle.std.proofs.lemmas.List.{map_push}
-use Rattle.indexmap.specs.IndexSet.{insert_key}
-use Rattle.feed_read.specs.declared.stops.Stops.{Stops}
-use Rattle.feed_read.specs.declared.visit.Visit.{Visit}
-use Rattle.feed_read.specs.Journeys.{sequences, has_repeat, sooner, later, AreStops}
-use Rattle.feed_read.specs.Visits.{VisitView, seen}
+use Rattle.feed_read.specs.Journeys.{sequences, has_repeat, sooner, later}
+use Rattle.feed_read.specs.Kept.{Kept, with_kept, nothing_kept, AreStops}
+use Rattle.feed_read.specs.Visits.{VisitView}
 
 any_push : {A : Type 0} (test : A → Bool) (xs : List A) (x : A) → list_any test (xs ++ x ∷ []) ≡ (list_any test xs || test x)
 any_push test [] x = elim (test x) as (λ b. (b || false) ≡ b) [
@@ -46,40 +44,34 @@ or_false : (a b : Bool) → (a || b) ≡ false → (a ≡ false) × (b ≡ false
 or_false true b is = absurd (false≢true (sym is))
 or_false false b is = (refl, is)
 
--- the visits that are kept and one more
-pub AreStops-add : (before : List VisitView) (visit : Visit) (old new : Stops) (added : Bool) → AreStops before old
-    → added ≡ not (list_any (nat_eq visit.sequence) old.sequences.keys) → new.sequences.keys ≡ insert_key nat_eq old.sequences.keys visit.sequence
-    → new.repeated ≡ (old.repeated || not added) → option_map seen new.first ≡ sooner (option_map seen old.first) (seen visit)
-    → option_map seen new.last ≡ later (option_map seen old.last) (seen visit) → AreStops (before ++ seen visit ∷ []) new
-AreStops-add before visit old new added are is_new put repeats first last = record {
-  numbers = λ none. numbers (or_false old.repeated (not added) (sym repeats ∙ none));
-  repeated = by old.repeated refl;
-  first = first ∙ ap (λ f. sooner f (seen visit)) are.first ∙ sym (fold-append sooner None before (seen visit ∷ []));
-  last = last ∙ ap (λ l. later l (seen visit)) are.last ∙ sym (fold-append later None before (seen visit ∷ []));
+-- what is kept of visits and one more
+pub AreStops-add : (before : List VisitView) (visit : VisitView) (kept : Kept) → AreStops before kept → AreStops (before ++ visit ∷ []) (with_kept kept visit)
+AreStops-add before visit kept are = record {
+  numbers = λ none. numbers (or_false kept.repeated (list_any (nat_eq visit.sequence) kept.sequences) none);
+  repeated = by kept.repeated refl;
+  first = ap (λ f. sooner f visit) are.first ∙ sym (fold-append sooner None before (visit ∷ []));
+  last = ap (λ l. later l visit) are.last ∙ sym (fold-append later None before (visit ∷ []));
 }
   where
-    more : sequences (before ++ seen visit ∷ []) ≡ sequences before ++ visit.sequence ∷ []
-    more = map_push (λ (v : VisitView). v.sequence) before (seen visit)
+    more : sequences (before ++ visit ∷ []) ≡ sequences before ++ visit.sequence ∷ []
+    more = map_push (λ (v : VisitView). v.sequence) before visit
 
-    twice : not added ≡ list_any (nat_eq visit.sequence) old.sequences.keys
-    twice = ap not is_new ∙ elim (list_any (nat_eq visit.sequence) old.sequences.keys) as (λ b. not (not b) ≡ b) [
-      | true ↦ refl
-      | false ↦ refl
-    ]
-
-    numbers : (old.repeated ≡ false) × (not added ≡ false) → new.sequences.keys ≡ sequences (before ++ seen visit ∷ [])
+    numbers : (kept.repeated ≡ false) × (list_any (nat_eq visit.sequence) kept.sequences ≡ false) → (with_kept kept visit).sequences ≡ sequences (before ++ visit ∷ [])
     numbers none =
-        put
-        ∙ ap (λ b. cond b old.sequences.keys (old.sequences.keys ++ visit.sequence ∷ [])) (sym twice ∙ none.1)
+        ap (λ b. cond b kept.sequences (kept.sequences ++ visit.sequence ∷ [])) none.1
         ∙ ap (λ ns. ns ++ visit.sequence ∷ []) (are.numbers none.0) ∙ sym more
 
-    all : has_repeat (sequences (before ++ seen visit ∷ [])) ≡ (has_repeat (sequences before) || list_any (nat_eq visit.sequence) (sequences before))
+    all : has_repeat (sequences (before ++ visit ∷ [])) ≡ (has_repeat (sequences before) || list_any (nat_eq visit.sequence) (sequences before))
     all = ap has_repeat more ∙ has_repeat-push (sequences before) visit.sequence
 
-    by : (was : Bool) → old.repeated ≡ was → new.repeated ≡ has_repeat (sequences (before ++ seen visit ∷ []))
+    by : (was : Bool) → kept.repeated ≡ was → (with_kept kept visit).repeated ≡ has_repeat (sequences (before ++ visit ∷ []))
     by true is =
-        repeats ∙ ap (λ b. b || not added) is
+        ap (λ b. b || list_any (nat_eq visit.sequence) kept.sequences) is
         ∙ sym (all ∙ ap (λ b. b || list_any (nat_eq visit.sequence) (sequences before)) (sym are.repeated ∙ is))
     by false is =
-        repeats ∙ ap (λ b. b || not added) is ∙ twice ∙ ap (list_any (nat_eq visit.sequence)) (are.numbers is)
+        ap (λ b. b || list_any (nat_eq visit.sequence) kept.sequences) is ∙ ap (list_any (nat_eq visit.sequence)) (are.numbers is)
         ∙ sym (all ∙ ap (λ b. b || list_any (nat_eq visit.sequence) (sequences before)) (sym are.repeated ∙ is))
+
+-- of no visits nothing is kept
+pub AreStops-none : AreStops [] nothing_kept
+AreStops-none = record { numbers = λ _. refl; repeated = refl; first = refl; last = refl }

@@ -5,15 +5,15 @@ use Rattle.desk_io.specs.declared.shelf.Found.{Found}
 use Rattle.gtfs_tables.specs.declared.fault.FeedFault.{FeedFault}
 use Rattle.gtfs_tables.specs.declared.fault.FeedFault.TheVariants as fault
 use Rattle.gtfs_tables.specs.declared.paper.Paper.TheVariants as paper
-use Rattle.gtfs_tables.specs.Reading.{◌>>=◌, provided, table_in}
+use Rattle.gtfs_tables.specs.Reading.{◌>>=◌, provided}
+use Rattle.trip_model.specs.declared.limits.TheConstants.{MOST_PLACES}
 use Rattle.desk_settings.specs.Entries.{Name}
 use Rattle.desk_settings.specs.Names.{is_among, with_name}
 use Rattle.desk_settings.specs.Settings.{SettingsView, layover_at}
 use Rattle.trip_model.specs.Timetable.{TimetableView, Place, Slot, number_of, place_names}
 use Rattle.feed_read.specs.declared.journey.Journey.{Journey}
 use Rattle.feed_read.specs.Trips.{trips_in}
-use Rattle.feed_read.specs.Visits.{visits_in}
-use Rattle.feed_read.specs.Journeys.{journeys_of}
+use Rattle.feed_read.specs.Journeys.{journeys_in}
 
 -- the places at which trips begin and end, trip by trip
 abbrev pub ends_of : List Journey → List Name
@@ -62,21 +62,18 @@ timetable_over settings names journeys = record {
 unfoldable pub timetable_of : SettingsView → List Journey → Result TimetableView FeedFault
 timetable_of settings journeys =
     let names = names_met (ends_of journeys) in
-    provided (nat_le (length names) 512) (fault.TooManyPlaces paper.StopTimes) (Ok (timetable_over settings names journeys))
+    provided (nat_le (length names) MOST_PLACES) (fault.TooManyPlaces paper.StopTimes) (Ok (timetable_over settings names journeys))
 
 -- The base timetable: of `trips.txt` the selected trips, of `stop_times.txt` their visits, and of these the timetable. What
 -- stands first is judged first.
 unfoldable pub base_of : SettingsView → Found → Found → Result TimetableView FeedFault
 base_of settings trips_found stop_times_found = do
-  trips ← table_in paper.Trips trips_found
-  names ← trips_in settings trips
-  stop_times ← table_in paper.StopTimes stop_times_found
-  visits ← visits_in names stop_times
-  journeys ← journeys_of settings names visits
+  names ← trips_in settings trips_found
+  journeys ← journeys_in settings names stop_times_found
   timetable_of settings journeys
 
 -- a refusal: there are too many names, or there was no memory
 abbrev pub IsFullOrMemory : List Name → FeedFault → Type 0
 IsFullOrMemory names fault.Memory = ⊤
-IsFullOrMemory names (fault.TooManyPlaces paper.StopTimes) = 512 < length names
+IsFullOrMemory names (fault.TooManyPlaces paper.StopTimes) = MOST_PLACES < length names
 IsFullOrMemory names _ = ⊥

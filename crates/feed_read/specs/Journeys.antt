@@ -1,16 +1,17 @@
 -- The selected trips as the feed has them.
-use Rattle.std.specs.Prelude.{◌≡◌, ℕ, ◌+◌, ◌<◌, ◌≤◌, Bool, false, not, ◌||◌, ◌==◌, nat_lt, nat_le, List, [], ◌∷◌, ◌++◌, length, map, filter, fold, slice_get, All, Contains, Option, Some, None, option_map, Result, Ok, Err, if◌then◌else◌}
+use Rattle.std.specs.Prelude.{ℕ, ◌+◌, ◌<◌, ◌≤◌, Bool, false, not, ◌||◌, ◌==◌, nat_lt, nat_le, List, [], ◌∷◌, ◌++◌, length, map, filter, fold, All, Contains, Option, Some, None, Result, Ok, Err, if◌then◌else◌}
 use Rattle.std.specs.List.{list_any}
 use Rattle.std.specs.Option.{ok_or}
+use Rattle.desk_io.specs.declared.shelf.Found.{Found}
 use Rattle.gtfs_tables.specs.declared.fault.FeedFault.{FeedFault}
 use Rattle.gtfs_tables.specs.declared.fault.FeedFault.TheVariants as fault
 use Rattle.gtfs_tables.specs.Reading.{◌>>=◌, provided, each_record}
 use Rattle.gtfs_tables.specs.Times.{rounded_down, rounded_up}
+use Rattle.trip_model.specs.declared.limits.TheConstants.{LAST_DEPARTURE, LAST_END, MOST_TOLERANCE}
 use Rattle.desk_settings.specs.Entries.{Name}
 use Rattle.desk_settings.specs.Settings.{SettingsView, terminal_of, layover_at, tolerance_of}
 use Rattle.feed_read.specs.declared.journey.Journey.{Journey}
-use Rattle.feed_read.specs.declared.stops.Stops.{Stops}
-use Rattle.feed_read.specs.Visits.{VisitView, seen}
+use Rattle.feed_read.specs.Visits.{VisitView, visits_in}
 
 -- the visits of the trip of a slot
 abbrev pub visits_of : ℕ → List VisitView → List VisitView
@@ -94,21 +95,14 @@ with_journey settings visits slot before name = journey_of settings name (visits
 abbrev pub journeys_of : SettingsView → List Name → List VisitView → Result (List Journey) FeedFault
 journeys_of settings names visits = each_record (with_journey settings visits) 0 [] names
 
--- what is kept of visits: whether a number stands twice, the numbers until then, and the first and the last visit
-pub record AreStops (visits : List VisitView) (stops : Stops) : Type 0 where
-  pub numbers : stops.repeated ≡ false → stops.sequences.keys ≡ sequences visits
-  pub repeated : stops.repeated ≡ has_repeat (sequences visits)
-  pub first : option_map seen stops.first ≡ first_visit visits
-  pub last : option_map seen stops.last ≡ last_visit visits
-
--- what is kept slot by slot
-abbrev pub AreKept : List VisitView → List Stops → Type 0
-AreKept visits stops = (slot : ℕ) (kept : Stops) → slice_get stops slot ≡ Some kept → AreStops (visits_of slot visits) kept
+-- the trips of these names, by their visits in the file
+abbrev pub journeys_in : SettingsView → List Name → Found → Result (List Journey) FeedFault
+journeys_in settings names found = visits_in names found >>= journeys_of settings names
 
 -- a trip ends after it departs, both stand on the service day, and it may be moved by at most an hour each way
 pub record IsJourney (journey : Journey) : Type 0 where
   pub forward : journey.departs < journey.ends
-  pub departs : journey.departs ≤ 5999
-  pub ends : journey.ends ≤ 6240
-  pub early : journey.early ≤ 60
-  pub late : journey.late ≤ 60
+  pub departs : journey.departs ≤ LAST_DEPARTURE
+  pub ends : journey.ends ≤ LAST_END
+  pub early : journey.early ≤ MOST_TOLERANCE
+  pub late : journey.late ≤ MOST_TOLERANCE

@@ -1,11 +1,12 @@
 -- The records of `stop_times.txt` that belong to selected trips.
-use Rattle.std.specs.Prelude.{ℕ, ◌<◌, List, [], ◌∷◌, ◌++◌, position, Option, Some, None, Result, Ok}
+use Rattle.std.specs.Prelude.{ℕ, List, [], ◌∷◌, ◌++◌, position, Option, Some, None, Result, Ok}
 use Rattle.std.specs.Str.{bytes_eq}
+use Rattle.desk_io.specs.declared.shelf.Found.{Found}
 use Rattle.gtfs_tables.specs.declared.fault.FeedFault.{FeedFault}
 use Rattle.gtfs_tables.specs.declared.paper.Column.TheVariants as column
 use Rattle.gtfs_tables.specs.declared.paper.Paper.TheVariants as paper
-use Rattle.gtfs_tables.specs.Reading.{◌>>=◌, column_in, field_at, text_in, filled_in, number_in, time_in, each_record}
-use Rattle.gtfs_tables.specs.Table.{TableView}
+use Rattle.gtfs_tables.specs.Fold.{paper_read}
+use Rattle.gtfs_tables.specs.Reading.{◌>>=◌, column_in, field_at, text_in, filled_in, number_in, time_in}
 use Rattle.desk_settings.specs.Entries.{Name}
 use Rattle.feed_read.specs.declared.visits.Columns.{Columns}
 use Rattle.feed_read.specs.declared.visit.Visit.{Visit}
@@ -52,21 +53,11 @@ with_visit_of columns number before fields None = Ok before
 with_visit_of columns number before fields (Some trip) = visit_in columns number trip fields >>= λ visit. Ok (before ++ visit ∷ [])
 
 -- the visits with that of one record, among selected trips of these names
-unfoldable pub with_visit : Columns → List Name → ℕ → List VisitView → List (List ℕ) → Result (List VisitView) FeedFault
-with_visit columns names number before fields = do
+unfoldable pub with_visit : List Name → Columns → ℕ → List VisitView → List (List ℕ) → Result (List VisitView) FeedFault
+with_visit names columns number before fields = do
   name ← text_in paper.StopTimes number column.TripId (field_at fields columns.trip)
   with_visit_of columns number before fields (position (bytes_eq name) names)
 
--- the visits of a table, in the order of its records
-unfoldable pub visits_in : List Name → TableView → Result (List VisitView) FeedFault
-visits_in names table = do
-  columns ← columns_in table.header
-  each_record (with_visit columns names) 1 [] table.rows
-
--- the columns stand among so many
-pub record StandWithin (width : ℕ) (columns : Columns) : Type 0 where
-  pub trip : columns.trip < width
-  pub arrival : columns.arrival < width
-  pub departure : columns.departure < width
-  pub stop : columns.stop < width
-  pub sequence : columns.sequence < width
+-- the visits of the file, in the order of its records
+abbrev pub visits_in : List Name → Found → Result (List VisitView) FeedFault
+visits_in names found = paper_read paper.StopTimes columns_in (with_visit names) [] found

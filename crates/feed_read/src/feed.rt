@@ -1,37 +1,35 @@
-ghost use Rattle.std.specs.Prelude.{◌≡◌, ◌<◌, length, map, All, IfOk};
+ghost use Rattle.std.specs.Prelude.{◌≡◌, length, map, All, IfOk};
 ghost use Rattle.gtfs_tables.specs.Papers.{IsWithinLimit};
 ghost use Rattle.gtfs_tables.specs.Reading.{Gives};
 ghost use Rattle.trip_model.specs.Timetable.{AreDistinct};
-ghost use Rattle.feed_read.specs.Base as spec;
-ghost use Rattle.feed_read.specs.Journeys.{IsJourney, journeys_of};
-ghost use Rattle.feed_read.specs.Visits.{seen};
+ghost use Rattle.feed_read.specs.Base.{base_of};
+ghost use Rattle.feed_read.specs.Journeys as spec;
+ghost use Rattle.feed_read.specs.Journeys.{IsJourney};
 
 use crate::journey::{Journey, journeys_of};
-use crate::stops::stops_of;
 use crate::timetable::timetable_of;
 use crate::trips::trips_in;
-use crate::visit::Visit;
-use crate::visits::visits_in;
+use crate::visits::stops_in;
 use desk_io::Found;
 use desk_settings::{Names, Settings};
-use gtfs_tables::{FeedFault, Paper, table_in};
+use gtfs_tables::FeedFault;
 use std::alloc::Global;
 use trip_model::Timetable;
 
-// The trips of these names, by their visits.
-fn journeys_by(
+// The trips of these names, by what `stop_times.txt` leaves of their visits.
+fn journeys_in(
     alloc: Global,
     settings: &Settings,
     names: &Names,
-    visits: &[Visit],
+    stop_times: &Found,
 ) -> Result<Vec<Journey>, FeedFault>
-    requires { All (λ visit. visit.trip < length names.now) visits.now }
-    ensures gives { Gives (λ journeys. journeys.items) result (journeys_of settings.now names.now (map seen visits.now)) }
+    requires { IsWithinLimit stop_times.now }
+    ensures gives { Gives (λ journeys. journeys.items) result (spec.journeys_in settings.now names.now stop_times.now) }
     ensures valid { IfOk result (λ journeys. All IsJourney journeys.items) }
     ensures distinct { IfOk result (λ journeys. AreDistinct (map (λ journey. journey.name) journeys.items)) }
     ensures count { IfOk result (λ journeys. length journeys.items ≡ length names.now) }
 {
-    let stops = stops_of(alloc, names.len(), visits)?;
+    let stops = stops_in(alloc, names, stop_times)?;
     journeys_of(alloc, settings, names, &stops)
 }
 
@@ -50,12 +48,9 @@ pub fn read_feed(
 ) -> Result<Timetable, FeedFault>
     requires trips { IsWithinLimit trips.now }
     requires stop_times { IsWithinLimit stop_times.now }
-    ensures { Gives (λ timetable. timetable) result (spec.base_of settings.now trips.now stop_times.now) }
+    ensures { Gives (λ timetable. timetable) result (base_of settings.now trips.now stop_times.now) }
 {
-    let trips = table_in(alloc, Paper::Trips, trips)?;
-    let names = trips_in(alloc, settings, &trips)?;
-    let stop_times = table_in(alloc, Paper::StopTimes, stop_times)?;
-    let visits = visits_in(alloc, &names, &stop_times)?;
-    let journeys = journeys_by(alloc, settings, &names, &visits)?;
+    let names = trips_in(alloc, settings, trips)?;
+    let journeys = journeys_in(alloc, settings, &names, stop_times)?;
     timetable_of(alloc, settings, &journeys)
 }

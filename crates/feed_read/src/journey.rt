@@ -2,10 +2,11 @@ ghost use Rattle.std.specs.Prelude.{◌≡◌, ℕ, ◌<◌, ◌≤◌, [], leng
 ghost use Rattle.gtfs_tables.specs.Reading.{Gives};
 ghost use Rattle.trip_model.specs.Timetable.{AreDistinct};
 ghost use Rattle.feed_read.specs.Journeys as spec;
-ghost use Rattle.feed_read.specs.Visits.{VisitView, seen};
+ghost use Rattle.feed_read.specs.Kept.{AreKept, AreStops, end_seen, stops_seen};
+ghost use Rattle.feed_read.specs.Visits.{VisitView};
 
 use crate::stops::Stops;
-use crate::visit::Visit;
+use crate::visit::End;
 use desk_io::Text;
 use desk_settings::{Names, Settings};
 use gtfs_tables::{FeedFault, minute_down, minute_up};
@@ -30,10 +31,10 @@ fn journey_between(
     alloc: Global,
     settings: &Settings,
     name: &str,
-    first: &Visit,
-    last: &Visit,
+    first: &End,
+    last: &End,
 ) -> Result<Journey, FeedFault>
-    ensures gives { Gives (λ journey. journey) result (spec.journey_between settings.now name.now (seen first.now) (seen last.now)) }
+    ensures gives { Gives (λ journey. journey) result (spec.journey_between settings.now name.now (end_seen first.now) (end_seen last.now)) }
     ensures valid { IfOk result spec.IsJourney }
     ensures name { IfOk result (λ journey. journey.name ≡ name.now) }
 {
@@ -47,10 +48,10 @@ fn journey_between(
     if departure >= arrival {
         return Err(FeedFault::NotForward(name));
     }
-    let to = settings.terminal(last.stop);
+    let to = settings.terminal(last.stop.as_str());
     let (early, late) = settings.tolerance(name.as_str());
     Ok(Journey {
-        from: Text::of(alloc, settings.terminal(first.stop))?,
+        from: Text::of(alloc, settings.terminal(first.stop.as_str()))?,
         to: Text::of(alloc, to)?,
         departs: minute_down(departure),
         ends: minute_up(arrival) + settings.layover(to),
@@ -68,7 +69,7 @@ fn journey_of(
     name: &str,
     stops: &Stops,
 ) -> Result<Journey, FeedFault>
-    ensures gives { (visits : List VisitView) → spec.AreStops visits stops.now → Gives (λ journey. journey) result (spec.journey_of settings.now name.now visits) }
+    ensures gives { (visits : List VisitView) → AreStops visits (stops_seen stops.now) → Gives (λ journey. journey) result (spec.journey_of settings.now name.now visits) }
     ensures valid { IfOk result spec.IsJourney }
     ensures name { IfOk result (λ journey. journey.name ≡ name.now) }
 {
@@ -91,7 +92,7 @@ pub(crate) fn journeys_of(
     stops: &[Stops],
 ) -> Result<Vec<Journey>, FeedFault>
     requires { length stops.now ≡ length names.now }
-    ensures gives { (visits : List VisitView) → spec.AreKept visits stops.now →
+    ensures gives { (visits : List VisitView) → AreKept visits (map stops_seen stops.now) →
         Gives (λ journeys. journeys.items) result (spec.journeys_of settings.now names.now visits) }
     ensures valid { IfOk result (λ journeys. All spec.IsJourney journeys.items) }
     ensures distinct { IfOk result (λ journeys. AreDistinct (map (λ journey. journey.name) journeys.items)) }

@@ -1,6 +1,7 @@
 ghost use Rattle.std.specs.Prelude.{◌≡◌, ◌≤◌, [], length, map, All, IfErr, OnOk};
 ghost use Rattle.desk_settings.specs.Names.{with_name};
 ghost use Rattle.gtfs_tables.specs.Reading.{Gives};
+ghost use Rattle.trip_model.specs.declared.limits.TheConstants.{MOST_SLOTS};
 ghost use Rattle.trip_model.specs.Timetable.{AreDistinct, place_names};
 ghost use Rattle.feed_read.specs.Base as spec;
 ghost use Rattle.feed_read.specs.Journeys.{IsJourney};
@@ -53,7 +54,7 @@ fn push_trips(
     journeys: &[Journey],
 ) -> Result<(), Memory>
     requires places { timetable.old ≡ spec.timetable_over settings.now (spec.names_met (spec.ends_of journeys.now)) [] }
-    requires few { length journeys.now ≤ 4096 }
+    requires few { length journeys.now ≤ MOST_SLOTS }
     requires distinct { AreDistinct (map (λ journey. journey.name) journeys.now) }
     requires valid { All IsJourney journeys.now }
     ensures { OnOk result (timetable.new ≡ spec.timetable_over settings.now (spec.names_met (spec.ends_of journeys.now)) journeys.now) }
@@ -83,7 +84,7 @@ pub(crate) fn timetable_of(
     settings: &Settings,
     journeys: &[Journey],
 ) -> Result<Timetable, FeedFault>
-    requires few { length journeys.now ≤ 4096 }
+    requires few { length journeys.now ≤ MOST_SLOTS }
     requires distinct { AreDistinct (map (λ journey. journey.name) journeys.now) }
     requires valid { All IsJourney journeys.now }
     ensures { Gives (λ timetable. timetable) result (spec.timetable_of settings.now journeys.now) }

@@ -1,5 +1,8 @@
-ghost use Rattle.std.specs.Prelude.{◌≤◌, IfSome};
+ghost use Rattle.std.specs.Prelude.{◌≡◌, ◌≤◌, IfOk, IfSome};
 ghost use Rattle.std.proofs.Props.{props};
+
+use desk_io::{Memory, Text};
+use std::alloc::Global;
 
 /// A record of a selected trip: the slot of the trip, the stop, its times in seconds of the service day, and its number
 /// along the trip.
@@ -7,6 +10,18 @@ ghost use Rattle.std.proofs.Props.{props};
 pub(crate) struct Visit<'a> {
     pub(crate) trip: usize,
     pub(crate) stop: &'a str,
+    pub(crate) arrival: Option<u32>,
+    pub(crate) departure: Option<u32>,
+    pub(crate) sequence: u64,
+    ghost arrival_on_day: { IfSome arrival (λ seconds. seconds ≤ 359999) } by { Prim.hlevel props },
+    ghost departure_on_day: { IfSome departure (λ seconds. seconds ≤ 359999) } by { Prim.hlevel props },
+}
+
+/// The first or the last visit of a trip, which is kept when its record is gone.
+#[derive(Drop)]
+pub(crate) struct End {
+    pub(crate) trip: usize,
+    pub(crate) stop: Text,
     pub(crate) arrival: Option<u32>,
     pub(crate) departure: Option<u32>,
     pub(crate) sequence: u64,

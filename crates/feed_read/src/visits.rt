@@ -1,11 +1,17 @@
-ghost use Rattle.std.specs.Prelude.{◌≡◌, ◌<◌, [], length, map, All, IfOk, OnOk};
-ghost use Rattle.gtfs_tables.specs.Reading.{Gives, each_record};
+ghost use Rattle.std.specs.Prelude.{◌≡◌, ◌<◌, IfOk, OnOk, length, map, slice_index_or, slice_set};
+ghost use Rattle.gtfs_tables.specs.Papers.{IsWithinLimit};
+ghost use Rattle.gtfs_tables.specs.Reading.{Gives};
+ghost use Rattle.feed_read.specs.Kept.{nothing_kept, stops_seen, with_kept, Keeps};
 ghost use Rattle.feed_read.specs.Visits as spec;
+ghost use Rattle.feed_read.specs.Visits.{seen};
 
+use crate::stops::{Stops, no_stops};
 use crate::visit::Visit;
+use desk_io::{Found, Memory};
 use desk_settings::Names;
 use gtfs_tables::{
-    Column, FeedFault, Paper, Row, Table, column_in, filled_in, number_in, text_in, time_in,
+    Column, FeedFault, Paper, RecordReader, Row, column_in, filled_in, number_in, read_records,
+    text_in, time_in,
 };
 use std::alloc::Global;
 
@@ -19,25 +25,6 @@ pub(crate) struct Columns {
     pub(crate) sequence: usize,
 }
 
-#[tactic(auto, unfolding(crate::specs::Visits::columns_in))]
-fn columns_in(table: &Table) -> Result<Columns, FeedFault>
-    ensures gives { Gives (λ columns. columns) result (spec.columns_in table.now.header) }
-    ensures within { IfOk result (spec.StandWithin (length table.now.header)) }
-{
-    let trip = column_in(Paper::StopTimes, Column::TripId, table)?;
-    let arrival = column_in(Paper::StopTimes, Column::ArrivalTime, table)?;
-    let departure = column_in(Paper::StopTimes, Column::DepartureTime, table)?;
-    let stop = column_in(Paper::StopTimes, Column::StopId, table)?;
-    let sequence = column_in(Paper::StopTimes, Column::StopSequence, table)?;
-    Ok(Columns {
-        trip,
-        arrival,
-        departure,
-        stop,
-        sequence,
-    })
-}
-
 // The record of the trip of a slot.
 #[tactic(auto, unfolding(crate::specs::Visits::visit_in))]
 fn visit_in<'a>(
@@ -46,7 +33,6 @@ fn visit_in<'a>(
     number: u32,
     trip: usize,
 ) -> Result<Visit<'a>, FeedFault>
-    requires { spec.StandWithin (length row.now) columns.now }
     ensures gives { Gives spec.seen result (spec.visit_in columns.now number trip row.now) }
     ensures trip { IfOk result (λ visit. visit.trip ≡ trip) }
 {
@@ -91,60 +77,91 @@ fn visit_in<'a>(
     })
 }
 
-// Adds the visit of a record, where its trip is selected.
-#[tactic(auto, unfolding(crate::specs::Visits::with_visit))]
-fn add_visit<'a>(
-    names: &Names,
-    row: &'a Row,
-    columns: &Columns,
-    number: u32,
-    visits: &mut Vec<Visit<'a>>,
-) -> Result<(), FeedFault>
-    requires columns { spec.StandWithin (length row.now) columns.now }
-    requires trips { All (λ visit. visit.trip < length names.now) visits.old.items }
-    ensures gives { Gives (λ _. map spec.seen visits.new.items) result (spec.with_visit columns.now names.now number (map spec.seen visits.old.items) row.now) }
-    ensures trips { OnOk result (All (λ visit. visit.trip < length names.now) visits.new.items) }
+// Keeps the visit of a trip at its slot.
+fn keep(alloc: Global, stops: &mut [Stops], visit: &Visit) -> Result<(), Memory>
+    requires { visit.now.trip < length stops.old }
+    ensures kept { OnOk result (map stops_seen stops.new ≡ slice_set (map stops_seen stops.old) visit.now.trip
+        (with_kept (slice_index_or (map stops_seen stops.old) visit.now.trip nothing_kept) (seen visit.now))) }
+    ensures count { length stops.new ≡ length stops.old }
 {
-    let name = text_in(
-        Paper::StopTimes,
-        number,
-        Column::TripId,
-        row.field(columns.trip),
-    )?;
-    if let Some(trip) = names.number(name) {
-        visits.push(visit_in(row, columns, number, trip)?)?;
-    }
-    Ok(())
+    stops[visit.trip].add(alloc, visit)
 }
 
-// The visits of the records of a table.
-fn visits_from<'a>(
+// What the records that were read leave of each trip, by its slot.
+#[derive(Drop)]
+struct StopTimes<'a> {
     alloc: Global,
-    names: &Names,
-    table: &'a Table,
-    columns: &Columns,
-) -> Result<Vec<Visit<'a>>, FeedFault>
-    requires columns { spec.StandWithin (length table.now.header) columns.now }
-    ensures gives { Gives (λ visits. map spec.seen visits.items) result (each_record (spec.with_visit columns.now names.now) 1 [] table.now.rows) }
-    ensures trips { IfOk result (λ visits. All (λ visit. visit.trip < length names.now) visits.items) }
-{
-    let mut visits = Vec::new(alloc);
-    for r in 0..table.records() {
-        add_visit(names, table.row(r + 1), columns, r + 1, &mut visits)?;
-    }
-    Ok(visits)
+    names: &'a Names,
+    stops: Vec<Stops>,
+    ghost count: { length stops.items ≡ length names.now },
 }
 
-/// The visits of the selected trips of a table, in the order of its records.
-#[tactic(auto, unfolding(crate::specs::Visits::visits_in))]
-pub(crate) fn visits_in<'a>(
-    alloc: Global,
-    names: &Names,
-    table: &'a Table,
-) -> Result<Vec<Visit<'a>>, FeedFault>
-    ensures gives { Gives (λ visits. map spec.seen visits.items) result (spec.visits_in names.now table.now) }
-    ensures trips { IfOk result (λ visits. All (λ visit. visit.trip < length names.now) visits.items) }
+impl<'a> RecordReader for StopTimes<'a> {
+    ghost use Rattle.std.specs.Prelude.{ℕ, List, map};
+    ghost use Rattle.desk_settings.specs.Entries.{Name};
+    ghost use Rattle.feed_read.specs.Kept.{Kept, stops_seen, with_record_kept};
+    ghost use Rattle.feed_read.specs.Visits.{columns_in};
+
+    type Columns = Columns;
+
+    ghost Kept = { List Name };
+
+    ghost State = { List Kept };
+
+    ghost kept = { λ read. read.names.now };
+
+    ghost state = { λ read. map stops_seen read.stops.items };
+
+    ghost columns_in = { columns_in };
+
+    ghost step = { with_record_kept };
+
+    ghost Leaves = { λ _ _ _ _ _ _. Unit {0} };
+
+    #[tactic(auto, unfolding(crate::specs::Visits::columns_in))]
+    fn columns(&self, header: &Row) -> Result<Columns, FeedFault> {
+        let trip = column_in(Paper::StopTimes, Column::TripId, header)?;
+        let arrival = column_in(Paper::StopTimes, Column::ArrivalTime, header)?;
+        let departure = column_in(Paper::StopTimes, Column::DepartureTime, header)?;
+        let stop = column_in(Paper::StopTimes, Column::StopId, header)?;
+        let sequence = column_in(Paper::StopTimes, Column::StopSequence, header)?;
+        Ok(Columns {
+            trip,
+            arrival,
+            departure,
+            stop,
+            sequence,
+        })
+    }
+
+    #[tactic(auto, unfolding(crate::specs::Kept::with_record_kept))]
+    fn record(&mut self, columns: &Columns, number: u32, row: &Row) -> Result<(), FeedFault> {
+        let name = text_in(
+            Paper::StopTimes,
+            number,
+            Column::TripId,
+            row.field(columns.trip),
+        )?;
+        let Some(trip) = self.names.number(name) else {
+            return Ok(());
+        };
+        let visit = visit_in(row, columns, number, trip)?;
+        keep(self.alloc, &mut self.stops, &visit)?;
+        Ok(())
+    }
+}
+
+/// What the file leaves of the visits of each of the trips of these names.
+pub(crate) fn stops_in(alloc: Global, names: &Names, found: &Found) -> Result<Vec<Stops>, FeedFault>
+    requires { IsWithinLimit found.now }
+    ensures keeps { Keeps (λ stops. stops.items) result (spec.visits_in names.now found.now) }
+    ensures count { IfOk result (λ stops. length stops.items ≡ length names.now) }
 {
-    let columns = columns_in(table)?;
-    visits_from(alloc, names, table, &columns)
+    let mut read = StopTimes {
+        alloc,
+        names,
+        stops: no_stops(alloc, names.len())?,
+    };
+    read_records(alloc, Paper::StopTimes, found, &mut read)?;
+    Ok(read.stops)
 }

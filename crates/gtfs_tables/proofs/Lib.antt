@@ -4,3 +4,6 @@ pub mod Fields
 pub mod Body
 pub mod Digits
 pub mod ReadingLemmas
+pub mod FoldLemmas
+pub mod Written
+pub mod Minutes

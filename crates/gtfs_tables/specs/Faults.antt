@@ -36,6 +36,7 @@ fault_text_of (fault.TooFewStops trip) = trip_text_of trip (codes "has too few s
 fault_text_of (fault.DuplicateSequence trip) = trip_text_of trip (codes "has a sequence twice")
 fault_text_of (fault.NoTime trip) = trip_text_of trip (codes "has no time at an end")
 fault_text_of (fault.NotForward trip) = trip_text_of trip (codes "not forward")
+fault_text_of (fault.TooManyRecords paper) = file_name_of paper ++ codes ": too many records"
 fault_text_of (fault.NotYet paper) = file_name_of paper ++ codes ": not read yet"
 fault_text_of fault.Memory = []
 

@@ -2,6 +2,9 @@ pub mod Spaces
 pub mod Times
 pub mod Numbers
 pub mod Reading
+pub mod Fold
+pub mod Writing
+pub mod Laws
 pub mod Records
 pub mod Rows
 pub mod Table

@@ -53,6 +53,14 @@ table_in paper Missing = Err (fault.Missing paper)
 table_in paper TooLong = Err (fault.TooLong paper)
 table_in paper (File bytes) = or_refused paper (table_of bytes)
 
+-- nothing was to be read, and nothing is refused
+abbrev pub nothing : Result (Unit {0}) FeedFault
+nothing = Ok tt
+
+-- a paper is a table, of which nothing more is read
+abbrev pub judged : Paper → Found → Result (Unit {0}) FeedFault
+judged paper found = table_in paper found >>= λ _. nothing
+
 -- the number, from 0, of a column that must be there
 abbrev pub column_in : Paper → Column → List (List ℕ) → Result ℕ FeedFault
 column_in paper column header = ok_or (column_of (column_name_of column) header) (fault.NoColumn paper column)

@@ -5,6 +5,7 @@ use Rattle.csv.specs.Machine.{ends_at_end}
 use Rattle.csv.specs.Reading as csv
 use Rattle.csv.specs.declared.reader.Reader.{Reader}
 use Rattle.csv.specs.declared.reader.Trim.TheVariants as trim
+use Rattle.gtfs_tables.specs.Rows.{padded}
 
 -- the records of a file: those that `csv` reads, of any lengths, with comma and double quote, of the bytes
 -- after at most one leading byte-order mark
@@ -32,3 +33,8 @@ pub record IsReading (reader : Reader (Bor (List ℕ))) : Type 0 where
 abbrev pub ReadsNext : Reader (Bor (List ℕ)) → Bool → List (List ℕ) → Reader (Bor (List ℕ)) → Type 0
 ReadsNext old found fields new =
     MatchBool found ((records_left old ≡ fields ∷ records_left new) × IsReading new) (records_left old ≡ [])
+
+-- a row became the next record, padded to the width, which a longer record exceeds; or there was none left
+abbrev pub ReadsRow : ℕ → Reader (Bor (List ℕ)) → Bool → List (List ℕ) → Reader (Bor (List ℕ)) → Type 0
+ReadsRow width old found row new =
+    MatchBool found ((fields : List (List ℕ)) × (records_left old ≡ fields ∷ records_left new) × (row ≡ padded width fields) × IsReading new) (records_left old ≡ [])

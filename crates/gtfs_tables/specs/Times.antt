@@ -21,6 +21,16 @@ full_time text = None
 abbrev pub seconds_of : List ℕ → Option ℕ
 seconds_of text = let form = without_spaces text in if length form == 7 then full_time (48 ∷ form) else full_time form
 
+-- `HH:MM` in minutes: two digits, a colon, two digits from 00 to 59
+abbrev pub full_minute : List ℕ → Option ℕ
+full_minute (h ∷ i ∷ colon ∷ m ∷ n ∷ []) =
+    if is_pair 57 h i && (colon == 58) && is_pair 53 m n then Some (60 * pair_value h i + pair_value m n) else None
+full_minute text = None
+
+-- the minute of `HH:MM` or `H:MM`, with spaces round it; the short form is the long one without its leading 0
+abbrev pub minute_of : List ℕ → Option ℕ
+minute_of text = let form = without_spaces text in if length form == 4 then full_minute (48 ∷ form) else full_minute form
+
 -- a second as a minute, rounded down
 abbrev pub rounded_down : ℕ → ℕ
 rounded_down seconds = seconds / 60

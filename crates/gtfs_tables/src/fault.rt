@@ -46,6 +46,8 @@ pub enum FeedFault {
     NoTime(Text),
     /// The trip does not arrive after it departs.
     NotForward(Text),
+    /// The file has more records than may be read, or would have them after what was asked.
+    TooManyRecords(Paper),
     /// The file is there, and this version does not read it.
     NotYet(Paper),
     /// No memory was found.
@@ -80,6 +82,10 @@ fn fault_text(alloc: Global, fault: &FeedFault) -> Result<String, AllocError>
         }
         FeedFault::TooManyPlaces(paper) => format!(in alloc;
             "{}: too many places",
+            paper.file_name()
+        ),
+        FeedFault::TooManyRecords(paper) => format!(in alloc;
+            "{}: too many records",
             paper.file_name()
         ),
         FeedFault::NotYet(paper) => format!(in alloc; "{}: not read yet", paper.file_name()),

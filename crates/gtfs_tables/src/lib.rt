@@ -24,6 +24,8 @@
 #![tactic(auto)]
 
 mod fault;
+mod fold;
+pub mod laws;
 mod numbers;
 mod paper;
 mod reading;
@@ -32,15 +34,18 @@ mod row;
 mod spaces;
 mod table;
 mod times;
+mod writing;
 
 pub use fault::{FeedFault, feed_line};
+pub use fold::{RecordReader, judge_table, read_records};
 pub use numbers::read_number;
 pub use paper::{Column, MOST_BYTES, Paper};
 pub use reading::{column_in, filled_in, number_in, table_in, text_in, time_in};
 pub use records::read_rows;
 pub use row::Row;
 pub use table::{Table, TableFault};
-pub use times::{minute_down, minute_text, minute_up, read_time};
+pub use times::{minute_down, minute_text, minute_up, read_minute, read_time};
+pub use writing::RecordWriter;
 
 #[cfg(test)]
 mod tests;

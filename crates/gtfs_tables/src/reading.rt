@@ -1,10 +1,10 @@
-ghost use Rattle.std.specs.Prelude.{◌≡◌, ◌<◌, ◌≤◌, ◌^◌, length, IfOk, IfSome};
+ghost use Rattle.std.specs.Prelude.{◌≡◌, ◌≤◌, IfOk, IfSome};
 ghost use Rattle.gtfs_tables.specs.Papers.{IsWithinLimit};
 ghost use Rattle.gtfs_tables.specs.Reading as spec;
 ghost use Rattle.gtfs_tables.specs.Reading.{Gives};
 
 use crate::spaces::without_spaces;
-use crate::{Column, FeedFault, Paper, Table, TableFault, read_number, read_time};
+use crate::{Column, FeedFault, Paper, Row, Table, TableFault, read_number, read_time};
 use desk_io::Found;
 use std::alloc::Global;
 
@@ -25,13 +25,12 @@ pub fn table_in(alloc: Global, paper: Paper, found: &Found) -> Result<Table, Fee
     }
 }
 
-/// The number, from 0, of a column that must be there.
-pub fn column_in(paper: Paper, column: Column, table: &Table) -> Result<usize, FeedFault>
-    ensures gives { Gives (λ place. place) result (spec.column_in paper column table.now.header) }
-    ensures within { IfOk result (λ place. place < length table.now.header) }
+/// The number, from 0, of a column that the header must name.
+pub fn column_in(paper: Paper, column: Column, header: &Row) -> Result<usize, FeedFault>
+    ensures { Gives (λ place. place) result (spec.column_in paper column header.now) }
 {
-    table
-        .column(column.name())
+    header
+        .place(column.name())
         .ok_or(FeedFault::NoColumn(paper, column))
 }
 

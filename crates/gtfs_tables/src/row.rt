@@ -1,8 +1,13 @@
-ghost use Rattle.std.specs.Prelude.{◌≡◌, ◌<◌, ◌≤◌, [], IfOk, length, slice_index_or};
+ghost use Rattle.std.specs.Prelude.{◌≡◌, ◌<◌, ◌≤◌, [], drop, IfOk, IfSome, length, slice_index_or};
 ghost use Rattle.csv.specs.Records.{fields_of};
+ghost use Rattle.gtfs_tables.specs.Records.{IsReading, ReadsRow};
 ghost use Rattle.gtfs_tables.specs.Rows.{padded};
+ghost use Rattle.gtfs_tables.specs.Table.{column_of};
 
-use csv::ByteRecord;
+use crate::records::next_record;
+use crate::spaces::without_spaces;
+use csv::{ByteRecord, Reader};
+use desk_io::Memory;
 use std::alloc::{AllocError, Global};
 use std::marker::Model;
 
@@ -26,6 +31,16 @@ impl Model for Row {
 }
 
 impl Row {
+    /// A record of no fields.
+    pub(crate) fn new(alloc: Global) -> Row
+        ensures { result ≡ [] }
+    {
+        Row {
+            fields: ByteRecord::new(alloc),
+            width: 0,
+        }
+    }
+
     /// A copy of the record, with empty fields at its end up to so many.
     pub(crate) fn of(fields: &ByteRecord, width: usize) -> Result<Row, AllocError>
         requires { length (fields_of fields.now) ≤ width }
@@ -37,6 +52,16 @@ impl Row {
         })
     }
 
+    /// Becomes the next record, with empty fields at its end up to so many, and says whether there was one.
+    pub(crate) fn read(&mut self, reader: &mut Reader<&[u8]>, width: usize) -> Result<bool, Memory>
+        requires { IsReading reader.old }
+        ensures { IfOk result (λ found. ReadsRow width reader.old found self.new reader.new) }
+    {
+        let found = next_record(reader, &mut self.fields);
+        self.width = self.fields.len().max(width);
+        found
+    }
+
     /// The number of fields.
     pub fn len(&self) -> usize
         ensures { result ≡ length self.now }
@@ -44,14 +69,43 @@ impl Row {
         self.width
     }
 
-    /// The bytes of a field; the fields count from 0.
+    /// The bytes of a field, none where the record has no such field; the fields count from 0.
     pub fn field(&self, n: usize) -> &[u8]
-        requires { n < length self.now }
         ensures { result.now ≡ slice_index_or self.now n [] }
     {
         match self.fields.get(n) {
             Some(field) => field,
             None => &[],
         }
+    }
+
+    /// The first field that, without spaces at both ends, equals the name; the fields count from 0.
+    pub fn place(&self, name: &str) -> Option<usize>
+        ensures first { result ≡ column_of name.now self.now }
+        ensures within { IfSome result (λ place. place < length self.now) }
+    {
+        let wanted = name.as_bytes();
+        for place in 0..self.len() {
+            if without_spaces(self.field(place)) == wanted {
+                return Some(place);
+            }
+        }
+        None
+    }
+
+    /// The record without its first field.
+    #[tactic(auto, using(crate::proofs::Fields::next_field))]
+    pub fn without_first(&self, alloc: Global) -> Result<Row, Memory>
+        requires { 0 < length self.now }
+        ensures { IfOk result (λ row. row ≡ drop 1 self.now) }
+    {
+        let mut fields = ByteRecord::new(alloc);
+        for place in 1..self.fields.len() {
+            fields.push_field(self.field(place))?;
+        }
+        Ok(Row {
+            fields,
+            width: self.width - 1,
+        })
     }
 }

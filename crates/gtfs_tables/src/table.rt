@@ -1,11 +1,10 @@
 ghost use Rattle.std.specs.Prelude.{◌≡◌, ◌+◌, ◌-◌, ◌<◌, ◌≤◌, IfErr, IfOk, IfSome, [], Ok, length, slice_index_or};
-ghost use Rattle.gtfs_tables.specs.Papers.{most_bytes};
+ghost use Rattle.gtfs_tables.specs.declared.paper.TheConstants.{MOST_BYTES};
 ghost use Rattle.gtfs_tables.specs.Records.{records_left, IsReading};
 ghost use Rattle.gtfs_tables.specs.Table.{body_of, column_of, table_of, IsFaultOf};
 
 use crate::Row;
 use crate::records::{next_record, reader_over};
-use crate::spaces::without_spaces;
 use csv::{ByteRecord, Reader};
 use desk_io::Memory;
 use std::alloc::{AllocError, AllocFailed, Global};
@@ -80,7 +79,7 @@ fn read_body(
     width: usize,
 ) -> Result<Vec<Row>, TableFault>
     requires reading { IsReading reader.old }
-    requires count { length (records_left reader.old) ≤ most_bytes }
+    requires count { length (records_left reader.old) ≤ MOST_BYTES }
     ensures rows { IfOk result (λ rows. body_of width (records_left reader.old) ≡ Ok rows.items) }
     ensures fault { IfErr result (λ fault. IsFaultOf (body_of width (records_left reader.old)) fault) }
 {
@@ -97,7 +96,7 @@ fn read_body(
 impl Table {
     /// The table of a file of at most [`MOST_BYTES`](crate::MOST_BYTES) bytes. The first record is the header.
     pub fn read(alloc: Global, bytes: &[u8]) -> Result<Table, TableFault>
-        requires { length bytes.now ≤ most_bytes }
+        requires { length bytes.now ≤ MOST_BYTES }
         ensures table { IfOk result (λ table. table_of bytes.now ≡ Ok table) }
         ensures fault { IfErr result (λ fault. IsFaultOf (table_of bytes.now) fault) }
     {
@@ -116,13 +115,7 @@ impl Table {
         ensures first { result ≡ column_of name.now self.now.header }
         ensures within { IfSome result (λ column. column < length self.now.header) }
     {
-        let wanted = name.as_bytes();
-        for column in 0..self.header.len() {
-            if without_spaces(self.header.field(column)) == wanted {
-                return Some(column);
-            }
-        }
-        None
+        self.header.place(name)
     }
 
     /// The number of records after the header.

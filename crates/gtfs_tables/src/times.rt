@@ -44,6 +44,32 @@ pub fn read_time(text: &str) -> Option<u32>
     }
 }
 
+// The minute of `HH:MM`.
+fn full_minute(text: [u8; 5]) -> Option<u16>
+    ensures value { result ≡ spec.full_minute text }
+    ensures bound { IfSome result (λ minute. minute ≤ 5999) }
+{
+    let hours = pair(b'9', text[0], text[1])?;
+    let minutes = pair(b'5', text[3], text[4])?;
+    if text[2] != b':' {
+        return None;
+    }
+    Some((60 * hours + minutes) as u16)
+}
+
+/// The minute of a time of the service day without seconds, at most 5,999: one or two digits of hours, a colon, two digits
+/// from 00 to 59, with any spaces round them. None exactly where the text has another form.
+pub fn read_minute(text: &str) -> Option<u16>
+    ensures value { result ≡ spec.minute_of text.now }
+    ensures bound { IfSome result (λ minute. minute ≤ 5999) }
+{
+    match *without_spaces(text.as_bytes()) {
+        [h, a, m, n] => full_minute([b'0', h, a, m, n]),
+        [g, h, a, m, n] => full_minute([g, h, a, m, n]),
+        _ => None,
+    }
+}
+
 /// A second of the service day as a minute, rounded down.
 pub fn minute_down(seconds: u32) -> u16
     requires { seconds ≤ 359999 }

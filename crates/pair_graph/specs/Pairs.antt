@@ -1,10 +1,10 @@
 -- What the pairs of a timetable are seen as.
-use Rattle.std.specs.Prelude.{◌≡◌, ℕ, ◌<◌, ◌≤◌, List, length, slice_set, Option, None, Some, IfSome}
+use Rattle.std.specs.Prelude.{ℕ, List, slice_set, Option, None, Some}
 use Rattle.deadhead_matrix.specs.Fitting.{deadhead_network}
 use Rattle.deadhead_matrix.specs.Matrix.{MatrixView, walk}
 use Rattle.trip_model.specs.Network.{Network}
-use Rattle.trip_model.specs.Plain.{trip_moves, AreMoves}
-use Rattle.trip_model.specs.Timetable.{TimetableView, IsTimetable}
+use Rattle.trip_model.specs.Plain.{trip_moves}
+use Rattle.trip_model.specs.Timetable.{TimetableView}
 use Rattle.trip_model.specs.declared.trip.Move.{Move}
 
 -- the moves of the slots, and the walks between their places

@@ -1,17 +1,15 @@
 ghost use Rattle.std.specs.Prelude.{◌≡◌, ◌+◌, ◌<◌, ◌≤◌, length, None, Some, IfSome, option_map};
 ghost use Rattle.deadhead_matrix.specs.Prices.{weight};
+ghost use Rattle.trip_model.specs.declared.limits.TheConstants.{MOST_SLOTS};
 ghost use Rattle.trip_model.specs.Plain.{move_at};
 ghost use Rattle.trip_model.specs.Trip.{IsValidTrip, move_of};
 ghost use Rattle.pair_graph.specs.Pairs.{pairs_of, pairs_network};
 
-use deadhead_matrix::Matrix;
+use deadhead_matrix::{Matrix, VEHICLE_WEIGHT};
 use desk_io::Steps;
 use std::marker::Model;
 use std::sync::ledger::Ledger;
 use trip_model::{Timetable, Trip};
-
-/// What a vehicle that is saved weighs against empty minutes.
-const VEHICLE: u64 = 67_108_864;
 
 /// The pairs of trips of a timetable, with the least walks of a matrix between their places.
 #[derive(Drop)]
@@ -62,7 +60,7 @@ impl<'a> Pairs<'a> {
     /// How many slots there are.
     pub fn slots(&self) -> u16
         ensures count { result ≡ length self.now.moves }
-        ensures few { result ≤ 4096 }
+        ensures few { result ≤ MOST_SLOTS }
     {
         self.timetable.slots()
     }
@@ -96,6 +94,6 @@ impl<'a> Pairs<'a> {
         if minutes > spare {
             return None;
         }
-        Some(VEHICLE - u64::from(minutes))
+        Some(VEHICLE_WEIGHT - u64::from(minutes))
     }
 }

@@ -1,6 +1,7 @@
 -- Links: for each slot the trip that its vehicle makes next; and the blocks that they make.
 use Rattle.std.specs.Prelude.{◌≡◌, ℕ, zero, suc, ◌==◌, Bool, false, not, List, [], ◌∷◌, map, filter, count_by, slice_index_or, Option, None, Some, is_some}
 use Rattle.std.specs.List.{list_any}
+use Rattle.trip_model.specs.declared.limits.TheConstants.{MINUTES}
 use Rattle.trip_model.specs.Network.{Network, Fits}
 
 -- the next trip of a slot; none past the last slot
@@ -33,7 +34,7 @@ along links (suc most) (Some s) = s ∷ along links most (next_of links s)
 
 -- the block that begins with s; departures rise along links, so it has no more trips than there are minutes
 unfoldable pub block_from : List (Option ℕ) → ℕ → List ℕ
-block_from links s = along links 8192 (Some s)
+block_from links s = along links MINUTES (Some s)
 
 -- the blocks that the links make, in the order given for their first trips
 abbrev pub blocks_along : List (Option ℕ) → List ℕ → List (List ℕ)

@@ -1,5 +1,6 @@
 -- Which trips run, and which two trips one vehicle can make one after the other.
 use Rattle.std.specs.Prelude.{◌≡◌, ℕ, ◌<◌, ◌≤◌, Bool, true, Option, IsSome}
+use Rattle.trip_model.specs.declared.limits.TheConstants.{LAST_MINUTE}
 
 -- Trips by the numbers of their slots. `empty i j` is how many minutes a vehicle runs empty from the trip of i to that of
 -- j, where it can make j next; `out` and `home` are the empty minutes before the first trip of a block and after its last.
@@ -17,4 +18,4 @@ Fits network i j = IsSome (network.empty i j)
 pub record AreDepartures (network : Network) (departs : ℕ → ℕ) : Type 0 where
   pub runs : (i j : ℕ) → Fits network i j → (network.live i ≡ true) × (network.live j ≡ true)
   pub rises : (i j : ℕ) → Fits network i j → departs i < departs j
-  pub within : (i j : ℕ) → Fits network i j → departs j ≤ 8191
+  pub within : (i j : ℕ) → Fits network i j → departs j ≤ LAST_MINUTE

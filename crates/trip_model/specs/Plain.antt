@@ -2,6 +2,7 @@
 -- its trip makes, and None where it does not run.
 use Rattle.std.specs.Prelude.{◌≡◌, ℕ, ◌<◌, ◌≤◌, ◌==◌, ◌&&◌, nat_le, Bool, false, List, length, map, filter, slice_index_or, Option, None, Some, is_some, if◌then◌else◌}
 use Rattle.std.specs.List.{filter_map, range_with_len}
+use Rattle.trip_model.specs.declared.limits.TheConstants.{LAST_MINUTE}
 use Rattle.trip_model.specs.Network.{Network}
 use Rattle.trip_model.specs.Timetable.{Slot}
 use Rattle.trip_model.specs.Trip.{move_of}
@@ -60,7 +61,7 @@ pub record IsMove (places : ℕ) (m : Move) : Type 0 where
   pub from : m.from < places
   pub to : m.to < places
   pub forward : m.leaves < m.arrives
-  pub in_day : m.arrives ≤ 8191
+  pub in_day : m.arrives ≤ LAST_MINUTE
 
 -- each move that is made is such a move
 pub record AreMoves (places : ℕ) (moves : List (Option Move)) : Type 0 where

@@ -2,6 +2,7 @@
 use Rattle.std.specs.Prelude.{ℕ, zero, suc, Bool, not, List, map, filter, fold, nat_le, ℤ, pos, if◌then◌else◌}
 use Rattle.std.specs.List.{range_with_len}
 use Rattle.std.specs.Ordering.{int_eq}
+use Rattle.trip_model.specs.declared.limits.TheConstants.{MINUTES}
 
 -- the value of d in the minute before, which is 0 before minute 0
 abbrev pub value_before : (ℕ → ℤ) → ℕ → ℤ
@@ -18,7 +19,7 @@ steps_before d end = map (λ t. (t, d t)) (filter (is_step d) (range_with_len 0 
 
 -- the steps of d in the minutes 0 to 8,191
 unfoldable pub steps : (ℕ → ℤ) → List (ℕ × ℤ)
-steps d = steps_before d 8192
+steps d = steps_before d MINUTES
 
 -- what a list of steps says at the minute t: the value of its last step at or before t, else 0
 abbrev pub value_of_steps : List (ℕ × ℤ) → ℕ → ℤ

@@ -1,6 +1,7 @@
 -- What a timetable is seen as, and what holds of each one.
 use Rattle.std.specs.Prelude.{◌≢◌, ℕ, ◌≤◌, List, [], map, length, slice_index_or, Option, position, All, AllPairs, false, pos, String, string_bytes}
 use Rattle.std.specs.Str.{bytes_eq}
+use Rattle.trip_model.specs.declared.limits.TheConstants.{MOST_LAYOVER, MOST_PLACES, MOST_SLOTS, MOST_TOLERANCE}
 use Rattle.trip_model.specs.declared.trip.Trip.{Trip}
 use Rattle.trip_model.specs.Trip.{IsValidTrip}
 
@@ -50,12 +51,12 @@ AreDistinct names = AllPairs (λ x y. x ≢ y) names
 pub record IsTimetable (timetable : TimetableView) : Type 0 where
   pub place_names : AreDistinct (place_names timetable)
   pub slot_names : AreDistinct (slot_names timetable)
-  pub layovers : All (λ p. p.layover ≤ 240) timetable.places
+  pub layovers : All (λ p. p.layover ≤ MOST_LAYOVER) timetable.places
   pub trips : All (λ s. IsValidTrip (length timetable.places) s.trip) timetable.slots
-  pub places : length timetable.places ≤ 512
-  pub slots : length timetable.slots ≤ 4096
-  pub early : timetable.early ≤ 60
-  pub late : timetable.late ≤ 60
+  pub places : length timetable.places ≤ MOST_PLACES
+  pub slots : length timetable.slots ≤ MOST_SLOTS
+  pub early : timetable.early ≤ MOST_TOLERANCE
+  pub late : timetable.late ≤ MOST_TOLERANCE
 
 -- the places that a map from names to layovers holds in order
 abbrev pub places_of : {Y : Type 0} → List (String Y × ℕ) → List Place

@@ -1,5 +1,6 @@
 -- When a trip is valid, and what a deficit counts of it.
 use Rattle.std.specs.Prelude.{ℕ, ◌<◌, ◌≤◌, ℤ, pos, neg_ℤ, ◌-ℤ◌, ◌≤ℤ◌}
+use Rattle.trip_model.specs.declared.limits.TheConstants.{LAST_DEPARTURE, LAST_END, MOST_TOLERANCE}
 use Rattle.trip_model.specs.declared.trip.Trip.{Trip}
 use Rattle.trip_model.specs.declared.trip.Move.{Move}
 
@@ -21,10 +22,10 @@ pub record IsValidTrip (places : ℕ) (trip : Trip) : Type 0 where
   pub from : trip.from < places
   pub to : trip.to < places
   pub forward : trip.departs < trip.ends
-  pub early : trip.early ≤ 60
-  pub late : trip.late ≤ 60
+  pub early : trip.early ≤ MOST_TOLERANCE
+  pub late : trip.late ≤ MOST_TOLERANCE
   pub not_too_early : neg_ℤ (pos trip.early) ≤ℤ trip.offset
   pub not_too_late : trip.offset ≤ℤ pos trip.late
   pub departs_from_midnight : pos 0 ≤ℤ (published_departure trip)
-  pub departs_in_day : (published_departure trip) ≤ℤ pos 5999
-  pub ends_in_day : (published_end trip) ≤ℤ pos 6240
+  pub departs_in_day : (published_departure trip) ≤ℤ pos LAST_DEPARTURE
+  pub ends_in_day : (published_end trip) ≤ℤ pos LAST_END

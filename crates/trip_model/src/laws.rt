@@ -1,4 +1,5 @@
 //! Laws of the definitions that the contracts cite. Each is the contract of a function that does nothing.
+ghost use Rattle.trip_model.specs.declared.limits.TheConstants.{LAST_MINUTE};
 ghost use Rattle.std.specs.Prelude.{◌≡◌, ℕ, ◌+◌, ◌<◌, ◌≤◌, true, ℤ, pos, ◌≤ℤ◌, List, length, Option, is_some, All};
 ghost use Rattle.trip_model.specs.declared.trip.Move.{Move};
 ghost use Rattle.trip_model.specs.Blocking.{StandsOnce, IsBlocking, IsFewest, IsLeast};
@@ -20,14 +21,14 @@ pub fn first_maximum_law()
 
 /// Read as a function, the steps of a function of the minute give it back.
 pub fn steps_law()
-    ensures { (d : ℕ → ℤ) (t : ℕ) → t ≤ 8191 → value_of_steps (steps d) t ≡ d t }
+    ensures { (d : ℕ → ℤ) (t : ℕ) → t ≤ LAST_MINUTE → value_of_steps (steps d) t ≡ d t }
 {}
 
 /// Functions that agree at every minute have one first maximum and the same steps.
 pub fn agreement_law()
-    ensures maximum { (d e : ℕ → ℤ) → ((t : ℕ) → t ≤ 8191 → d t ≡ e t)
+    ensures maximum { (d e : ℕ → ℤ) → ((t : ℕ) → t ≤ LAST_MINUTE → d t ≡ e t)
         → first_maximum d ≡ first_maximum e }
-    ensures steps { (d e : ℕ → ℤ) → ((t : ℕ) → t ≤ 8191 → d t ≡ e t) → steps d ≡ steps e }
+    ensures steps { (d e : ℕ → ℤ) → ((t : ℕ) → t ≤ LAST_MINUTE → d t ≡ e t) → steps d ≡ steps e }
 {}
 
 /// Where every move arrives after it leaves, no maximum of a deficit is below 0.

@@ -4,7 +4,7 @@
 //! A [`Timetable`] is a list of places and a list of slots with one trip each; places and slots are numbered from 0
 //! in the order in which they were pushed, and found by name. A [`Move`] is what a deficit counts of a trip: where a
 //! vehicle leaves and arrives, and in which minutes. [`Links`] say for each slot which trip its vehicle makes next, and
-//! [`by_departure`] answers the slots in order of departure. [`MOST_PLACES`], [`MOST_SLOTS`] and [`MINUTES`] are the limits.
+//! [`by_departure`] answers the slots in order of departure. Its limits are constants, as [`MOST_SLOTS`].
 //!
 //! The contract that the crates above use: a timetable is two lists and two numbers, its names are distinct in each
 //! list, and every trip is valid. [`Timetable::places`] and [`Timetable::slots`] hand this fact on. Links are a list, and
@@ -29,7 +29,10 @@ mod order;
 mod timetable;
 mod trip;
 
-pub use limits::{MINUTES, MOST_PLACES, MOST_SLOTS};
+pub use limits::{
+    LAST_DEPARTURE, LAST_END, LAST_MINUTE, MINUTES, MOST_LAYOVER, MOST_PLACES, MOST_SLOTS,
+    MOST_TOLERANCE,
+};
 pub use links::Links;
 pub use order::by_departure;
 pub use timetable::Timetable;

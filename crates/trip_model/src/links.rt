@@ -1,4 +1,5 @@
 ghost use Rattle.std.specs.Prelude.{◌≡◌, ◌-◌, ◌<◌, ◌≤◌, ◌++◌, length, take, replicate, slice_set, IfOk};
+ghost use Rattle.trip_model.specs.declared.limits.TheConstants.{MOST_SLOTS};
 ghost use Rattle.trip_model.specs.Links.{next_of};
 
 use crate::MOST_SLOTS;
@@ -14,18 +15,19 @@ pub struct Links {
 
 impl Model for Links {
     ghost use Rattle.std.specs.Prelude.{◌≤◌, ℕ, List, Option, vec_len, vec_capacity};
+    ghost use Rattle.trip_model.specs.declared.limits.TheConstants.{MOST_SLOTS};
 
     ghost Value = { List (Option ℕ) };
 
     ghost view = { λ l. l.nexts.items };
 
-    ghost invariant = { λ l. (vec_len l.nexts ≤ 4096) × (4096 ≤ vec_capacity l.nexts) };
+    ghost invariant = { λ l. (vec_len l.nexts ≤ MOST_SLOTS) × (MOST_SLOTS ≤ vec_capacity l.nexts) };
 }
 
 impl Links {
     /// Links of so many slots, none of which has a next trip. It takes the memory for as many slots as there may be.
     pub fn open(alloc: Global, slots: u16) -> Result<Links, Memory>
-        requires { slots ≤ 4096 }
+        requires { slots ≤ MOST_SLOTS }
         ensures { IfOk result (λ links. links ≡ replicate slots None) }
     {
         let mut links = Links {
@@ -38,7 +40,7 @@ impl Links {
     /// How many slots there are.
     pub fn slots(&self) -> u16
         ensures count { result ≡ length self.now }
-        ensures valid { result ≤ 4096 }
+        ensures valid { result ≤ MOST_SLOTS }
     {
         self.nexts.len() as u16
     }
@@ -61,7 +63,7 @@ impl Links {
 
     /// Cuts the links to so many slots, or adds slots without a next trip. It takes no memory.
     pub fn set_slots(&mut self, slots: u16)
-        requires { slots ≤ 4096 }
+        requires { slots ≤ MOST_SLOTS }
         ensures { self.new ≡ take slots self.old ++ replicate (slots - length self.old) None }
     {
         let slots = usize::from(slots);

@@ -26,14 +26,15 @@ impl Model for Timetable {
 }
 
 impl Timetable {
+    ghost use Rattle.trip_model.specs.declared.limits.TheConstants.{MOST_LAYOVER, MOST_PLACES, MOST_SLOTS, MOST_TOLERANCE};
     ghost use Rattle.trip_model.specs.Trip.{IsValidTrip};
     ghost use Rattle.trip_model.specs.Timetable.{Place, Slot, TimetableView, IsTimetable, place_names, slot_names, number_of, place_at, slot_at};
 
     /// A timetable without places and slots. `early` and `late` are the tolerances, in minutes, of trips that have
     /// none of their own.
     pub fn open(alloc: Global, early: u8, late: u8) -> Timetable
-        requires early { early ≤ 60 }
-        requires late { late ≤ 60 }
+        requires early { early ≤ MOST_TOLERANCE }
+        requires late { late ≤ MOST_TOLERANCE }
         ensures { result ≡ record { places = []; slots = []; early = early; late = late } }
     {
         Timetable {
@@ -65,7 +66,7 @@ impl Timetable {
     pub fn layover(&self, place: u16) -> u16
         requires { place < length self.now.places }
         ensures value { result ≡ (place_at self.now place).layover }
-        ensures valid { result ≤ 240 }
+        ensures valid { result ≤ MOST_LAYOVER }
     {
         let (_, layover) = self.layovers.get_index(usize::from(place)).unwrap();
         *layover
@@ -85,7 +86,7 @@ impl Timetable {
     /// By how many minutes a trip without tolerances of its own may be moved before its published times.
     pub fn early(&self) -> u8
         ensures value { result ≡ self.now.early }
-        ensures valid { result ≤ 60 }
+        ensures valid { result ≤ MOST_TOLERANCE }
     {
         self.early
     }
@@ -93,7 +94,7 @@ impl Timetable {
     /// By how many minutes a trip without tolerances of its own may be moved after its published times.
     pub fn late(&self) -> u8
         ensures value { result ≡ self.now.late }
-        ensures valid { result ≤ 60 }
+        ensures valid { result ≤ MOST_TOLERANCE }
     {
         self.late
     }
@@ -101,8 +102,8 @@ impl Timetable {
     /// Appends a place, with its layover in minutes, and answers its number.
     pub fn push_place(&mut self, name: &str, layover: u16) -> Result<u16, Memory>
         requires new { ¬ Contains (place_names self.old) name.now }
-        requires room { length self.old.places < 512 }
-        requires layover { layover ≤ 240 }
+        requires room { length self.old.places < MOST_PLACES }
+        requires layover { layover ≤ MOST_LAYOVER }
         ensures number { IfOk result (λ p. p ≡ length self.old.places) }
         ensures pushed { IfOk result (λ _. self.new ≡ record self.old {
           places = self.old.places ++ record { name = name.now; layover = layover } ∷ [];
@@ -156,7 +157,7 @@ impl Timetable {
     /// Appends a trip, and answers its slot.
     pub fn push_trip(&mut self, name: &str, trip: Trip) -> Result<u16, Memory>
         requires new { ¬ Contains (slot_names self.old) name.now }
-        requires room { length self.old.slots < 4096 }
+        requires room { length self.old.slots < MOST_SLOTS }
         requires valid { IsValidTrip (length self.old.places) trip }
         ensures slot { IfOk result (λ s. s ≡ length self.old.slots) }
         ensures pushed { IfOk result (λ _. self.new ≡ record self.old {

@@ -1,0 +1,15 @@
+use Rattle.std.proofs.Common.{arith}
+use Rattle.gtfs_tables.specs.Records.{records_left}
+use Rattle.gtfs_tables.proofs.FoldLemmas.{folded-refused, short-record}
+use Rattle.gtfs_tables.proofs.fold.read_rest.Goals as goal
+
+pub returns-in-Err-clause-gives : goal.returns-in-Err-clause-gives
+returns-in-Err-clause-gives g c =
+    let reads = g.R.RecordReader in
+    let kept = reads.kept c.args.records.now in
+    let next = rw c.if-branch.true at c.in_ok-read.ensures in
+    let fits = short-record c.args.width c.read.new.self next.0 next.2 (omega (arith, c.len.ensures, c.if-len-width.false)) in
+    folded-refused c.args.paper c.args.width (reads.step kept c.args.columns.now) (reads.Leaves kept c.args.columns.now) (reads.state c.args.records.now)
+    (records_left c.args.reader.now) c.records.number (reads.state c.records.records) (records_left c.records.reader) (records_left c.read.new.reader)
+    next.0 c.read.new.self c.records.invariant.folded next.1 c.in-Err.refused c.in_ok-due_of.field-0 fits next.2
+    (rw c.records.invariant.kept at c.in-Err.ensures.gives) c.in_ok-due_of.ensures

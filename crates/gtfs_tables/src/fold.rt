@@ -1,0 +1,187 @@
+ghost use Rattle.std.specs.Prelude.{◌≡◌, ◌≢◌, ℕ, ◌+◌, ◌<◌, ◌≤◌, IfErr, IfOk, List, Ok, Err, None, Result, length, map};
+ghost use Rattle.gtfs_tables.specs.declared.fault.FeedFault.{FeedFault};
+ghost use Rattle.gtfs_tables.specs.declared.paper.TheConstants.{MOST_BYTES};
+ghost use Rattle.gtfs_tables.specs.Fold.{due, longer_from, bytes_read, paper_read, rest_read, AreLeft, IsTableLeft};
+ghost use Rattle.gtfs_tables.specs.Papers.{IsWithinLimit};
+ghost use Rattle.gtfs_tables.specs.Reading.{Gives, judged, table_in};
+ghost use Rattle.gtfs_tables.specs.Records.{records_left, IsReading};
+ghost use Rattle.gtfs_tables.specs.Rows.{padded};
+ghost use Rattle.gtfs_tables.specs.Table.{TableView, table_of};
+
+use crate::records::reader_over;
+use crate::{FeedFault, Paper, Row};
+use csv::Reader;
+use desk_io::{Found, Memory};
+use std::alloc::Global;
+
+/// What is made of the records of a paper, one after the other.
+pub trait RecordReader {
+    /// Where the columns stand that it reads.
+    type Columns: Drop;
+
+    // What no record changes.
+    ghost Kept: { Type 0 };
+    // What the records so far have given.
+    ghost State: { Type 0 };
+
+    ghost kept: { Self → Self.Kept };
+
+    ghost state: { Self → Self.State };
+
+    ghost columns_in: { List (List ℕ) → Result Self.Columns FeedFault };
+
+    ghost step: { Self.Kept → Self.Columns → ℕ → Self.State → List (List ℕ) → Result Self.State FeedFault };
+    // What a refused record leaves of what those before it gave.
+    ghost Leaves: { Self.Kept → Self.Columns → ℕ → Self.State → List (List ℕ) → Self.State → Type 0 };
+
+    /// The columns that it reads, or the refusal of the header.
+    fn columns(&self, header: &Row) -> Result<Self::Columns, FeedFault>
+        ensures { Gives (λ columns. columns) result (Self.columns_in header.now) };
+
+    /// Takes in a record, which counts from 1 after the header, or refuses it.
+    fn record(&mut self, columns: &Self::Columns, number: u32, row: &Row) -> Result<(), FeedFault>
+        ensures gives { Gives (λ _. Self.state self.new) result (Self.step (Self.kept self.old) columns.now number (Self.state self.old) row.now) }
+        ensures left { IfErr result (λ refused. refused ≢ FeedFault.Memory → Self.Leaves (Self.kept self.old) columns.now number (Self.state self.old) row.now (Self.state self.new)) }
+        ensures kept { Self.kept self.new ≡ Self.kept self.old };
+}
+
+// The refusal that is due where this one came after so many records: that of the first record left that is too long, if
+// there is one.
+fn due_of(
+    paper: Paper,
+    width: usize,
+    before: u32,
+    reader: &mut Reader<&[u8]>,
+    row: &mut Row,
+    refused: FeedFault,
+) -> Result<FeedFault, Memory>
+    requires reading { IsReading reader.old }
+    requires count { before + length (records_left reader.old) ≤ MOST_BYTES }
+    ensures { IfOk result (λ fault. fault ≡ due paper (longer_from width (before + 1) (records_left reader.old)) refused) }
+{
+    let mut number = before;
+    'records: while row.read(reader, width)? {
+        number += 1;
+        if row.len() > width {
+            return Ok(FeedFault::RowTooLong(paper, number));
+        }
+    }
+    Ok(refused)
+}
+
+// Takes in the records that are left, each padded to the width of the header.
+fn read_rest<R: RecordReader>(
+    paper: Paper,
+    width: usize,
+    columns: &R::Columns,
+    reader: &mut Reader<&[u8]>,
+    row: &mut Row,
+    records: &mut R,
+) -> Result<(), FeedFault>
+    requires reading { IsReading reader.old }
+    requires count { length (records_left reader.old) ≤ MOST_BYTES }
+    ensures gives { Gives (λ _. R.state records.new) result (rest_read paper width (R.step (R.kept records.old) columns.now) 1 (R.state records.old) (records_left reader.old)) }
+    ensures left { result ≢ Err FeedFault.Memory → longer_from width 1 (records_left reader.old) ≡ None
+        → AreLeft (R.step (R.kept records.old) columns.now) (R.Leaves (R.kept records.old) columns.now) 1 (R.state records.old) (map (padded width) (records_left reader.old)) (R.state records.new) }
+    ensures kept { R.kept records.new ≡ R.kept records.old }
+{
+    let mut number: u32 = 0;
+    'records: while row.read(reader, width)? {
+        number += 1;
+        if row.len() > width {
+            return Err(FeedFault::RowTooLong(paper, number));
+        }
+        if let Err(refused) = records.record(columns, number, row) {
+            return Err(due_of(paper, width, number, reader, row, refused)?);
+        }
+    }
+    Ok(())
+}
+
+// Takes in the records of the bytes of a paper.
+fn read_bytes<R: RecordReader>(
+    alloc: Global,
+    paper: Paper,
+    bytes: &[u8],
+    records: &mut R,
+) -> Result<(), FeedFault>
+    requires { length bytes.now ≤ MOST_BYTES }
+    ensures gives { Gives (λ _. R.state records.new) result (bytes_read paper R.columns_in (R.step (R.kept records.old)) (R.state records.old) bytes.now) }
+    ensures left { (table : TableView) → table_of bytes.now ≡ Ok table → result ≢ Err FeedFault.Memory
+        → IsTableLeft R.columns_in (R.step (R.kept records.old)) (R.Leaves (R.kept records.old)) (R.state records.old) table (R.state records.new) }
+    ensures kept { R.kept records.new ≡ R.kept records.old }
+{
+    let mut reader = reader_over(alloc, bytes);
+    let mut row = Row::new(alloc);
+    if !row.read(&mut reader, 0)? {
+        return Err(FeedFault::NoHeader(paper));
+    }
+    let width = row.len();
+    match records.columns(&row) {
+        Ok(columns) => read_rest(paper, width, &columns, &mut reader, &mut row, records),
+        Err(refused) => Err(due_of(paper, width, 0, &mut reader, &mut row, refused)?),
+    }
+}
+
+/// Takes in the records of a paper that must be there, in one pass that keeps none of them; or answers the first refusal. A
+/// record that has more fields than the header is refused before all that is said of the columns and of records, wherever it
+/// stands.
+pub fn read_records<R: RecordReader>(
+    alloc: Global,
+    paper: Paper,
+    found: &Found,
+    records: &mut R,
+) -> Result<(), FeedFault>
+    requires { IsWithinLimit found.now }
+    ensures gives { Gives (λ _. R.state records.new) result (paper_read paper R.columns_in (R.step (R.kept records.old)) (R.state records.old) found.now) }
+    ensures left { (table : TableView) → table_in paper found.now ≡ Ok table → result ≢ Err FeedFault.Memory
+        → IsTableLeft R.columns_in (R.step (R.kept records.old)) (R.Leaves (R.kept records.old)) (R.state records.old) table (R.state records.new) }
+    ensures kept { R.kept records.new ≡ R.kept records.old }
+{
+    match found {
+        Found::Missing => Err(FeedFault::Missing(paper)),
+        Found::TooLong => Err(FeedFault::TooLong(paper)),
+        Found::File(bytes) => read_bytes(alloc, paper, bytes.as_slice(), records),
+    }
+}
+
+// Takes in no record, and refuses none.
+#[derive(Drop)]
+struct AnyRecord;
+
+impl RecordReader for AnyRecord {
+    ghost use Rattle.gtfs_tables.specs.Reading.{nothing};
+
+    type Columns = ();
+
+    ghost Kept = { Unit {0} };
+
+    ghost State = { Unit {0} };
+
+    ghost kept = { λ _. tt };
+
+    ghost state = { λ _. tt };
+
+    ghost columns_in = { λ _. nothing };
+
+    ghost step = { λ _ _ _ _ _. nothing };
+
+    ghost Leaves = { λ _ _ _ _ _ _. Unit {0} };
+
+    fn columns(&self, _header: &Row) -> Result<(), FeedFault> {
+        Ok(())
+    }
+
+    fn record(&mut self, _columns: &(), _number: u32, _row: &Row) -> Result<(), FeedFault> {
+        Ok(())
+    }
+}
+
+/// Whether a paper is a table, of which no record has more fields than the header; for a caller whose records change more
+/// than a refused paper may leave.
+pub fn judge_table(alloc: Global, paper: Paper, found: &Found) -> Result<(), FeedFault>
+    requires { IsWithinLimit found.now }
+    ensures { Gives (λ done. done) result (judged paper found.now) }
+{
+    read_records(alloc, paper, found, &mut AnyRecord)
+}

@@ -1,0 +1,82 @@
+ghost use Rattle.std.specs.Prelude.{◌≡◌, [], ◌++◌, IfOk, IsUtf8, OnOk, map};
+ghost use Rattle.gtfs_tables.specs.Writing.{record_text};
+
+use csv::{Writer, WriterBuilder};
+use desk_io::{Bytes, Memory, Text};
+use std::alloc::Global;
+use std::marker::Model;
+
+/// Comma-separated text to which records are appended, a line feed at the end of each; seen as the bytes so far. Where no
+/// memory was found for a record, there is none for any other.
+#[derive(Drop)]
+pub struct RecordWriter {
+    writer: Writer<Vec<u8>>,
+    failed: bool,
+}
+
+impl Model for RecordWriter {
+    ghost use Rattle.std.specs.Prelude.{◌≡◌, List, ℕ, [], Some, unwrap_or, false};
+    ghost use Rattle.csv.specs.Writing.{fields_written, has_written, text_written, writer_setup};
+    ghost use Rattle.gtfs_tables.specs.Writing.{record_writer};
+
+    ghost Value = { List ℕ };
+
+    ghost view = { λ w. unwrap_or (text_written (λ bytes. Some bytes.items) w.writer) [] };
+
+    ghost invariant = { λ w. w.failed ≡ false → (writer_setup w.writer ≡ record_writer) × (fields_written w.writer ≡ 0) × (has_written w.writer ≡ false) };
+}
+
+impl RecordWriter {
+    /// No records.
+    pub fn new(alloc: Global) -> RecordWriter
+        ensures { result ≡ [] }
+    {
+        RecordWriter {
+            writer: WriterBuilder::new()
+                .flexible(true)
+                .from_writer(Vec::new(alloc)),
+            failed: false,
+        }
+    }
+
+    /// Appends a record of these fields, in quotes where they need them.
+    pub fn push(&mut self, fields: &[&[u8]]) -> Result<(), Memory>
+        ensures { OnOk result (self.new ≡ self.old ++ record_text (map (λ field. field.now) fields.now)) }
+    {
+        if self.failed {
+            return Err(Memory);
+        }
+        self.failed = true;
+        if self.writer.write_fields(fields).is_err() {
+            return Err(Memory);
+        }
+        self.failed = false;
+        Ok(())
+    }
+
+    /// The bytes of the records.
+    pub fn into_bytes(self) -> Result<Bytes, Memory>
+        ensures { IfOk result (λ bytes. bytes ≡ self) }
+    {
+        let RecordWriter { writer, failed: _ } = self;
+        match writer.into_inner() {
+            Ok(bytes) => Ok(Bytes::wrap(bytes)),
+            Err(_) => Err(Memory),
+        }
+    }
+
+    /// The text of the records, whose fields were all text.
+    pub fn into_text(self) -> Result<Text, Memory>
+        requires { IsUtf8 self }
+        ensures { IfOk result (λ text. text ≡ self) }
+    {
+        let RecordWriter { writer, failed: _ } = self;
+        match writer.into_inner() {
+            Ok(bytes) => match String::from_utf8(bytes) {
+                Ok(text) => Ok(Text::wrap(text)),
+                Err(_) => unreachable!(),
+            },
+            Err(_) => Err(Memory),
+        }
+    }
+}
