@@ -29,6 +29,3 @@ mod ways;
 
 pub use entry::Entry;
 pub use matrix::Matrix;
-
-#[cfg(test)]
-mod tests;

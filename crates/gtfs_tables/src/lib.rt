@@ -41,6 +41,3 @@ pub use records::read_rows;
 pub use row::Row;
 pub use table::{Table, TableFault};
 pub use times::{minute_down, minute_text, minute_up, read_time};
-
-#[cfg(test)]
-mod tests;
