@@ -21,6 +21,3 @@ mod lines;
 pub use blocks::Blocks;
 pub use build::blocks_of;
 pub use lines::block_lines;
-
-#[cfg(test)]
-mod tests;

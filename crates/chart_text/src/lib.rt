@@ -24,6 +24,3 @@ pub mod laws;
 
 pub use blocks::block_chart;
 pub use deficits::deficit_chart;
-
-#[cfg(test)]
-mod tests;

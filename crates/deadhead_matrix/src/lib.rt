@@ -31,6 +31,3 @@ mod ways;
 pub use entry::Entry;
 pub use limits::{MOST_DEADHEAD, VEHICLE_WEIGHT};
 pub use matrix::Matrix;
-
-#[cfg(test)]
-mod tests;

@@ -27,6 +27,3 @@ mod row;
 
 pub use deficits::Deficits;
 pub use lines::deficit_lines;
-
-#[cfg(test)]
-mod tests;

@@ -1,4 +1,4 @@
-ghost use Rattle.std.specs.Prelude.{◌≡◌, IfOk, IfSome, Some};
+ghost use Rattle.std.specs.Prelude.{◌≡◌, ◌≢◌, IfOk, IfErr, IfSome, Some, Err};
 ghost use Rattle.desk_io.specs.Shelf.{FitsIn, found_as};
 
 use crate::{Bytes, Found, Shelf, ShelfFault, Text};
@@ -34,26 +34,24 @@ impl<'a, R: Files> FolderShelf<'a, R> {
     }
 }
 
-// What is found of an open file, of which no more than one byte above the limit is read.
+// What is found of a file that the system opened, of which no more than one byte above the limit is read. What the system
+// refuses is handed on: a file that was opened is never missing.
 #[tactic(auto, using(crate::proofs::Finding::take_short))]
-fn find<I: Read + Drop>(alloc: Global, file: I, limit: u64) -> io::Result<Found>
+fn find<I: Read + Drop>(alloc: Global, opened: io::Result<I>, limit: u64) -> io::Result<Found>
     ensures bound { IfOk result (FitsIn limit) }
-    ensures found { IfSome (I.remaining file) (λ bytes. IfOk result (λ found. found ≡ found_as limit (Some bytes))) }
+    ensures found { IfOk opened (λ file. IfSome (I.remaining file) (λ bytes. IfOk result (λ found. found ≡ found_as limit (Some bytes)))) }
+    ensures there { IfOk result (λ found. found ≢ Found.Missing) }
+    ensures refused { IfErr opened (λ error. result ≡ Err error) }
 {
     let mut bytes = Vec::new(alloc);
-    file.take(limit.saturating_add(1)).read_to_end(&mut bytes)?;
+    opened?
+        .take(limit.saturating_add(1))
+        .read_to_end(&mut bytes)?;
     if bytes.len() as u64 <= limit {
         Ok(Found::File(Bytes::wrap(bytes)))
     } else {
         Ok(Found::TooLong)
     }
-}
-
-// What is found under a path.
-fn find_in<R: Files>(rt: &R, alloc: Global, path: &str, limit: u64) -> io::Result<Found>
-    ensures { IfOk result (FitsIn limit) }
-{
-    find(alloc, fs::open(rt, path)?, limit)
 }
 
 impl<'a, R: Files> FolderShelf<'a, R> {
@@ -69,6 +67,7 @@ impl<'a, R: Files> FolderShelf<'a, R> {
         ensures bound { (limit : ℕ) → IfOk found (FitsIn limit) → IfOk result (FitsIn limit) }
         ensures found { IfOk found (λ it. result ≡ Ok it) }
         ensures missing { IfErr found (λ error. error_kind error ≡ ErrorKind.NotFound → result ≡ Ok Found.Missing) }
+        ensures memory { IfErr found (λ error. error_kind error ≡ ErrorKind.OutOfMemory → result ≡ Err ShelfFault.Memory) }
         ensures failed { IfErr found (λ error. error_kind error ≢ ErrorKind.NotFound → error_kind error ≢ ErrorKind.OutOfMemory → result ≡ Err ShelfFault.Failed) }
     {
         match found {
@@ -84,7 +83,25 @@ impl<'a, R: Files> FolderShelf<'a, R> {
         }
     }
 
-    // What a write answers to what the system answered: every refusal is counted.
+    // What a write answers to what the system answered when it was to open the file for writing. Until then the file is as
+    // it was, so want of memory is told as such; every other refusal is counted.
+    fn answer_create<W>(&mut self, created: io::Result<W>) -> Result<W, ShelfFault>
+        ensures opened { IfOk created (λ file. (result ≡ Ok file) × (folder_state_of self.new ≡ folder_state_of self.old)) }
+        ensures memory { IfErr created (λ error. error_kind error ≡ ErrorKind.OutOfMemory → (result ≡ Err ShelfFault.Memory) × (folder_state_of self.new ≡ folder_state_of self.old)) }
+        ensures failed { IfErr created (λ error. error_kind error ≢ ErrorKind.OutOfMemory → (result ≡ Err ShelfFault.Failed) × WriteFailed [] (folder_state_of self.old) (folder_state_of self.new)) }
+    {
+        match created {
+            Ok(file) => Ok(file),
+            Err(error) if error.kind() == ErrorKind::OutOfMemory => Err(ShelfFault::Memory),
+            Err(_) => {
+                self.write_faults = self.write_faults.saturating_add(1);
+                Err(ShelfFault::Failed)
+            }
+        }
+    }
+
+    // What a write answers to what the system answered when the file, which it had emptied, was written: every refusal is
+    // counted, also want of memory.
     fn answer_write(&mut self, written: &io::Result<()>) -> Result<(), ShelfFault>
         ensures done { OnOk written.now ((IsOk result) × (folder_state_of self.new ≡ folder_state_of self.old)) }
         ensures failed { OnErr written.now ((result ≡ Err ShelfFault.Failed) × WriteFailed [] (folder_state_of self.old) (folder_state_of self.new)) }
@@ -106,19 +123,15 @@ impl<'a, R: Files> Shelf for FolderShelf<'a, R> {
         let Ok(path) = Path::new(self.folder.as_str()).join(alloc, name) else {
             return Err(ShelfFault::Memory);
         };
-        self.answer(find_in(self.rt, alloc, path.as_str(), limit))
+        self.answer(find(alloc, fs::open(self.rt, path.as_str()), limit))
     }
 
     fn write(&mut self, alloc: Global, name: &str, bytes: &[u8]) -> Result<(), ShelfFault> {
         let Ok(path) = Path::new(self.folder.as_str()).join(alloc, name) else {
             return Err(ShelfFault::Memory);
         };
-        let written = match fs::create(self.rt, path.as_str()) {
-            // The file is as it was, so this may be told as want of memory. From here on it is not.
-            Err(error) if error.kind() == ErrorKind::OutOfMemory => return Err(ShelfFault::Memory),
-            Err(error) => Err(error),
-            Ok(mut file) => file.write_all(bytes),
-        };
+        let mut file = self.answer_create(fs::create(self.rt, path.as_str()))?;
+        let written = file.write_all(bytes);
         self.answer_write(&written)
     }
 }

@@ -33,6 +33,3 @@ mod tolerances;
 
 pub use names::Names;
 pub use settings::Settings;
-
-#[cfg(test)]
-mod tests;

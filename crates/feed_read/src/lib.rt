@@ -27,6 +27,3 @@ mod visit;
 mod visits;
 
 pub use feed::read_feed;
-
-#[cfg(test)]
-mod tests;

@@ -19,6 +19,3 @@ mod fixed;
 pub mod laws;
 
 pub use fixed::fixed_links;
-
-#[cfg(test)]
-mod tests;

@@ -1,4 +1,4 @@
-ghost use Rattle.std.specs.Prelude.{◌≡◌, ◌+◌, ◌<◌, length, IfOk};
+ghost use Rattle.std.specs.Prelude.{◌≡◌, ◌<◌, length, IfOk};
 
 use crate::Pairs;
 use deadhead_matrix::Matrix;
@@ -35,12 +35,10 @@ fn two_trips(rt: &impl Abort, alloc: Global) -> Result<Timetable, Memory> {
     Ok(timetable)
 }
 
-// The matrix of one entry from B to C, of so many minutes.
-fn walked(alloc: Global, minutes: u16, timetable: &mut Timetable) -> Result<Matrix, Fail>
+// The matrix of this file of deadheads.
+fn walked(alloc: Global, bytes: &[u8], timetable: &mut Timetable) -> Result<Matrix, Fail>
     ensures { IfOk result (λ matrix. length timetable.new.places ≡ length matrix.walks) }
 {
-    let text = format!(in alloc; "from,to,minutes\nB,C,{minutes}\n")?;
-    let bytes = text.as_bytes();
     if bytes.len() > 1000 {
         Err("a long file")?;
     }
@@ -51,45 +49,37 @@ fn walked(alloc: Global, minutes: u16, timetable: &mut Timetable) -> Result<Matr
     }
 }
 
-// The weights of U2 after U1 and of U1 after U2, of U2 after U1 without either, with an entry of so many minutes.
+// The weights of U2 after U1 and of U1 after U2, with these deadheads.
 fn weights<L: Ledger>(
     rt: &impl Abort,
     alloc: Global,
-    minutes: u16,
-    steps: &mut Steps<L>,
-) -> Result<[Option<u64>; 4], Fail>
-    ensures { IfOk result (λ _. steps.new ≡ steps.old + 4) }
-{
-    let mut timetable = two_trips(rt, alloc)?;
-    let matrix = walked(alloc, minutes, &mut timetable)?;
-    let pairs = Pairs::of(&timetable, &matrix);
-    assert_eq!(rt; pairs.slots(), 2);
-    let after = pairs.weight(0, 1, steps);
-    let before = pairs.weight(1, 0, steps);
-    let without_first = Pairs::without(&timetable, &matrix, 0);
-    assert_eq!(rt; without_first.slots(), 2);
-    let first = without_first.weight(0, 1, steps);
-    let without_second = Pairs::without(&timetable, &matrix, 1);
-    assert_eq!(rt; without_second.slots(), 2);
-    let second = without_second.weight(0, 1, steps);
-    Ok([after, before, first, second])
-}
-
-fn rows<L: Ledger>(rt: &impl Abort, alloc: Global, blank: Blank) -> Result<(), Fail>
+    deadheads: &[u8],
+    blank: Blank,
+) -> Result<(Option<u64>, Option<u64>), Fail>
     requires name { blank.name ≡ L.name }
     requires parts { blank.parts ≡ L.parts }
     requires shared { 0 < blank.parts }
 {
     let mut steps: Steps<L> = Steps::open(blank);
-    let cases = [(1, Some(67_108_863)), (30, Some(67_108_834)), (31, None)];
-    for (minutes, weight) in cases {
-        let weights = weights(rt, alloc, minutes, &mut steps)?;
-        assert_eq!(rt; weights, [weight, None, None, None], "{minutes}");
-    }
-    Ok(())
+    let mut timetable = two_trips(rt, alloc)?;
+    let matrix = walked(alloc, deadheads, &mut timetable)?;
+    let pairs = Pairs::of(&timetable, &matrix);
+    assert!(rt; pairs.slots() == 2);
+    Ok((
+        pairs.weight(0, 1, &mut steps),
+        pairs.weight(1, 0, &mut steps),
+    ))
 }
 
 #[test]
 fn a_trip_after_a_walk_that_arrives_in_time(rt: HostRuntime) -> Result<(), Fail> {
-    rows::<Brand>(&rt, rt.alloc(), Blank::new(1))
+    let cases: [(&[u8], Option<u64>); 2] = [
+        (b"from,to,minutes\nB,C,30\n", Some(67_108_834)),
+        (b"from,to,minutes\nB,C,31\n", None),
+    ];
+    for (deadheads, weight) in cases {
+        let weights = weights::<Brand>(&rt, rt.alloc(), deadheads, Blank::new(1))?;
+        assert_eq!(rt; weights, (weight, None));
+    }
+    Ok(())
 }

@@ -37,6 +37,3 @@ pub use links::Links;
 pub use order::by_departure;
 pub use timetable::Timetable;
 pub use trip::{Move, Trip};
-
-#[cfg(test)]
-mod tests;
