@@ -15,8 +15,8 @@
 //! let found = shelf.read(rt.alloc(), "trips.txt", 536_870_912)?;
 //! ```
 //!
-//! The contracts cite `Faults` (when a count rose), `Calls` (which calls are listed to fail), `Shelf` (what a shelf holds, and what reads and writes do to
-//! it), `Sink` (what a sink has taken), `MemoryShelf` and `MemorySink`.
+//! The contracts cite `Faults` (when a count rose), `Calls` (which calls are listed to fail), `Shelf` (what a shelf
+//! holds, and what reads and writes do to it), `Sink` (what a sink has taken), `MemoryShelf` and `MemorySink`.
 #![tactic(auto)]
 
 mod calls;

@@ -1,6 +1,8 @@
--- What a keeper over a database is seen as, and which errors of the database say want of memory.
-use Rattle.std.specs.Prelude.{Bool, true, false, None}
+-- What a keeper over a database is seen as, and what it answers to an error of the database.
+use Rattle.std.specs.Prelude.{None}
 use Rattle.desk_keeper.specs.Keeper.{KeeperState}
+use Rattle.desk_keeper.specs.declared.keeper.KeeperFault.{KeeperFault}
+use Rattle.desk_keeper.specs.declared.keeper.KeeperFault.TheVariants as fault
 use Rattle.sqlite.specs.declared.error.Error.{Error}
 use Rattle.sqlite.specs.declared.error.Error.TheVariants.{SqliteFailure, SqlInputError}
 use Rattle.sqlite.specs.declared.error.ErrorCode.TheVariants as code
@@ -11,8 +13,8 @@ use Rattle.sqlite_keeper.specs.declared.sqlite_keeper.SqliteKeeper.{SqliteKeeper
 abbrev pub keeper_state_of : SqliteKeeper → KeeperState
 keeper_state_of keeper = record { journal = None; faults = keeper.faults }
 
--- the database found no memory for a statement, or for what a statement did
-abbrev pub says_no_memory : Error → Bool
-says_no_memory (SqliteFailure code.OutOfMemory) = true
-says_no_memory (SqlInputError compile.OutOfMemory) = true
-says_no_memory _ = false
+-- why a call does nothing at an error of the database: it found no memory for a statement or for what a statement did, or the call failed
+abbrev pub refusal_of : Error → KeeperFault
+refusal_of (SqliteFailure code.OutOfMemory) = fault.Memory
+refusal_of (SqlInputError compile.OutOfMemory) = fault.Memory
+refusal_of _ = fault.Failed

@@ -1,5 +1,4 @@
-ghost use Rattle.std.specs.Prelude.{◌≡◌, true, false, None};
-ghost use Rattle.desk_keeper.specs.Keeper.{Refuses};
+ghost use Rattle.std.specs.Prelude.{◌≡◌, length, nat_le, if◌then◌else◌, Ok, Err};
 
 use crate::database::Database;
 use desk_io::Text;
@@ -19,9 +18,9 @@ pub struct SqliteKeeper<'a> {
 }
 
 impl<'a> SqliteKeeper<'a> {
-    ghost use Rattle.std.specs.Prelude.{◌≡◌, true, false, None};
-    ghost use Rattle.desk_keeper.specs.Keeper.{Refuses};
-    ghost use Rattle.sqlite_keeper.specs.SqliteKeeper.{keeper_state_of, says_no_memory};
+    ghost use Rattle.std.specs.Prelude.{◌≡◌, None, Ok, Err, IfOk, IfErr};
+    ghost use Rattle.desk_keeper.specs.Keeper.{Loads};
+    ghost use Rattle.sqlite_keeper.specs.SqliteKeeper.{keeper_state_of, refusal_of};
 
     /// The journal in this folder. The file is not opened before the first call, and no fault was counted.
     pub fn over(rt: &'a HostRuntime, folder: Text) -> SqliteKeeper<'a>
@@ -63,21 +62,35 @@ impl<'a> SqliteKeeper<'a> {
         Ok(())
     }
 
-    // Why a call did nothing. Want of memory is told as such; every other error of the database is counted.
-    fn refuse(&mut self, error: Error) -> KeeperFault
-        ensures memory { says_no_memory error ≡ true → result ≡ KeeperFault.Memory }
-        ensures failed { says_no_memory error ≡ false → result ≡ KeeperFault.Failed }
-        ensures state { Refuses result (keeper_state_of self.old) (keeper_state_of self.new) }
+    // What a call answers to what the database answered. An error that says want of memory is told as that; every
+    // other one is counted.
+    fn answer<T: Drop>(&mut self, answered: Result<T, Error>) -> Result<T, KeeperFault>
+        ensures done { IfOk answered (λ value. result ≡ Ok value) }
+        ensures refused { IfErr answered (λ error. result ≡ Err (refusal_of error)) }
+        ensures state { Loads result (keeper_state_of self.old) (keeper_state_of self.new) }
     {
-        match error {
-            Error::SqliteFailure(ErrorCode::OutOfMemory)
-            | Error::SqlInputError(CompileError::OutOfMemory) => KeeperFault::Memory,
-            _ => {
+        match answered {
+            Ok(value) => Ok(value),
+            Err(
+                Error::SqliteFailure(ErrorCode::OutOfMemory)
+                | Error::SqlInputError(CompileError::OutOfMemory),
+            ) => Err(KeeperFault::Memory),
+            Err(_) => {
                 self.faults = self.faults.saturating_add(1);
-                KeeperFault::Failed
+                Err(KeeperFault::Failed)
             }
         }
     }
+}
+
+// The lines, where there are at most so many.
+fn within(lines: Vec<Text>, limit: u32) -> Result<Lines, KeeperFault>
+    ensures { result ≡ (if nat_le (length lines.items) limit then Ok lines.items else Err KeeperFault.TooLong) }
+{
+    if lines.len() > limit as usize {
+        return Err(KeeperFault::TooLong);
+    }
+    Ok(Lines::wrap(lines))
 }
 
 impl<'a> Keeper for SqliteKeeper<'a> {
@@ -86,17 +99,12 @@ impl<'a> Keeper for SqliteKeeper<'a> {
     ghost state = { keeper_state_of };
 
     fn load(&mut self, alloc: Global, limit: u32) -> Result<Lines, KeeperFault> {
-        match self.first_lines(alloc, i64::from(limit) + 1) {
-            Ok(lines) if lines.len() <= limit as usize => Ok(Lines::wrap(lines)),
-            Ok(_) => Err(KeeperFault::TooLong),
-            Err(error) => Err(self.refuse(error)),
-        }
+        let found = self.first_lines(alloc, i64::from(limit) + 1);
+        within(self.answer(found)?, limit)
     }
 
     fn append_all(&mut self, _: Global, lines: &[Text]) -> Result<(), KeeperFault> {
-        match self.append(lines) {
-            Ok(()) => Ok(()),
-            Err(error) => Err(self.refuse(error)),
-        }
+        let appended = self.append(lines);
+        self.answer(appended)
     }
 }
