@@ -1,6 +1,7 @@
 use crate::SqliteKeeper;
 use desk_io::{Memory, Text};
 use desk_keeper::Keeper;
+use sqlite::{Connection, Error};
 use std::alloc::Global;
 use std::path::PathBuf;
 use std::test::Fail;
@@ -100,5 +101,28 @@ fn a_locked_file_a_damaged_one_and_a_missing_folder_are_faults(
     let mut missing = keeper_of(&rt, folder.as_str())?;
     assert!(rt; loads(alloc, &mut missing, 9, "Err(Failed)")?);
     assert!(rt; appends(alloc, &mut missing, &["redo"], "Err(Failed)")?);
+    Ok(())
+}
+
+// Makes the database of a journal that takes every line but one.
+fn make_picky_journal(rt: &HostRuntime, file: &str) -> Result<(), Error> {
+    let mut connection = Connection::open(rt, file)?;
+    connection.execute_batch(
+        "CREATE TABLE journal(seq INTEGER PRIMARY KEY, line TEXT NOT NULL CHECK (line <> 'redo'))",
+    )?;
+    connection.close()
+}
+
+#[test]
+fn an_append_of_which_the_last_line_is_refused_leaves_nothing(rt: HostRuntime) -> Result<(), Fail> {
+    let alloc = rt.alloc();
+    let folder = make_folder(&rt, "refused")?;
+    make_picky_journal(&rt, folder.join(alloc, "journal.db")?.as_str())?;
+    let mut keeper = keeper_of(&rt, folder.as_str())?;
+    assert!(rt; appends(alloc, &mut keeper, &["undo", "redo"], "Err(Failed)")?);
+    assert!(rt; loads(alloc, &mut keeper, 9, "Ok(Lines { lines: [] })")?);
+    assert!(rt; appends(alloc, &mut keeper, &["undo"], "Ok(())")?);
+    drop(keeper);
+    fs::remove_dir_all(&rt, folder.as_str())?;
     Ok(())
 }
