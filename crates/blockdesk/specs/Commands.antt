@@ -6,14 +6,13 @@ use Rattle.gtfs_tables.specs.Faults.{feed_line_of}
 use Rattle.gtfs_tables.specs.declared.fault.FeedFault.{FeedFault}
 use Rattle.blockdesk.specs.declared.command.Command.{Command}
 use Rattle.blockdesk.specs.declared.command.Command.TheVariants.{Deficits, Fixed, Chart}
-use Rattle.blockdesk.specs.declared.feed.Feed.{Feed}
 use Rattle.blockdesk.specs.declared.outcome.Outcome.{Outcome}
 use Rattle.blockdesk.specs.declared.outcome.RunFault.{RunFault}
 use Rattle.blockdesk.specs.declared.outcome.RunFault.TheVariants as run_fault
 use Rattle.blockdesk.specs.declared.papers.Papers.{Papers}
 use Rattle.blockdesk.specs.Chart.{IsChart}
 use Rattle.blockdesk.specs.Deficits.{deficits_text}
-use Rattle.blockdesk.specs.Feed.{Said, IsFeed, reads_deadheads, said_by, said_of}
+use Rattle.blockdesk.specs.Feed.{Said, reads_deadheads, said_by}
 use Rattle.blockdesk.specs.Fixed.{IsFixed}
 use Rattle.blockdesk.specs.Papers.{AreRead}
 
@@ -36,21 +35,14 @@ folder_of (command ∷ folder ∷ []) = if bytes_eq command (codes "sample") the
 folder_of words = codes "."
 
 -- what a command may put of an accepted feed
-abbrev pub Shows : Command → Feed → List ℕ → Type 0
-Shows Deficits feed text = text ≡ deficits_text feed.timetable
-Shows Fixed feed text = IsFixed feed text
-Shows Chart feed text = IsChart feed text
-
--- of an accepted feed what the command puts of it, with the least walks along its deadheads
-pub record Puts (command : Command) (said : Said) (text : List ℕ) : Type 0 where
-  pub feed : Feed
-  pub says : said_of feed ≡ said
-  pub is : IsFeed (reads_deadheads command) feed
-  pub shows : Shows command feed text
+abbrev pub Shows : Command → Said → List ℕ → Type 0
+Shows Deficits said text = text ≡ deficits_text said.timetable
+Shows Fixed said text = IsFixed said text
+Shows Chart said text = IsChart said text
 
 -- of an accepted feed what the command puts of it, and of a refused one the line of its first refusal
 abbrev pub Answers : Command → Result Said FeedFault → Outcome → Type 0
-Answers command (Ok said) outcome = (outcome.status ≡ 0) × Puts command said outcome.text
+Answers command (Ok said) outcome = (outcome.status ≡ 0) × Shows command said outcome.text
 Answers command (Err refused) outcome = outcome ≡ record { text = feed_line_of refused; status = 3 }
 
 -- what a command is told by papers

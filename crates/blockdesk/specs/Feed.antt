@@ -1,5 +1,5 @@
 -- From the papers of a feed to its settings, its timetable and its deadheads, or the first refusal.
-use Rattle.std.specs.Prelude.{◌≡◌, Bool, true, false, List, [], length, Result, Ok, Err}
+use Rattle.std.specs.Prelude.{◌≡◌, Bool, true, false, List, [], Result, Ok, Err}
 use Rattle.desk_io.specs.declared.shelf.Found.{Found}
 use Rattle.desk_io.specs.declared.shelf.Found.TheVariants.{File, Missing, TooLong}
 use Rattle.gtfs_tables.specs.declared.fault.FeedFault.{FeedFault}
@@ -12,7 +12,6 @@ use Rattle.trip_model.specs.Timetable.{TimetableView}
 use Rattle.feed_read.specs.Base.{base_of}
 use Rattle.deadhead_matrix.specs.declared.entry.Entry.{Entry}
 use Rattle.deadhead_matrix.specs.Deadheads.{deadheads_of}
-use Rattle.deadhead_matrix.specs.Matrix.{AreLeastWalks, empty_matrix}
 use Rattle.blockdesk.specs.declared.command.Command.{Command}
 use Rattle.blockdesk.specs.declared.command.Command.TheVariants.{Chart}
 use Rattle.blockdesk.specs.declared.feed.Feed.{Feed}
@@ -52,10 +51,8 @@ said_by reads papers = do
 
 -- what a feed says
 abbrev pub said_of : Feed → Said
-said_of feed = record { settings = feed.settings; timetable = feed.timetable; entries = feed.matrix.entries }
+said_of feed = record { settings = feed.settings; timetable = feed.timetable; entries = feed.deadheads }
 
--- the matrix of a feed has the least walk between each two of its places; without deadheads none are there
-pub record IsFeed (reads : Bool) (feed : Feed) : Type 0 where
-  pub least : AreLeastWalks feed.matrix
-  pub places : length feed.matrix.walks ≡ length feed.timetable.places
-  pub standing : reads ≡ false → feed.matrix ≡ empty_matrix (length feed.timetable.places)
+-- where the deadheads are not read there are none
+abbrev pub HasRead : Bool → Feed → Type 0
+HasRead reads feed = reads ≡ false → feed.deadheads ≡ []

@@ -1,4 +1,4 @@
--- What `fixed` puts of a feed.
+-- What `fixed` puts of a said.
 use Rattle.std.specs.Prelude.{◌≡◌, ℕ, List, [], ◌∷◌, ◌++◌, length, pos, codes}
 use Rattle.std.specs.Fmt.{decimal}
 use Rattle.trip_model.specs.Blocking.{IsFewest}
@@ -7,21 +7,21 @@ use Rattle.trip_model.specs.Links.{blocks_along}
 use Rattle.trip_model.specs.Maximum.{sum_of_maxima}
 use Rattle.trip_model.specs.Order.{by_departure}
 use Rattle.trip_model.specs.Plain.{plain_network, trip_moves}
-use Rattle.deadhead_matrix.specs.Matrix.{walk}
+use Rattle.deadhead_matrix.specs.Matrix.{empty_matrix, walk}
 use Rattle.fixed_fleet.specs.Rule.{first_in_first_out}
 use Rattle.block_build.specs.Lines.{block_text}
-use Rattle.blockdesk.specs.declared.feed.Feed.{Feed}
+use Rattle.blockdesk.specs.Feed.{Said}
 
--- the lines of the blocks, and then their number
-abbrev pub fixed_text : Feed → List (List ℕ) → List ℕ
-fixed_text feed blocks =
-    block_text feed.timetable (walk feed.matrix) feed.settings.prefix blocks ++ (codes "fixed " ++ (decimal (length blocks) ++ 10 ∷ []))
+-- the lines of the blocks, whose vehicles never run empty, and then their number
+abbrev pub fixed_text : Said → List (List ℕ) → List ℕ
+fixed_text said blocks =
+    block_text said.timetable (walk (empty_matrix (length said.timetable.places))) said.settings.prefix blocks ++ (codes "fixed " ++ (decimal (length blocks) ++ 10 ∷ []))
 
 -- The text is that of the blocks which the rule of first in, first out makes. No blocking without deadheads has fewer, and
 -- they are as many as the sum of the maxima.
-pub record IsFixed (feed : Feed) (text : List ℕ) : Type 0 where
+pub record IsFixed (said : Said) (text : List ℕ) : Type 0 where
   pub blocks : List (List ℕ)
-  pub by_rule : blocks ≡ blocks_along (first_in_first_out (trip_moves feed.timetable.slots)) (by_departure (trip_moves feed.timetable.slots))
-  pub fewest : IsFewest (plain_network (trip_moves feed.timetable.slots)) blocks
-  pub number : pos (length blocks) ≡ sum_of_maxima (deficit (live_moves feed.timetable.slots)) (length feed.timetable.places)
-  pub printed : text ≡ fixed_text feed blocks
+  pub by_rule : blocks ≡ blocks_along (first_in_first_out (trip_moves said.timetable.slots)) (by_departure (trip_moves said.timetable.slots))
+  pub fewest : IsFewest (plain_network (trip_moves said.timetable.slots)) blocks
+  pub number : pos (length blocks) ≡ sum_of_maxima (deficit (live_moves said.timetable.slots)) (length said.timetable.places)
+  pub printed : text ≡ fixed_text said blocks

@@ -1,7 +1,7 @@
 ghost use Rattle.std.specs.Prelude.{◌≡◌, false, IfOk};
 ghost use Rattle.blockdesk.specs.declared.command.Command.TheVariants as command;
 ghost use Rattle.blockdesk.specs.Chart.{IsChart};
-ghost use Rattle.blockdesk.specs.Feed.{IsFeed};
+ghost use Rattle.blockdesk.specs.Feed.{HasRead, said_of};
 ghost use Rattle.blockdesk.specs.Runs.{RunsAs};
 ghost use Rattle.blockdesk.specs.World.{world};
 
@@ -11,6 +11,7 @@ use crate::feed::Feed;
 use crate::fixed::fixed_blocks;
 use crate::show::{Show, perform};
 use chart_text::{block_chart, deficit_chart};
+use deadhead_matrix::Matrix;
 use deadhead_matrix::laws::standing_law;
 use desk_io::{Memory, Shelf, Sink, Steps, Text};
 use std::alloc::Global;
@@ -19,8 +20,8 @@ use trip_model::laws::plain_law;
 
 // The charts of the deficits and of the blocks of a feed. Without deadheads the fewest blocks are least.
 fn charts<L: Ledger>(alloc: Global, feed: &Feed, steps: &mut Steps<L>) -> Result<Text, Memory>
-    requires { IsFeed false feed.now }
-    ensures { IfOk result (IsChart feed.now) }
+    requires { HasRead false feed.now }
+    ensures { IfOk result (IsChart (said_of feed.now)) }
 {
     plain_law();
     standing_law();
@@ -28,13 +29,8 @@ fn charts<L: Ledger>(alloc: Global, feed: &Feed, steps: &mut Steps<L>) -> Result
     let deficits = deficits_of(alloc, timetable, steps)?;
     let above = deficit_chart(alloc, timetable, &deficits)?;
     let blocks = fixed_blocks(alloc, timetable)?;
-    let below = block_chart(
-        alloc,
-        timetable,
-        &feed.matrix,
-        &blocks,
-        feed.settings.prefix(),
-    )?;
+    let matrix = Matrix::of(alloc, &feed.deadheads, timetable.places())?;
+    let below = block_chart(alloc, timetable, &matrix, &blocks, feed.settings.prefix())?;
     Ok(Text::wrap(format!(in alloc; "{}{}", above.as_str(), below.as_str())?))
 }
 

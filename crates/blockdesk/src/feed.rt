@@ -1,12 +1,11 @@
-ghost use Rattle.std.specs.Prelude.{◌≡◌, false, length, IfOk};
+ghost use Rattle.std.specs.Prelude.{◌≡◌, false, [], IfOk};
 ghost use Rattle.gtfs_tables.specs.Papers.{IsWithinLimit};
-ghost use Rattle.deadhead_matrix.specs.Matrix.{AreLeastWalks, empty_matrix};
 ghost use Rattle.gtfs_tables.specs.Reading.{Gives};
 ghost use Rattle.blockdesk.specs.Feed as spec;
 ghost use Rattle.blockdesk.specs.Papers.{AreWithinLimit};
 
 use crate::papers::Papers;
-use deadhead_matrix::Matrix;
+use deadhead_matrix::Deadheads;
 use desk_io::Found;
 use desk_settings::Settings;
 use feed_read::read_feed as read_timetable;
@@ -19,7 +18,7 @@ use trip_model::Timetable;
 pub struct Feed {
     pub settings: Settings,
     pub timetable: Timetable,
-    pub matrix: Matrix,
+    pub deadheads: Deadheads,
 }
 
 // A paper that is not read as yet must not be there.
@@ -38,17 +37,16 @@ fn read_deadheads(
     reads: bool,
     deadheads: &Found,
     timetable: &mut Timetable,
-) -> Result<Matrix, FeedFault>
+) -> Result<Deadheads, FeedFault>
     requires { IsWithinLimit deadheads.now }
-    ensures gives { Gives (λ matrix. (timetable.new, matrix.entries)) result (spec.deadheads_for reads deadheads.now timetable.old) }
-    ensures least { IfOk result AreLeastWalks }
-    ensures places { IfOk result (λ matrix. length matrix.walks ≡ length timetable.new.places) }
-    ensures standing { reads ≡ false → IfOk result (λ matrix. matrix ≡ empty_matrix (length timetable.new.places)) }
+    ensures gives { Gives (λ read. (timetable.new, read)) result (spec.deadheads_for reads deadheads.now timetable.old) }
+    ensures none { reads ≡ false → IfOk result (λ read. read ≡ []) }
 {
-    if !reads {
-        not_there(Paper::Deadheads, deadheads)?;
+    if reads {
+        return Deadheads::read(alloc, deadheads, timetable);
     }
-    Matrix::read(alloc, deadheads, timetable)
+    not_there(Paper::Deadheads, deadheads)?;
+    Ok(Deadheads::none(alloc)?)
 }
 
 /// The settings, the base timetable and the deadheads of a feed, or the first refusal in the order in which its papers are
@@ -57,7 +55,7 @@ fn read_deadheads(
 pub fn read_feed(alloc: Global, reads: bool, papers: &Papers) -> Result<Feed, FeedFault>
     requires { AreWithinLimit papers.now }
     ensures gives { Gives spec.said_of result (spec.said_by reads papers.now) }
-    ensures valid { IfOk result (spec.IsFeed reads) }
+    ensures read { IfOk result (spec.HasRead reads) }
 {
     let settings = Settings::read(
         alloc,
@@ -66,11 +64,11 @@ pub fn read_feed(alloc: Global, reads: bool, papers: &Papers) -> Result<Feed, Fe
         &papers.tolerances,
     )?;
     let mut timetable = read_timetable(alloc, &papers.trips, &papers.stop_times, &settings)?;
-    let matrix = read_deadheads(alloc, reads, &papers.deadheads, &mut timetable)?;
+    let deadheads = read_deadheads(alloc, reads, &papers.deadheads, &mut timetable)?;
     not_there(Paper::Edits, &papers.edits)?;
     Ok(Feed {
         settings,
         timetable,
-        matrix,
+        deadheads,
     })
 }

@@ -1,4 +1,4 @@
-ghost use Rattle.std.specs.Prelude.{◌≡◌, ◌<◌, true, pos, length, All, IfOk};
+ghost use Rattle.std.specs.Prelude.{◌≡◌, ◌<◌, pos, length, All, IfOk};
 ghost use Rattle.trip_model.specs.Blocking.{IsFewest};
 ghost use Rattle.trip_model.specs.Deficit.{deficit, live_moves};
 ghost use Rattle.trip_model.specs.Links.{blocks_along};
@@ -7,7 +7,7 @@ ghost use Rattle.trip_model.specs.Order.{by_departure};
 ghost use Rattle.trip_model.specs.Plain.{plain_network, trip_moves};
 ghost use Rattle.fixed_fleet.specs.Rule.{first_in_first_out};
 ghost use Rattle.blockdesk.specs.declared.command.Command.TheVariants as command;
-ghost use Rattle.blockdesk.specs.Feed.{IsFeed};
+ghost use Rattle.blockdesk.specs.Feed.{said_of};
 ghost use Rattle.blockdesk.specs.Fixed.{IsFixed};
 ghost use Rattle.blockdesk.specs.Runs.{RunsAs};
 ghost use Rattle.blockdesk.specs.World.{world};
@@ -16,6 +16,7 @@ use crate::command::Command;
 use crate::feed::Feed;
 use crate::show::{Show, perform};
 use block_build::{Blocks, block_lines, blocks_of};
+use deadhead_matrix::{Deadheads, Matrix};
 use desk_io::{Memory, Shelf, Sink, Steps, Text};
 use fixed_fleet::fixed_links;
 use std::alloc::Global;
@@ -37,16 +38,16 @@ pub fn fixed_blocks(alloc: Global, timetable: &Timetable) -> Result<Blocks, Memo
     blocks_of(alloc, timetable, &links)
 }
 
-// The lines of the blocks without deadheads, and their number.
+// The lines of the blocks without deadheads, and their number. No least walk is asked for: no vehicle runs empty.
 fn fixed_text(alloc: Global, feed: &Feed) -> Result<Text, Memory>
-    requires { IsFeed true feed.now }
-    ensures { IfOk result (IsFixed feed.now) }
+    ensures { IfOk result (IsFixed (said_of feed.now)) }
 {
     let blocks = fixed_blocks(alloc, &feed.timetable)?;
+    let matrix = Matrix::of(alloc, &Deadheads::none(alloc)?, feed.timetable.places())?;
     let lines = block_lines(
         alloc,
         &feed.timetable,
-        &feed.matrix,
+        &matrix,
         &blocks,
         feed.settings.prefix(),
     )?;

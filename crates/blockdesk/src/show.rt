@@ -1,7 +1,7 @@
 ghost use Rattle.std.specs.Prelude.{◌≡◌, ℕ, List, IfOk};
 ghost use Rattle.blockdesk.specs.declared.command.Command.{Command as Asked};
 ghost use Rattle.blockdesk.specs.Commands.{Shows, Makes, HasOutcome};
-ghost use Rattle.blockdesk.specs.Feed.{IsFeed, reads_deadheads};
+ghost use Rattle.blockdesk.specs.Feed.{HasRead, reads_deadheads, said_of};
 ghost use Rattle.blockdesk.specs.Papers.{AreWithinLimit, ReadsPapers};
 ghost use Rattle.blockdesk.specs.Runs.{RunsAs};
 ghost use Rattle.blockdesk.specs.World.{world};
@@ -33,8 +33,8 @@ pub trait Show {
         feed: &Feed,
         steps: &mut Steps<L>,
     ) -> Result<Text, Memory>
-        requires { IsFeed (reads_deadheads (command self.now)) feed.now }
-        ensures { IfOk result (Shows (command self.now) feed.now) };
+        requires { HasRead (reads_deadheads (command self.now)) feed.now }
+        ensures { IfOk result (Shows (command self.now) (said_of feed.now)) };
 }
 
 // What is put of a feed, and the status.

@@ -1,13 +1,12 @@
 -- The places that a file leaves, as the reading of its records tells them.
-use Rattle.std.proofs.Common.{◌≡◌, ◌≢◌, ℕ, ◌+◌, ◌≤◌, ◌++◌, List, [], ◌∷◌, length, take, Result, Ok, Err, refl, sym, ap, ◌∙◌, arith}
+use Rattle.std.proofs.Common.{◌≡◌, ℕ, ◌+◌, ◌≤◌, List, [], ◌∷◌, length, Result, Ok, Err, refl, sym, ap, ◌∙◌, arith}
 use Rattle.std.proofs.lemmas.List.{take-take, take_all}
 use Rattle.desk_io.specs.declared.shelf.Found.{Found}
 use Rattle.desk_io.specs.declared.shelf.Found.TheVariants.{File, Missing, TooLong}
 use Rattle.gtfs_tables.specs.declared.fault.FeedFault.{FeedFault}
-use Rattle.gtfs_tables.specs.declared.fault.FeedFault.TheVariants as fault
 use Rattle.gtfs_tables.specs.declared.paper.Paper.TheVariants as paper
-use Rattle.gtfs_tables.specs.Fold.{paper_read, table_read, AreLeft, IsTableLeft, LeftBy}
-use Rattle.gtfs_tables.specs.Reading.{◌>>=◌, judged, nothing, table_in, Fails}
+use Rattle.gtfs_tables.specs.Fold.{AreLeft, IsTableLeft, LeftBy}
+use Rattle.gtfs_tables.specs.Reading.{◌>>=◌, judged, nothing, table_in}
 use Rattle.gtfs_tables.specs.Table.{TableView}
 use Rattle.trip_model.specs.Timetable.{TimetableView}
 use Rattle.deadhead_matrix.specs.declared.entry.Entry.{Entry}

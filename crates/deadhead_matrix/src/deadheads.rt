@@ -1,24 +1,27 @@
-ghost use Rattle.std.specs.Prelude.{◌≡◌, ℕ, ◌<◌, ◌≤◌, [], ◌∷◌, ◌++◌, length, slice_index_or, slice_set, IfOk};
+ghost use Rattle.std.specs.Prelude.{◌≡◌, ◌≢◌, ℕ, ◌<◌, ◌≤◌, [], ◌∷◌, ◌++◌, length, slice_index_or, slice_set, Err, IfOk};
 ghost use Rattle.gtfs_tables.specs.Reading.{Gives};
 ghost use Rattle.trip_model.specs.declared.limits.TheConstants.{MOST_PLACES};
 ghost use Rattle.deadhead_matrix.specs.declared.limits.TheConstants.{MOST_DEADHEAD};
-ghost use Rattle.deadhead_matrix.specs.Deadheads.{has_entry, with_entry};
+ghost use Rattle.gtfs_tables.specs.Papers.{IsWithinLimit};
+ghost use Rattle.deadhead_matrix.specs.Deadheads.{deadheads_of, has_entry, with_entry};
+ghost use Rattle.deadhead_matrix.specs.Left.{as_before, timetable_left};
 ghost use Rattle.deadhead_matrix.specs.Search.{way, AreRows, AreLeastRows};
 
 use crate::distances::Distances;
 use crate::entry::Entry;
+use crate::read::read_deadheads;
 use crate::search::search;
 use crate::ways::Ways;
-use desk_io::Memory;
+use desk_io::{Found, Memory};
 use gtfs_tables::{FeedFault, Paper};
 use std::alloc::Global;
 use std::marker::Model;
-use trip_model::MOST_PLACES;
+use trip_model::{MOST_PLACES, Timetable};
 
-/// Entries in the order in which a file names them, at most one from each place to each. It is found without going over
-/// the others.
+/// The entries of `deadheads.csv` in the order of its records, at most one from each place to each; a single one is found
+/// without going over the others.
 #[derive(Drop)]
-pub(crate) struct Deadheads {
+pub struct Deadheads {
     entries: Vec<Entry>,
     ways: Vec<Ways>,
 }
@@ -60,7 +63,7 @@ fn set_way(ways: &mut [Ways], from: usize, to: usize, minutes: u16)
 
 impl Deadheads {
     /// No entries.
-    pub(crate) fn none(alloc: Global) -> Result<Deadheads, Memory>
+    pub fn none(alloc: Global) -> Result<Deadheads, Memory>
         ensures { IfOk result (λ deadheads. deadheads ≡ []) }
     {
         Ok(Deadheads {
@@ -114,11 +117,31 @@ impl Deadheads {
         Ok(rows)
     }
 
-    /// The entries alone.
-    pub(crate) fn into_entries(self) -> Vec<Entry>
-        ensures { result.items ≡ self }
+    /// A copy of the entries.
+    pub(crate) fn entries(&self, alloc: Global) -> Result<Vec<Entry>, Memory>
+        ensures { IfOk result (λ entries. entries.items ≡ self.now) }
     {
-        let Deadheads { entries, ways: _ } = self;
-        entries
+        let mut entries = Vec::new(alloc);
+        entries.extend_from_slice(&self.entries)?;
+        Ok(entries)
+    }
+
+    /// The entries of what was found of `deadheads.csv`; a missing file has no records. The places that a record names are
+    /// added to the timetable where they are new, without layover, the first before the second. The file is refused as a
+    /// whole at the first record that is not of its form, of which the fields are judged before the places; the places of
+    /// the records before it have been added then, and its own as far as they were met. `FeedFault::Memory` may come at
+    /// any time, after any of these places.
+    pub fn read(
+        alloc: Global,
+        deadheads: &Found,
+        timetable: &mut Timetable,
+    ) -> Result<Deadheads, FeedFault>
+        requires { IsWithinLimit deadheads.now }
+        ensures gives { Gives (λ read. (timetable.new, read)) result (deadheads_of deadheads.now timetable.old) }
+        ensures left { result ≢ Err FeedFault.Memory → timetable.new ≡ timetable_left deadheads.now timetable.old }
+        // Also after want of memory, the timetable is as it was but for places at the end of its list.
+        ensures kept { as_before (length timetable.old.places) timetable.new ≡ timetable.old }
+    {
+        read_deadheads(alloc, deadheads, timetable)
     }
 }

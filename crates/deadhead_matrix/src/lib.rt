@@ -1,7 +1,8 @@
 //! Least walks between the places of a timetable, over the deadheads that the planner allows.
 //!
-//! [`Matrix::read`] reads what was found of `deadheads.csv`, adds the places that it names to the timetable, and makes the
-//! matrix over all places; its records are seen as entries ([`Entry`]). [`Matrix::minutes`] answers by a look-up in how
+//! [`Deadheads::read`] reads what was found of `deadheads.csv` and adds the places that it names to the timetable; its
+//! records are seen as entries ([`Entry`]). [`Matrix::of`] makes the matrix of entries between all places, and
+//! [`Matrix::read`] both at once. [`Matrix::minutes`] answers by a look-up in how
 //! many minutes a vehicle can run empty from one place to another, along as many entries as it takes.
 //!
 //! The contract that the crates above use: the entries are those of the file, or the first refusal that is due; `minutes`
@@ -28,6 +29,7 @@ mod read;
 mod search;
 mod ways;
 
+pub use deadheads::Deadheads;
 pub use entry::Entry;
 pub use limits::{MOST_DEADHEAD, VEHICLE_WEIGHT};
 pub use matrix::Matrix;

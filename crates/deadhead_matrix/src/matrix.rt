@@ -1,15 +1,16 @@
-ghost use Rattle.std.specs.Prelude.{◌≡◌, ◌≢◌, ◌<◌, [], length, Err, IfOk};
+ghost use Rattle.std.specs.Prelude.{◌≡◌, ◌≢◌, ◌<◌, ◌≤◌, [], length, Err, IfOk};
 ghost use Rattle.gtfs_tables.specs.Papers.{IsWithinLimit};
 ghost use Rattle.gtfs_tables.specs.Reading.{Gives};
+ghost use Rattle.trip_model.specs.declared.limits.TheConstants.{MOST_PLACES};
 ghost use Rattle.deadhead_matrix.specs.Deadheads as spec;
 ghost use Rattle.deadhead_matrix.specs.Left.{as_before, timetable_left};
 ghost use Rattle.deadhead_matrix.specs.Walks.{IsLeastWalk};
 ghost use Rattle.deadhead_matrix.specs.Matrix.{AreLeastWalks, empty_matrix, walk};
 
+use crate::deadheads::Deadheads;
 use crate::distances::Distances;
 use crate::entry::Entry;
-use crate::read::deadheads_of;
-use desk_io::Found;
+use desk_io::{Found, Memory};
 use gtfs_tables::FeedFault;
 use std::alloc::Global;
 use std::marker::Model;
@@ -35,11 +36,22 @@ impl Model for Matrix {
 }
 
 impl Matrix {
-    /// The matrix of what was found of `deadheads.csv`; a missing file has no records. The places that a record names are
-    /// added to the timetable where they are new, without layover, the first before the second. The file is refused as a
-    /// whole at the first record that is not of its form, of which the fields are judged before the places; the places of
-    /// the records before it have been added then, and its own as far as they were met. `FeedFault::Memory` may come at
-    /// any time, after any of these places.
+    /// The matrix of entries between so many places: one search from each of them.
+    pub fn of(alloc: Global, deadheads: &Deadheads, places: u16) -> Result<Matrix, Memory>
+        requires { places ≤ MOST_PLACES }
+        ensures entries { IfOk result (λ matrix. matrix.entries ≡ deadheads.now) }
+        ensures least { IfOk result AreLeastWalks }
+        ensures places { IfOk result (λ matrix. length matrix.walks ≡ places) }
+        ensures standing { deadheads.now ≡ [] → IfOk result (λ matrix. matrix ≡ empty_matrix places) }
+    {
+        Ok(Matrix {
+            entries: deadheads.entries(alloc)?,
+            rows: deadheads.distances(alloc, places)?,
+        })
+    }
+
+    /// The matrix of what was found of `deadheads.csv`, as [`Deadheads::read`] reads it, between all places that the
+    /// timetable has then.
     pub fn read(
         alloc: Global,
         deadheads: &Found,
@@ -54,12 +66,8 @@ impl Matrix {
         // Also after want of memory, the timetable is as it was but for places at the end of its list.
         ensures kept { as_before (length timetable.old.places) timetable.new ≡ timetable.old }
     {
-        let deadheads = deadheads_of(alloc, deadheads, timetable)?;
-        let rows = deadheads.distances(alloc, timetable.places())?;
-        Ok(Matrix {
-            entries: deadheads.into_entries(),
-            rows,
-        })
+        let deadheads = Deadheads::read(alloc, deadheads, timetable)?;
+        Ok(Matrix::of(alloc, &deadheads, timetable.places())?)
     }
 
     /// In how many minutes a vehicle can run empty from the place `a` to the place `b`: 0 from a place to itself, up to

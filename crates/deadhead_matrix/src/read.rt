@@ -152,7 +152,7 @@ fn read_all(alloc: Global, found: &Found, reading: &mut Reading) -> Result<(), F
 }
 
 /// The entries of the file, whose places it adds to the timetable; none where it is not there.
-pub(crate) fn deadheads_of(
+pub(crate) fn read_deadheads(
     alloc: Global,
     found: &Found,
     timetable: &mut Timetable,

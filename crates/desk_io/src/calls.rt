@@ -5,7 +5,7 @@ use std::marker::Model;
 
 /// Which calls of an object in memory fail: those that are listed, counted from 1, and no others.
 #[derive(Debug, Drop)]
-pub(crate) struct Calls {
+pub struct Calls {
     listed: Vec<u32>,
     made: u64,
     faults: u64,
@@ -20,6 +20,7 @@ impl Model for Calls {
 }
 
 impl Calls {
+    /// No call was made, and no fault was counted.
     pub fn new(listed: Vec<u32>) -> Calls
         ensures { result ≡ calls_at_first listed.items }
     {

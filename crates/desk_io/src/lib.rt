@@ -3,7 +3,8 @@
 //! A [`Shelf`] holds named files, a [`Sink`] takes the bytes that are printed, and [`Steps`] counts steps for
 //! proofs alone. Each of the first two is a trait with one meaning, a record of what it holds and of how many
 //! faults it has counted. Callers are generic over them, so that they are proved once: for the objects in memory,
-//! which tell their bytes, and for a real folder and standard output, which tell nothing.
+//! which tell their bytes, and for a real folder and standard output, which tell nothing. [`Calls`] says which calls of
+//! an object in memory fail.
 //!
 //! The contract that the crates above use: a read gives the file, `Missing` or `TooLong` by the files; [`put_all`]
 //! appends all bytes or a front; `Failed` comes only where a count of that object rose, and every other answer
@@ -14,8 +15,8 @@
 //! let found = shelf.read(rt.alloc(), "trips.txt", 536_870_912)?;
 //! ```
 //!
-//! The contracts cite `Faults` (when a count rose), `Shelf` (what a shelf holds, and what reads and writes do to
-//! it), `Sink` (what a sink has taken), `MemoryShelf` and `MemorySink`.
+//! The contracts cite `Faults` (when a count rose), `Calls` (which calls are listed to fail), `Shelf` (what a shelf
+//! holds, and what reads and writes do to it), `Sink` (what a sink has taken), `MemoryShelf` and `MemorySink`.
 #![tactic(auto)]
 
 mod calls;
@@ -29,6 +30,7 @@ mod sink;
 mod steps;
 mod text;
 
+pub use calls::Calls;
 pub use folder_shelf::FolderShelf;
 pub use memory::Memory;
 pub use memory_shelf::MemoryShelf;

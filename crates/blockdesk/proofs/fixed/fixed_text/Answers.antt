@@ -1,17 +1,8 @@
-use Rattle.std.proofs.Common.{◌∷◌, [], ◌++◌, ap, codes, ◌∙◌}
+use Rattle.std.proofs.Common.{◌∷◌, [], ◌++◌, ap, codes, refl, ◌∙◌}
 use Rattle.std.specs.Fmt.{decimal}
 use Rattle.block_build.specs.Lines.{block_text}
-use Rattle.deadhead_matrix.specs.Matrix.{walk}
+use Rattle.deadhead_matrix.specs.Matrix.{walk, MatrixView}
 use Rattle.blockdesk.proofs.fixed.fixed_text.Goals as goal
 
 pub returns : goal.returns
-returns c =
-    let lines = c.as_str-lines.ensures ∙ c.in_ok-lines.ensures ∙ ap (λ prefix. block_text c.args.feed.now.timetable (walk c.args.feed.now.matrix) prefix c.in_ok-blocks.blocks) c.prefix.ensures in
-    let number = c.len.ensures in
-    record {
-      blocks = c.in_ok-blocks.blocks;
-      by_rule = c.in_ok-blocks.ensures.rule;
-      fewest = c.in_ok-blocks.ensures.fewest;
-      number = c.in_ok-blocks.ensures.number;
-      printed = c.wrap.ensures ∙ c.in_ok-format.ensures.ok ∙ (λ i. lines i ++ (codes "fixed " ++ (decimal (number i) ++ 10 ∷ [])));
-    }
+returns c = ?

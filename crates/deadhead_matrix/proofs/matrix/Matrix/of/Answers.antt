@@ -1,0 +1,17 @@
+use Rattle.std.proofs.Common.{List, ap, subst, sym, ◌∙◌}
+use Rattle.deadhead_matrix.specs.declared.entry.Entry.{Entry}
+use Rattle.deadhead_matrix.specs.Matrix.{empty_matrix}
+use Rattle.deadhead_matrix.specs.Search.{AreLeastRows}
+use Rattle.deadhead_matrix.proofs.MatrixLemmas.{AreLeastWalks-from, matrix-standing}
+use Rattle.deadhead_matrix.proofs.matrix.Matrix.of.Goals as goal
+
+pub returns-clause-least : goal.returns-clause-least
+returns-clause-least c =
+    AreLeastWalks-from c.in_ok-entries.field-0.items c.in_ok-distances.field-0.items
+    (subst (λ (es : List Entry). AreLeastRows es c.in_ok-distances.field-0.items) (sym c.in_ok-entries.ensures) c.in_ok-distances.ensures.least)
+
+pub returns-clause-standing : goal.returns-clause-standing
+returns-clause-standing c = λ none.
+    matrix-standing c.in_ok-entries.field-0.items c.in_ok-distances.field-0.items
+    (subst (λ (es : List Entry). AreLeastRows es c.in_ok-distances.field-0.items) (sym c.in_ok-entries.ensures) c.in_ok-distances.ensures.least) (c.in_ok-entries.ensures ∙ none)
+    ∙ ap empty_matrix c.in_ok-distances.ensures.count

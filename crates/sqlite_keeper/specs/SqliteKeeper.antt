@@ -1,0 +1,20 @@
+-- What a keeper over a database is seen as, and what it answers to an error of the database.
+use Rattle.std.specs.Prelude.{None}
+use Rattle.desk_keeper.specs.Keeper.{KeeperState}
+use Rattle.desk_keeper.specs.declared.keeper.KeeperFault.{KeeperFault}
+use Rattle.desk_keeper.specs.declared.keeper.KeeperFault.TheVariants as fault
+use Rattle.sqlite.specs.declared.error.Error.{Error}
+use Rattle.sqlite.specs.declared.error.Error.TheVariants.{SqliteFailure, SqlInputError}
+use Rattle.sqlite.specs.declared.error.ErrorCode.TheVariants as code
+use Rattle.sqlite_resolve.specs.declared.error.CompileError.TheVariants as compile
+use Rattle.sqlite_keeper.specs.declared.sqlite_keeper.SqliteKeeper.{SqliteKeeper}
+
+-- it tells nothing of its journal, and counts its faults
+abbrev pub keeper_state_of : SqliteKeeper → KeeperState
+keeper_state_of keeper = record { journal = None; faults = keeper.faults }
+
+-- why a call does nothing at an error of the database: it found no memory for a statement or for what a statement did, or the call failed
+abbrev pub refusal_of : Error → KeeperFault
+refusal_of (SqliteFailure code.OutOfMemory) = fault.Memory
+refusal_of (SqlInputError compile.OutOfMemory) = fault.Memory
+refusal_of _ = fault.Failed

@@ -1,0 +1,25 @@
+//! The journal of edits in a database of SQLite's format.
+//!
+//! [`SqliteKeeper`] is a `Keeper` over the file `journal.db` of a folder, table
+//! `journal(seq INTEGER PRIMARY KEY, line TEXT NOT NULL)`. The file is opened at the first call, and made where it
+//! isn't there. Other programs then find it locked until the keeper is dropped. Each append is one transaction.
+//!
+//! ```text
+//! let mut keeper = SqliteKeeper::over(&rt, Text::of(rt.alloc(), "feed")?);
+//! let journal = keeper.load(rt.alloc(), 65_536)?;
+//! ```
+//!
+//! It tells nothing of its journal. So the contract that the crates above use is that of every `Keeper`: a load answers
+//! at most as many lines as were asked for, and `Failed` comes only where the count of faults rose.
+//!
+//! The contracts cite `SqliteKeeper` (what it is seen as, and what it answers to an error of the database), and of
+//! `desk_keeper` `Keeper` (what loads and appends do to a keeper).
+#![tactic(auto)]
+
+mod database;
+mod sqlite_keeper;
+
+pub use sqlite_keeper::SqliteKeeper;
+
+#[cfg(test)]
+mod tests;

@@ -1,0 +1,110 @@
+ghost use Rattle.std.specs.Prelude.{◌≡◌, length, nat_le, if◌then◌else◌, Ok, Err};
+
+use crate::database::Database;
+use desk_io::Text;
+use desk_keeper::{Keeper, KeeperFault, Lines};
+use sqlite::{Error, ErrorCode};
+use sqlite_resolve::CompileError;
+use std::alloc::Global;
+
+/// A keeper over the file `journal.db` in a folder. It tells nothing of its journal, and counts its faults.
+#[derive(Drop)]
+pub struct SqliteKeeper<'a> {
+    rt: &'a HostRuntime,
+    folder: Text,
+    // None before the first call, and after a call that failed.
+    database: Option<Database>,
+    faults: u64,
+}
+
+impl<'a> SqliteKeeper<'a> {
+    ghost use Rattle.std.specs.Prelude.{◌≡◌, None, Ok, Err, IfOk, IfErr};
+    ghost use Rattle.desk_keeper.specs.Keeper.{Loads};
+    ghost use Rattle.sqlite_keeper.specs.SqliteKeeper.{keeper_state_of, refusal_of};
+
+    /// The journal in this folder. The file is not opened before the first call, and no fault was counted.
+    pub fn over(rt: &'a HostRuntime, folder: Text) -> SqliteKeeper<'a>
+        ensures { keeper_state_of result ≡ record { journal = None; faults = 0 } }
+    {
+        SqliteKeeper {
+            rt,
+            folder,
+            database: None,
+            faults: 0,
+        }
+    }
+
+    // The database, opened where it isn't open yet. It is put back once a call has succeeded.
+    fn open(&mut self) -> Result<Database, Error>
+        ensures { keeper_state_of self.new ≡ keeper_state_of self.old }
+    {
+        match self.database.take() {
+            Some(database) => Ok(database),
+            None => Database::open(self.rt, self.folder.as_str()),
+        }
+    }
+
+    fn first_lines(&mut self, alloc: Global, most: i64) -> Result<Vec<Text>, Error>
+        ensures { keeper_state_of self.new ≡ keeper_state_of self.old }
+    {
+        let mut database = self.open()?;
+        let lines = database.first_lines(alloc, most)?;
+        self.database = Some(database);
+        Ok(lines)
+    }
+
+    fn append(&mut self, lines: &[Text]) -> Result<(), Error>
+        ensures { keeper_state_of self.new ≡ keeper_state_of self.old }
+    {
+        let mut database = self.open()?;
+        database.append(lines)?;
+        self.database = Some(database);
+        Ok(())
+    }
+
+    // What a call answers to what the database answered. An error that says want of memory is told as that; every
+    // other one is counted.
+    fn answer<T: Drop>(&mut self, answered: Result<T, Error>) -> Result<T, KeeperFault>
+        ensures done { IfOk answered (λ value. result ≡ Ok value) }
+        ensures refused { IfErr answered (λ error. result ≡ Err (refusal_of error)) }
+        ensures state { Loads result (keeper_state_of self.old) (keeper_state_of self.new) }
+    {
+        match answered {
+            Ok(value) => Ok(value),
+            Err(
+                Error::SqliteFailure(ErrorCode::OutOfMemory)
+                | Error::SqlInputError(CompileError::OutOfMemory),
+            ) => Err(KeeperFault::Memory),
+            Err(_) => {
+                self.faults = self.faults.saturating_add(1);
+                Err(KeeperFault::Failed)
+            }
+        }
+    }
+}
+
+// The lines, where there are at most so many.
+fn within(lines: Vec<Text>, limit: u32) -> Result<Lines, KeeperFault>
+    ensures { result ≡ (if nat_le (length lines.items) limit then Ok lines.items else Err KeeperFault.TooLong) }
+{
+    if lines.len() > limit as usize {
+        return Err(KeeperFault::TooLong);
+    }
+    Ok(Lines::wrap(lines))
+}
+
+impl<'a> Keeper for SqliteKeeper<'a> {
+    ghost use Rattle.sqlite_keeper.specs.SqliteKeeper.{keeper_state_of};
+
+    ghost state = { keeper_state_of };
+
+    fn load(&mut self, alloc: Global, limit: u32) -> Result<Lines, KeeperFault> {
+        let found = self.first_lines(alloc, i64::from(limit) + 1);
+        within(self.answer(found)?, limit)
+    }
+
+    fn append_all(&mut self, _: Global, lines: &[Text]) -> Result<(), KeeperFault> {
+        let appended = self.append(lines);
+        self.answer(appended)
+    }
+}
