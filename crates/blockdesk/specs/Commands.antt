@@ -14,7 +14,7 @@ use Rattle.blockdesk.specs.Chart.{IsChart}
 use Rattle.blockdesk.specs.Deficits.{deficits_text}
 use Rattle.blockdesk.specs.Feed.{Said, reads_deadheads, said_by}
 use Rattle.blockdesk.specs.Fixed.{IsFixed}
-use Rattle.blockdesk.specs.Papers.{AreRead}
+use Rattle.blockdesk.specs.Papers.{AreRead, AreWithinLimit}
 
 -- the command of that name
 abbrev pub command_named : List ℕ → Option Command
@@ -55,8 +55,10 @@ Makes command papers (Ok outcome) = Answers command (told_by command papers) out
 Makes command papers (Err run_fault.Memory) = ⊤
 Makes command papers (Err run_fault.Read) = ⊥
 
--- A command has this outcome: it makes the text and the status of the files, where they are told, else of some papers.
+-- A command has this outcome: it makes the text and the status of the files, where they are told, else of some papers, none
+-- of them longer than a file may be.
 pub record HasOutcome (command : Command) (files : Option Files) (outcome : Outcome) : Type 0 where
   pub papers : Papers
   pub read : AreRead files papers
+  pub within : AreWithinLimit papers
   pub answers : Answers command (told_by command papers) outcome

@@ -1,7 +1,6 @@
 -- The papers of a feed, and which of a folder's files they are.
-use Rattle.std.specs.Prelude.{◌≡◌, ℕ, Option, Result, Ok, Err}
+use Rattle.std.specs.Prelude.{◌≡◌, Option, Result, Ok, Err}
 use Rattle.desk_io.specs.Shelf.{Files, ShelfState, Tells, ReadFailed, found_in}
-use Rattle.desk_io.specs.declared.shelf.Found.{Found}
 use Rattle.gtfs_tables.specs.Papers.{file_name_of, IsWithinLimit}
 use Rattle.gtfs_tables.specs.declared.paper.TheConstants.{MOST_BYTES}
 use Rattle.gtfs_tables.specs.declared.paper.Paper.TheVariants as paper
