@@ -35,7 +35,7 @@ worth network (i ∷ js) = worth_after network i js
 pub weight_is : (network : Network) (i j m : ℕ) → network.empty i j ≡ Some m → weight network i j ≡ Some (VEHICLE_WEIGHT + network.home i + network.out j - m)
 weight_is network i j m e = ap (option_map (λ minutes. VEHICLE_WEIGHT + network.home i + network.out j - minutes)) e
 
-worth_is : (network : Network) (i j m : ℕ) → network.empty i j ≡ Some m → unwrap_or (weight network i j) 0 ≡ VEHICLE_WEIGHT + network.home i + network.out j - m
+pub worth_is : (network : Network) (i j m : ℕ) → network.empty i j ≡ Some m → unwrap_or (weight network i j) 0 ≡ VEHICLE_WEIGHT + network.home i + network.out j - m
 worth_is network i j m e = ap (λ w. unwrap_or w 0) (weight_is network i j m e)
 
 walk_is : (network : Network) (i j m : ℕ) → network.empty i j ≡ Some m → unwrap_or (network.empty i j) 0 ≡ m

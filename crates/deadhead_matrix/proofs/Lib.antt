@@ -4,6 +4,7 @@ pub mod Duality
 pub mod LeftLemmas
 pub mod Looseness
 pub mod MatrixLemmas
+pub mod PriceSums
 pub mod SearchLemmas
 pub mod Standing
 pub mod WaysLemmas

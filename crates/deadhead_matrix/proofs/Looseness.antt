@@ -105,7 +105,7 @@ kept e i None = 0
 kept e i (Some j) = e i
 
 -- the links of a plan are among its slots
-links-within : (network : Network) (departs : ℕ → ℕ) (links : List (Option ℕ)) → AreDepartures network departs → ((s : ℕ) → network.live s ≡ true → s < length links) → AreLinks network links
+pub links-within : (network : Network) (departs : ℕ → ℕ) (links : List (Option ℕ)) → AreDepartures network departs → ((s : ℕ) → network.live s ≡ true → s < length links) → AreLinks network links
     → (i j : ℕ) → next_of links i ≡ Some j → (i < length links) × (j < length links)
 links-within network departs links clock within are i j e = let runs = clock.runs i j (are.fits i j e) in (within i runs.0, within j runs.1)
 

@@ -8,7 +8,7 @@ use Rattle.std.proofs.lemmas.Option.{none-some, same_Some}
 use Rattle.deadhead_matrix.proofs.Closed.{IsWithin, AreClosed}
 use Rattle.deadhead_matrix.specs.declared.entry.Entry.{Entry}
 use Rattle.deadhead_matrix.specs.Walks.{IsWalk, walk_minutes}
-use Rattle.deadhead_matrix.specs.Search.{far, dist_at, is_done, AreLedOn, IsNearest, way, AreWays, AreShort, IsSearch, found_at}
+use Rattle.deadhead_matrix.specs.Search.{far, dist_at, is_done, AreLedOn, IsNearest, way, AreWays, AreShort, IsSearch, IsBounded, found_at}
 
 -- a walk with one entry more
 walk-more : (entries es : List Entry) (a b : ℕ) (e : Entry) → IsWalk entries a es b → Contains entries e → e.from ≡ b → IsWalk entries a (es ++ e ∷ []) e.to
@@ -50,6 +50,7 @@ IsSearch-step ways start reach u done dist new search short nearest led few = re
   before = λ a within is_now. before a (omega (arith, within, led.len)) is_now (cases_eq a u);
   later = λ a within not_now. later a (omega (arith, within, led.len)) not_now (cases_eq a u);
   bounded = λ b near. bounded b near (as_far ways u done dist new step b);
+  ahead = λ a within is_now. ahead a (omega (arith, within, led.len)) is_now (cases_eq a u);
 }
   where
     step : IsStep ways u done dist new
@@ -109,6 +110,10 @@ IsSearch-step ways start reach u done dist new search short nearest led few = re
     bounded b near (inl same) = omega (arith, same, search.bounded b (omega (arith, near, same)), fewer, led.len)
     bounded b near (inr leads) = let is = leads.1 in omega (arith, is, short u b, search.bounded u nearest.reached, fewer, led.len)
 
+    ahead : (a : ℕ) → a < length dist → is_done (set done u true) a ≡ true → (a ≡ u) ⊎ (a ≢ u) → dist_at new a + 1440 * (count_by not (set done u true) + 1) ≤ 1440 * length new
+    ahead a within is_now (inl same) = let far_a = ap (dist_at new) same in omega (arith, far_a, led.nearer u, search.bounded u nearest.reached, fewer, led.len)
+    ahead a within is_now (inr differs) = omega (arith, led.nearer a, search.ahead a within (sym (other a differs) ∙ is_now), fewer, led.len)
+
 -- a place that is found is as far as the search says
 found : (dist : List ℕ) (b m : ℕ) → found_at dist b ≡ Some m → (dist_at dist b < far) × (dist_at dist b ≡ m)
 found dist b m e = by (nat_lt (dist_at dist b) far) refl e
@@ -120,7 +125,21 @@ found dist b m e = by (nat_lt (dist_at dist b) far) refl e
 within-found : (dist : List ℕ) (b m : ℕ) → dist_at dist b ≤ m → m < far → IsWithin (found_at dist b) m
 within-found dist b m le low = (dist_at dist b, ap (λ t. if t then Some (dist_at dist b) else None) (lt-ltb (dist_at dist b) far (omega arith)), le)
 
--- where no place is reached that is not done, the minutes are least
+-- where no place is reached that is not done, one that is reached is done
+finished : (done : List Bool) (dist : List ℕ) → ((j : ℕ) → j < length dist → is_done done j ≡ false → far ≤ dist_at dist j)
+    → (a : ℕ) → a < length dist → dist_at dist a < far → is_done done a ≡ true
+finished done dist none a within near = by (cases_Bool (is_done done a))
+  where
+    by : (is_done done a ≡ true) ⊎ (is_done done a ≡ false) → is_done done a ≡ true
+    by (inl is) = is
+    by (inr not_yet) = absurd (let le = none a within not_yet in omega arith)
+
+-- then no place is farther than the longest walk
+pub IsBounded-search : (ways : List (List ℕ)) (start reach : ℕ) (done : List Bool) (dist : List ℕ) → IsSearch ways start reach done dist → length dist ≤ 512
+    → ((j : ℕ) → j < length dist → is_done done j ≡ false → far ≤ dist_at dist j) → IsBounded dist
+IsBounded-search ways start reach done dist search few none = λ b within near. omega (arith, search.ahead b within (finished done dist none b within near), few)
+
+-- and the minutes are least
 pub AreClosed-search : (ways : List (List ℕ)) (start reach : ℕ) (done : List Bool) (dist : List ℕ) (entries : List Entry) → IsSearch ways start reach done dist → AreShort ways
     → length dist ≤ 512 → AreWays (length dist) entries ways → ((j : ℕ) → j < length dist → is_done done j ≡ false → far ≤ dist_at dist j) → AreClosed entries start (found_at dist)
 AreClosed-search ways start reach done dist entries search short few are none = record {
@@ -130,12 +149,8 @@ AreClosed-search ways start reach done dist entries search short few are none = 
       let is = found dist e.from m at in
       let minutes = are.told e holds in
       let leads : way ways e.from e.to ≢ 0 = (λ z. are.lasting e holds (sym minutes ∙ z)) in
-      let far_to = search.closed e.from e.to (are.from e holds) (are.to e holds) (finished e.from (are.from e holds) is.0 (cases_Bool (is_done done e.from))) leads in
+      let far_to = search.closed e.from e.to (are.from e holds) (are.to e holds) (finished done dist none e.from (are.from e holds) is.0) leads in
       let bound = search.bounded e.from is.0 in
       let day = short e.from e.to in
       within-found dist e.to (m + e.minutes) (let d = is.1 in omega (arith, far_to, minutes, d)) (let d = is.1 in omega (arith, bound, day, minutes, d));
 }
-  where
-    finished : (a : ℕ) → a < length dist → dist_at dist a < far → (is_done done a ≡ true) ⊎ (is_done done a ≡ false) → is_done done a ≡ true
-    finished a within near (inl is) = is
-    finished a within near (inr not_yet) = absurd (let le = none a within not_yet in omega arith)

@@ -1,7 +1,7 @@
 -- The search for least walks from one place: how far the places are so far, and which are done.
 use Rattle.std.specs.Prelude.{◌≡◌, ◌≢◌, ℕ, ◌+◌, ◌*◌, ◌<◌, ◌≤◌, nat_lt, Bool, true, false, not, List, [], length, slice_index_or, count_by, Contains, Option, Some, None, if◌then◌else◌}
 use Rattle.trip_model.specs.declared.limits.TheConstants.{MOST_PLACES}
-use Rattle.deadhead_matrix.specs.declared.limits.TheConstants.{MOST_DEADHEAD}
+use Rattle.deadhead_matrix.specs.declared.limits.TheConstants.{LONGEST_WALK, MOST_DEADHEAD}
 use Rattle.deadhead_matrix.specs.declared.entry.Entry.{Entry}
 use Rattle.deadhead_matrix.specs.Walks.{IsWalk, walk_minutes, IsLeastWalk}
 
@@ -53,7 +53,8 @@ abbrev pub AreShort : List (List ℕ) → Type 0
 AreShort ways = (a b : ℕ) → way ways a b ≤ MOST_DEADHEAD
 
 -- A search from one place that has come so far. Places that are done are not farther than `reach`, the others not nearer,
--- and from those that are done every entry was looked at.
+-- and from those that are done every entry was looked at. No place is farther than by one
+-- entry of 1,440 minutes for each place that is done, and one that is done itself by an entry less.
 pub record IsSearch (ways : List (List ℕ)) (start reach : ℕ) (done : List Bool) (dist : List ℕ) : Type 0 where
   pub len : length done ≡ length dist
   pub begins : dist_at dist start ≡ 0
@@ -63,10 +64,15 @@ pub record IsSearch (ways : List (List ℕ)) (start reach : ℕ) (done : List Bo
   pub before : (a : ℕ) → a < length dist → is_done done a ≡ true → dist_at dist a ≤ reach
   pub later : (a : ℕ) → a < length dist → is_done done a ≡ false → reach ≤ dist_at dist a
   pub bounded : (b : ℕ) → dist_at dist b < far → dist_at dist b + MOST_DEADHEAD * count_by not done ≤ MOST_DEADHEAD * length dist
+  pub ahead : (a : ℕ) → a < length dist → is_done done a ≡ true → dist_at dist a + MOST_DEADHEAD * (count_by not done + 1) ≤ MOST_DEADHEAD * length dist
 
 -- the minutes to a place, where one is reached
 abbrev pub found_at : List ℕ → ℕ → Option ℕ
 found_at dist place = if nat_lt (dist_at dist place) far then Some (dist_at dist place) else None
+
+-- no place that is reached is farther than the longest walk
+abbrev pub IsBounded : List ℕ → Type 0
+IsBounded dist = (b : ℕ) → b < length dist → dist_at dist b < far → dist_at dist b ≤ LONGEST_WALK
 
 -- rows of minutes between so many places
 pub record AreRows (places : ℕ) (ways : List (List ℕ)) : Type 0 where
@@ -83,8 +89,9 @@ pub record AreTold (entries : List Entry) (ways : List (List ℕ)) : Type 0 wher
   pub short : AreShort ways
   pub told : AreWays MOST_PLACES entries ways
 
--- rows of minutes, each from one place to all, are those of least walks
+-- rows of minutes, each from one place to all, are those of least walks, of which none is longer than the longest walk
 pub record AreLeastRows (entries : List Entry) (rows : List (List ℕ)) : Type 0 where
   pub few : length rows ≤ MOST_PLACES
   pub columns : (a : ℕ) → a < length rows → length (slice_index_or rows a []) ≡ MOST_PLACES
   pub least : (a b : ℕ) → a < length rows → IsLeastWalk entries a b (found_at (slice_index_or rows a []) b)
+  pub bounded : (a : ℕ) → a < length rows → IsBounded (slice_index_or rows a [])

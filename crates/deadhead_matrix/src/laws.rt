@@ -1,5 +1,6 @@
 //! Laws of the definitions that the contracts cite. Each is the contract of a function that does nothing.
-ghost use Rattle.std.specs.Prelude.{◌≡◌, ℕ, ◌<◌, ◌≤◌, true, List, length, Option, None};
+ghost use Rattle.std.specs.Prelude.{◌≡◌, ℕ, ◌+◌, ◌-◌, ◌*◌, ◌<◌, ◌≤◌, true, List, length, sum, Option, None};
+ghost use Rattle.deadhead_matrix.specs.declared.limits.TheConstants.{MOST_DEADHEAD, VEHICLE_WEIGHT};
 ghost use Rattle.deadhead_matrix.specs.Fitting.{deadhead_network};
 ghost use Rattle.deadhead_matrix.specs.Matrix.{empty_matrix, walk};
 ghost use Rattle.deadhead_matrix.specs.Prices.{Plan, IsCertified, IsDay, IsLoose};
@@ -31,6 +32,14 @@ pub fn certified_law()
     ensures { (network : Network) (slots : ℕ) (plan : Plan) (departs : ℕ → ℕ) → IsDay network slots
         → length plan.next ≡ slots → IsCertified network plan → AreDepartures network departs
         → (order : List ℕ) → StandsOnce network.live order → IsLeast network (blocks_along plan.next order) }
+{}
+
+/// All prices of a certified plan are together at most 4,095 times what a vehicle and the longest ways home and out weigh:
+/// one slot at least has no next trip.
+pub fn prices_law()
+    ensures { (network : Network) (slots : ℕ) (plan : Plan) (departs : ℕ → ℕ) → IsDay network slots
+        → length plan.next ≡ slots → IsCertified network plan → AreDepartures network departs
+        → sum plan.leave + sum plan.enter ≤ (MOST_SLOTS - 1) * (VEHICLE_WEIGHT + 2 * MOST_DEADHEAD) }
 {}
 
 /// A plan on the way of which nothing is left out is a certified one, and the other way round.

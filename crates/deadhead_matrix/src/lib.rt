@@ -31,5 +31,5 @@ mod ways;
 
 pub use deadheads::Deadheads;
 pub use entry::Entry;
-pub use limits::{MOST_DEADHEAD, VEHICLE_WEIGHT};
+pub use limits::{LONGEST_WALK, MOST_DEADHEAD, VEHICLE_WEIGHT};
 pub use matrix::Matrix;

@@ -1,7 +1,8 @@
-ghost use Rattle.std.specs.Prelude.{◌≡◌, ◌≢◌, ◌<◌, ◌≤◌, [], length, Err, IfOk};
+ghost use Rattle.std.specs.Prelude.{◌≡◌, ◌≢◌, ◌<◌, ◌≤◌, [], length, Err, IfOk, IfSome};
 ghost use Rattle.gtfs_tables.specs.Papers.{IsWithinLimit};
 ghost use Rattle.gtfs_tables.specs.Reading.{Gives};
 ghost use Rattle.trip_model.specs.declared.limits.TheConstants.{MOST_PLACES};
+ghost use Rattle.deadhead_matrix.specs.declared.limits.TheConstants.{LONGEST_WALK};
 ghost use Rattle.deadhead_matrix.specs.Deadheads as spec;
 ghost use Rattle.deadhead_matrix.specs.Left.{as_before, timetable_left};
 ghost use Rattle.deadhead_matrix.specs.Walks.{IsLeastWalk};
@@ -77,6 +78,7 @@ impl Matrix {
         requires b { b < length self.now.walks }
         ensures walk { result ≡ walk self.now a b }
         ensures least { IsLeastWalk self.now.entries a b result }
+        ensures bound { IfSome result (λ minutes. minutes ≤ LONGEST_WALK) }
     {
         let row = &self.rows[usize::from(a)];
         row.to(usize::from(b))

@@ -1,6 +1,6 @@
 ghost use Rattle.std.specs.Prelude.{◌≡◌, ℕ, ◌+◌, ◌<◌, ◌≤◌, false, List, length, IfSome, IfNone, IfOk};
 ghost use Rattle.trip_model.specs.declared.limits.TheConstants.{MOST_PLACES};
-ghost use Rattle.deadhead_matrix.specs.Search.{far, dist_at, is_done, AreLedOn, IsNearest, AreShort, AreRows, IsSearch, AreLeastFrom};
+ghost use Rattle.deadhead_matrix.specs.Search.{far, dist_at, is_done, AreLedOn, IsNearest, AreShort, AreRows, IsSearch, IsBounded, AreLeastFrom};
 
 use crate::distances::FAR;
 use crate::ways::Ways;
@@ -56,6 +56,7 @@ fn search_on(ways: &[Ways], start: usize, done: &mut [bool], dist: &mut [u32])
     requires few { length dist.old ≤ MOST_PLACES }
     ensures len { length dist.new ≡ length dist.old }
     ensures least { AreLeastFrom ways.now start dist.new }
+    ensures bounded { IsBounded dist.new }
 {
     while let Some(place) = nearest(done, dist) {
         done[place] = true;
@@ -73,6 +74,7 @@ pub(crate) fn search(alloc: Global, ways: &[Ways], start: usize) -> Result<Vec<u
     requires start { start < length ways.now }
     ensures len { IfOk result (λ dist. length dist.items ≡ length ways.now) }
     ensures least { IfOk result (λ dist. AreLeastFrom ways.now start dist.items) }
+    ensures bounded { IfOk result (λ dist. IsBounded dist.items) }
 {
     let mut done = vec![in alloc; false; ways.len()]?;
     let mut dist = vec![in alloc; FAR; ways.len()]?;

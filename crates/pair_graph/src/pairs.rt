@@ -1,7 +1,9 @@
 ghost use Rattle.std.specs.Prelude.{◌≡◌, ◌+◌, ◌<◌, ◌≤◌, length, None, Some, IfSome, option_map};
-ghost use Rattle.deadhead_matrix.specs.Prices.{weight};
+ghost use Rattle.deadhead_matrix.specs.Prices.{weight, IsDay};
 ghost use Rattle.trip_model.specs.declared.limits.TheConstants.{MOST_SLOTS};
-ghost use Rattle.trip_model.specs.Plain.{move_at};
+ghost use Rattle.trip_model.specs.Network.{AreDepartures};
+ghost use Rattle.trip_model.specs.Order.{minute_left};
+ghost use Rattle.trip_model.specs.Plain.{move_at, AreMoves};
 ghost use Rattle.trip_model.specs.Trip.{IsValidTrip, move_of};
 ghost use Rattle.pair_graph.specs.Pairs.{pairs_of, pairs_network};
 
@@ -57,10 +59,13 @@ impl<'a> Pairs<'a> {
         }
     }
 
-    /// How many slots there are.
+    /// How many slots there are. Their trips make moves of one day, so the laws of plans and prices hold of these pairs.
     pub fn slots(&self) -> u16
         ensures count { result ≡ length self.now.moves }
         ensures few { result ≤ MOST_SLOTS }
+        ensures valid { AreMoves (length self.now.matrix.walks) self.now.moves }
+        ensures day { IsDay (pairs_network self.now) result }
+        ensures departures { AreDepartures (pairs_network self.now) (λ s. minute_left (move_at self.now.moves s)) }
     {
         self.timetable.slots()
     }

@@ -2,7 +2,7 @@ use Rattle.std.proofs.Common.{◌≡◌, ◌∙◌, [], length, get_or, subst, a
 use Rattle.std.proofs.lemmas.List.{get_or_default}
 use Rattle.deadhead_matrix.specs.Search.{far, dist_at, AreLedOn, found_at}
 use Rattle.deadhead_matrix.proofs.Closed.{IsLeastWalk-closed}
-use Rattle.deadhead_matrix.proofs.SearchLemmas.{IsSearch-step, AreClosed-search}
+use Rattle.deadhead_matrix.proofs.SearchLemmas.{IsSearch-step, IsBounded-search, AreClosed-search}
 use Rattle.deadhead_matrix.proofs.search.search_on.Goals as goal
 
 pub loop-place-preserved : goal.loop-place-preserved
@@ -27,3 +27,8 @@ returns-clause-least c = λ entries are b.
     IsLeastWalk-closed entries c.args.start (found_at c.loop-place.dist)
     (AreClosed-search c.args.ways.now c.args.start c.loop-place.invariant.reach c.loop-place.done c.loop-place.dist entries c.loop-place.invariant.search c.requires.short
     (omega (arith, c.requires.few, c.loop-place.invariant.len)) are c.in_default.ensures.none) b
+
+pub returns-clause-bounded : goal.returns-clause-bounded
+returns-clause-bounded c =
+    IsBounded-search c.args.ways.now c.args.start c.loop-place.invariant.reach c.loop-place.done c.loop-place.dist c.loop-place.invariant.search
+    (omega (arith, c.requires.few, c.loop-place.invariant.len)) c.in_default.ensures.none

@@ -1,9 +1,10 @@
-use Rattle.std.proofs.Common.{◌≡◌, ◌<◌, ℕ, Option, [], length, get_or, sym, ap, subst, ◌∙◌, arith}
+use Rattle.std.proofs.Common.{◌≡◌, ◌<◌, ◌≤◌, ℕ, Option, [], length, get_or, sym, ap, subst, ◌∙◌, arith}
 use Rattle.std.proofs.lemmas.List.{get_or_default}
+use Rattle.std.specs.Prelude.{IfSome}
 use Rattle.deadhead_matrix.specs.Matrix.{MatrixView, walk}
 use Rattle.deadhead_matrix.specs.Search.{found_at}
 use Rattle.deadhead_matrix.specs.Walks.{IsLeastWalk}
-use Rattle.deadhead_matrix.proofs.MatrixLemmas.{length-walks, walk-from}
+use Rattle.deadhead_matrix.proofs.MatrixLemmas.{length-walks, walk-from, within-longest}
 use Rattle.deadhead_matrix.proofs.matrix.Matrix.minutes.Goals as goal
 
 -- as many rows as places
@@ -33,3 +34,10 @@ pub returns-clause-least : goal.returns-clause-least
 returns-clause-least c =
     subst (λ (m : MatrixView). IsLeastWalk m.entries c.args.a c.args.b c.to.result) c.self.view_is
     (subst (λ m. IsLeastWalk c.self.inside.entries.items c.args.a c.args.b m) (sym (found c)) (c.self.invariant.least c.args.a c.args.b (a_in c)))
+
+pub returns-clause-bound : goal.returns-clause-bound
+returns-clause-bound c =
+    let rows = c.self.invariant in
+    subst (λ m. IfSome m (λ m. m ≤ 735840)) (sym (found c))
+    (within-longest (get_or c.self.inside.rows.items c.args.a []) c.args.b
+    (rows.bounded c.args.a (a_in c) c.args.b (omega (arith, rows.few, rows.columns c.args.a (a_in c), b_in c))))
