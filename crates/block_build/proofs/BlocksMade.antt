@@ -1,10 +1,10 @@
 -- Blocks, as they are made along links.
 use Rattle.std.proofs.Common.{◌≡◌, ℕ, suc, ◌+◌, ◌-◌, ◌<◌, Bool, true, false, not, cond, List, [], ◌∷◌, ◌++◌, length, get_or, map, filter, take, Option, None, Some, refl, sym, ap, ◌∙◌, append_assoc, arith}
 use Rattle.std.proofs.lemmas.List.{append-nil, map-append}
-use Rattle.std.proofs.lemmas.List.Elements.{filter_more}
-use Rattle.std.specs.List.{list_any}
+use Rattle.std.proofs.lemmas.List.Elements.{All-map, filter_more}
+use Rattle.std.specs.List.{All, list_any}
 use Rattle.std.specs.Option.{IfSome}
-use Rattle.trip_model.specs.Links.{next_of, leads_to, along, block_from, is_first}
+use Rattle.trip_model.specs.Links.{next_of, leads_to, along, block_from, blocks_along, is_first}
 
 -- the block that begins with a slot, before its first slot is taken
 pub block_from-starts : (links : List (Option ℕ)) (first : ℕ) → along links 8192 (Some first) ≡ block_from links first
@@ -61,3 +61,12 @@ blocks-same links order n slot follows blocks h is so_far mark next =
     ∙ sym (ap (map (block_from links)) (filter_more (is_first links) order n 0 h
     ∙ ap (λ b. filter (is_first links) (take n order) ++ cond (not b) (get_or order n 0 ∷ []) []) (ap (λ s. list_any (leads_to s) links) (sym is) ∙ sym mark ∙ next)
     ∙ append-nil (filter (is_first links) (take n order))))
+
+-- a block has its first slot
+block_from-filled : (links : List (Option ℕ)) (s : ℕ) → 0 < length (block_from links s)
+unfolding block_from
+block_from-filled links s = omega arith
+
+-- no block along links is empty
+pub blocks_along-filled : (links : List (Option ℕ)) (order : List ℕ) → All (λ block. 0 < length block) (blocks_along links order)
+blocks_along-filled links order = All-map (λ block. 0 < length block) (block_from links) (filter (is_first links) order) (λ k d h. block_from-filled links (get_or (filter (is_first links) order) k d))

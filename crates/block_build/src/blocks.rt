@@ -1,4 +1,4 @@
-ghost use Rattle.std.specs.Prelude.{◌≡◌, ◌<◌, [], length, slice_index_or, slice_index};
+ghost use Rattle.std.specs.Prelude.{◌≡◌, ◌<◌, [], length, All, slice_index_or, slice_index};
 
 use std::marker::Model;
 
@@ -16,24 +16,27 @@ impl Model for Block {
     ghost view = { λ b. b.slots.items };
 }
 
-/// The blocks of a timetable, each the slots of the trips that one vehicle makes one after the other.
+/// The blocks of a timetable, each the slots of the trips that one vehicle makes one after the other, one trip at least.
 #[derive(Drop)]
 pub struct Blocks {
     pub(crate) blocks: Vec<Block>,
 }
 
 impl Model for Blocks {
-    ghost use Rattle.std.specs.Prelude.{List, ℕ};
+    ghost use Rattle.std.specs.Prelude.{List, ℕ, ◌<◌, length, All};
 
     ghost Value = { List (List ℕ) };
 
     ghost view = { λ b. b.blocks.items };
+
+    ghost invariant = { λ b. All (λ block. 0 < length block) b.blocks.items };
 }
 
 impl Blocks {
-    /// How many blocks there are, which is how many vehicles.
+    /// How many blocks there are, which is how many vehicles. Each has a trip.
     pub fn len(&self) -> usize
-        ensures { result ≡ length self.now }
+        ensures count { result ≡ length self.now }
+        ensures filled { All (λ block. 0 < length block) self.now }
     {
         self.blocks.len()
     }

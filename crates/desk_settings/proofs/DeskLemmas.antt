@@ -2,7 +2,6 @@
 use Rattle.std.proofs.Common.{◌≡◌, ℕ, Bool, true, false, cond, List, [], ◌∷◌, ◌++◌, Option, Some, Err, is_some, option_and_then, refl, sym, ap, ◌∙◌, String, string_bytes, Global, Less, is_eq}
 use Rattle.std.specs.Bool.{⊤}
 use Rattle.std.specs.List.{AllByRecursion}
-use Rattle.std.specs.List.Sorted.{IsStrictlySortedBy}
 use Rattle.std.specs.Map.{keys_of}
 use Rattle.std.specs.Option.{ok_or}
 use Rattle.std.specs.Ordering.{ordering_reverse}
@@ -17,8 +16,7 @@ use Rattle.toml.specs.Parse.{parse_document}
 use Rattle.toml.specs.View.{view, members_view}
 use Rattle.toml.specs.declared.value.Value.{Value}
 use Rattle.desk_settings.specs.Entries.{Name, Entries, value_of, has_name}
-use Rattle.toml.proofs.Views.{is_before-sorted}
-use Rattle.desk_settings.specs.Desk.{document_in, minutes_in, layovers_from, Ascend}
+use Rattle.desk_settings.specs.Desk.{document_in, minutes_in, layovers_from}
 
 -- bytes that are UTF-8 are the document of their text
 pub document_in-utf8 : (bytes text : List ℕ) → text ≡ bytes → IsUtf8 bytes → document_in bytes ≡ ok_or (parse_document text) fault.NotToml
@@ -72,9 +70,3 @@ pub AreNew-push : {Y X : Type 0} (before : Entries ℕ) (key : String Y) (value 
     → AllByRecursion (λ y. string_cmp key y ≡ Less) (keys_of es) → AreNew before es → AreNew (before ++ (string_bytes key, value) ∷ []) es
 AreNew-push before key value [] above new = tt
 AreNew-push before key value (e ∷ es) above new = (has_name-push (string_bytes e.0) (string_bytes key) value before new.0 (above_differs key e.0 above.0), AreNew-push before key value es above.1 new.1)
-
--- the keys of a table ascend
-pub Ascend-sorted : (es : List (String Global × Value)) → IsStrictlySortedBy string_cmp (keys_of es) → Ascend (members_view es)
-unfolding IsStrictlySortedBy
-Ascend-sorted [] sorted = tt
-Ascend-sorted (e ∷ es) sorted = (is_before-sorted e.0 es sorted.0, Ascend-sorted es sorted.1)

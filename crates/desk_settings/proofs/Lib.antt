@@ -1,3 +1,4 @@
 pub mod EntriesLemmas
 pub mod NamesLemmas
 pub mod DeskLemmas
+pub mod DocumentLemmas

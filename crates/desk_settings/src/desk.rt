@@ -1,7 +1,6 @@
-ghost use Rattle.std.specs.Prelude.{◌≡◌, ◌⊎◌, ℕ, ◌≤◌, [], List, Ok, Err, IfOk, IfSome, option_map};
+ghost use Rattle.std.specs.Prelude.{◌≡◌, ◌≤◌, [], IfOk, IfSome, option_map};
 ghost use Rattle.std.specs.Option.{ok_or};
 ghost use Rattle.gtfs_tables.specs.Reading.{Gives};
-ghost use Rattle.toml.specs.Data.{Members};
 ghost use Rattle.toml.specs.View.{view, items_view, table_view};
 ghost use Rattle.desk_settings.specs.Desk as spec;
 
@@ -139,8 +138,7 @@ impl Desk {
 
     // Puts the values of all keys in their places, key after key in byte order.
     fn set_all(&mut self, alloc: Global, table: &Table) -> Result<(), FeedFault>
-        ensures gives { Gives (λ _. self.new) result (spec.desk_from self.old (table_view table.now)) }
-        ensures order { spec.Ascend (table_view table.now) }
+        ensures { Gives (λ _. self.new) result (spec.desk_from self.old (table_view table.now)) }
     {
         for (key, value) in table.iter() {
             self.set(alloc, key.as_str(), value)?;
@@ -166,8 +164,7 @@ fn document_in(alloc: Global, bytes: &[u8]) -> Result<Table, FeedFault>
 
 // What the table of a document says.
 fn desk_from(alloc: Global, table: &Table) -> Result<Desk, FeedFault>
-    ensures gives { Gives (λ desk. desk) result (spec.desk_from spec.standard_desk (table_view table.now)) }
-    ensures order { (result ≡ Err FeedFault.Memory) ⊎ spec.Ascend (table_view table.now) }
+    ensures { Gives (λ desk. desk) result (spec.desk_from spec.standard_desk (table_view table.now)) }
 {
     let mut desk = Desk::standard(alloc)?;
     desk.set_all(alloc, table)?;
@@ -176,9 +173,7 @@ fn desk_from(alloc: Global, table: &Table) -> Result<Desk, FeedFault>
 
 /// What the file says; the standard where it is not there.
 pub(crate) fn desk_of(alloc: Global, found: &Found) -> Result<Desk, FeedFault>
-    ensures gives { Gives (λ desk. desk) result (spec.desk_of found.now) }
-    ensures order { (bytes : List ℕ) (members : Members) → found.now ≡ Found.File bytes → spec.document_in bytes ≡ Ok members
-        → (result ≡ Err FeedFault.Memory) ⊎ spec.Ascend members }
+    ensures { Gives (λ desk. desk) result (spec.desk_of found.now) }
 {
     match found {
         Found::Missing => Ok(Desk::standard(alloc)?),

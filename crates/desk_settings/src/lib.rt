@@ -8,6 +8,7 @@
 //!
 //! The contract that the crates above use: the settings are a function of the three files, `settings_of`, or its first
 //! refusal; each call answers by the definition of its name, and layovers are at most 240 minutes, tolerances at most 60.
+//! The keys of `desk.toml` are judged in byte order, since those of a document ascend (`laws`).
 //!
 //! ```text
 //! let settings = Settings::read(alloc, &settings, &terminals, &tolerances)?;
@@ -25,6 +26,7 @@
 
 mod desk;
 mod entries;
+pub mod laws;
 mod minutes;
 mod names;
 mod settings;

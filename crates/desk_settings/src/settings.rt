@@ -1,4 +1,4 @@
-ghost use Rattle.std.specs.Prelude.{◌≡◌, ◌⊎◌, ℕ, ◌≤◌, List, Ok, Err};
+ghost use Rattle.std.specs.Prelude.{◌≡◌, ℕ, ◌≤◌, List, Ok};
 ghost use Rattle.trip_model.specs.declared.limits.TheConstants.{MOST_LAYOVER, MOST_TOLERANCE};
 ghost use Rattle.gtfs_tables.specs.Papers.{IsWithinLimit};
 ghost use Rattle.gtfs_tables.specs.Reading.{Gives};
@@ -8,6 +8,7 @@ ghost use Rattle.desk_settings.specs.Settings as spec;
 
 use crate::desk::{Desk, desk_of};
 use crate::entries::Entries;
+use crate::laws::key_order_law;
 use crate::minutes::Tolerance;
 use crate::terminals::terminals_of;
 use crate::tolerances::tolerances_of;
@@ -51,8 +52,9 @@ impl Settings {
         ensures gives { Gives (λ read. read) result (spec.settings_of settings.now terminals.now tolerances.now) }
         // The keys of the document are judged in byte order.
         ensures order { (bytes : List ℕ) (members : Members) → settings.now ≡ Found.File bytes → document_in bytes ≡ Ok members
-            → (result ≡ Err FeedFault.Memory) ⊎ Ascend members }
+            → Ascend members }
     {
+        key_order_law();
         let desk = desk_of(alloc, settings)?;
         let terminals = terminals_of(alloc, terminals)?;
         let tolerances = tolerances_of(alloc, tolerances)?;

@@ -1,4 +1,4 @@
-use Rattle.std.proofs.Common.{◌<◌, length, false, refl, sym, ap, subst, ◌∙◌, get_or, arith}
+use Rattle.std.proofs.Common.{◌<◌, length, take, false, refl, sym, ap, subst, ◌∙◌, get_or, arith}
 use Rattle.std.specs.Prelude.{All}
 use Rattle.std.proofs.lemmas.List.{length-map, take_all, get_or_default}
 use Rattle.std.proofs.lemmas.List.Elements.{All-push}
@@ -6,7 +6,7 @@ use Rattle.trip_model.specs.Blocking.{IsBlocking}
 use Rattle.trip_model.specs.Links.{blocks_along}
 use Rattle.trip_model.specs.Order.{by_departure, minute_left}
 use Rattle.trip_model.specs.Plain.{timely_network, trip_moves, move_of_slot, move_at}
-use Rattle.block_build.proofs.BlocksMade.{blocks-more, blocks-same}
+use Rattle.block_build.proofs.BlocksMade.{blocks-more, blocks-same, blocks_along-filled}
 use Rattle.block_build.proofs.build.blocks_of.Goals as goal
 use Rattle.block_build.proofs.build.blocks_of.Goals.{then-not-index+in_ok-block_from+in_ok-push, else-not-index}
 
@@ -48,6 +48,10 @@ loop-slot-preserved c =
             within = subst (All (All (λ s. s < length c.args.timetable.now.slots))) (sym same) c.loop-slot.invariant.within;
           }
     ]
+
+pub invariant_of-result : goal.invariant_of-result
+invariant_of-result c =
+    subst (All (λ block. 0 < length block)) (sym c.loop-slot.invariant.made) (blocks_along-filled c.args.links.now (take c.loop-slot.slot-index c.deref-slot-items.result.now))
 
 pub returns-clause-blocking : goal.returns-clause-blocking
 returns-clause-blocking c =

@@ -12,4 +12,4 @@ loop-number-preserved c =
 pub returns : goal.returns
 returns c =
     c.wrap.ensures
-    ∙ lines-written c.args.timetable.now (walk c.args.matrix.now) c.args.prefix.now c.args.blocks.now (string_bytes c.loop-number.text) c.loop-number.number (omega (arith, c.len-number-end.ensures)) c.loop-number.invariant
+    ∙ lines-written c.args.timetable.now (walk c.args.matrix.now) c.args.prefix.now c.args.blocks.now (string_bytes c.loop-number.text) c.loop-number.number (omega (arith, c.len-number-end.ensures.count)) c.loop-number.invariant
