@@ -11,7 +11,7 @@ returns c =
     let lines = c.as_str-lines.ensures ∙ c.in_ok-lines.ensures
     ∙ ap (λ (m : MatrixView). block_text timetable (walk m) c.prefix.result.now c.in_ok-blocks.blocks) matrix
     ∙ ap (λ prefix. block_text timetable (walk (empty_matrix (length timetable.places))) prefix c.in_ok-blocks.blocks) c.prefix.ensures in
-    let number = c.len.ensures in
+    let number = c.len.ensures.count in
     record {
       blocks = c.in_ok-blocks.blocks;
       by_rule = c.in_ok-blocks.ensures.rule;
