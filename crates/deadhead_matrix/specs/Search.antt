@@ -53,8 +53,8 @@ abbrev pub AreShort : List (List ℕ) → Type 0
 AreShort ways = (a b : ℕ) → way ways a b ≤ MOST_DEADHEAD
 
 -- A search from one place that has come so far. Places that are done are not farther than `reach`, the others not nearer,
--- and from those that are done every entry was looked at. No place is farther than by one
--- entry of 1,440 minutes for each place that is done, and one that is done itself by an entry less.
+-- and from those that are done every entry was looked at. No place that is reached is farther than one entry of 1,440
+-- minutes for each place that is done, and one that is done is nearer by such an entry.
 pub record IsSearch (ways : List (List ℕ)) (start reach : ℕ) (done : List Bool) (dist : List ℕ) : Type 0 where
   pub len : length done ≡ length dist
   pub begins : dist_at dist start ≡ 0

@@ -5,14 +5,16 @@
 //! live.
 //!
 //! The contract that the crates above use: a weight exactly where the pair fits, and then it is the weight of the network
-//! of deadheads; that network is one of one day.
+//! of deadheads; that network is one of one day, in which departures rise, as [`Pairs::slots`] says, so the laws of
+//! `deadhead_matrix` hold of plans over these pairs.
 //!
 //! ```text
 //! let pairs = Pairs::of(&timetable, &matrix);
 //! let saved = pairs.weight(0, 1, &mut steps);
 //! ```
 //!
-//! The contracts cite `Pairs` (what the pairs are seen as), and of `deadhead_matrix` `Fitting` and `Prices`.
+//! The contracts cite `Pairs` (what the pairs are seen as), of `deadhead_matrix` `Fitting` and
+//! `Prices`, and of `trip_model` `Plain` and `Network`.
 #![tactic(auto)]
 
 mod pairs;
