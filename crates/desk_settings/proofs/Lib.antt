@@ -2,3 +2,4 @@ pub mod EntriesLemmas
 pub mod NamesLemmas
 pub mod DeskLemmas
 pub mod DocumentLemmas
+pub mod FirstBadKey

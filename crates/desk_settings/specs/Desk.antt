@@ -1,6 +1,8 @@
 -- What `desk.toml` says. The members of its table stand in the byte order of their keys.
-use Rattle.std.specs.Prelude.{◌≡◌, ℕ, true, ⊤, ◌++◌, ℤ, pos, List, [], ◌∷◌, length, nat_le, Option, Some, None, option_map, option_and_then, Result, Ok, Err, codes, if◌then◌else◌}
+use Rattle.std.specs.Prelude.{◌≡◌, ◌⊎◌, ℕ, Bool, true, false, not, ⊤, ◌++◌, ℤ, pos, List, [], ◌∷◌, length, nat_le, Option, Some, None, is_some, option_map, option_and_then, Result, Ok, Err, codes, if◌then◌else◌}
+use Rattle.std.specs.Cmp.Lexicographic.{slice_cmp}
 use Rattle.std.specs.Option.{ok_or}
+use Rattle.std.specs.Ordering.{nat_cmp, is_lt}
 use Rattle.std.specs.Str.{is_utf8, bytes_eq}
 use Rattle.desk_io.specs.declared.shelf.Found.{Found}
 use Rattle.desk_io.specs.declared.shelf.Found.TheVariants.{File, Missing, TooLong}
@@ -69,6 +71,20 @@ with_key desk key value =
     else if bytes_eq key (codes "late") then option_map (λ minutes. record desk { late = minutes }) (minutes_in MOST_TOLERANCE value)
     else if bytes_eq key (codes "block_prefix") then option_map (λ prefix. record desk { prefix = prefix }) (prefix_in value)
     else None
+
+-- whether the key is unknown or its value of another form
+abbrev pub is_bad : Name → Data → Bool
+is_bad key value = not (is_some (with_key standard_desk key value))
+
+-- the key is a bad one of the members
+abbrev pub HasBad : Name → Members → Type 0
+HasBad bad no_members = ⊥
+HasBad bad (member key value rest) = ((key ≡ bad) × (is_bad key value ≡ true)) ⊎ HasBad bad rest
+
+-- no bad key of the members comes before this one in byte order
+abbrev pub NoBadBefore : Name → Members → Type 0
+NoBadBefore first no_members = ⊤
+NoBadBefore first (member key value rest) = (is_bad key value ≡ true → is_lt (slice_cmp nat_cmp key first) ≡ false) × NoBadBefore first rest
 
 -- the keys one after the other, up to the first that is unknown or has a value of another form
 abbrev pub desk_from : Desk → Members → Result Desk FeedFault
