@@ -1,0 +1,64 @@
+ghost use Rattle.desk_io.specs.Shelf.{Writes};
+ghost use Rattle.desk_run.specs.Becomes.{AppendsSome, Becomes, WritesAll};
+ghost use Rattle.desk_run.specs.World.{world};
+
+use crate::outcome::{Outcome, RunFault, Writing};
+use desk_io::{Shelf, ShelfFault, Sink, put_all};
+use desk_keeper::{Keeper, KeeperFault, Lines};
+use std::alloc::Global;
+
+// Writes one file.
+fn write_one<S: Shelf>(alloc: Global, shelf: &mut S, writing: &Writing) -> Result<(), ShelfFault>
+    ensures { Writes writing.now.name writing.now.bytes result (S.state shelf.old) (S.state shelf.new) }
+{
+    shelf.write(alloc, writing.name.as_str(), writing.bytes.as_slice())
+}
+
+// Writes the files in their order, up to the first that is refused.
+fn write_all<S: Shelf>(alloc: Global, shelf: &mut S, writes: &[Writing]) -> Result<(), RunFault>
+    ensures { WritesAll writes.now result (S.state shelf.old) (S.state shelf.new) }
+{
+    for writing in writes {
+        match write_one(alloc, shelf, writing) {
+            Ok(()) => {}
+            Err(ShelfFault::Failed) => return Err(RunFault::Write),
+            Err(ShelfFault::Memory) => return Err(RunFault::Memory),
+        }
+    }
+    Ok(())
+}
+
+// Appends the lines, where there are any to append.
+fn append<K: Keeper>(alloc: Global, keeper: &mut K, lines: &Option<Lines>) -> Result<(), RunFault>
+    ensures { AppendsSome lines.now result (K.state keeper.old) (K.state keeper.new) }
+{
+    let Some(lines) = lines else {
+        return Ok(());
+    };
+    match keeper.append_all(alloc, lines.as_slice()) {
+        Ok(()) => Ok(()),
+        Err(KeeperFault::Failed) => Err(RunFault::Keeper),
+        Err(KeeperFault::Memory) => Err(RunFault::Memory),
+        Err(KeeperFault::TooLong) => unreachable!(),
+    }
+}
+
+/// Carries an outcome out: writes its files, appends its lines and then puts its text by one call, up to the first of these
+/// that is refused; and answers its status.
+pub fn carry_out<S: Shelf, O: Sink, K: Keeper>(
+    alloc: Global,
+    outcome: &Outcome,
+    shelf: &mut S,
+    out: &mut O,
+    keeper: &mut K,
+) -> Result<u8, RunFault>
+    ensures { let at = world S.state O.state K.state in
+        Becomes outcome.now result (at shelf.old out.old keeper.old) (at shelf.new out.new keeper.new) }
+{
+    write_all(alloc, shelf, &outcome.writes)?;
+    append(alloc, keeper, &outcome.lines)?;
+    match put_all(out, outcome.text.as_str().as_bytes()) {
+        Ok(()) => Ok(outcome.status),
+        Err(_) => Err(RunFault::Write),
+    }
+}
