@@ -44,3 +44,4 @@ pub record AreWithinLimit (papers : Papers) : Type 0 where
   pub trips : IsWithinLimit papers.trips
   pub stop_times : IsWithinLimit papers.stop_times
   pub deadheads : IsWithinLimit papers.deadheads
+  pub edits : IsWithinLimit papers.edits

@@ -1,5 +1,6 @@
-ghost use Rattle.std.specs.Prelude.{◌≡◌, false, IfOk};
+ghost use Rattle.std.specs.Prelude.{◌≡◌, false, Some, IfOk};
 ghost use Rattle.blockdesk.specs.declared.command.Command.TheVariants as command;
+ghost use Rattle.blockdesk.specs.Causes.{HasCause, IsComplete};
 ghost use Rattle.blockdesk.specs.Chart.{IsChart};
 ghost use Rattle.blockdesk.specs.Feed.{HasRead, said_of};
 ghost use Rattle.blockdesk.specs.Runs.{RunsAs};
@@ -60,8 +61,12 @@ pub fn run_chart<S: Shelf, O: Sink, L: Ledger>(
     out: &mut O,
     steps: &mut Steps<L>,
 ) -> u8
-    ensures { let at = world S.state O.state in
+    ensures run { let at = world S.state O.state in
         RunsAs command.Chart (at shelf.old out.old) (at shelf.new out.new) result }
+    ensures cause { let at = world S.state O.state in
+        HasCause (Some command.Chart) (at shelf.old out.old) (at shelf.new out.new) result }
+    ensures complete { let at = world S.state O.state in
+        IsComplete (Some command.Chart) (at shelf.old out.old) (at shelf.new out.new) result }
 {
     perform(&ShowChart, alloc, shelf, out, steps)
 }

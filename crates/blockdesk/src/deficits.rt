@@ -1,8 +1,9 @@
-ghost use Rattle.std.specs.Prelude.{◌≡◌, length, IfOk};
+ghost use Rattle.std.specs.Prelude.{◌≡◌, length, Some, IfOk};
 ghost use Rattle.deficit_steps.specs.Holds.{Holds};
 ghost use Rattle.trip_model.specs.Deficit.{live_moves};
 ghost use Rattle.trip_model.specs.Timetable.{IsTimetable};
 ghost use Rattle.blockdesk.specs.declared.command.Command.TheVariants as command;
+ghost use Rattle.blockdesk.specs.Causes.{HasCause, IsComplete};
 ghost use Rattle.blockdesk.specs.Deficits as spec;
 ghost use Rattle.blockdesk.specs.Runs.{RunsAs};
 ghost use Rattle.blockdesk.specs.World.{world};
@@ -77,8 +78,12 @@ pub fn run_deficits<S: Shelf, O: Sink, L: Ledger>(
     out: &mut O,
     steps: &mut Steps<L>,
 ) -> u8
-    ensures { let at = world S.state O.state in
+    ensures run { let at = world S.state O.state in
         RunsAs command.Deficits (at shelf.old out.old) (at shelf.new out.new) result }
+    ensures cause { let at = world S.state O.state in
+        HasCause (Some command.Deficits) (at shelf.old out.old) (at shelf.new out.new) result }
+    ensures complete { let at = world S.state O.state in
+        IsComplete (Some command.Deficits) (at shelf.old out.old) (at shelf.new out.new) result }
 {
     perform(&ShowDeficits, alloc, shelf, out, steps)
 }

@@ -1,4 +1,4 @@
-ghost use Rattle.std.specs.Prelude.{◌≡◌, ◌<◌, pos, length, All, IfOk};
+ghost use Rattle.std.specs.Prelude.{◌≡◌, ◌<◌, pos, length, All, Some, IfOk};
 ghost use Rattle.trip_model.specs.Blocking.{IsFewest};
 ghost use Rattle.trip_model.specs.Deficit.{deficit, live_moves};
 ghost use Rattle.trip_model.specs.Links.{blocks_along};
@@ -7,6 +7,7 @@ ghost use Rattle.trip_model.specs.Order.{by_departure};
 ghost use Rattle.trip_model.specs.Plain.{plain_network, trip_moves};
 ghost use Rattle.fixed_fleet.specs.Rule.{first_in_first_out};
 ghost use Rattle.blockdesk.specs.declared.command.Command.TheVariants as command;
+ghost use Rattle.blockdesk.specs.Causes.{HasCause, IsComplete};
 ghost use Rattle.blockdesk.specs.Feed.{said_of};
 ghost use Rattle.blockdesk.specs.Fixed.{IsFixed};
 ghost use Rattle.blockdesk.specs.Runs.{RunsAs};
@@ -81,8 +82,12 @@ pub fn run_fixed<S: Shelf, O: Sink, L: Ledger>(
     out: &mut O,
     steps: &mut Steps<L>,
 ) -> u8
-    ensures { let at = world S.state O.state in
+    ensures run { let at = world S.state O.state in
         RunsAs command.Fixed (at shelf.old out.old) (at shelf.new out.new) result }
+    ensures cause { let at = world S.state O.state in
+        HasCause (Some command.Fixed) (at shelf.old out.old) (at shelf.new out.new) result }
+    ensures complete { let at = world S.state O.state in
+        IsComplete (Some command.Fixed) (at shelf.old out.old) (at shelf.new out.new) result }
 {
     perform(&ShowFixed, alloc, shelf, out, steps)
 }

@@ -1,5 +1,6 @@
-ghost use Rattle.std.specs.Prelude.{◌≡◌, ℕ, List, IfOk};
+ghost use Rattle.std.specs.Prelude.{◌≡◌, ℕ, List, Some, IfOk};
 ghost use Rattle.blockdesk.specs.declared.command.Command.{Command as Asked};
+ghost use Rattle.blockdesk.specs.Causes.{HasCause, IsComplete};
 ghost use Rattle.blockdesk.specs.Commands.{Shows, Makes, HasOutcome};
 ghost use Rattle.blockdesk.specs.Feed.{HasRead, reads_deadheads, said_of};
 ghost use Rattle.blockdesk.specs.Papers.{AreWithinLimit, ReadsPapers};
@@ -81,8 +82,12 @@ pub fn perform<C: Show, S: Shelf, O: Sink, L: Ledger>(
     out: &mut O,
     steps: &mut Steps<L>,
 ) -> u8
-    ensures { let at = world S.state O.state in
+    ensures run { let at = world S.state O.state in
         RunsAs (C.command show.now) (at shelf.old out.old) (at shelf.new out.new) result }
+    ensures cause { let at = world S.state O.state in
+        HasCause (Some (C.command show.now)) (at shelf.old out.old) (at shelf.new out.new) result }
+    ensures complete { let at = world S.state O.state in
+        IsComplete (Some (C.command show.now)) (at shelf.old out.old) (at shelf.new out.new) result }
 {
     let made = make(show, alloc, shelf, steps);
     finish(&made, out)
