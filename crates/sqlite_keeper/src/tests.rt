@@ -18,34 +18,36 @@ pub(crate) fn make_folder(rt: &HostRuntime, name: &str) -> Result<PathBuf, Fail>
     Ok(folder)
 }
 
-pub(crate) fn texts(alloc: Global, lines: &[&str]) -> Result<Vec<Text>, Memory> {
-    let mut texts = Vec::new(alloc);
-    for line in lines {
-        texts.push(Text::of(alloc, line)?)?;
-    }
-    Ok(texts)
-}
-
 fn keeper_of<'a>(rt: &'a HostRuntime, folder: &str) -> Result<SqliteKeeper<'a>, Memory> {
     Ok(SqliteKeeper::over(rt, Text::of(rt.alloc(), folder)?))
 }
 
-// Whether a load of at most so many lines answers as written.
-fn loads<K: Keeper>(alloc: Global, keeper: &mut K, limit: u32, answer: &str) -> Result<bool, Fail> {
-    let loaded = format!(in alloc; "{:?}", keeper.load(alloc, limit))?;
-    Ok(loaded.as_str() == answer)
+// The words of a text.
+pub(crate) fn words(alloc: Global, text: &str) -> Result<Vec<Text>, Memory> {
+    let mut words = Vec::new(alloc);
+    for word in text.split(' ') {
+        words.push(Text::of(alloc, word)?)?;
+    }
+    Ok(words)
 }
 
-// Whether an append of these lines answers as written.
-fn appends<K: Keeper>(
-    alloc: Global,
-    keeper: &mut K,
-    lines: &[&str],
-    answer: &str,
-) -> Result<bool, Fail> {
-    let lines = texts(alloc, lines)?;
-    let appended = format!(in alloc; "{:?}", keeper.append_all(alloc, &lines))?;
-    Ok(appended.as_str() == answer)
+// What a keeper answers to a call, as text: to an append of the words of a step, or to a load of at most as many lines as
+// a step of one digit says.
+fn told<K: Keeper>(alloc: Global, keeper: &mut K, step: &str) -> Result<String, Fail> {
+    if let Ok(limit) = step.parse::<u32>() {
+        return Ok(format!(in alloc; "{:?}", keeper.load(alloc, limit))?);
+    }
+    Ok(format!(in alloc; "{:?}", keeper.append_all(alloc, &words(alloc, step)?))?)
+}
+
+// Whether a keeper answers to these calls as written.
+fn answers<K: Keeper>(alloc: Global, keeper: &mut K, steps: &[(&str, &str)]) -> Result<bool, Fail> {
+    for (step, answer) in steps {
+        if told(alloc, keeper, step)?.as_str() != *answer {
+            return Ok(false);
+        }
+    }
+    Ok(true)
 }
 
 #[test]
@@ -54,27 +56,22 @@ fn a_journal_is_found_by_the_next_keeper(rt: HostRuntime) -> Result<(), Fail> {
     let folder = make_folder(&rt, "found")?;
     let mut first = keeper_of(&rt, folder.as_str())?;
     assert!(rt; !fs::exists(&rt, folder.join(alloc, "journal.db")?)?);
-    assert!(rt; loads(alloc, &mut first, 0, "Ok(Lines { lines: [] })")?);
-    assert!(rt;
-        appends(
-            alloc,
-            &mut first,
-            &["shift,U2,+1", "cancel,\"é, \""],
-            "Ok(())"
-        )?
-    );
-    assert!(rt; appends(alloc, &mut first, &[""], "Ok(())")?);
+    let steps = [
+        ("0", "Ok(Lines { lines: [] })"),
+        ("shift,U2,+1 \"é\"", "Ok(())"),
+        (" ", "Ok(())"),
+    ];
+    assert!(rt; answers(alloc, &mut first, &steps)?);
     drop(first);
     let mut next = keeper_of(&rt, folder.as_str())?;
-    assert!(rt; loads(alloc, &mut next, 2, "Err(TooLong)")?);
-    assert!(rt;
-        loads(
-            alloc,
-            &mut next,
-            3,
-            "Ok(Lines { lines: [\"shift,U2,+1\", \"cancel,\\\"é, \\\"\", \"\"] })"
-        )?
-    );
+    let steps = [
+        ("3", "Err(TooLong)"),
+        (
+            "4",
+            "Ok(Lines { lines: [\"shift,U2,+1\", \"\\\"é\\\"\", \"\", \"\"] })",
+        ),
+    ];
+    assert!(rt; answers(alloc, &mut next, &steps)?);
     drop(next);
     fs::remove_dir_all(&rt, folder.as_str())?;
     Ok(())
@@ -85,22 +82,27 @@ fn a_locked_file_a_damaged_one_and_a_missing_folder_are_faults(
     rt: HostRuntime,
 ) -> Result<(), Fail> {
     let alloc = rt.alloc();
+    let failed = [("9", "Err(Failed)"), ("redo", "Err(Failed)")];
     let folder = make_folder(&rt, "faults")?;
     let mut holder = keeper_of(&rt, folder.as_str())?;
-    assert!(rt; appends(alloc, &mut holder, &["undo"], "Ok(())")?);
+    assert!(rt; answers(alloc, &mut holder, &[("undo", "Ok(())")])?);
     let mut other = keeper_of(&rt, folder.as_str())?;
-    assert!(rt; loads(alloc, &mut other, 9, "Err(Failed)")?);
-    assert!(rt; appends(alloc, &mut other, &["redo"], "Err(Failed)")?);
+    assert!(rt; answers(alloc, &mut other, &failed)?);
     drop(holder);
-    assert!(rt; loads(alloc, &mut other, 9, "Ok(Lines { lines: [\"undo\"] })")?);
+    assert!(rt;
+        answers(
+            alloc,
+            &mut other,
+            &[("9", "Ok(Lines { lines: [\"undo\"] })")]
+        )?
+    );
     drop(other);
     fs::write(&rt, folder.join(alloc, "journal.db")?, "undo\n")?;
     let mut damaged = keeper_of(&rt, folder.as_str())?;
-    assert!(rt; loads(alloc, &mut damaged, 9, "Err(Failed)")?);
+    assert!(rt; answers(alloc, &mut damaged, &failed)?);
     fs::remove_dir_all(&rt, folder.as_str())?;
     let mut missing = keeper_of(&rt, folder.as_str())?;
-    assert!(rt; loads(alloc, &mut missing, 9, "Err(Failed)")?);
-    assert!(rt; appends(alloc, &mut missing, &["redo"], "Err(Failed)")?);
+    assert!(rt; answers(alloc, &mut missing, &failed)?);
     Ok(())
 }
 
@@ -119,9 +121,12 @@ fn an_append_of_which_the_last_line_is_refused_leaves_nothing(rt: HostRuntime) -
     let folder = make_folder(&rt, "refused")?;
     make_picky_journal(&rt, folder.join(alloc, "journal.db")?.as_str())?;
     let mut keeper = keeper_of(&rt, folder.as_str())?;
-    assert!(rt; appends(alloc, &mut keeper, &["undo", "redo"], "Err(Failed)")?);
-    assert!(rt; loads(alloc, &mut keeper, 9, "Ok(Lines { lines: [] })")?);
-    assert!(rt; appends(alloc, &mut keeper, &["undo"], "Ok(())")?);
+    let steps = [
+        ("undo redo", "Err(Failed)"),
+        ("9", "Ok(Lines { lines: [] })"),
+        ("undo", "Ok(())"),
+    ];
+    assert!(rt; answers(alloc, &mut keeper, &steps)?);
     drop(keeper);
     fs::remove_dir_all(&rt, folder.as_str())?;
     Ok(())

@@ -1,5 +1,5 @@
 use super::*;
-use crate::tests::{make_folder, texts};
+use crate::tests::{make_folder, words};
 use std::fs;
 use std::test::Fail;
 
@@ -7,12 +7,12 @@ use std::test::Fail;
 fn cut_off(rt: &HostRuntime, folder: &str, copy: &str) -> Result<(), Fail> {
     let alloc = rt.alloc();
     let mut database = Database::open(rt, folder)?;
-    database.append(&texts(alloc, &["undo"])?)?;
+    database.append(&words(alloc, "undo")?)?;
     if !database.connection.is_autocommit() {
         return Ok(());
     }
     let mut transaction = database.connection.transaction();
-    insert(&mut transaction, &texts(alloc, &["redo"])?)?;
+    insert(&mut transaction, &words(alloc, "redo")?)?;
     for name in ["journal.db", "journal.db-wal"] {
         let _ = fs::copy(
             rt,
