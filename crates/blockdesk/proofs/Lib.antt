@@ -1,4 +1,0 @@
-pub mod EachStatus
-pub mod Held
-pub mod RunsAs
-pub mod SaidLemmas

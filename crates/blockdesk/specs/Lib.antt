@@ -1,10 +1,3 @@
-pub mod Causes
-pub mod Chart
 pub mod Commands
-pub mod Deficits
-pub mod Feed
-pub mod Fixed
-pub mod Papers
 pub mod Runs
 pub mod Status
-pub mod World

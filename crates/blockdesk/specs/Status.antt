@@ -1,11 +1,12 @@
 -- The lines that the program prints on standard error.
 use Rattle.std.specs.Prelude.{ℕ, ◌==◌, if◌then◌else◌, List, Option, None, Some, codes}
+use Rattle.desk_run.specs.declared.status.TheConstants.{READ_FAULT, WRITE_FAULT, KEEPER_FAULT, NO_MEMORY}
 
 -- the line for a status, and none for a status that says enough by itself
 abbrev pub status_line_of : ℕ → Option (List ℕ)
 status_line_of status =
-    if status == 5 then Some (codes "blockdesk: read fault")
-    else if status == 6 then Some (codes "blockdesk: write fault")
-    else if status == 7 then Some (codes "blockdesk: keeper fault")
-    else if status == 8 then Some (codes "blockdesk: out of memory")
+    if status == READ_FAULT then Some (codes "blockdesk: read fault")
+    else if status == WRITE_FAULT then Some (codes "blockdesk: write fault")
+    else if status == KEEPER_FAULT then Some (codes "blockdesk: keeper fault")
+    else if status == NO_MEMORY then Some (codes "blockdesk: out of memory")
     else None

@@ -1,6 +1,5 @@
 ghost use Rattle.std.specs.Prelude.{◌≡◌};
 ghost use Rattle.blockdesk.specs.Commands as spec;
-ghost use Rattle.blockdesk.specs.Feed.{reads_deadheads};
 
 use desk_io::Text;
 
@@ -13,18 +12,6 @@ pub enum Command {
     Fixed,
     /// Charts of deficits and of blocks.
     Chart,
-}
-
-impl Command {
-    /// Whether the command reads the deadheads of a feed.
-    pub fn reads_deadheads(self) -> bool
-        ensures { result ≡ reads_deadheads self }
-    {
-        match self {
-            Command::Deficits | Command::Fixed => true,
-            Command::Chart => false,
-        }
-    }
 }
 
 // The command of that name.

@@ -1,33 +1,20 @@
 //! The program `blockdesk`: it judges the words after its name, reads the files of a feed, and puts its answer.
 //!
-//! [`run`] is the whole program over any shelf and any sink, and [`main`] hands it the folder, standard output and
-//! a count of steps. The one contract: by the words, the text that was put and the status are those of the files.
+//! [`run`] is the whole program over any shelf, sink and keeper, and [`main`] hands it the folder, standard output, the
+//! journal and a count of steps. The one contract: by the words, what was written, appended and put, and the status, are
+//! those of the files and the journal.
 //!
-//! The contracts cite `World` (what stands outside the program), `Commands` (what the words ask for, and what a command
-//! puts), `Papers` and `Feed` (from files to the settings, the timetable and the deadheads), `Deficits`, `Fixed` and
-//! `Chart` (what the commands put of an accepted feed), `Runs` (what is put under each status) and `Causes` (when each
-//! comes).
+//! The contracts cite `Commands` (what the words ask for) and `Runs` (what a run does, and when each status comes), of
+//! `desk_run` and `feed_commands` what each command asks and what becomes of that.
 #![tactic(auto)]
 
-mod chart;
 mod command;
-mod deficits;
-mod feed;
-mod finish;
-mod fixed;
-mod outcome;
-mod papers;
-mod show;
 mod start;
 mod status;
 mod top;
 mod usage;
 
-pub use chart::run_chart;
 pub use command::{Command, command_of};
-pub use deficits::run_deficits;
-pub use fixed::run_fixed;
-pub use outcome::{Outcome, RunFault};
 pub use status::status_line;
 use std::marker::Brand;
 use std::process::ExitCode;

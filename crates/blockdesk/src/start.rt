@@ -2,15 +2,16 @@ ghost use Rattle.std.specs.Prelude.{◌≡◌, ◌<◌};
 ghost use Rattle.blockdesk.specs.Commands as spec;
 
 use crate::run;
-use crate::status::NO_MEMORY;
 use desk_io::{FolderShelf, Memory, OutSink, Steps, Text};
+use desk_run::NO_MEMORY;
+use sqlite_keeper::SqliteKeeper;
 use std::env;
 use std::io::ErrorKind;
-use std::rt::{Env, Files};
+use std::rt::Env;
 use std::sync::ledger::{Blank, Ledger};
 
-/// The run over the program's own words, a real folder and standard output. It answers the status.
-pub fn start<L: Ledger>(rt: &(impl Env + Files + Print + AllocGlobal), blank: Blank) -> u8
+/// The run over the program's own words, a real folder with its journal, and standard output. It answers the status.
+pub fn start<L: Ledger>(rt: &HostRuntime, blank: Blank) -> u8
     requires name { blank.name ≡ L.name }
     requires parts { blank.parts ≡ L.parts }
     requires shared { 0 < blank.parts }
@@ -19,12 +20,23 @@ pub fn start<L: Ledger>(rt: &(impl Env + Files + Print + AllocGlobal), blank: Bl
     let Ok(words) = words_of(rt) else {
         return NO_MEMORY;
     };
-    let Ok(folder) = Text::of(rt.alloc(), folder_of(&words)) else {
+    let (Ok(folder), Ok(kept)) = (
+        Text::of(rt.alloc(), folder_of(&words)),
+        Text::of(rt.alloc(), folder_of(&words)),
+    ) else {
         return NO_MEMORY;
     };
     let mut shelf = FolderShelf::over(rt, folder);
     let mut out = OutSink::over(rt);
-    run(rt.alloc(), &words, &mut shelf, &mut out, &mut steps)
+    let mut keeper = SqliteKeeper::over(rt, kept);
+    run(
+        rt.alloc(),
+        &words,
+        &mut shelf,
+        &mut out,
+        &mut keeper,
+        &mut steps,
+    )
 }
 
 // The words after the program's name, and none where one of them is not UTF-8.

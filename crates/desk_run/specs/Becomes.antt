@@ -3,11 +3,11 @@ use Rattle.std.specs.Prelude.{◌≡◌, ◌⊎◌, ℕ, List, fold, take, slice
 use Rattle.desk_io.specs.Shelf.{ShelfState, with_file, WriteFailed}
 use Rattle.desk_io.specs.Sink.{put_bytes, PutsFront}
 use Rattle.desk_keeper.specs.Keeper.{Journal, KeeperState, CallFailed, with_lines}
-use Rattle.desk_run.specs.Outcome.{OutcomeView}
+use Rattle.desk_run.specs.Outcome.{OutcomeView, status_of}
 use Rattle.desk_run.specs.World.{World}
 use Rattle.desk_run.specs.declared.outcome.Writing.{Writing}
-use Rattle.desk_run.specs.declared.outcome.RunFault.{RunFault}
-use Rattle.desk_run.specs.declared.outcome.RunFault.TheVariants as run_fault
+use Rattle.desk_run.specs.declared.fault.RunFault.{RunFault}
+use Rattle.desk_run.specs.declared.fault.RunFault.TheVariants as run_fault
 
 -- the shelf with one more file written
 abbrev pub with_writing : ShelfState → Writing → ShelfState
@@ -85,7 +85,7 @@ pub record EndsForMemory (outcome : OutcomeView) (before after : World) : Type 0
 
 -- what becomes of an outcome
 abbrev pub Becomes : OutcomeView → Result ℕ RunFault → World → World → Type 0
-Becomes outcome (Ok status) before after = (status ≡ outcome.status) × (after ≡ done outcome before)
+Becomes outcome (Ok status) before after = (status ≡ status_of outcome.ending) × (after ≡ done outcome before)
 Becomes outcome (Err run_fault.Write) before after = EndsAtFile outcome before after ⊎ EndsAtText outcome before after
 Becomes outcome (Err run_fault.Keeper) before after = EndsAtLines outcome before after
 Becomes outcome (Err run_fault.Memory) before after = EndsForMemory outcome before after

@@ -1,3 +1,7 @@
-pub mod Outcome
-pub mod World
 pub mod Becomes
+pub mod Causes
+pub mod Commands
+pub mod Outcome
+pub mod Reading
+pub mod Runs
+pub mod World

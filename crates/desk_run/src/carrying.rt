@@ -2,7 +2,8 @@ ghost use Rattle.desk_io.specs.Shelf.{Writes};
 ghost use Rattle.desk_run.specs.Becomes.{AppendsSome, Becomes, WritesAll};
 ghost use Rattle.desk_run.specs.World.{world};
 
-use crate::outcome::{Outcome, RunFault, Writing};
+use crate::fault::RunFault;
+use crate::outcome::{Outcome, Writing};
 use desk_io::{Shelf, ShelfFault, Sink, put_all};
 use desk_keeper::{Keeper, KeeperFault, Lines};
 use std::alloc::Global;
@@ -44,7 +45,7 @@ fn append<K: Keeper>(alloc: Global, keeper: &mut K, lines: &Option<Lines>) -> Re
 }
 
 /// Carries an outcome out: writes its files, appends its lines and then puts its text by one call, up to the first of these
-/// that is refused; and answers its status.
+/// that is refused; and answers the status of its ending.
 pub fn carry_out<S: Shelf, O: Sink, K: Keeper>(
     alloc: Global,
     outcome: &Outcome,
@@ -58,7 +59,7 @@ pub fn carry_out<S: Shelf, O: Sink, K: Keeper>(
     write_all(alloc, shelf, &outcome.writes)?;
     append(alloc, keeper, &outcome.lines)?;
     match put_all(out, outcome.text.as_str().as_bytes()) {
-        Ok(()) => Ok(outcome.status),
+        Ok(()) => Ok(outcome.ending.status()),
         Err(_) => Err(RunFault::Write),
     }
 }

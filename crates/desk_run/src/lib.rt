@@ -1,18 +1,42 @@
-//! What becomes of an outcome, for every command.
+//! The shape of a run, for every command: what it reads, what it gives, and what becomes of that.
 //!
-//! An [`Outcome`] is what a command asks of the world: files to write in their order, lines to append to the journal or
-//! none, a text to put, and the status to answer. [`carry_out`] does all of that, over any shelf, sink and keeper, up to
-//! the first call that is refused, and its one clause says what then stands of the files, of the journal and of the text.
+//! A [`Command`] says which papers it reads, whether it reads the journal, and what outcome it gives of what it has read.
+//! An [`Outcome`] is what it asks of the world: files to write in their order, lines to append to the journal or none, a
+//! text to put, and how the run ends. [`perform`] reads, asks the command, and carries the outcome out, over any shelf,
+//! sink and keeper, up to the first call that is refused; it answers the status. All that is promised of a run is said of
+//! [`perform`], by what the command asks, so a new command proves nothing but its own outcome.
 //!
-//! The contracts cite `Outcome` (an outcome as contracts see it), `World` (what stands outside the program) and `Becomes`
-//! (what becomes of an outcome), and of `desk_io` and `desk_keeper` what a shelf, a sink and a keeper are.
+//! The contract that the crates above use: by the status, the one outcome that was carried out, whole or in part (`RunsAs`);
+//! the cause of each status (`HasCause`); and which status comes where no fault was counted (`IsComplete`).
+//!
+//! ```text
+//! perform(&Deficits, alloc, shelf, out, keeper, steps)
+//! ```
+//!
+//! The contracts cite `World` (what stands outside the program), `Reading` (what is read of it), `Outcome` (an outcome as
+//! contracts see it, and the status of its ending), `Becomes` (what becomes of an outcome), `Commands` (what a command
+//! asks), `Runs` (what a run does to the world) and `Causes` (when each status comes); of `desk_io` and `desk_keeper` what a
+//! shelf, a sink and a keeper are.
 #![tactic(auto)]
 
 mod carrying;
+mod command;
+mod fault;
 mod outcome;
+mod reading;
+mod running;
+mod status;
 
 pub use carrying::carry_out;
-pub use outcome::{Outcome, RunFault, Writing};
+pub use command::Command;
+pub use fault::RunFault;
+pub use outcome::{Outcome, Writing};
+pub use reading::{Loaded, Page, Read};
+pub use running::perform;
+pub use status::{
+    DONE, EDITS_REFUSED, Ending, FEED_REFUSED, KEEPER_FAULT, NO, NO_MEMORY, READ_FAULT, USAGE,
+    WRITE_FAULT,
+};
 
 #[cfg(test)]
 mod tests;

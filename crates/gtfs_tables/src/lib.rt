@@ -39,7 +39,7 @@ mod writing;
 pub use fault::{FeedFault, feed_line};
 pub use fold::{RecordReader, judge_table, read_records};
 pub use numbers::read_number;
-pub use paper::{Column, MOST_BYTES, Paper};
+pub use paper::{Column, MOST_BYTES, MOST_RECORDS, Paper};
 pub use reading::{column_in, filled_in, number_in, table_in, text_in, time_in};
 pub use records::read_rows;
 pub use row::Row;

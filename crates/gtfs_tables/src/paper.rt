@@ -4,6 +4,9 @@ ghost use Rattle.gtfs_tables.specs.Papers.{column_name_of, file_name_of};
 /// The most bytes that a file may have.
 pub const MOST_BYTES: u64 = 536_870_912;
 
+/// The most records that a script of edits may have, and so the most lines of a journal.
+pub const MOST_RECORDS: u32 = 65_536;
+
 /// A file that is read.
 #[derive(Clone, Copy, Debug, PartialEq, Eq)]
 pub enum Paper {

@@ -1,0 +1,42 @@
+ghost use Rattle.std.specs.Prelude.{IfOk};
+ghost use Rattle.desk_feed.specs.Feed.{HasPapers};
+ghost use Rattle.desk_feed.specs.Judging.{Judges};
+
+use crate::feed::{Feed, read_feed};
+use desk_io::Memory;
+use desk_run::{Ending, Outcome, Read};
+use gtfs_tables::{FeedFault, Paper, feed_line};
+use std::alloc::Global;
+
+/// The papers of a feed, in the order in which they are read and judged.
+pub const FEED_PAPERS: [Paper; 7] = [
+    Paper::Settings,
+    Paper::Terminals,
+    Paper::Tolerances,
+    Paper::Trips,
+    Paper::StopTimes,
+    Paper::Deadheads,
+    Paper::Edits,
+];
+
+/// What a feed says, or what is done where it is refused.
+#[derive(Drop)]
+pub enum Judged {
+    Accepted(Feed),
+    Refused(Outcome),
+}
+
+/// Reads the feed of what was read, which has to have all its papers: what it says, or the outcome of its first refusal.
+pub fn judge_feed(alloc: Global, reads: bool, read: &Read) -> Result<Judged, Memory>
+    requires { HasPapers read.now.pages }
+    ensures { IfOk result (Judges reads read.now) }
+{
+    match read_feed(alloc, reads, read) {
+        Ok(feed) => Ok(Judged::Accepted(feed)),
+        Err(FeedFault::Memory) => Err(Memory),
+        Err(refused) => {
+            let line = feed_line(alloc, &refused)?;
+            Ok(Judged::Refused(Outcome::putting(alloc, line, Ending::FeedRefused)))
+        }
+    }
+}

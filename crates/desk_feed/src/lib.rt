@@ -1,0 +1,24 @@
+//! What a feed says, for every command that works on one.
+//!
+//! [`judge_feed`] makes of what a command has read the feed, its settings, timetable and deadheads, or the outcome of a
+//! refused feed: the line of its first refusal. [`FEED_PAPERS`] are the papers that it takes.
+//!
+//! The contract that the crates above use: an accepted feed says what its papers say; of a refused one the line of the
+//! first refusal in the order of judging is put, and the run ends as refused.
+//!
+//! ```text
+//! match judge_feed(alloc, true, read)? {
+//!     Judged::Accepted(feed) => ..,
+//!     Judged::Refused(outcome) => Ok(outcome),
+//! }
+//! ```
+//!
+//! The contracts cite `Feed` (what the papers say, or their first refusal) and `Showing` (what a command asks that works on
+//! a feed); of `desk_run` what is read and what an outcome is.
+#![tactic(auto)]
+
+mod feed;
+mod judging;
+
+pub use feed::Feed;
+pub use judging::{FEED_PAPERS, Judged, judge_feed};

@@ -1,0 +1,122 @@
+-- When each status of a command comes, from what its run did.
+use Rattle.std.proofs.Common.{◌≡◌, ◌⊎◌, ℕ, inl, inr, Bool, true, false, List, [], ◌∷◌, get_or, take, Some, None, refl, sym, ap, ◌∙◌, subst, arith}
+use Rattle.std.specs.Prelude.{Option, IfSome, IsSome, is_some, option_map}
+use Rattle.std.proofs.lemmas.List.Folds.{map_fixed}
+use Rattle.std.proofs.lemmas.Simd.{map-map}
+use Rattle.desk_io.specs.Faults.{Rose, NoneCounted}
+use Rattle.desk_io.specs.Shelf.{Files, ShelfState, with_file}
+use Rattle.gtfs_tables.specs.declared.paper.Paper.{Paper}
+use Rattle.desk_keeper.specs.Keeper.{Journal, KeeperState}
+use Rattle.desk_run.specs.Becomes.{with_writings, with_appended}
+use Rattle.desk_run.specs.Causes.{HasCause, IsComplete}
+use Rattle.desk_run.specs.Commands.{Asked, told, told_both, told_journal}
+use Rattle.desk_run.specs.Outcome.{status_of}
+use Rattle.desk_run.specs.Reading.{ReadView, AreRead, IsLoaded, page_in, pages_in}
+use Rattle.desk_run.specs.Runs.{HasEnded, IsCutShort, IsUnkept, RunsAs}
+use Rattle.desk_run.specs.World.{World, NoCountRose}
+use Rattle.desk_run.specs.declared.outcome.Writing.{Writing}
+use Rattle.desk_run.specs.declared.reading.Page.{Page}
+use Rattle.desk_run.specs.declared.status.Ending.{Ending}
+use Rattle.desk_run.specs.declared.status.Ending.TheVariants as ending
+use Rattle.desk_run.specs.declared.status.TheConstants.{USAGE}
+
+-- the pages that a shelf tells are those that stand in its files
+pages_told : (files : Files) (papers : List Paper) (pages : List Page) → AreRead (Some files) papers pages → pages ≡ pages_in papers files
+pages_told files papers pages read =
+    sym (map_fixed (λ (page : Page). page_in files page.paper) pages (λ k d lt i. record { paper = (get_or pages k d).paper; found = sym (read.told k d lt) i }))
+    ∙ sym (map-map (page_in files) (λ (page : Page). page.paper) pages) ∙ ap (λ ps. pages_in ps files) read.named
+
+-- what a command has read is what is told, where it is
+told_by : (papers : List Paper) (keeps : Bool) (files : Option Files) (journal : Option Journal) (read : ReadView) → AreRead files papers read.pages → IsLoaded keeps journal read.journal
+    → IfSome (told_both (option_map (pages_in papers) files) (told_journal keeps journal)) (λ all. read ≡ all)
+told_by papers keeps None journal read pages loaded = tt
+told_by papers false (Some files) journal read pages loaded = λ i. record { pages = pages_told files papers read.pages pages i; journal = loaded i }
+told_by papers true (Some files) None read pages loaded = tt
+told_by papers true (Some files) (Some journal) read pages loaded = λ i. record { pages = pages_told files papers read.pages pages i; journal = loaded i }
+
+-- what is said of what an option holds
+each_some : {A : Type 0} {P Q : A → Type 0} (o : Option A) → ((a : A) → P a → Q a) → IfSome o P → IfSome o Q
+each_some None go p = tt
+each_some (Some a) go p = go a p
+
+any_some : {A : Type 0} {P : A → Type 0} (o : Option A) → ((a : A) → P a) → IfSome o P
+any_some None all = tt
+any_some (Some a) all = all a
+
+no_usage : (e : Ending) → status_of e ≡ USAGE → ⊥
+no_usage ending.Done is = omega (arith, is)
+no_usage ending.EditsRefused is = omega (arith, is)
+no_usage ending.FeedRefused is = omega (arith, is)
+no_usage ending.No is = omega (arith, is)
+
+-- no write raises a count, and no append
+written_quiet : (writes : List Writing) (shelf : ShelfState) → ((with_writings writes shelf).read_faults ≡ shelf.read_faults) × ((with_writings writes shelf).write_faults ≡ shelf.write_faults)
+written_quiet [] shelf = (refl, refl)
+written_quiet (writing ∷ writes) shelf = written_quiet writes (with_file writing.name writing.bytes shelf)
+
+appended_quiet : (lines : Option Journal) (keeper : KeeperState) → (with_appended lines keeper).faults ≡ keeper.faults
+appended_quiet None keeper = refl
+appended_quiet (Some lines) keeper = refl
+
+-- a command that has lines to append asks for the journal
+keeps_lines : (keeps : Bool) (lines : Option Journal) → (keeps ≡ false → lines ≡ None) → IsSome lines → keeps ≡ true
+keeps_lines true lines none some = refl
+keeps_lines false lines none some = sym (ap is_some (none refl)) ∙ some
+
+not_risen : (before now : ℕ) → NoneCounted before now → Rose before now → ⊥
+not_risen before now none rose = omega (arith, none.same, none.below, rose)
+
+module _ (asked : Asked) (before after : World) (status : ℕ) where
+  ended_by : HasEnded asked before after status → IfSome (told asked before) (λ read. status ≡ status_of (asked.ending read))
+  ended_by ended =
+      let chosen = ended.chosen in
+      each_some (told asked before) (λ read is. ended.answered ∙ ap status_of chosen.given.ending ∙ ap (λ r. status_of (asked.ending r)) is)
+      (told_by asked.papers asked.keeps before.shelf.files before.keeper.journal chosen.read chosen.told.pages chosen.told.journal)
+
+  quiet : HasEnded asked before after status → NoCountRose before after
+  quiet ended =
+      let outcome = ended.chosen.outcome in
+      record {
+        read_faults = ap (λ (w : World). w.shelf.read_faults) ended.carried ∙ (written_quiet outcome.writes before.shelf).0;
+        write_faults = ap (λ (w : World). w.shelf.write_faults) ended.carried ∙ (written_quiet outcome.writes before.shelf).1;
+        sink_faults = ap (λ (w : World). w.sink.faults) ended.carried;
+        keeper_faults = ap (λ (w : World). w.keeper.faults) ended.carried ∙ appended_quiet outcome.lines before.keeper;
+      }
+
+  write_rose : IsCutShort asked before after → Rose before.shelf.write_faults after.shelf.write_faults ⊎ Rose before.sink.faults after.sink.faults
+  write_rose (chosen, inl file) =
+      inl (subst (λ n. Rose n after.shelf.write_faults) (written_quiet (take file.shelf.count chosen.outcome.writes) before.shelf).1 file.shelf.shelf.rose)
+  write_rose (chosen, inr text) = inr text.sink.rose
+
+  keeper_rose : IsUnkept asked before after → (asked.keeps ≡ true) × Rose before.keeper.faults after.keeper.faults
+  keeper_rose (inl unloaded) = (unloaded.asked, unloaded.keeper.rose)
+  keeper_rose (inr (chosen, lines)) = (keeps_lines asked.keeps chosen.outcome.lines chosen.given.unkept lines.some, lines.keeper.rose)
+
+  pub has_cause : RunsAs asked before after status → HasCause asked before after status
+  has_cause runs = record {
+    ended = λ low. ended_by (runs.ended low);
+    no_usage = λ two. (let ended = runs.ended (omega (arith, two)) in no_usage ended.chosen.outcome.ending (sym ended.answered ∙ two));
+    read_fault = λ five. (runs.read_fault five).shelf.rose;
+    write_fault = λ six. write_rose (runs.write_fault six);
+    keeper_fault = λ seven. keeper_rose (runs.keeper_fault seven);
+    quiet = λ low. quiet (runs.ended low);
+    no_other = runs.no_other;
+  }
+
+  pub is_complete : RunsAs asked before after status → IsComplete asked before after status
+  is_complete runs = elim runs.no_other [
+    | inl low ↦ each_some (told asked before) (λ read is none. inl is) (ended_by (runs.ended low))
+    | inr other ↦ elim other [
+      | inl five ↦ any_some (told asked before) (λ read none. absurd (not_risen _ _ none.read_faults (runs.read_fault five).shelf.rose))
+      | inr more ↦ elim more [
+        | inl six ↦ any_some (told asked before) (λ read none. elim (write_rose (runs.write_fault six)) [
+          | inl write ↦ absurd (not_risen _ _ none.write_faults write)
+          | inr put ↦ absurd (not_risen _ _ none.sink_faults put)
+        ])
+        | inr last ↦ elim last [
+          | inl seven ↦ any_some (told asked before) (λ read none. absurd (not_risen _ _ none.keeper_faults (keeper_rose (runs.keeper_fault seven)).1))
+          | inr eight ↦ any_some (told asked before) (λ read none. inr eight)
+        ]
+      ]
+    ]
+  ]

@@ -1,0 +1,9 @@
+use Rattle.std.proofs.Common.{◌≡◌, take}
+use Rattle.desk_run.specs.Reading.{AreRead}
+use Rattle.desk_run.proofs.reading.read_papers.Given as goal
+
+abbrev pub invariant-loop-paper : goal.invariant-loop-paper
+invariant-loop-paper g l = record {
+  read : AreRead (g.S.Shelf.state l.fn.shelf).files (take l.paper-index l.papers) l.pages.items;
+  shelf : g.S.Shelf.state l.shelf ≡ g.S.Shelf.state l.fn.shelf;
+}

@@ -1,0 +1,27 @@
+-- When each status of a command comes.
+use Rattle.std.specs.Prelude.{◌≡◌, ◌≢◌, ◌⊎◌, ℕ, ◌≤◌, true, IfSome}
+use Rattle.desk_io.specs.Faults.{Rose}
+use Rattle.desk_run.specs.Commands.{Asked, told}
+use Rattle.desk_run.specs.Outcome.{status_of}
+use Rattle.desk_run.specs.World.{World, NoCountRose, NoFaultCounted}
+use Rattle.desk_run.specs.declared.status.TheConstants.{USAGE, NO, READ_FAULT, WRITE_FAULT, KEEPER_FAULT, NO_MEMORY}
+
+pub record HasCause (asked : Asked) (before after : World) (status : ℕ) : Type 0 where
+  -- the status of the ending to which what is told leads
+  pub ended : status ≤ NO → IfSome (told asked before) (λ read. status ≡ status_of (asked.ending read))
+  -- the status of words of no form is no command's
+  pub no_usage : status ≢ USAGE
+  -- a read failed
+  pub read_fault : status ≡ READ_FAULT → Rose before.shelf.read_faults after.shelf.read_faults
+  -- a write or a put failed
+  pub write_fault : status ≡ WRITE_FAULT → Rose before.shelf.write_faults after.shelf.write_faults ⊎ Rose before.sink.faults after.sink.faults
+  -- the keeper failed, of a command that asks for the journal
+  pub keeper_fault : status ≡ KEEPER_FAULT → (asked.keeps ≡ true) × Rose before.keeper.faults after.keeper.faults
+  -- no fault is passed over
+  pub quiet : status ≤ NO → NoCountRose before after
+  pub no_other : (status ≤ NO) ⊎ (status ≡ READ_FAULT) ⊎ (status ≡ WRITE_FAULT) ⊎ (status ≡ KEEPER_FAULT) ⊎ (status ≡ NO_MEMORY)
+
+-- which status comes where what a command reads is told and no fault was counted
+abbrev pub IsComplete : Asked → World → World → ℕ → Type 0
+IsComplete asked before after status =
+    IfSome (told asked before) (λ read. NoFaultCounted before after → (status ≡ status_of (asked.ending read)) ⊎ (status ≡ NO_MEMORY))

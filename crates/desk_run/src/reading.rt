@@ -1,0 +1,129 @@
+ghost use Rattle.std.specs.Prelude.{◌≡◌, IfOk};
+ghost use Rattle.desk_io.specs.Shelf.{Tells};
+ghost use Rattle.gtfs_tables.specs.Papers.{file_name_of, IsWithinLimit};
+ghost use Rattle.gtfs_tables.specs.declared.paper.TheConstants.{MOST_BYTES};
+ghost use Rattle.desk_run.specs.Reading.{AreRead, IsAmong, IsLoaded, LoadsJournal, ReadsPapers, found_of, papers_of};
+
+use crate::RunFault;
+use desk_io::{Found, Shelf, ShelfFault};
+use desk_keeper::{Keeper, KeeperFault, Lines};
+use gtfs_tables::{MOST_BYTES, MOST_RECORDS, Paper};
+use std::alloc::Global;
+use std::marker::Model;
+
+/// A paper, and what was found of its file.
+#[derive(Debug, Drop)]
+pub struct Page {
+    pub paper: Paper,
+    pub found: Found,
+}
+
+/// What was loaded of the journal.
+#[derive(Debug, Drop)]
+pub enum Loaded {
+    /// The command asks for no journal.
+    Unasked,
+    /// The whole journal.
+    Lines(Lines),
+    /// The journal has more lines than it may have.
+    TooLong,
+}
+
+/// What a command has read: the papers that it asks for, in their order, and the journal. No paper is longer than a file
+/// may be.
+#[derive(Debug, Drop)]
+pub struct Read {
+    pub(crate) pages: Vec<Page>,
+    pub(crate) journal: Loaded,
+}
+
+impl Model for Read {
+    ghost use Rattle.std.specs.Prelude.{All};
+    ghost use Rattle.gtfs_tables.specs.Papers.{IsWithinLimit};
+    ghost use Rattle.desk_run.specs.Reading.{ReadView};
+
+    ghost Value = { ReadView };
+
+    ghost view = { λ r. record { pages = r.pages.items; journal = r.journal } };
+
+    ghost invariant = { λ r. All (λ page. IsWithinLimit page.found) r.pages.items };
+}
+
+impl Read {
+    /// What was found of a paper, which has to be one of those that were read.
+    pub fn found(&self, paper: Paper) -> &Found
+        requires { IsAmong (papers_of self.now.pages) paper }
+        ensures found { result.now ≡ found_of self.now.pages paper }
+        ensures within { IsWithinLimit result.now }
+    {
+        for page in &self.pages {
+            if paper.file_name() == page.paper.file_name() {
+                return &page.found;
+            }
+        }
+        unreachable!()
+    }
+
+    /// What was loaded of the journal.
+    pub fn journal(&self) -> &Loaded
+        ensures { result.now ≡ self.now.journal }
+    {
+        &self.journal
+    }
+}
+
+// What the shelf has of a paper.
+fn read_paper<S: Shelf>(alloc: Global, shelf: &mut S, paper: Paper) -> Result<Found, RunFault>
+    ensures within { IfOk result IsWithinLimit }
+    ensures told { IfOk result (Tells (S.state shelf.old).files (file_name_of paper) MOST_BYTES) }
+    ensures state { ReadsPapers result (S.state shelf.old) (S.state shelf.new) }
+{
+    match shelf.read(alloc, paper.file_name(), MOST_BYTES) {
+        Ok(found) => Ok(found),
+        Err(ShelfFault::Failed) => Err(RunFault::Read),
+        Err(ShelfFault::Memory) => Err(RunFault::Memory),
+    }
+}
+
+/// Reads the papers, one after the other. The first read that fails ends it.
+pub(crate) fn read_papers<S: Shelf>(
+    alloc: Global,
+    shelf: &mut S,
+    papers: &[Paper],
+) -> Result<Vec<Page>, RunFault>
+    ensures read { IfOk result (λ pages. AreRead (S.state shelf.old).files papers.now pages.items) }
+    ensures state { ReadsPapers result (S.state shelf.old) (S.state shelf.new) }
+{
+    let mut pages = Vec::new(alloc);
+    for paper in papers {
+        let found = read_paper(alloc, shelf, *paper)?;
+        let page = Page {
+            paper: *paper,
+            found,
+        };
+        if pages.push(page).is_err() {
+            return Err(RunFault::Memory);
+        }
+    }
+    Ok(pages)
+}
+
+/// Loads the journal, where it is asked for.
+pub(crate) fn load<K: Keeper>(
+    alloc: Global,
+    keeper: &mut K,
+    keeps: bool,
+) -> Result<Loaded, RunFault>
+    ensures loaded { IfOk result (IsLoaded keeps (K.state keeper.old).journal) }
+    ensures state { LoadsJournal keeps result (K.state keeper.old) (K.state keeper.new) }
+{
+    if !keeps {
+        return Ok(Loaded::Unasked);
+    }
+    match keeper.load(alloc, MOST_RECORDS) {
+        Ok(lines) => Ok(Loaded::Lines(lines)),
+        Err(KeeperFault::TooLong) => Ok(Loaded::TooLong),
+        Err(KeeperFault::Failed) => Err(RunFault::Keeper),
+        Err(KeeperFault::Memory) => Err(RunFault::Memory),
+    }
+}

@@ -1,0 +1,10 @@
+use Rattle.std.proofs.Common.{◌≡◌, length, take}
+use Rattle.deficit_steps.specs.Holds.{Holds}
+use Rattle.trip_model.specs.Deficit.{live_moves}
+use Rattle.feed_commands.proofs.deficits.deficits_of.Given as goal
+
+abbrev pub invariant-loop-s : goal.invariant-loop-s
+invariant-loop-s g l = record {
+  held : Holds l.deficits (live_moves (take l.s l.timetable.slots));
+  places : length l.deficits ≡ length l.timetable.places;
+}

@@ -1,0 +1,32 @@
+-- What `fixed` asks, and what it puts of a feed.
+use Rattle.std.specs.Prelude.{◌≡◌, ℕ, true, List, [], ◌∷◌, ◌++◌, length, pos, codes}
+use Rattle.std.specs.Fmt.{decimal}
+use Rattle.trip_model.specs.Blocking.{IsFewest}
+use Rattle.trip_model.specs.Deficit.{deficit, live_moves}
+use Rattle.trip_model.specs.Links.{blocks_along}
+use Rattle.trip_model.specs.Maximum.{sum_of_maxima}
+use Rattle.trip_model.specs.Order.{by_departure}
+use Rattle.trip_model.specs.Plain.{plain_network, trip_moves}
+use Rattle.deadhead_matrix.specs.Matrix.{empty_matrix, walk}
+use Rattle.fixed_fleet.specs.Rule.{first_in_first_out}
+use Rattle.block_build.specs.Lines.{block_text}
+use Rattle.desk_run.specs.Commands.{Asked}
+use Rattle.desk_feed.specs.Feed.{Said}
+use Rattle.desk_feed.specs.Judging.{showing}
+
+-- the lines of the blocks, whose vehicles never run empty, and then their number
+abbrev pub fixed_text : Said → List (List ℕ) → List ℕ
+fixed_text said blocks =
+    block_text said.timetable (walk (empty_matrix (length said.timetable.places))) said.settings.prefix blocks ++ (codes "fixed " ++ (decimal (length blocks) ++ 10 ∷ []))
+
+-- The text is that of the blocks which the rule of first in, first out makes. No blocking without deadheads has fewer, and
+-- they are as many as the sum of the maxima.
+pub record IsFixed (said : Said) (text : List ℕ) : Type 0 where
+  pub blocks : List (List ℕ)
+  pub by_rule : blocks ≡ blocks_along (first_in_first_out (trip_moves said.timetable.slots)) (by_departure (trip_moves said.timetable.slots))
+  pub fewest : IsFewest (plain_network (trip_moves said.timetable.slots)) blocks
+  pub number : pos (length blocks) ≡ sum_of_maxima (deficit (live_moves said.timetable.slots)) (length said.timetable.places)
+  pub printed : text ≡ fixed_text said blocks
+
+abbrev pub fixed_asked : Asked
+fixed_asked = showing true IsFixed

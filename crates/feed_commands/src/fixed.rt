@@ -1,0 +1,107 @@
+ghost use Rattle.std.specs.Prelude.{◌≡◌, ◌<◌, pos, length, All, IfOk};
+ghost use Rattle.trip_model.specs.Blocking.{IsFewest};
+ghost use Rattle.trip_model.specs.Deficit.{deficit, live_moves};
+ghost use Rattle.trip_model.specs.Links.{AreLinks, blocks_along};
+ghost use Rattle.trip_model.specs.Maximum.{sum_of_maxima};
+ghost use Rattle.trip_model.specs.Order.{by_departure};
+ghost use Rattle.trip_model.specs.Plain.{plain_network, trip_moves};
+ghost use Rattle.fixed_fleet.specs.Rule.{first_in_first_out};
+ghost use Rattle.desk_feed.specs.Feed.{said_of};
+ghost use Rattle.desk_run.specs.Causes.{HasCause, IsComplete};
+ghost use Rattle.desk_run.specs.Runs.{RunsAs};
+ghost use Rattle.desk_run.specs.World.{world};
+ghost use Rattle.feed_commands.specs.Fixed.{IsFixed, fixed_asked};
+
+use block_build::{Blocks, block_lines, blocks_of};
+use deadhead_matrix::{Deadheads, Matrix};
+use desk_feed::{FEED_PAPERS, Feed, Judged, judge_feed};
+use desk_io::{Memory, Shelf, Sink, Steps, Text};
+use desk_keeper::Keeper;
+use desk_run::{Command, Ending, Outcome, Read, perform};
+use fixed_fleet::fixed_links;
+use gtfs_tables::Paper;
+use std::alloc::Global;
+use std::sync::ledger::Ledger;
+use trip_model::Timetable;
+use trip_model::laws::plain_law;
+
+// The blocks that the trips make without deadheads, first in, first out.
+pub(crate) fn fixed_blocks(alloc: Global, timetable: &Timetable) -> Result<Blocks, Memory>
+    ensures rule { IfOk result (λ blocks. blocks ≡ blocks_along
+        (first_in_first_out (trip_moves timetable.now.slots)) (by_departure (trip_moves timetable.now.slots))) }
+    ensures linked { IfOk result (λ blocks. AreLinks (plain_network (trip_moves timetable.now.slots)) (first_in_first_out (trip_moves timetable.now.slots))) }
+    ensures fewest { IfOk result (IsFewest (plain_network (trip_moves timetable.now.slots))) }
+    ensures number { IfOk result (λ blocks. pos (length blocks)
+        ≡ sum_of_maxima (deficit (live_moves timetable.now.slots)) (length timetable.now.places)) }
+    ensures within { IfOk result (All (All (λ s. s < length timetable.now.slots))) }
+{
+    plain_law();
+    let links = fixed_links(alloc, timetable)?;
+    blocks_of(alloc, timetable, &links)
+}
+
+// The lines of the blocks without deadheads, and their number. No least walk is asked for: no vehicle runs empty.
+fn fixed_text(alloc: Global, feed: &Feed) -> Result<Text, Memory>
+    ensures { IfOk result (IsFixed (said_of feed.now)) }
+{
+    let blocks = fixed_blocks(alloc, &feed.timetable)?;
+    let matrix = Matrix::of(alloc, &Deadheads::none(alloc)?, feed.timetable.places())?;
+    let lines = block_lines(
+        alloc,
+        &feed.timetable,
+        &matrix,
+        &blocks,
+        feed.settings.prefix(),
+    )?;
+    let lines = lines.as_str();
+    Ok(Text::wrap(format!(in alloc; "{lines}fixed {}\n", blocks.len())?))
+}
+
+struct ShowFixed;
+
+impl Command for ShowFixed {
+    ghost use Rattle.feed_commands.specs.Fixed.{fixed_asked};
+
+    ghost asked = { λ _. fixed_asked };
+
+    fn papers(&self) -> &[Paper] {
+        &FEED_PAPERS
+    }
+
+    fn keeps(&self) -> bool {
+        false
+    }
+
+    fn outcome<L: Ledger>(
+        &self,
+        alloc: Global,
+        read: &Read,
+        _steps: &mut Steps<L>,
+    ) -> Result<Outcome, Memory> {
+        match judge_feed(alloc, true, read)? {
+            Judged::Refused(outcome) => Ok(outcome),
+            Judged::Accepted(feed) => {
+                let text = fixed_text(alloc, &feed)?;
+                Ok(Outcome::putting(alloc, text, Ending::Done))
+            }
+        }
+    }
+}
+
+/// The command `fixed`: blocks without deadheads, as few as there can be, and their number. It answers the status.
+pub fn run_fixed<S: Shelf, O: Sink, K: Keeper, L: Ledger>(
+    alloc: Global,
+    shelf: &mut S,
+    out: &mut O,
+    keeper: &mut K,
+    steps: &mut Steps<L>,
+) -> u8
+    ensures run { let at = world S.state O.state K.state in
+        RunsAs fixed_asked (at shelf.old out.old keeper.old) (at shelf.new out.new keeper.new) result }
+    ensures cause { let at = world S.state O.state K.state in
+        HasCause fixed_asked (at shelf.old out.old keeper.old) (at shelf.new out.new keeper.new) result }
+    ensures complete { let at = world S.state O.state K.state in
+        IsComplete fixed_asked (at shelf.old out.old keeper.old) (at shelf.new out.new keeper.new) result }
+{
+    perform(&ShowFixed, alloc, shelf, out, keeper, steps)
+}
