@@ -1,13 +1,13 @@
 -- What the pairs of a timetable are seen as.
 use Rattle.std.specs.Prelude.{ℕ, List, slice_set, Option, None, Some}
 use Rattle.deadhead_matrix.specs.Fitting.{deadhead_network}
-use Rattle.deadhead_matrix.specs.Matrix.{MatrixView, walk}
+use Rattle.deadhead_matrix.specs.Matrix.{MatrixView}
 use Rattle.trip_model.specs.Network.{Network}
 use Rattle.trip_model.specs.Plain.{trip_moves}
 use Rattle.trip_model.specs.Timetable.{TimetableView}
 use Rattle.trip_model.specs.declared.trip.Move.{Move}
 
--- the moves of the slots, and the walks between their places
+-- the moves of the slots, and the walks between their places with the pulls of these
 pub record PairsView : Type 0 where
   pub moves : List (Option Move)
   pub matrix : MatrixView
@@ -23,4 +23,4 @@ pairs_of timetable matrix without = record { moves = moves_without (trip_moves t
 
 -- a vehicle goes on from a trip to every one that it can reach in time along a least walk
 abbrev pub pairs_network : PairsView → Network
-pairs_network pairs = deadhead_network pairs.moves (walk pairs.matrix)
+pairs_network pairs = deadhead_network pairs.moves pairs.matrix

@@ -67,6 +67,8 @@ impl<'a> Pairs<'a> {
         ensures day { IsDay (pairs_network self.now) result }
         ensures departures { AreDepartures (pairs_network self.now) (λ s. minute_left (move_at self.now.moves s)) }
     {
+        // Its clause says that no pull is longer than a day.
+        let _places = self.matrix.places();
         self.timetable.slots()
     }
 
@@ -83,8 +85,8 @@ impl<'a> Pairs<'a> {
         if trip.live { Some(trip) } else { None }
     }
 
-    /// What it saves to make the trip of `j` next after that of `i`, where one vehicle can: 67,108,864 for a vehicle,
-    /// less the minutes of the least walk between them. One step.
+    /// What it saves to make the trip of `j` next after that of `i`, where one vehicle can: 67,108,864 for a vehicle and the
+    /// minutes home after `i` and out to `j`, less those of the least walk between them. One step.
     pub fn weight<L: Ledger>(&self, i: u16, j: u16, steps: &mut Steps<L>) -> Option<u64>
         requires i { i < length self.now.moves }
         requires j { j < length self.now.moves }
@@ -99,6 +101,7 @@ impl<'a> Pairs<'a> {
         if minutes > spare {
             return None;
         }
-        Some(VEHICLE_WEIGHT - u64::from(minutes))
+        let saved = self.matrix.pull_in(before.to) + self.matrix.pull_out(after.from);
+        Some(VEHICLE_WEIGHT + u64::from(saved) - u64::from(minutes))
     }
 }
