@@ -9,7 +9,7 @@ use Rattle.deadhead_matrix.specs.declared.entry.Entry.{Entry}
 use Rattle.deadhead_matrix.specs.declared.pulls.Pull.{Pull}
 use Rattle.deadhead_matrix.specs.declared.pulls.TheConstants.{NO_PULL}
 use Rattle.deadhead_matrix.specs.Walks.{IsWalk, walk_minutes, IsLeastWalk}
-use Rattle.deadhead_matrix.specs.Search.{far, dist_at, found_at, AreLeastRows}
+use Rattle.deadhead_matrix.specs.Search.{far, dist_at, found_at, walks_in, AreLeastRows}
 use Rattle.deadhead_matrix.specs.Matrix.{walk, standing, empty_matrix, matrix_from, AreLeastWalks}
 
 -- as many walks as rows
@@ -19,7 +19,7 @@ length-walks entries rows pulls = length-map rows _
 pub walk-from : (entries : List Entry) (rows : List (List ℕ)) (pulls : List Pull) (a b : ℕ) → a < length rows → b < length rows
     → walk (matrix_from entries rows pulls) a b ≡ found_at (get_or rows a []) b
 walk-from entries rows pulls a b a_in b_in =
-    ap (λ row. get_or row b None) (get_or-map (λ row. map (found_at row) (range_with_len 0 (length rows))) rows a [] [] a_in)
+    ap (λ row. get_or row b None) (get_or-map (λ row. walks_in row (length rows)) rows a [] [] a_in)
     ∙ get_or-map-range_with_len (found_at (get_or rows a [])) 0 (length rows) b b None b_in (omega arith)
 
 pub AreLeastWalks-from : (entries : List Entry) (rows : List (List ℕ)) (pulls : List Pull) → AreLeastRows entries rows → AreLeastWalks (matrix_from entries rows pulls)
@@ -66,7 +66,7 @@ walks-standing rows pulls are =
     let len = length-walks [] rows pulls in
     ext_get_or [] (matrix_from [] rows pulls).walks (empty_matrix n).walks (len ∙ sym (length-map-range_with_len (λ a. map (standing a) (range_with_len 0 n)) 0 n))
     (λ a a_in. let within : a < n = omega (arith, a_in, len) in
-    get_or-map (λ row. map (found_at row) (range_with_len 0 n)) rows a [] [] within
+    get_or-map (λ row. walks_in row n) rows a [] [] within
     ∙ row-standing rows are a within
     ∙ sym (get_or-map-range_with_len (λ a. map (standing a) (range_with_len 0 n)) 0 n a a [] within (omega arith)))
 

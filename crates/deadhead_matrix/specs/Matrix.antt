@@ -4,7 +4,7 @@ use Rattle.std.specs.List.{range_with_len}
 use Rattle.deadhead_matrix.specs.declared.entry.Entry.{Entry}
 use Rattle.deadhead_matrix.specs.declared.pulls.Pull.{Pull}
 use Rattle.deadhead_matrix.specs.declared.pulls.TheConstants.{NO_PULL}
-use Rattle.deadhead_matrix.specs.Search.{found_at}
+use Rattle.deadhead_matrix.specs.Search.{walks_in}
 use Rattle.deadhead_matrix.specs.Walks.{IsLeastWalk}
 
 -- the entries of the planner, for each place and each place the minutes of a least walk from the one to the other, and the
@@ -24,7 +24,7 @@ AreLeastWalks matrix = (a b : ℕ) → a < length matrix.walks → b < length ma
 
 -- the matrix of entries, of how far, in rows of minutes, each place is from each, and of pulls
 abbrev pub matrix_from : List Entry → List (List ℕ) → List Pull → MatrixView
-matrix_from entries rows pulls = record { entries = entries; walks = map (λ row. map (found_at row) (range_with_len 0 (length rows))) rows; pulls = pulls }
+matrix_from entries rows pulls = record { entries = entries; walks = map (λ row. walks_in row (length rows)) rows; pulls = pulls }
 
 -- without entries a vehicle runs empty from no place to another
 abbrev pub standing : ℕ → ℕ → Option ℕ

@@ -3,8 +3,9 @@
 //! [`Deadheads::read`] reads what was found of `deadheads.csv` and adds the places that it names to the timetable; its
 //! records are seen as entries ([`Entry`]). [`Matrix::of`] makes the matrix of entries between all places, and
 //! [`Matrix::read`] both at once. [`Matrix::minutes`] answers by a look-up in how many minutes a vehicle can run empty
-//! from one place to another, along as many entries as it takes. [`Matrix::read_depot`] reads what was found of
-//! `depot.csv`, the pulls of places ([`Pulls`]): in how many minutes a vehicle comes from the depot and goes back to it.
+//! from one place to another, along as many entries as it takes; [`Matrix::walks_from`] lends those from one place.
+//! [`Matrix::read_depot`] reads what was found of `depot.csv`, the pulls of places ([`Pulls`]): in how many minutes a
+//! vehicle comes from the depot and goes back to it.
 //!
 //! The contract that the crates above use: the entries are those of the file, or the first refusal that is due; `minutes`
 //! is the least walk of the entries; and the blocks of a certified plan are least ([`laws::certified_law`]).
@@ -32,6 +33,7 @@ mod matrix;
 mod pulls;
 mod read;
 mod search;
+mod walks;
 mod ways;
 
 pub use deadheads::Deadheads;
@@ -39,3 +41,4 @@ pub use entry::Entry;
 pub use limits::{LONGEST_WALK, MOST_DEADHEAD, VEHICLE_WEIGHT};
 pub use matrix::Matrix;
 pub use pulls::{Pull, Pulls};
+pub use walks::Walks;

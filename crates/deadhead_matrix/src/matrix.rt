@@ -1,4 +1,4 @@
-ghost use Rattle.std.specs.Prelude.{◌≡◌, ◌≢◌, ◌<◌, ◌≤◌, [], length, replicate, All, Err, IfOk, OnErr, IfSome};
+ghost use Rattle.std.specs.Prelude.{◌≡◌, ◌≢◌, ℕ, ◌<◌, ◌≤◌, [], length, replicate, slice_index_or, All, Err, IfOk, OnErr, IfSome};
 ghost use Rattle.gtfs_tables.specs.Papers.{IsWithinLimit};
 ghost use Rattle.gtfs_tables.specs.Reading.{Gives};
 ghost use Rattle.trip_model.specs.declared.limits.TheConstants.{MOST_PLACES};
@@ -15,6 +15,7 @@ use crate::deadheads::Deadheads;
 use crate::distances::Distances;
 use crate::entry::Entry;
 use crate::pulls::Pulls;
+use crate::walks::Walks;
 use desk_io::{Found, Memory};
 use gtfs_tables::FeedFault;
 use std::alloc::Global;
@@ -80,6 +81,19 @@ impl Matrix {
         Ok(Matrix::of(alloc, &deadheads, timetable.places())?)
     }
 
+    /// In how many minutes a vehicle can run empty from the place `a` to each, for a caller that looks at many of them.
+    pub fn walks_from(&self, a: u16) -> Walks<'_>
+        requires { a < length self.now.walks }
+        ensures walks { result ≡ slice_index_or self.now.walks a [] }
+        ensures places { length result ≡ length self.now.walks }
+        ensures least { (b : ℕ) → b < length self.now.walks → IsLeastWalk self.now.entries a b (walk self.now a b) }
+    {
+        Walks {
+            row: &self.rows[usize::from(a)],
+            places: self.places(),
+        }
+    }
+
     /// In how many minutes a vehicle can run empty from the place `a` to the place `b`: 0 from a place to itself, up to
     /// 735,840 over 512 places, and None where there is no walk. A look-up, which takes no memory.
     pub fn minutes(&self, a: u16, b: u16) -> Option<u32>
@@ -89,8 +103,7 @@ impl Matrix {
         ensures least { IsLeastWalk self.now.entries a b result }
         ensures bound { IfSome result (λ minutes. minutes ≤ LONGEST_WALK) }
     {
-        let row = &self.rows[usize::from(a)];
-        row.to(usize::from(b))
+        self.walks_from(a).to(b)
     }
 
     /// How many places there are. No pull is longer than a day.
@@ -110,7 +123,7 @@ impl Matrix {
         self.pulls = pulls;
     }
 
-    /// Takes over the pulls that was found of `depot.csv` gives the places of the timetable, as [`Pulls::read`] reads it.
+    /// Takes over the pulls of the places of the timetable by what was found of `depot.csv`, as [`Pulls::read`] reads it.
     /// Where the file is refused, the pulls stay as they are.
     pub fn read_depot(&mut self, depot: &Found, timetable: &Timetable) -> Result<(), FeedFault>
         requires within { IsWithinLimit depot.now }

@@ -64,8 +64,8 @@ impl Pulls {
         })
     }
 
-    /// The pulls that was found of `depot.csv` gives the places of a timetable: those of the row of the place's name, and
-    /// none where there is no row. A missing file has no rows, and a row of a name that no place has is judged and then
+    /// The pulls of the places of a timetable by what was found of `depot.csv`: those of the row of the place's name, and
+    /// none where there is no such row. A missing file has no rows, and a row whose name no place has is judged and then
     /// passed over.
     pub fn read(alloc: Global, depot: &Found, timetable: &Timetable) -> Result<Pulls, FeedFault>
         requires { IsWithinLimit depot.now }
