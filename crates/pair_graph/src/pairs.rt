@@ -3,8 +3,8 @@ ghost use Rattle.deadhead_matrix.specs.Prices.{weight, IsDay};
 ghost use Rattle.trip_model.specs.declared.limits.TheConstants.{MOST_SLOTS};
 ghost use Rattle.trip_model.specs.Network.{AreDepartures};
 ghost use Rattle.trip_model.specs.Order.{minute_left};
-ghost use Rattle.trip_model.specs.Plain.{move_at, AreMoves};
-ghost use Rattle.trip_model.specs.Trip.{IsValidTrip, move_of};
+ghost use Rattle.trip_model.specs.Plain.{move_at, AreMoves, IsMove};
+ghost use Rattle.trip_model.specs.Trip.{move_of};
 ghost use Rattle.pair_graph.specs.Pairs.{pairs_of, pairs_network};
 
 use deadhead_matrix::{Matrix, VEHICLE_WEIGHT};
@@ -74,7 +74,7 @@ impl<'a> Pairs<'a> {
     fn live(&self, slot: u16) -> Option<Trip>
         requires { slot < length self.now.moves }
         ensures made { option_map move_of result ≡ move_at self.now.moves slot }
-        ensures valid { IfSome result (IsValidTrip (length self.now.matrix.walks)) }
+        ensures valid { IfSome result (λ trip. IsMove (length self.now.matrix.walks) (move_of trip)) }
     {
         if self.without == Some(slot) {
             return None;

@@ -1,4 +1,4 @@
-ghost use Rattle.std.specs.Prelude.{◌≡◌, ◌<◌, length, IfOk};
+ghost use Rattle.std.specs.Prelude.{◌≡◌, ◌<◌, false, length, IfOk};
 
 use crate::Pairs;
 use deadhead_matrix::Matrix;
@@ -14,12 +14,15 @@ use trip_model::{Timetable, Trip};
 fn two_trips(rt: &impl Abort, alloc: Global) -> Result<Timetable, Memory> {
     let mut timetable = Timetable::open(alloc, 0, 0);
     for name in ["A", "B", "C"] {
-        assert!(rt; timetable.places() < 512 && timetable.find_place(name).is_none());
+        assert!(rt;
+            !timetable.classed() && timetable.places() < 512 && timetable.find_place(name).is_none()
+        );
         timetable.push_place(name, 0)?;
     }
     for (name, from, to, departs) in [("U1", 0, 1, 360), ("U2", 2, 0, 420)] {
         assert!(rt; timetable.slots() < 4096 && timetable.find(name).is_none());
         assert!(rt; from < timetable.places() && to < timetable.places() && departs <= 5999);
+        assert!(rt; timetable.class_name(from) == timetable.class_name(to));
         let trip = Trip {
             from,
             to,
@@ -37,6 +40,7 @@ fn two_trips(rt: &impl Abort, alloc: Global) -> Result<Timetable, Memory> {
 
 // The matrix of this file of deadheads.
 fn walked(alloc: Global, bytes: &[u8], timetable: &mut Timetable) -> Result<Matrix, Fail>
+    requires { timetable.old.classed ≡ false }
     ensures { IfOk result (λ matrix. length timetable.new.places ≡ length matrix.walks) }
 {
     if bytes.len() > 1000 {
@@ -62,6 +66,7 @@ fn weights<L: Ledger>(
 {
     let mut steps: Steps<L> = Steps::open(blank);
     let mut timetable = two_trips(rt, alloc)?;
+    assert!(rt; !timetable.classed());
     let matrix = walked(alloc, deadheads, &mut timetable)?;
     let pairs = Pairs::of(&timetable, &matrix);
     assert!(rt; pairs.slots() == 2);
