@@ -10,7 +10,8 @@ use Rattle.gtfs_tables.specs.declared.paper.Column.TheVariants as column
 use Rattle.gtfs_tables.specs.declared.paper.Paper.TheVariants as paper
 use Rattle.gtfs_tables.specs.Fold.{paper_read}
 use Rattle.gtfs_tables.specs.Reading.{◌>>=◌, provided, column_in, field_at, text_in, filled_in, number_in}
-use Rattle.trip_model.specs.Timetable.{Place, TimetableView}
+use Rattle.trip_model.specs.Place.{Place}
+use Rattle.trip_model.specs.Timetable.{TimetableView}
 use Rattle.deadhead_matrix.specs.declared.depot.Columns.{Columns}
 use Rattle.deadhead_matrix.specs.declared.limits.TheConstants.{MOST_DEADHEAD}
 use Rattle.deadhead_matrix.specs.declared.pulls.Pull.{Pull}
@@ -62,9 +63,9 @@ rows_of found = paper_read paper.Depot columns_in with_record [] found
 abbrev pub pull_of : List DepotRow → List ℕ → Pull
 pull_of rows terminal = unwrap_or (row_pull rows terminal) NO_PULL
 
--- the pulls that rows give places, in their order
+-- the pulls that rows give places, each those of its terminal
 abbrev pub pulls_by : List DepotRow → List Place → List Pull
-pulls_by rows places = map (λ place. pull_of rows place.name) places
+pulls_by rows places = map (λ place. pull_of rows place.terminal) places
 
 -- the pulls that the file gives the places of a timetable
 abbrev pub pulls_of : Found → TimetableView → Result (List Pull) FeedFault

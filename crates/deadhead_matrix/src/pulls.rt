@@ -49,7 +49,7 @@ fn pulls_by(alloc: Global, rows: &Depot, timetable: &Timetable) -> Result<Pulls,
 {
     let mut pulls = Vec::new(alloc);
     for place in 0..timetable.places() {
-        pulls.push(rows.pull(timetable.place_name(place)))?;
+        pulls.push(rows.pull(timetable.terminal_name(place)))?;
     }
     Ok(Pulls { pulls })
 }
@@ -64,9 +64,9 @@ impl Pulls {
         })
     }
 
-    /// The pulls of the places of a timetable by what was found of `depot.csv`: those of the row of the place's name, and
-    /// none where there is no such row. A missing file has no rows, and a row whose name no place has is judged and then
-    /// passed over.
+    /// The pulls of the places of a timetable by what was found of `depot.csv`: those of the row of the place's terminal,
+    /// and none where there is no such row. A missing file has no rows, and a row whose terminal has no place is judged and
+    /// then passed over.
     pub fn read(alloc: Global, depot: &Found, timetable: &Timetable) -> Result<Pulls, FeedFault>
         requires { IsWithinLimit depot.now }
         ensures gives { Gives (λ pulls. pulls) result (pulls_of depot.now timetable.now) }

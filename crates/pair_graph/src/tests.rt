@@ -1,4 +1,4 @@
-ghost use Rattle.std.specs.Prelude.{◌≡◌, ◌<◌, length, IfOk};
+ghost use Rattle.std.specs.Prelude.{◌≡◌, ◌<◌, false, length, IfOk};
 ghost use Rattle.gtfs_tables.specs.Papers.{IsWithinLimit};
 
 use crate::Pairs;
@@ -15,12 +15,15 @@ use trip_model::{Timetable, Trip};
 fn two_trips(rt: &impl Abort, alloc: Global) -> Result<Timetable, Memory> {
     let mut timetable = Timetable::open(alloc, 0, 0);
     for name in ["A", "B", "C"] {
-        assert!(rt; timetable.places() < 512 && timetable.find_place(name).is_none());
+        assert!(rt;
+            !timetable.classed() && timetable.places() < 512 && timetable.find_place(name).is_none()
+        );
         timetable.push_place(name, 0)?;
     }
     for (name, from, to, departs) in [("U1", 0, 1, 360), ("U2", 2, 0, 420)] {
         assert!(rt; timetable.slots() < 4096 && timetable.find(name).is_none());
         assert!(rt; from < timetable.places() && to < timetable.places() && departs <= 5999);
+        assert!(rt; timetable.class_name(from) == timetable.class_name(to));
         let trip = Trip {
             from,
             to,
@@ -52,6 +55,7 @@ fn matrix_of(
     depot: &[u8],
     timetable: &mut Timetable,
 ) -> Result<Matrix, Fail>
+    requires { timetable.old.classed ≡ false }
     ensures { IfOk result (λ matrix. length timetable.new.places ≡ length matrix.walks) }
 {
     let mut matrix = match Matrix::read(alloc, &found(alloc, deadheads)?, timetable) {
@@ -78,6 +82,7 @@ fn weights<L: Ledger>(
 {
     let mut steps: Steps<L> = Steps::open(blank);
     let mut timetable = two_trips(rt, alloc)?;
+    assert!(rt; !timetable.classed());
     let matrix = matrix_of(alloc, deadheads, depot, &mut timetable)?;
     let pairs = Pairs::of(&timetable, &matrix);
     assert!(rt; pairs.slots() == 2);
