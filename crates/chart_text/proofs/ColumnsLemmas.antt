@@ -8,6 +8,7 @@ use Rattle.std.proofs.lemmas.List.Elements.{All-head, All-tail}
 use Rattle.std.proofs.lemmas.List.FromFn.{length-range_with_len, get_or-range_with_len}
 use Rattle.trip_model.specs.declared.trip.Move.{Move}
 use Rattle.trip_model.specs.Deficit.{live_moves}
+use Rattle.trip_model.specs.Place.{Place}
 use Rattle.trip_model.specs.Timetable.{TimetableView, Slot, IsTimetable}
 use Rattle.trip_model.specs.Trip.{IsValidTrip, move_of}
 use Rattle.chart_text.specs.Columns.{first_departure, last_end, columns_of}
@@ -32,14 +33,14 @@ range-bounded first last bound h =
     omega arith
 
 -- a valid trip ends by 105:00
-ends-in_day : (places : ℕ) (s : Slot) → IsValidTrip places s.trip → s.trip.ends ≤ 6300
+ends-in_day : (places : List Place) (s : Slot) → IsValidTrip places s.trip → s.trip.ends ≤ 6300
 ends-in_day places s valid =
     let late = valid.late in
     let not_late = valid.not_too_late in
     let published = valid.ends_in_day in
     omega (arith, ints)
 
-ends-bounded : (places : ℕ) (slots : List Slot) (before : ℕ) → before ≤ 6300 → All (λ s. IsValidTrip places s.trip) slots
+ends-bounded : (places : List Place) (slots : List Slot) (before : ℕ) → before ≤ 6300 → All (λ s. IsValidTrip places s.trip) slots
     → fold max before (map (λ m. m.arrives) (live_moves slots)) ≤ 6300
 ends-bounded places [] before h valid = h
 ends-bounded places (s ∷ slots) before h valid =
@@ -55,7 +56,7 @@ ends-bounded places (s ∷ slots) before h valid =
 -- the columns of a timetable lie in the day
 pub columns_of-in_day : (t : TimetableView) → IsTimetable t → All (λ c. c ≤ 630) (columns_of (live_moves t.slots))
 columns_of-in_day t valid =
-    let last : last_end (live_moves t.slots) ≤ 6300 = ends-bounded (length t.places) t.slots 0 (omega arith) valid.trips in
+    let last : last_end (live_moves t.slots) ≤ 6300 = ends-bounded t.places t.slots 0 (omega arith) valid.trips in
     subst (All (λ c. c ≤ 630)) (columns_between (live_moves t.slots) _ _ refl refl)
     (range-bounded (unwrap_or (first_departure (live_moves t.slots)) 65535 / 10) (last_end (live_moves t.slots) / 10) 630 (omega arith))
 

@@ -1,5 +1,6 @@
 pub mod Closed
 pub mod Days
+pub mod DepotLemmas
 pub mod Duality
 pub mod LeftLemmas
 pub mod Looseness

@@ -11,6 +11,7 @@ use Rattle.gtfs_tables.specs.declared.paper.Paper.TheVariants as paper
 use Rattle.gtfs_tables.specs.Fold.{paper_read}
 use Rattle.gtfs_tables.specs.Reading.{◌>>=◌, provided, column_in, field_at, text_in, filled_in, number_in}
 use Rattle.trip_model.specs.declared.limits.TheConstants.{MOST_PLACES}
+use Rattle.trip_model.specs.Place.{terminal_place}
 use Rattle.trip_model.specs.Timetable.{TimetableView, place_names, number_of}
 use Rattle.deadhead_matrix.specs.declared.entry.Entry.{Entry}
 use Rattle.deadhead_matrix.specs.declared.limits.TheConstants.{MOST_DEADHEAD}
@@ -37,7 +38,7 @@ deadhead_in columns number fields = do
 abbrev pub or_new_place : TimetableView → List ℕ → Option ℕ → Result (TimetableView × ℕ) FeedFault
 or_new_place timetable name (Some place) = Ok (timetable, place)
 or_new_place timetable name None = provided (nat_lt (length timetable.places) MOST_PLACES) (fault.TooManyPlaces paper.Deadheads)
-    (Ok (record timetable { places = timetable.places ++ record { name = name; layover = 0 } ∷ [] }, length timetable.places))
+    (Ok (record timetable { places = timetable.places ++ terminal_place name 0 ∷ [] }, length timetable.places))
 
 -- the timetable with a place of that name, and the place's number
 abbrev pub with_place : TimetableView → List ℕ → Result (TimetableView × ℕ) FeedFault

@@ -1,4 +1,4 @@
-ghost use Rattle.std.specs.Prelude.{◌≡◌, ◌≢◌, ℕ, ◌<◌, ◌≤◌, [], ◌∷◌, ◌++◌, length, slice_index_or, slice_set, Err, IfOk};
+ghost use Rattle.std.specs.Prelude.{◌≡◌, ◌≢◌, ℕ, ◌<◌, ◌≤◌, false, [], ◌∷◌, ◌++◌, length, slice_index_or, slice_set, Err, IfOk};
 ghost use Rattle.gtfs_tables.specs.Reading.{Gives};
 ghost use Rattle.trip_model.specs.declared.limits.TheConstants.{MOST_PLACES};
 ghost use Rattle.deadhead_matrix.specs.declared.limits.TheConstants.{MOST_DEADHEAD};
@@ -136,7 +136,8 @@ impl Deadheads {
         deadheads: &Found,
         timetable: &mut Timetable,
     ) -> Result<Deadheads, FeedFault>
-        requires { IsWithinLimit deadheads.now }
+        requires within { IsWithinLimit deadheads.now }
+        requires unclassed { timetable.old.classed ≡ false }
         ensures gives { Gives (λ read. (timetable.new, read)) result (deadheads_of deadheads.now timetable.old) }
         ensures left { result ≢ Err FeedFault.Memory → timetable.new ≡ timetable_left deadheads.now timetable.old }
         // Also after want of memory, the timetable is as it was but for places at the end of its list.

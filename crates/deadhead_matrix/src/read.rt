@@ -1,4 +1,4 @@
-ghost use Rattle.std.specs.Prelude.{◌≡◌, ◌≢◌, ◌<◌, ◌≤◌, [], length, Err, IfOk, OnErr};
+ghost use Rattle.std.specs.Prelude.{◌≡◌, ◌≢◌, ◌<◌, ◌≤◌, false, [], length, Err, IfOk, OnErr};
 ghost use Rattle.gtfs_tables.specs.Papers.{IsWithinLimit};
 ghost use Rattle.gtfs_tables.specs.Reading.{Gives};
 ghost use Rattle.trip_model.specs.declared.limits.TheConstants.{MOST_PLACES};
@@ -67,10 +67,12 @@ fn deadhead_in<'a>(
 
 // The place of that name, a new one at the end where there is none.
 fn place_of(timetable: &mut Timetable, name: &str) -> Result<u16, FeedFault>
+    requires { timetable.old.classed ≡ false }
     ensures gives { Gives (λ place. (timetable.new, place)) result (spec.with_place timetable.old name.now) }
     ensures err { OnErr result (timetable.new ≡ timetable.old) }
     ensures kept { left.as_before (length timetable.old.places) timetable.new ≡ timetable.old }
     ensures longer { length timetable.old.places ≤ length timetable.new.places }
+    ensures unclassed { timetable.new.classed ≡ false }
     ensures within { IfOk result (λ place. place < MOST_PLACES) }
 {
     let places = timetable.places();
@@ -90,6 +92,7 @@ struct Reading {
     timetable: Timetable,
     deadheads: Deadheads,
     ghost gained: { before ≤ length timetable.places },
+    ghost unclassed: { timetable.classed ≡ false },
 }
 
 impl RecordReader for Reading {
@@ -157,7 +160,8 @@ pub(crate) fn read_deadheads(
     found: &Found,
     timetable: &mut Timetable,
 ) -> Result<Deadheads, FeedFault>
-    requires { IsWithinLimit found.now }
+    requires within { IsWithinLimit found.now }
+    requires unclassed { timetable.old.classed ≡ false }
     ensures gives { Gives (λ deadheads. (timetable.new, deadheads)) result (spec.deadheads_of found.now timetable.old) }
     ensures left { result ≢ Err FeedFault.Memory → timetable.new ≡ left.timetable_left found.now timetable.old }
     ensures kept { left.as_before (length timetable.old.places) timetable.new ≡ timetable.old }

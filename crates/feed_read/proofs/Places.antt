@@ -1,5 +1,5 @@
 -- Places in the order in which trips meet them.
-use Rattle.std.proofs.Common.{◌≡◌, ℕ, suc, ◌+◌, ◌<◌, ◌≤◌, true, false, cond, List, [], ◌∷◌, ◌++◌, length, map, get_or, take, drop, refl, sym, ap, ◌∙◌, subst, arith, length-append}
+use Rattle.std.proofs.Common.{◌≡◌, ℕ, zero, suc, ◌+◌, ◌<◌, ◌≤◌, true, false, cond, List, [], ◌∷◌, ◌++◌, length, map, get_or, take, drop, refl, sym, ap, ◌∙◌, subst, arith, length-append}
 use Rattle.std.specs.Prelude.{Contains, fold}
 use Rattle.std.proofs.Math.Seq.{drop-cons}
 use Rattle.std.proofs.lemmas.Bool.{false_from_ne_true}
@@ -15,6 +15,7 @@ use Rattle.gtfs_tables.specs.declared.paper.Paper.TheVariants as paper
 use Rattle.desk_settings.specs.Entries.{Name}
 use Rattle.desk_settings.specs.Names.{is_among, with_name}
 use Rattle.desk_settings.specs.Settings.{SettingsView}
+use Rattle.trip_model.specs.Place.{class_of}
 use Rattle.trip_model.specs.Timetable.{TimetableView, place_names}
 use Rattle.feed_read.specs.declared.journey.Journey.{Journey}
 use Rattle.feed_read.specs.Base.{with_place, place_of, timetable_over, names_met, ends_of, IsFullOrMemory}
@@ -42,6 +43,20 @@ with_place-known settings timetable name there =
 pub place_names-over : (settings : SettingsView) (names : List Name) (journeys : List Journey) → place_names (timetable_over settings names journeys) ≡ names
 place_names-over settings [] journeys = refl
 place_names-over settings (name ∷ names) journeys = ap (λ rest. name ∷ rest) (place_names-over settings names journeys)
+
+-- the places of names are of the empty class
+class-over : (settings : SettingsView) (names : List Name) (p : ℕ) → class_of (map (place_of settings) names) p ≡ []
+unfolding class_of
+class-over settings [] p = refl
+class-over settings (name ∷ names) zero = refl
+class-over settings (name ∷ names) (suc p) = class-over settings names p
+
+-- any two of them are of one class
+pub of_one_class : (settings : SettingsView) (names : List Name) (journeys : List Journey) (timetable : TimetableView) (p q : ℕ) → timetable ≡ timetable_over settings names journeys
+    → class_of timetable.places p ≡ class_of timetable.places q
+of_one_class settings names journeys timetable p q so_far =
+    let places = ap (λ (t : TimetableView). t.places) so_far in
+    ap (λ ps. class_of ps p) places ∙ class-over settings names p ∙ sym (ap (λ ps. class_of ps q) places ∙ class-over settings names q)
 
 -- the timetable over names, with the place of one more
 with_place-over : (settings : SettingsView) (names : List Name) (name : Name) → with_place settings (timetable_over settings names []) name ≡ timetable_over settings (with_name names name) []

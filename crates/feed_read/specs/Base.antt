@@ -1,5 +1,5 @@
 -- The timetable of a feed.
-use Rattle.std.specs.Prelude.{◌<◌, nat_le, List, [], ◌∷◌, ◌++◌, length, map, fold, pos, true, unwrap_or, Result, Ok, ⊤, if◌then◌else◌}
+use Rattle.std.specs.Prelude.{◌<◌, nat_le, List, [], ◌∷◌, ◌++◌, length, map, fold, pos, true, false, unwrap_or, Result, Ok, ⊤, if◌then◌else◌}
 use Rattle.std.specs.List.{flat_map}
 use Rattle.desk_io.specs.declared.shelf.Found.{Found}
 use Rattle.gtfs_tables.specs.declared.fault.FeedFault.{FeedFault}
@@ -10,7 +10,8 @@ use Rattle.trip_model.specs.declared.limits.TheConstants.{MOST_PLACES}
 use Rattle.desk_settings.specs.Entries.{Name}
 use Rattle.desk_settings.specs.Names.{is_among, with_name}
 use Rattle.desk_settings.specs.Settings.{SettingsView, layover_at}
-use Rattle.trip_model.specs.Timetable.{TimetableView, Place, Slot, number_of, place_names}
+use Rattle.trip_model.specs.Place.{Place, terminal_place}
+use Rattle.trip_model.specs.Timetable.{TimetableView, Slot, number_of, place_names}
 use Rattle.feed_read.specs.declared.journey.Journey.{Journey}
 use Rattle.feed_read.specs.Trips.{trips_in}
 use Rattle.feed_read.specs.Journeys.{journeys_in}
@@ -25,7 +26,7 @@ names_met names = fold with_name [] names
 
 -- a place, with its layover
 abbrev pub place_of : SettingsView → Name → Place
-place_of settings name = record { name = name; layover = layover_at settings name }
+place_of settings name = terminal_place name (layover_at settings name)
 
 -- a timetable with a place at the end of its places, where it is new
 abbrev pub with_place : SettingsView → TimetableView → Name → TimetableView
@@ -52,6 +53,7 @@ slot_of names journey = record {
 -- places of these names, and a slot for each trip
 abbrev pub timetable_over : SettingsView → List Name → List Journey → TimetableView
 timetable_over settings names journeys = record {
+  classed = false;
   places = map (place_of settings) names;
   slots = map (slot_of names) journeys;
   early = settings.early;

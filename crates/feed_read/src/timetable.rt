@@ -1,4 +1,4 @@
-ghost use Rattle.std.specs.Prelude.{◌≡◌, ◌≤◌, [], length, map, All, IfErr, OnOk};
+ghost use Rattle.std.specs.Prelude.{◌≡◌, ◌≤◌, false, [], length, map, All, IfOk, IfErr, OnOk};
 ghost use Rattle.desk_settings.specs.Names.{with_name};
 ghost use Rattle.gtfs_tables.specs.Reading.{Gives};
 ghost use Rattle.trip_model.specs.declared.limits.TheConstants.{MOST_SLOTS};
@@ -15,6 +15,7 @@ use trip_model::{MOST_PLACES, Timetable, Trip};
 
 // Puts a place of that name at the end, where there is none yet.
 fn push_place(settings: &Settings, timetable: &mut Timetable, name: &Text) -> Result<(), FeedFault>
+    requires { timetable.old.classed ≡ false }
     ensures pushed { OnOk result (timetable.new ≡ spec.with_place settings.now timetable.old name.now) }
     ensures full { IfErr result (spec.IsFullOrMemory (with_name (place_names timetable.old) name.now)) }
 {
@@ -48,6 +49,7 @@ fn push_places(
 }
 
 // The slots of the trips, whose places are there already.
+#[tactic(auto, using(crate::proofs::Places::of_one_class))]
 fn push_trips(
     settings: &Settings,
     timetable: &mut Timetable,
@@ -87,7 +89,8 @@ pub(crate) fn timetable_of(
     requires few { length journeys.now ≤ MOST_SLOTS }
     requires distinct { AreDistinct (map (λ journey. journey.name) journeys.now) }
     requires valid { All IsJourney journeys.now }
-    ensures { Gives (λ timetable. timetable) result (spec.timetable_of settings.now journeys.now) }
+    ensures gives { Gives (λ timetable. timetable) result (spec.timetable_of settings.now journeys.now) }
+    ensures unclassed { IfOk result (λ timetable. timetable.classed ≡ false) }
 {
     let mut timetable = Timetable::open(alloc, settings.early(), settings.late());
     push_places(settings, &mut timetable, journeys)?;

@@ -15,6 +15,7 @@ use Rattle.trip_model.specs.Links.{AreLinks}
 use Rattle.trip_model.specs.Network.{Fits, AreDepartures}
 use Rattle.trip_model.specs.Order.{minute_left}
 use Rattle.trip_model.specs.Plain.{move_at, made, meets, plain_network, is_in_time, timely_network, move_of_slot, trip_moves, IsMove, AreMoves}
+use Rattle.trip_model.specs.Place.{Place}
 use Rattle.trip_model.specs.Timetable.{TimetableView, Slot, IsTimetable, slot_at}
 use Rattle.trip_model.specs.Trip.{IsValidTrip, move_of}
 use Rattle.trip_model.proofs.OrderLemmas.{slot-move}
@@ -86,7 +87,7 @@ slot-made : (slot : Slot) (m : Move) (live : Bool) → slot.trip.live ≡ live �
 slot-made slot m true live e = (refl, same_Some (move_of slot.trip) m (sym (ap (λ b. if b then Some (move_of slot.trip) else None) live) ∙ e))
 slot-made slot m false dead e = absurd (none-some m (sym (ap (λ b. if b then Some (move_of slot.trip) else None) dead) ∙ e))
 
-IsMove-trip : (places : ℕ) (trip : Trip) → IsValidTrip places trip → IsMove places (move_of trip)
+pub IsMove-trip : (places : List Place) (trip : Trip) → IsValidTrip places trip → IsMove (length places) (move_of trip)
 IsMove-trip places trip valid = record {
   from = valid.from;
   to = valid.to;
@@ -116,7 +117,7 @@ pub AreMoves-trips : (t : TimetableView) → IsTimetable t → AreMoves (length 
 AreMoves-trips t valid = record {
   each = λ s m e.
       let made = slot-made (slot_at t s) m ((slot_at t s).trip.live) refl (sym (slot-move t s) ∙ e) in
-      subst (IsMove (length t.places)) made.1 (IsMove-trip (length t.places) (slot_at t s).trip (valid.trips s _ (slot-within t s made.0)));
+      subst (IsMove (length t.places)) made.1 (IsMove-trip t.places (slot_at t s).trip (valid.trips s _ (slot-within t s made.0)));
 }
 
 -- without empty minutes, few vehicles are all that counts

@@ -4,6 +4,7 @@ pub mod Links
 pub mod Maximum
 pub mod Network
 pub mod Order
+pub mod Place
 pub mod Plain
 pub mod Steps
 pub mod Timetable

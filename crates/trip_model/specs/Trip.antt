@@ -1,8 +1,9 @@
 -- When a trip is valid, and what a deficit counts of it.
-use Rattle.std.specs.Prelude.{ℕ, ◌<◌, ◌≤◌, ℤ, pos, neg_ℤ, ◌-ℤ◌, ◌≤ℤ◌}
+use Rattle.std.specs.Prelude.{◌≡◌, ◌<◌, ◌≤◌, List, length, ℤ, pos, neg_ℤ, ◌-ℤ◌, ◌≤ℤ◌}
 use Rattle.trip_model.specs.declared.limits.TheConstants.{LAST_DEPARTURE, LAST_END, MOST_TOLERANCE}
 use Rattle.trip_model.specs.declared.trip.Trip.{Trip}
 use Rattle.trip_model.specs.declared.trip.Move.{Move}
+use Rattle.trip_model.specs.Place.{Place, class_of}
 
 -- the trip leaves its first place as it departs, and arrives at its last place as it ends
 abbrev pub move_of : Trip → Move
@@ -16,11 +17,12 @@ published_departure trip = pos trip.departs -ℤ trip.offset
 abbrev pub published_end : Trip → ℤ
 published_end trip = pos trip.ends -ℤ trip.offset
 
--- a trip between two of so many places, which ends after it departs, is moved within its tolerances of at most an hour,
--- and is published to depart by 99:59 and to end by 104:00
-pub record IsValidTrip (places : ℕ) (trip : Trip) : Type 0 where
-  pub from : trip.from < places
-  pub to : trip.to < places
+-- a trip between two of the places, which are of one class; it ends after it departs, is moved within its tolerances of at
+-- most an hour, and is published to depart by 99:59 and to end by 104:00
+pub record IsValidTrip (places : List Place) (trip : Trip) : Type 0 where
+  pub from : trip.from < length places
+  pub to : trip.to < length places
+  pub one_class : class_of places trip.from ≡ class_of places trip.to
   pub forward : trip.departs < trip.ends
   pub early : trip.early ≤ MOST_TOLERANCE
   pub late : trip.late ≤ MOST_TOLERANCE

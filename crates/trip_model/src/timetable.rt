@@ -1,16 +1,25 @@
-ghost use Rattle.std.specs.Prelude.{◌≡◌, ◌+◌, ◌<◌, ◌≤◌, [], ◌∷◌, ◌++◌, length, slice_get, Some, Contains, IfOk, IfSome, IfNone, OnErr};
+ghost use Rattle.std.specs.Prelude.{◌≡◌, ◌+◌, ◌<◌, ◌≤◌, [], ◌∷◌, ◌++◌, true, false, length, slice_get, Some, Contains, IfOk, IfSome, IfNone, OnErr, string_bytes};
 
 use crate::Trip;
-use desk_io::Memory;
+use desk_io::{Memory, Text};
 use indexmap::IndexMap;
 use std::alloc::Global;
 use std::marker::Model;
 
+// What a place is besides its name.
+#[derive(Drop)]
+struct Post {
+    terminal: Text,
+    class: Text,
+    layover: u16,
+}
+
 /// The places and the trip slots of one service day, each numbered from 0 and found by name.
 #[derive(Drop)]
 pub struct Timetable {
-    layovers: IndexMap<String, u16>,
+    places: IndexMap<String, Post>,
     trips: IndexMap<String, Trip>,
+    classed: bool,
     early: u8,
     late: u8,
 }
@@ -20,29 +29,55 @@ impl Model for Timetable {
 
     ghost Value = { TimetableView };
 
-    ghost view = { λ t. timetable_of t.layovers.entries t.trips.entries t.early t.late };
+    ghost view = { λ t. timetable_of t.classed t.places.entries t.trips.entries t.early t.late };
 
-    ghost invariant = { λ t. IsTimetable (timetable_of t.layovers.entries t.trips.entries t.early t.late) };
+    ghost invariant = { λ t. IsTimetable (timetable_of t.classed t.places.entries t.trips.entries t.early t.late) };
 }
 
 impl Timetable {
     ghost use Rattle.trip_model.specs.declared.limits.TheConstants.{MOST_LAYOVER, MOST_PLACES, MOST_SLOTS, MOST_TOLERANCE};
+    ghost use Rattle.trip_model.specs.Place.{Place, IsPlace, class_of, has_slash, terminal_place, post_place};
     ghost use Rattle.trip_model.specs.Trip.{IsValidTrip};
-    ghost use Rattle.trip_model.specs.Timetable.{Place, Slot, TimetableView, IsTimetable, place_names, slot_names, number_of, place_at, slot_at};
+    ghost use Rattle.trip_model.specs.Timetable.{Slot, TimetableView, IsTimetable, place_names, slot_names, number_of, place_at, slot_at};
 
-    /// A timetable without places and slots. `early` and `late` are the tolerances, in minutes, of trips that have
-    /// none of their own.
-    pub fn open(alloc: Global, early: u8, late: u8) -> Timetable
+    fn empty(alloc: Global, classed: bool, early: u8, late: u8) -> Timetable
         requires early { early ≤ MOST_TOLERANCE }
         requires late { late ≤ MOST_TOLERANCE }
-        ensures { result ≡ record { places = []; slots = []; early = early; late = late } }
+        ensures { result ≡ record { classed = classed; places = []; slots = []; early = early; late = late } }
     {
         Timetable {
-            layovers: IndexMap::new(alloc),
+            places: IndexMap::new(alloc),
             trips: IndexMap::new(alloc),
+            classed,
             early,
             late,
         }
+    }
+
+    /// A timetable without places and slots, whose places are to be terminals. `early` and `late` are the tolerances, in
+    /// minutes, of trips that have none of their own.
+    pub fn open(alloc: Global, early: u8, late: u8) -> Timetable
+        requires early { early ≤ MOST_TOLERANCE }
+        requires late { late ≤ MOST_TOLERANCE }
+        ensures { result ≡ record { classed = false; places = []; slots = []; early = early; late = late } }
+    {
+        Timetable::empty(alloc, false, early, late)
+    }
+
+    /// The same, where vehicles are of classes: its places are to be posts, each a terminal with a class.
+    pub fn open_classed(alloc: Global, early: u8, late: u8) -> Timetable
+        requires early { early ≤ MOST_TOLERANCE }
+        requires late { late ≤ MOST_TOLERANCE }
+        ensures { result ≡ record { classed = true; places = []; slots = []; early = early; late = late } }
+    {
+        Timetable::empty(alloc, true, early, late)
+    }
+
+    /// Whether its places are posts.
+    pub fn classed(&self) -> bool
+        ensures { result ≡ self.now.classed }
+    {
+        self.classed
     }
 
     /// How many places there are.
@@ -50,7 +85,7 @@ impl Timetable {
         ensures count { result ≡ length self.now.places }
         ensures valid { IsTimetable self.now }
     {
-        self.layovers.len() as u16
+        self.places.len() as u16
     }
 
     /// The name of a place.
@@ -58,8 +93,27 @@ impl Timetable {
         requires { place < length self.now.places }
         ensures { result.now ≡ (place_at self.now place).name }
     {
-        let (name, _) = self.layovers.get_index(usize::from(place)).unwrap();
+        let (name, _) = self.places.get_index(usize::from(place)).unwrap();
         name.as_str()
+    }
+
+    /// The terminal of a place: of a post its own, and elsewhere the place itself.
+    pub fn terminal_name(&self, place: u16) -> &str
+        requires { place < length self.now.places }
+        ensures { result.now ≡ (place_at self.now place).terminal }
+    {
+        let (_, post) = self.places.get_index(usize::from(place)).unwrap();
+        post.terminal.as_str()
+    }
+
+    /// The class of the vehicles that use a place, which is empty where vehicles are of no classes.
+    #[tactic(auto, unfolding(crate::specs::Place::class_of))]
+    pub fn class_name(&self, place: u16) -> &str
+        requires { place < length self.now.places }
+        ensures { result.now ≡ class_of self.now.places place }
+    {
+        let (_, post) = self.places.get_index(usize::from(place)).unwrap();
+        post.class.as_str()
     }
 
     /// The minutes that a vehicle stays at a place after a trip that ends there.
@@ -68,8 +122,8 @@ impl Timetable {
         ensures value { result ≡ (place_at self.now place).layover }
         ensures valid { result ≤ MOST_LAYOVER }
     {
-        let (_, layover) = self.layovers.get_index(usize::from(place)).unwrap();
-        *layover
+        let (_, post) = self.places.get_index(usize::from(place)).unwrap();
+        post.layover
     }
 
     /// The number of the place of that name.
@@ -79,7 +133,7 @@ impl Timetable {
         ensures within { IfSome result (λ p. p < length self.now.places) }
         ensures missing { IfNone result (¬ Contains (place_names self.now) name.now) }
     {
-        let place = self.layovers.get_index_of(name)?;
+        let place = self.places.get_index_of(name)?;
         Some(place as u16)
     }
 
@@ -99,21 +153,66 @@ impl Timetable {
         self.late
     }
 
-    /// Appends a place, with its layover in minutes, and answers its number.
+    // Appends a place, whose name is new, and answers its number.
+    fn push(
+        &mut self,
+        name: String,
+        terminal: &str,
+        class: &str,
+        layover: u16,
+    ) -> Result<u16, Memory>
+        requires new { ¬ Contains (place_names self.old) (string_bytes name) }
+        requires room { length self.old.places < MOST_PLACES }
+        requires place { IsPlace self.old.classed (record { name = string_bytes name; terminal = terminal.now; class = class.now; layover = layover }) }
+        ensures number { IfOk result (λ p. p ≡ length self.old.places) }
+        ensures pushed { IfOk result (λ _. self.new ≡ record self.old {
+          places = self.old.places ++ record { name = string_bytes name; terminal = terminal.now; class = class.now; layover = layover } ∷ [];
+        }) }
+        ensures err { OnErr result (self.new ≡ self.old) }
+    {
+        let number = self.places.len() as u16;
+        let alloc = *self.places.allocator();
+        let post = Post {
+            terminal: Text::of(alloc, terminal)?,
+            class: Text::of(alloc, class)?,
+            layover,
+        };
+        self.places.insert(name, post)?;
+        Ok(number)
+    }
+
+    /// Appends a terminal, with its layover in minutes, and answers its number as a place.
     pub fn push_place(&mut self, name: &str, layover: u16) -> Result<u16, Memory>
+        requires unclassed { self.old.classed ≡ false }
         requires new { ¬ Contains (place_names self.old) name.now }
         requires room { length self.old.places < MOST_PLACES }
         requires layover { layover ≤ MOST_LAYOVER }
         ensures number { IfOk result (λ p. p ≡ length self.old.places) }
         ensures pushed { IfOk result (λ _. self.new ≡ record self.old {
-          places = self.old.places ++ record { name = name.now; layover = layover } ∷ [];
+          places = self.old.places ++ terminal_place name.now layover ∷ [];
         }) }
         ensures err { OnErr result (self.new ≡ self.old) }
     {
-        let number = self.layovers.len() as u16;
-        let name = String::from_str(*self.layovers.allocator(), name)?;
-        self.layovers.insert(name, layover)?;
-        Ok(number)
+        let copy = String::from_str(*self.places.allocator(), name)?;
+        self.push(copy, name, "", layover)
+    }
+
+    /// Appends the post of a terminal for a class, with its layover in minutes, and answers its number as a place. It is
+    /// named TERMINAL/CLASS.
+    pub fn push_post(&mut self, terminal: &str, class: &str, layover: u16) -> Result<u16, Memory>
+        requires classed { self.old.classed ≡ true }
+        requires new { ¬ Contains (place_names self.old) (post_place terminal.now class.now layover).name }
+        requires class { has_slash class.now ≡ false }
+        requires room { length self.old.places < MOST_PLACES }
+        requires layover { layover ≤ MOST_LAYOVER }
+        ensures number { IfOk result (λ p. p ≡ length self.old.places) }
+        ensures pushed { IfOk result (λ _. self.new ≡ record self.old {
+          places = self.old.places ++ post_place terminal.now class.now layover ∷ [];
+        }) }
+        ensures err { OnErr result (self.new ≡ self.old) }
+    {
+        let name = format!(in *self.places.allocator(); "{terminal}/{class}")?;
+        self.push(name, terminal, class, layover)
     }
 
     /// How many slots there are.
@@ -128,7 +227,7 @@ impl Timetable {
     pub fn trip(&self, slot: u16) -> Trip
         requires { slot < length self.now.slots }
         ensures value { result ≡ (slot_at self.now slot).trip }
-        ensures valid { IsValidTrip (length self.now.places) result }
+        ensures valid { IsValidTrip self.now.places result }
     {
         let (_, trip) = self.trips.get_index(usize::from(slot)).unwrap();
         *trip
@@ -158,7 +257,7 @@ impl Timetable {
     pub fn push_trip(&mut self, name: &str, trip: Trip) -> Result<u16, Memory>
         requires new { ¬ Contains (slot_names self.old) name.now }
         requires room { length self.old.slots < MOST_SLOTS }
-        requires valid { IsValidTrip (length self.old.places) trip }
+        requires valid { IsValidTrip self.old.places trip }
         ensures slot { IfOk result (λ s. s ≡ length self.old.slots) }
         ensures pushed { IfOk result (λ _. self.new ≡ record self.old {
           slots = self.old.slots ++ record { name = name.now; trip = trip } ∷ [];

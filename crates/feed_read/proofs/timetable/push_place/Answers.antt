@@ -3,7 +3,8 @@ use Rattle.std.specs.Prelude.{Contains, slice_get, Some}
 use Rattle.std.proofs.lemmas.List.{length-map}
 use Rattle.std.proofs.lemmas.Option.{slice_get_within, get_or_from_slice_get}
 use Rattle.desk_settings.specs.Settings.{layover_at}
-use Rattle.trip_model.specs.Timetable.{place_names, Place}
+use Rattle.trip_model.specs.Place.{Place, terminal_place}
+use Rattle.trip_model.specs.Timetable.{place_names}
 use Rattle.feed_read.specs.Base.{place_of}
 use Rattle.feed_read.proofs.Places.{with_name-new, with_place-new, with_place-known}
 use Rattle.feed_read.proofs.timetable.push_place.Goals as goal
@@ -25,8 +26,8 @@ pub returns-in_ok-push_place-in-None-2-clause-pushed : goal.returns-in_ok-push_p
 returns-in_ok-push_place-in-None-2-clause-pushed c =
     let new = subst (λ name. ¬ Contains (place_names c.args.timetable.now) name) c.as_str.ensures c.in-None.ensures.missing in
     let layover = c.layover.ensures.value ∙ ap (λ name. layover_at c.args.settings.now name) c.as_str-in-None-2-2.ensures in
-    let place : record { name = c.as_str-in-None-2.result.now; layover = c.layover.result } ≡ place_of c.args.settings.now c.args.name.now =
-    λ i. record { name = c.as_str-in-None-2.ensures i; layover = layover i } in
+    let place : terminal_place c.as_str-in-None-2.result.now c.layover.result ≡ place_of c.args.settings.now c.args.name.now =
+    λ i. terminal_place (c.as_str-in-None-2.ensures i) (layover i) in
     c.in_ok-push_place-in-None-2.ensures.pushed
     ∙ ap (λ place. record (c.args.timetable.now) { places = c.args.timetable.now.places ++ place ∷ [] }) place
     ∙ sym (with_place-new c.args.settings.now c.args.timetable.now c.args.name.now new)
