@@ -40,5 +40,5 @@ pub use deadheads::Deadheads;
 pub use entry::Entry;
 pub use limits::{LONGEST_WALK, MOST_DEADHEAD, VEHICLE_WEIGHT};
 pub use matrix::Matrix;
-pub use pulls::{Pull, Pulls};
+pub use pulls::{NO_PULL, Pull, Pulls};
 pub use walks::Walks;

@@ -20,7 +20,7 @@ pub struct Pull {
 }
 
 /// At the depot a vehicle runs no minute empty.
-pub(crate) const NO_PULL: Pull = Pull {
+pub const NO_PULL: Pull = Pull {
     pull_out: 0,
     pull_in: 0,
 };

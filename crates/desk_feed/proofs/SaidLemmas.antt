@@ -8,12 +8,16 @@ use Rattle.gtfs_tables.proofs.ReadingLemmas.{Fails->>=, Fails-equal}
 use Rattle.desk_settings.specs.Settings.{SettingsView}
 use Rattle.trip_model.specs.Timetable.{TimetableView}
 use Rattle.deadhead_matrix.specs.declared.entry.Entry.{Entry}
-use Rattle.desk_feed.specs.Feed.{Said, settings_in, timetable_in, deadheads_in, no_edits, said_by}
+use Rattle.deadhead_matrix.specs.declared.pulls.Pull.{Pull}
+use Rattle.desk_feed.specs.Feed.{Said, settings_in, timetable_in, deadheads_in, pulls_in, no_edits, said_by}
 
 module _ (reads : Bool) (found : Paper → Found) (settings : SettingsView) where
-  -- what is said once the timetable is read, and once the deadheads are
+  -- what is said once the pulls are read, once the deadheads are, and once the timetable is
+  abbrev with_pulls : TimetableView × List Entry → List Pull → Result Said FeedFault
+  with_pulls deadheads pulls = no_edits found >>= λ _. Ok (record { settings = settings; base = deadheads.0; timetable = deadheads.0; entries = deadheads.1; pulls = pulls })
+
   abbrev with_deadheads : TimetableView × List Entry → Result Said FeedFault
-  with_deadheads deadheads = no_edits found >>= λ _. Ok (record { settings = settings; base = deadheads.0; timetable = deadheads.0; entries = deadheads.1 })
+  with_deadheads deadheads = pulls_in found reads deadheads.0 >>= with_pulls deadheads
 
   abbrev with_timetable : TimetableView → Result Said FeedFault
   with_timetable timetable = deadheads_in found reads timetable >>= with_deadheads
@@ -21,8 +25,8 @@ module _ (reads : Bool) (found : Paper → Found) (settings : SettingsView) wher
   module _ (known : settings_in found ≡ Ok settings) where
     said_with_settings : said_by reads found ≡ (timetable_in found settings >>= with_timetable)
     unfolding said_by
-    said_with_settings = ap (λ read. read >>= λ s. timetable_in found s >>= λ t. deadheads_in found reads t >>= λ d. no_edits found
-        >>= λ _. Ok (record { settings = s; base = d.0; timetable = d.0; entries = d.1 })) known
+    said_with_settings = ap (λ read. read >>= λ s. timetable_in found s >>= λ t. deadheads_in found reads t >>= λ d. pulls_in found reads d.0 >>= λ p. no_edits found
+        >>= λ _. Ok (record { settings = s; base = d.0; timetable = d.0; entries = d.1; pulls = p })) known
 
     -- the timetable is refused
     pub said-no_timetable : (refused : FeedFault) → Fails refused (timetable_in found settings) → Fails refused (said_by reads found)
@@ -38,9 +42,17 @@ module _ (reads : Bool) (found : Paper → Found) (settings : SettingsView) wher
       said-no_deadheads refused due =
           Fails-equal refused (with_timetable timetable) (said_by reads found) (sym said_with_timetable) (Fails->>= refused (deadheads_in found reads timetable) with_deadheads due)
 
-      -- the edits are refused
-      pub said-no_edits : (deadheads : TimetableView × List Entry) (refused : FeedFault) → deadheads_in found reads timetable ≡ Ok deadheads → Fails refused (no_edits found)
-          → Fails refused (said_by reads found)
-      said-no_edits deadheads refused entered due =
-          Fails-equal refused (with_deadheads deadheads) (said_by reads found) (sym (said_with_timetable ∙ ap (λ read. read >>= with_deadheads) entered))
-          (Fails->>= refused (no_edits found) (λ _. Ok (record { settings = settings; base = deadheads.0; timetable = deadheads.0; entries = deadheads.1 })) due)
+      module _ (deadheads : TimetableView × List Entry) (entered : deadheads_in found reads timetable ≡ Ok deadheads) where
+        said_with_deadheads : said_by reads found ≡ with_deadheads deadheads
+        said_with_deadheads = said_with_timetable ∙ ap (λ read. read >>= with_deadheads) entered
+
+        -- the pulls are refused
+        pub said-no_pulls : (refused : FeedFault) → Fails refused (pulls_in found reads deadheads.0) → Fails refused (said_by reads found)
+        said-no_pulls refused due =
+            Fails-equal refused (with_deadheads deadheads) (said_by reads found) (sym said_with_deadheads) (Fails->>= refused (pulls_in found reads deadheads.0) (with_pulls deadheads) due)
+
+        -- the edits are refused
+        pub said-no_edits : (pulls : List Pull) (refused : FeedFault) → pulls_in found reads deadheads.0 ≡ Ok pulls → Fails refused (no_edits found) → Fails refused (said_by reads found)
+        said-no_edits pulls refused pulled due =
+            Fails-equal refused (with_pulls deadheads pulls) (said_by reads found) (sym (said_with_deadheads ∙ ap (λ read. read >>= with_pulls deadheads) pulled))
+            (Fails->>= refused (no_edits found) (λ _. Ok (record { settings = settings; base = deadheads.0; timetable = deadheads.0; entries = deadheads.1; pulls = pulls })) due)

@@ -8,11 +8,11 @@ use Rattle.desk_run.specs.Outcome.{OutcomeView, putting}
 use Rattle.desk_run.specs.Reading.{ReadView, found_of}
 use Rattle.desk_run.specs.declared.status.Ending.{Ending}
 use Rattle.desk_run.specs.declared.status.Ending.TheVariants as ending
-use Rattle.desk_feed.specs.Feed.{Said, HasRead, feed_papers, said_by, said_of}
+use Rattle.desk_feed.specs.Feed.{Said, IsFeed, feed_papers, said_by, said_of}
 use Rattle.desk_feed.specs.declared.judging.Judged.{Judged}
 use Rattle.desk_feed.specs.declared.judging.Judged.TheVariants.{Accepted, Refused}
 
--- what was read says to a command that reads the deadheads or does not
+-- what was read says to a command that reads the deadheads and the depot or does not
 abbrev pub said_in : Bool → ReadView → Result Said FeedFault
 said_in reads read = said_by reads (found_of read.pages)
 
@@ -22,7 +22,7 @@ refusing refused = putting (feed_line_of refused) ending.FeedRefused
 
 -- an accepted feed says what was read; a refused one has the outcome of the first refusal
 abbrev pub Judges : Bool → ReadView → Judged → Type 0
-Judges reads read (Accepted feed) = (said_in reads read ≡ Ok (said_of feed)) × HasRead reads feed
+Judges reads read (Accepted feed) = (said_in reads read ≡ Ok (said_of feed)) × IsFeed reads feed
 Judges reads read (Refused outcome) = (refused : FeedFault) × (said_in reads read ≡ Err refused) × (outcome ≡ refusing refused)
 
 -- how a run ends: of an accepted feed as the command says, and of a refused one as refused
@@ -35,7 +35,7 @@ abbrev pub Does : (Said → OutcomeView → Type 0) → Result Said FeedFault �
 Does accepted (Ok said) outcome = accepted said outcome
 Does accepted (Err refused) outcome = outcome ≡ refusing refused
 
--- What a command asks that works on a feed: its papers, and whether it reads the deadheads; then, by what it has read and
+-- What a command asks that works on a feed: its papers, and whether it reads the deadheads and the depot; then, by what it has read and
 -- by what an accepted feed says, how it ends and what it may do.
 abbrev pub of_feed : List Paper → Bool → (ReadView → Said → Ending) → (ReadView → Said → OutcomeView → Type 0) → Asked
 of_feed papers reads accepted Accepts = record {

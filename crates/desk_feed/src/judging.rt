@@ -9,13 +9,14 @@ use gtfs_tables::{FeedFault, Paper, feed_line};
 use std::alloc::Global;
 
 /// The papers of a feed, in the order in which they are read and judged.
-pub const FEED_PAPERS: [Paper; 7] = [
+pub const FEED_PAPERS: [Paper; 8] = [
     Paper::Settings,
     Paper::Terminals,
     Paper::Tolerances,
     Paper::Trips,
     Paper::StopTimes,
     Paper::Deadheads,
+    Paper::Depot,
     Paper::Edits,
 ];
 

@@ -7,17 +7,20 @@ use Rattle.trip_model.specs.Links.{blocks_along}
 use Rattle.trip_model.specs.Maximum.{sum_of_maxima}
 use Rattle.trip_model.specs.Order.{by_departure}
 use Rattle.trip_model.specs.Plain.{plain_network, trip_moves}
-use Rattle.deadhead_matrix.specs.Matrix.{empty_matrix, walk}
+use Rattle.deadhead_matrix.specs.Matrix.{MatrixView, empty_matrix}
 use Rattle.fixed_fleet.specs.Rule.{first_in_first_out}
 use Rattle.block_build.specs.Lines.{block_text}
 use Rattle.desk_run.specs.Commands.{Asked}
 use Rattle.desk_feed.specs.Feed.{Said}
 use Rattle.desk_feed.specs.Judging.{showing}
 
--- the lines of the blocks, whose vehicles never run empty, and then their number
+-- the matrix without entries that has the pulls: no vehicle runs empty from one trip to the next
+abbrev pub standing_matrix : Said → MatrixView
+standing_matrix said = record (empty_matrix (length said.timetable.places)) { pulls = said.pulls }
+
+-- the lines of the blocks, and then their number
 abbrev pub fixed_text : Said → List (List ℕ) → List ℕ
-fixed_text said blocks =
-    block_text said.timetable (walk (empty_matrix (length said.timetable.places))) said.settings.prefix blocks ++ (codes "fixed " ++ (decimal (length blocks) ++ 10 ∷ []))
+fixed_text said blocks = block_text said.timetable (standing_matrix said) said.settings.prefix blocks ++ (codes "fixed " ++ (decimal (length blocks) ++ 10 ∷ []))
 
 -- The text is that of the blocks which the rule of first in, first out makes. No blocking without deadheads has fewer, and
 -- they are as many as the sum of the maxima.

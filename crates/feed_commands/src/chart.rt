@@ -1,5 +1,5 @@
 ghost use Rattle.std.specs.Prelude.{◌≡◌, false, IfOk};
-ghost use Rattle.desk_feed.specs.Feed.{HasRead, said_of};
+ghost use Rattle.desk_feed.specs.Feed.{IsFeed, said_of};
 ghost use Rattle.desk_run.specs.Causes.{HasCause, IsComplete};
 ghost use Rattle.desk_run.specs.Runs.{RunsAs};
 ghost use Rattle.desk_run.specs.World.{world};
@@ -19,9 +19,9 @@ use std::alloc::Global;
 use std::sync::ledger::Ledger;
 use trip_model::laws::plain_law;
 
-// The charts of the deficits and of the blocks of a feed. Without deadheads the fewest blocks are least.
+// The charts of the deficits and of the blocks of a feed. Without deadheads and pulls the fewest blocks are least.
 fn charts<L: Ledger>(alloc: Global, feed: &Feed, steps: &mut Steps<L>) -> Result<Text, Memory>
-    requires { HasRead false feed.now }
+    requires { IsFeed false feed.now }
     ensures { IfOk result (IsChart (said_of feed.now)) }
 {
     plain_law();

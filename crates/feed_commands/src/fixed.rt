@@ -1,4 +1,4 @@
-ghost use Rattle.std.specs.Prelude.{◌≡◌, ◌<◌, pos, length, All, IfOk};
+ghost use Rattle.std.specs.Prelude.{◌≡◌, ◌<◌, true, pos, length, All, IfOk};
 ghost use Rattle.trip_model.specs.Blocking.{IsFewest};
 ghost use Rattle.trip_model.specs.Deficit.{deficit, live_moves};
 ghost use Rattle.trip_model.specs.Links.{AreLinks, blocks_along};
@@ -6,7 +6,7 @@ ghost use Rattle.trip_model.specs.Maximum.{sum_of_maxima};
 ghost use Rattle.trip_model.specs.Order.{by_departure};
 ghost use Rattle.trip_model.specs.Plain.{plain_network, trip_moves};
 ghost use Rattle.fixed_fleet.specs.Rule.{first_in_first_out};
-ghost use Rattle.desk_feed.specs.Feed.{said_of};
+ghost use Rattle.desk_feed.specs.Feed.{IsFeed, said_of};
 ghost use Rattle.desk_run.specs.Causes.{HasCause, IsComplete};
 ghost use Rattle.desk_run.specs.Runs.{RunsAs};
 ghost use Rattle.desk_run.specs.World.{world};
@@ -40,12 +40,15 @@ pub(crate) fn fixed_blocks(alloc: Global, timetable: &Timetable) -> Result<Block
     blocks_of(alloc, timetable, &links)
 }
 
-// The lines of the blocks without deadheads, and their number. No least walk is asked for: no vehicle runs empty.
-fn fixed_text(alloc: Global, feed: &Feed) -> Result<Text, Memory>
-    ensures { IfOk result (IsFixed (said_of feed.now)) }
+// The lines of the blocks without deadheads, and their number. No least walk is asked for: no vehicle runs empty but out of
+// the depot and home.
+fn fixed_text(alloc: Global, feed: Feed) -> Result<Text, Memory>
+    requires { IsFeed true feed }
+    ensures { IfOk result (IsFixed (said_of feed)) }
 {
     let blocks = fixed_blocks(alloc, &feed.timetable)?;
-    let matrix = Matrix::of(alloc, &Deadheads::none(alloc)?, feed.timetable.places())?;
+    let mut matrix = Matrix::of(alloc, &Deadheads::none(alloc)?, feed.timetable.places())?;
+    matrix.set_pulls(feed.pulls);
     let lines = block_lines(
         alloc,
         &feed.timetable,
@@ -81,7 +84,7 @@ impl Command for ShowFixed {
         match judge_feed(alloc, true, read)? {
             Judged::Refused(outcome) => Ok(outcome),
             Judged::Accepted(feed) => {
-                let text = fixed_text(alloc, &feed)?;
+                let text = fixed_text(alloc, feed)?;
                 Ok(Outcome::putting(alloc, text, Ending::Done))
             }
         }
