@@ -88,3 +88,14 @@ fn a_trip_after_a_walk_that_arrives_in_time(rt: HostRuntime) -> Result<(), Fail>
     }
     Ok(())
 }
+
+#[test]
+fn a_copy_has_the_post_of_a_class(rt: HostRuntime) -> Result<(), Fail> {
+    let mut timetable = Timetable::open_classed(rt.alloc(), 0, 0);
+    let post = timetable.push_post("A", "bus", 5)?;
+    let copy = timetable.copy(rt.alloc())?;
+    assert_eq!(rt; copy.find_place("A/bus"), Some(post));
+    assert_eq!(rt; copy.terminal_name(post), "A");
+    assert_eq!(rt; copy.class_name(post), "bus");
+    Ok(())
+}
