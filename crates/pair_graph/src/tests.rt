@@ -1,4 +1,4 @@
-ghost use Rattle.std.specs.Prelude.{◌≡◌, ◌<◌, false, length, IfOk};
+ghost use Rattle.std.specs.Prelude.{◌≡◌, ◌<◌, length, IfOk};
 ghost use Rattle.gtfs_tables.specs.Papers.{IsWithinLimit};
 
 use crate::Pairs;
@@ -55,7 +55,6 @@ fn matrix_of(
     depot: &[u8],
     timetable: &mut Timetable,
 ) -> Result<Matrix, Fail>
-    requires { timetable.old.classed ≡ false }
     ensures { IfOk result (λ matrix. length timetable.new.places ≡ length matrix.walks) }
 {
     let mut matrix = match Matrix::read(alloc, &found(alloc, deadheads)?, timetable) {
@@ -82,7 +81,6 @@ fn weights<L: Ledger>(
 {
     let mut steps: Steps<L> = Steps::open(blank);
     let mut timetable = two_trips(rt, alloc)?;
-    assert!(rt; !timetable.classed());
     let matrix = matrix_of(alloc, deadheads, depot, &mut timetable)?;
     let pairs = Pairs::of(&timetable, &matrix);
     assert!(rt; pairs.slots() == 2);
