@@ -6,7 +6,8 @@ use Rattle.std.proofs.lemmas.Grind.{flat_map-append}
 use Rattle.std.proofs.lemmas.List.{append-nil, map-id}
 use Rattle.std.proofs.lemmas.List.FromFn.{map-range_with_len_more}
 use Rattle.trip_model.specs.Timetable.{TimetableView, slot_at}
-use Rattle.block_build.specs.Lines.{walk_between, deadhead_text, joint, trip_text, trips_text, block_line, block_text}
+use Rattle.deadhead_matrix.specs.Matrix.{MatrixView, walk}
+use Rattle.block_build.specs.Lines.{walk_between, deadhead_text, joint, trip_text, trips_text, pull_out, pull_in, pull_out_text, pull_in_text, block_line, block_text}
 
 flat_map-range_more : (f : ℕ → List ℕ) (n : ℕ) → flat_map f (range_with_len 0 (n + 1)) ≡ flat_map f (range_with_len 0 n) ++ f n
 flat_map-range_more f n =
@@ -43,27 +44,31 @@ unfolding trips_text
 trips-written t walk block before now n all so_far =
     so_far ∙ ap (λ m. before ++ flat_map (λ n. joint t walk block n ++ trip_text (slot_at t (get_or block n 0))) (range_with_len 0 m)) (sym all)
 
--- the text after the line of one block more
-pub lines-more : (t : TimetableView) (walk : ℕ → ℕ → Option ℕ) (prefix : List ℕ) (blocks : List (List ℕ)) (block now named trips next : List ℕ) (n : ℕ)
-    → block ≡ get_or blocks n []
-    → now ≡ flat_map (λ n. block_line t walk prefix n (get_or blocks n [])) (range_with_len 0 n)
-    → named ≡ now ++ (prefix ++ (decimal (n + 1) ++ 58 ∷ 32 ∷ []))
-    → trips ≡ named ++ trips_text t walk block
-    → next ≡ trips ++ 10 ∷ []
-    → next ≡ flat_map (λ n. block_line t walk prefix n (get_or blocks n [])) (range_with_len 0 (n + 1))
+-- the line of a block, written piece by piece
+pub line-written : (t : TimetableView) (matrix : MatrixView) (prefix block before named out trips home next : List ℕ) (n : ℕ)
+    → named ≡ before ++ (prefix ++ (decimal (n + 1) ++ 58 ∷ 32 ∷ []))
+    → out ≡ named ++ pull_out_text (pull_out t matrix.pulls block)
+    → trips ≡ out ++ trips_text t (walk matrix) block
+    → home ≡ trips ++ pull_in_text (pull_in t matrix.pulls block)
+    → next ≡ home ++ 10 ∷ []
+    → next ≡ before ++ block_line t matrix prefix n block
 unfolding block_line
-lines-more t walk prefix blocks block now named trips next n is so_far name all line =
-    let one : ℕ → List ℕ = λ n. block_line t walk prefix n (get_or blocks n []) in
-    line
-    ∙ ap (λ xs. xs ++ 10 ∷ []) (all ∙ (λ i. (name ∙ ap (λ xs. xs ++ (prefix ++ (decimal (n + 1) ++ 58 ∷ 32 ∷ []))) so_far) i ++ trips_text t walk (is i)))
-    ∙ regroup (flat_map one (range_with_len 0 n)) prefix (decimal (n + 1)) (trips_text t walk (get_or blocks n []))
-    ∙ sym (flat_map-range_more one n)
-  where
-    regroup : (before prefix number trips : List ℕ) → before ++ (prefix ++ (number ++ 58 ∷ 32 ∷ [])) ++ trips ++ 10 ∷ [] ≡ before ++ (prefix ++ number ++ 58 ∷ 32 ∷ [] ++ trips ++ 10 ∷ [])
-    regroup before prefix number trips = simp append_assoc
+line-written t matrix prefix block before named out trips home next n name out_of all home_from line =
+    rw (line, home_from, all, out_of, name) (simp append_assoc)
 
-pub lines-written : (t : TimetableView) (walk : ℕ → ℕ → Option ℕ) (prefix : List ℕ) (blocks : List (List ℕ)) (now : List ℕ) (n : ℕ) → length blocks ≡ n
-    → now ≡ flat_map (λ n. block_line t walk prefix n (get_or blocks n [])) (range_with_len 0 n) → now ≡ block_text t walk prefix blocks
+-- the text after the line of one block more
+pub lines-more : (t : TimetableView) (matrix : MatrixView) (prefix : List ℕ) (blocks : List (List ℕ)) (block now next : List ℕ) (n : ℕ)
+    → block ≡ get_or blocks n []
+    → now ≡ flat_map (λ n. block_line t matrix prefix n (get_or blocks n [])) (range_with_len 0 n)
+    → next ≡ now ++ block_line t matrix prefix n block
+    → next ≡ flat_map (λ n. block_line t matrix prefix n (get_or blocks n [])) (range_with_len 0 (n + 1))
+lines-more t matrix prefix blocks block now next n is so_far line =
+    line
+    ∙ (λ i. so_far i ++ block_line t matrix prefix n (is i))
+    ∙ sym (flat_map-range_more (λ n. block_line t matrix prefix n (get_or blocks n [])) n)
+
+pub lines-written : (t : TimetableView) (matrix : MatrixView) (prefix : List ℕ) (blocks : List (List ℕ)) (now : List ℕ) (n : ℕ) → length blocks ≡ n
+    → now ≡ flat_map (λ n. block_line t matrix prefix n (get_or blocks n [])) (range_with_len 0 n) → now ≡ block_text t matrix prefix blocks
 unfolding block_text
-lines-written t walk prefix blocks now n all so_far =
-    so_far ∙ ap (λ m. flat_map (λ n. block_line t walk prefix n (get_or blocks n [])) (range_with_len 0 m)) (sym all)
+lines-written t matrix prefix blocks now n all so_far =
+    so_far ∙ ap (λ m. flat_map (λ n. block_line t matrix prefix n (get_or blocks n [])) (range_with_len 0 m)) (sym all)

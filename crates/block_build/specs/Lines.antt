@@ -1,8 +1,11 @@
--- The printed lines of blocks, where `walk` says in how many minutes a vehicle runs empty from place to place.
-use Rattle.std.specs.Prelude.{ℕ, zero, suc, ◌+◌, ◌==◌, List, [], ◌∷◌, ◌++◌, length, slice_index, slice_index_or, Option, None, Some, codes, if◌then◌else◌}
+-- The printed lines of blocks. `walk` says in how many minutes a vehicle runs empty from place to place.
+use Rattle.std.specs.Prelude.{ℕ, zero, suc, ◌+◌, ◌-◌, ◌==◌, List, [], ◌∷◌, ◌++◌, length, slice_index, slice_index_or, Option, None, Some, codes, if◌then◌else◌}
 use Rattle.std.specs.Fmt.{decimal}
 use Rattle.std.specs.List.{flat_map, range_with_len}
 use Rattle.gtfs_tables.specs.Times.{minute_digits}
+use Rattle.deadhead_matrix.specs.declared.pulls.Pull.{Pull}
+use Rattle.deadhead_matrix.specs.Matrix.{MatrixView, walk}
+use Rattle.deadhead_matrix.specs.Pulls.{pull_at}
 use Rattle.trip_model.specs.Timetable.{TimetableView, Slot, slot_at}
 
 -- the name of the block of that number, counted from 0: the prefix, and its number counted from 1
@@ -32,11 +35,29 @@ unfoldable pub trips_text : TimetableView → (ℕ → ℕ → Option ℕ) → L
 trips_text timetable walk block =
     flat_map (λ n. joint timetable walk block n ++ trip_text (slot_at timetable (slice_index block n))) (range_with_len 0 (length block))
 
--- the line of a block
-unfoldable pub block_line : TimetableView → (ℕ → ℕ → Option ℕ) → List ℕ → ℕ → List ℕ → List ℕ
-block_line timetable walk prefix number block = block_name prefix number ++ codes ": " ++ trips_text timetable walk block ++ 10 ∷ []
+-- the minutes out of the depot to where the first trip of a block begins
+abbrev pub pull_out : TimetableView → List Pull → List ℕ → ℕ
+pull_out timetable pulls block = (pull_at pulls (slot_at timetable (slice_index block 0)).trip.from).pull_out
+
+-- the minutes home from where the last trip of a block ends
+abbrev pub pull_in : TimetableView → List Pull → List ℕ → ℕ
+pull_in timetable pulls block = (pull_at pulls (slot_at timetable (slice_index block (length block - 1))).trip.to).pull_in
+
+-- a way out of the depot that takes time
+unfoldable pub pull_out_text : ℕ → List ℕ
+pull_out_text minutes = if minutes == 0 then [] else codes "out " ++ decimal minutes ++ codes "; "
+
+-- a way home that takes time
+unfoldable pub pull_in_text : ℕ → List ℕ
+pull_in_text minutes = if minutes == 0 then [] else codes "; in " ++ decimal minutes
+
+-- the line of a block: its name, the way out of the depot, its trips and the way home
+unfoldable pub block_line : TimetableView → MatrixView → List ℕ → ℕ → List ℕ → List ℕ
+block_line timetable matrix prefix number block =
+    block_name prefix number ++ codes ": " ++ pull_out_text (pull_out timetable matrix.pulls block) ++ trips_text timetable (walk matrix) block
+    ++ pull_in_text (pull_in timetable matrix.pulls block) ++ 10 ∷ []
 
 -- the lines of blocks, in their order
-unfoldable pub block_text : TimetableView → (ℕ → ℕ → Option ℕ) → List ℕ → List (List ℕ) → List ℕ
-block_text timetable walk prefix blocks =
-    flat_map (λ number. block_line timetable walk prefix number (slice_index_or blocks number [])) (range_with_len 0 (length blocks))
+unfoldable pub block_text : TimetableView → MatrixView → List ℕ → List (List ℕ) → List ℕ
+block_text timetable matrix prefix blocks =
+    flat_map (λ number. block_line timetable matrix prefix number (slice_index_or blocks number [])) (range_with_len 0 (length blocks))

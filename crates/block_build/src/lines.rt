@@ -1,4 +1,4 @@
-ghost use Rattle.std.specs.Prelude.{◌≡◌, ◌<◌, ◌++◌, length, codes, string_bytes, IfOk, OnOk, All};
+ghost use Rattle.std.specs.Prelude.{◌≡◌, ◌+◌, ◌^◌, ◌<◌, ◌++◌, length, codes, string_bytes, IfOk, OnOk, All};
 ghost use Rattle.deadhead_matrix.specs.Matrix.{walk};
 ghost use Rattle.trip_model.specs.Timetable.{slot_at};
 ghost use Rattle.block_build.specs.Lines as spec;
@@ -90,8 +90,58 @@ fn push_trips(
     Ok(())
 }
 
+#[tactic(auto, unfolding(crate::specs::Lines::pull_out_text))]
+fn push_pull_out(text: &mut String, minutes: u16) -> Result<(), Memory>
+    ensures { OnOk result (string_bytes text.new ≡ string_bytes text.old ++ spec.pull_out_text minutes) }
+{
+    if minutes == 0 {
+        return Ok(());
+    }
+    write!(text, "out {minutes}; ")?;
+    Ok(())
+}
+
+#[tactic(auto, unfolding(crate::specs::Lines::pull_in_text))]
+fn push_pull_in(text: &mut String, minutes: u16) -> Result<(), Memory>
+    ensures { OnOk result (string_bytes text.new ≡ string_bytes text.old ++ spec.pull_in_text minutes) }
+{
+    if minutes == 0 {
+        return Ok(());
+    }
+    write!(text, "; in {minutes}")?;
+    Ok(())
+}
+
+// The line of the block of a number, counted from 0.
+fn push_block(
+    alloc: Global,
+    text: &mut String,
+    timetable: &Timetable,
+    matrix: &Matrix,
+    prefix: &str,
+    number: usize,
+    block: &[u16],
+) -> Result<(), Memory>
+    requires filled { 0 < length block.now }
+    requires slots { All (λ s. s < length timetable.now.slots) block.now }
+    requires places { length matrix.now.walks ≡ length timetable.now.places }
+    requires number { number + 1 < 2 ^ 64 }
+    ensures { OnOk result (string_bytes text.new ≡ string_bytes text.old
+        ++ spec.block_line timetable.now matrix.now prefix.now number block.now) }
+{
+    let first = timetable.trip(block[0]);
+    let last = timetable.trip(block[block.len() - 1]);
+    write!(text, "{prefix}{}: ", number + 1)?;
+    push_pull_out(text, matrix.pull_out(first.from))?;
+    push_trips(alloc, text, timetable, matrix, block)?;
+    push_pull_in(text, matrix.pull_in(last.to))?;
+    text.push_str("\n")?;
+    Ok(())
+}
+
 /// The lines of blocks as they are printed: for each its name, which is the prefix and its number counted from 1, and its
-/// trips with the deadheads between them that take time. Between trips between which there is no way it prints none.
+/// trips with the deadheads between them that take time, as do the ways out of the depot and home. Between trips between
+/// which there is no way it prints none.
 pub fn block_lines(
     alloc: Global,
     timetable: &Timetable,
@@ -101,13 +151,19 @@ pub fn block_lines(
 ) -> Result<Text, Memory>
     requires slots { All (All (λ s. s < length timetable.now.slots)) blocks.now }
     requires places { length matrix.now.walks ≡ length timetable.now.places }
-    ensures { IfOk result (λ text. text ≡ spec.block_text timetable.now (walk matrix.now) prefix.now blocks.now) }
+    ensures { IfOk result (λ text. text ≡ spec.block_text timetable.now matrix.now prefix.now blocks.now) }
 {
     let mut text = String::new(alloc);
     for number in 0..blocks.len() {
-        write!(text, "{prefix}{}: ", number + 1)?;
-        push_trips(alloc, &mut text, timetable, matrix, blocks.block(number))?;
-        text.push_str("\n")?;
+        push_block(
+            alloc,
+            &mut text,
+            timetable,
+            matrix,
+            prefix,
+            number,
+            blocks.block(number),
+        )?;
     }
     Ok(Text::wrap(text))
 }

@@ -1,15 +1,21 @@
 -- The network of deadheads is one of one day, and along trips that fit departures rise.
-use Rattle.std.proofs.Common.{◌≡◌, ℕ, ◌+◌, ◌≤◌, nat_le, Bool, true, false, List, length, Option, None, Some, if◌then◌else◌, refl, ap, arith}
+use Rattle.std.proofs.Common.{◌≡◌, ℕ, ◌+◌, ◌<◌, ◌≤◌, nat_le, Bool, true, false, List, length, inl, inr, ◌⊎◌, Option, None, Some, if◌then◌else◌, refl, ap, arith}
+use Rattle.std.specs.List.{All}
 use Rattle.std.specs.Option.{is_some}
-use Rattle.std.proofs.lemmas.Bool.{leb-true}
+use Rattle.std.proofs.lemmas.Bool.{cases_lt, leb-true}
+use Rattle.std.proofs.lemmas.List.{get_or_past}
 use Rattle.std.proofs.lemmas.Option.{none-some, same_Some}
 use Rattle.trip_model.specs.declared.trip.Move.{Move}
 use Rattle.trip_model.specs.Network.{AreDepartures}
 use Rattle.trip_model.specs.Order.{minute_left}
 use Rattle.trip_model.specs.Plain.{move_at, AreMoves}
 use Rattle.trip_model.proofs.Counting.{runs-within}
-use Rattle.deadhead_matrix.specs.Fitting.{in_time, empty_between, deadhead_network}
+use Rattle.deadhead_matrix.specs.declared.pulls.Pull.{Pull}
+use Rattle.deadhead_matrix.specs.declared.pulls.TheConstants.{NO_PULL}
+use Rattle.deadhead_matrix.specs.Fitting.{in_time, empty_between, out_before, home_after, deadhead_network}
+use Rattle.deadhead_matrix.specs.Matrix.{MatrixView, walk}
 use Rattle.deadhead_matrix.specs.Prices.{IsDay}
+use Rattle.deadhead_matrix.specs.Pulls.{IsPull, pull_at}
 use Rattle.deadhead_matrix.proofs.Duality.{fitting}
 
 -- two moves with a walk of so many minutes between them, for which the time suffices
@@ -32,36 +38,53 @@ reached walk (Some a) None minutes e = absurd (none-some minutes e)
 reached walk None (Some b) minutes e = absurd (none-some minutes e)
 reached walk None None minutes e = absurd (none-some minutes e)
 
-pub AreDepartures-deadhead : (places : ℕ) (moves : List (Option Move)) (walk : ℕ → ℕ → Option ℕ) → AreMoves places moves
-    → AreDepartures (deadhead_network moves walk) (λ s. minute_left (move_at moves s))
-AreDepartures-deadhead places moves walk are = record {
+pub AreDepartures-deadhead : (places : ℕ) (moves : List (Option Move)) (matrix : MatrixView) → AreMoves places moves
+    → AreDepartures (deadhead_network moves matrix) (λ s. minute_left (move_at moves s))
+AreDepartures-deadhead places moves matrix are = record {
   runs = λ i j fits.
-      let m = fitting (deadhead_network moves walk) i j fits in
-      let p = reached walk (move_at moves i) (move_at moves j) m.0 m.1 in
+      let m = fitting (deadhead_network moves matrix) i j fits in
+      let p = reached (walk matrix) (move_at moves i) (move_at moves j) m.0 m.1 in
       (ap is_some p.2.first, ap is_some p.2.second);
   rises = λ i j fits.
-      let m = fitting (deadhead_network moves walk) i j fits in
-      let p = reached walk (move_at moves i) (move_at moves j) m.0 m.1 in
+      let m = fitting (deadhead_network moves matrix) i j fits in
+      let p = reached (walk matrix) (move_at moves i) (move_at moves j) m.0 m.1 in
       let move = are.each i p.0 p.2.first in
       let a : minute_left (move_at moves i) ≡ p.0.leaves = ap minute_left p.2.first in
       let b : minute_left (move_at moves j) ≡ p.1.leaves = ap minute_left p.2.second in
       omega (arith, a, b, move.forward, p.2.reached);
   within = λ i j fits.
-      let m = fitting (deadhead_network moves walk) i j fits in
-      let p = reached walk (move_at moves i) (move_at moves j) m.0 m.1 in
+      let m = fitting (deadhead_network moves matrix) i j fits in
+      let p = reached (walk matrix) (move_at moves i) (move_at moves j) m.0 m.1 in
       let move = are.each j p.1 p.2.second in
       let b : minute_left (move_at moves j) ≡ p.1.leaves = ap minute_left p.2.second in
       omega (arith, b, move.forward, move.in_day);
 }
 
-pub IsDay-deadhead : (places : ℕ) (moves : List (Option Move)) (walk : ℕ → ℕ → Option ℕ) → AreMoves places moves → length moves ≤ 4096 → IsDay (deadhead_network moves walk) (length moves)
-IsDay-deadhead places moves walk are few = record {
+-- no pull is longer than a day
+IsPull-at : (pulls : List Pull) (place : ℕ) → All IsPull pulls → IsPull (pull_at pulls place)
+IsPull-at pulls place are = by (cases_lt place (length pulls))
+  where
+    by : (place < length pulls) ⊎ (length pulls ≤ place) → IsPull (pull_at pulls place)
+    by (inl within) = are place NO_PULL within
+    by (inr past) = rw (get_or_past pulls place NO_PULL past) (record { pull_out = omega arith; pull_in = omega arith })
+
+out-short : (pulls : List Pull) (m : Option Move) → All IsPull pulls → out_before pulls m ≤ 1440
+out-short pulls None are = omega arith
+out-short pulls (Some m) are = (IsPull-at pulls m.from are).pull_out
+
+home-short : (pulls : List Pull) (m : Option Move) → All IsPull pulls → home_after pulls m ≤ 1440
+home-short pulls None are = omega arith
+home-short pulls (Some m) are = (IsPull-at pulls m.to are).pull_in
+
+pub IsDay-deadhead : (places : ℕ) (moves : List (Option Move)) (matrix : MatrixView) → AreMoves places moves → All IsPull matrix.pulls → length moves ≤ 4096
+    → IsDay (deadhead_network moves matrix) (length moves)
+IsDay-deadhead places moves matrix are pulls few = record {
   few = few;
   within = λ s live. runs-within moves s live;
   walks = λ i j m e.
-      let p = reached walk (move_at moves i) (move_at moves j) m e in
+      let p = reached (walk matrix) (move_at moves i) (move_at moves j) m e in
       let move = are.each j p.1 p.2.second in
       omega (arith, move.forward, move.in_day, p.2.reached);
-  out = λ _. omega arith;
-  home = λ _. omega arith;
+  out = λ s. out-short matrix.pulls (move_at moves s) pulls;
+  home = λ s. home-short matrix.pulls (move_at moves s) pulls;
 }

@@ -1,5 +1,7 @@
+pub mod ClassLemmas
 pub mod Closed
 pub mod Days
+pub mod DepotLemmas
 pub mod Duality
 pub mod LeftLemmas
 pub mod Looseness
@@ -7,4 +9,5 @@ pub mod MatrixLemmas
 pub mod PriceSums
 pub mod SearchLemmas
 pub mod Standing
+pub mod UnplacedLemmas
 pub mod WaysLemmas

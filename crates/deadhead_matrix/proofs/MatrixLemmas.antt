@@ -1,29 +1,32 @@
 -- What a matrix of entries and rows of minutes is seen as.
 use Rattle.std.proofs.Common.{◌≡◌, ℕ, ◌<◌, ◌≤◌, nat_lt, Bool, true, false, List, [], ◌∷◌, length, map, get_or, Option, None, Some, if◌then◌else◌, refl, sym, ap, subst, ◌∙◌, arith}
 use Rattle.std.specs.List.{range_with_len}
-use Rattle.std.specs.Prelude.{IfSome}
+use Rattle.std.specs.Prelude.{IfSome, replicate}
 use Rattle.std.proofs.lemmas.Bool.{eq-eqb, ne_eqb, ltb-true}
 use Rattle.std.proofs.lemmas.List.{get_or-map, length-map, ext_get_or}
 use Rattle.std.proofs.lemmas.List.FromFn.{get_or-map-range_with_len, length-map-range_with_len}
 use Rattle.deadhead_matrix.specs.declared.entry.Entry.{Entry}
+use Rattle.deadhead_matrix.specs.declared.pulls.Pull.{Pull}
+use Rattle.deadhead_matrix.specs.declared.pulls.TheConstants.{NO_PULL}
 use Rattle.deadhead_matrix.specs.Walks.{IsWalk, walk_minutes, IsLeastWalk}
-use Rattle.deadhead_matrix.specs.Search.{far, dist_at, found_at, AreLeastRows}
+use Rattle.deadhead_matrix.specs.Search.{far, dist_at, found_at, walks_in, AreLeastRows}
 use Rattle.deadhead_matrix.specs.Matrix.{walk, standing, empty_matrix, matrix_from, AreLeastWalks}
 
 -- as many walks as rows
-pub length-walks : (entries : List Entry) (rows : List (List ℕ)) → length (matrix_from entries rows).walks ≡ length rows
-length-walks entries rows = length-map rows _
+pub length-walks : (entries : List Entry) (rows : List (List ℕ)) (pulls : List Pull) → length (matrix_from entries rows pulls).walks ≡ length rows
+length-walks entries rows pulls = length-map rows _
 
-pub walk-from : (entries : List Entry) (rows : List (List ℕ)) (a b : ℕ) → a < length rows → b < length rows → walk (matrix_from entries rows) a b ≡ found_at (get_or rows a []) b
-walk-from entries rows a b a_in b_in =
-    ap (λ row. get_or row b None) (get_or-map (λ row. map (found_at row) (range_with_len 0 (length rows))) rows a [] [] a_in)
+pub walk-from : (entries : List Entry) (rows : List (List ℕ)) (pulls : List Pull) (a b : ℕ) → a < length rows → b < length rows
+    → walk (matrix_from entries rows pulls) a b ≡ found_at (get_or rows a []) b
+walk-from entries rows pulls a b a_in b_in =
+    ap (λ row. get_or row b None) (get_or-map (λ row. walks_in row (length rows)) rows a [] [] a_in)
     ∙ get_or-map-range_with_len (found_at (get_or rows a [])) 0 (length rows) b b None b_in (omega arith)
 
-pub AreLeastWalks-from : (entries : List Entry) (rows : List (List ℕ)) → AreLeastRows entries rows → AreLeastWalks (matrix_from entries rows)
-AreLeastWalks-from entries rows are = λ a b a_in b_in.
-    let a_row : a < length rows = omega (arith, a_in, length-walks entries rows) in
-    let b_row : b < length rows = omega (arith, b_in, length-walks entries rows) in
-    subst (λ m. IsLeastWalk entries a b m) (sym (walk-from entries rows a b a_row b_row)) (are.least a b a_row)
+pub AreLeastWalks-from : (entries : List Entry) (rows : List (List ℕ)) (pulls : List Pull) → AreLeastRows entries rows → AreLeastWalks (matrix_from entries rows pulls)
+AreLeastWalks-from entries rows pulls are = λ a b a_in b_in.
+    let a_row : a < length rows = omega (arith, a_in, length-walks entries rows pulls) in
+    let b_row : b < length rows = omega (arith, b_in, length-walks entries rows pulls) in
+    subst (λ m. IsLeastWalk entries a b m) (sym (walk-from entries rows pulls a b a_row b_row)) (are.least a b a_row)
 
 -- where a place is no farther than the longest walk, no more minutes are found
 pub within-longest : (dist : List ℕ) (b : ℕ) → (dist_at dist b < far → dist_at dist b ≤ 735840) → IfSome (found_at dist b) (λ m. m ≤ 735840)
@@ -57,18 +60,19 @@ row-standing rows are a a_in =
     ∙ least-standing a b (far b) (are.least a b a_in)
     ∙ sym (get_or-map-range_with_len (standing a) 0 n b b None within (omega arith)))
 
-walks-standing : (rows : List (List ℕ)) → AreLeastRows [] rows → (matrix_from [] rows).walks ≡ (empty_matrix (length rows)).walks
-walks-standing rows are =
+walks-standing : (rows : List (List ℕ)) (pulls : List Pull) → AreLeastRows [] rows → (matrix_from [] rows pulls).walks ≡ (empty_matrix (length rows)).walks
+walks-standing rows pulls are =
     let n = length rows in
-    let len = length-walks [] rows in
-    ext_get_or [] (matrix_from [] rows).walks (empty_matrix n).walks (len ∙ sym (length-map-range_with_len (λ a. map (standing a) (range_with_len 0 n)) 0 n))
+    let len = length-walks [] rows pulls in
+    ext_get_or [] (matrix_from [] rows pulls).walks (empty_matrix n).walks (len ∙ sym (length-map-range_with_len (λ a. map (standing a) (range_with_len 0 n)) 0 n))
     (λ a a_in. let within : a < n = omega (arith, a_in, len) in
-    get_or-map (λ row. map (found_at row) (range_with_len 0 n)) rows a [] [] within
+    get_or-map (λ row. walks_in row n) rows a [] [] within
     ∙ row-standing rows are a within
     ∙ sym (get_or-map-range_with_len (λ a. map (standing a) (range_with_len 0 n)) 0 n a a [] within (omega arith)))
 
--- without entries the matrix is the empty one
-pub matrix-standing : (entries : List Entry) (rows : List (List ℕ)) → AreLeastRows entries rows → entries ≡ [] → matrix_from entries rows ≡ empty_matrix (length rows)
-matrix-standing entries rows are none =
-    let walks = walks-standing rows (subst (λ (es : List Entry). AreLeastRows es rows) none are) in
-    (λ i. record { entries = none i; walks = walks i })
+-- without entries and pulls the matrix is the empty one
+pub matrix-standing : (entries : List Entry) (rows : List (List ℕ)) (pulls : List Pull) → AreLeastRows entries rows → entries ≡ [] → pulls ≡ replicate (length rows) NO_PULL
+    → matrix_from entries rows pulls ≡ empty_matrix (length rows)
+matrix-standing entries rows pulls are none zero =
+    let walks = walks-standing rows pulls (subst (λ (es : List Entry). AreLeastRows es rows) none are) in
+    (λ i. record { entries = none i; walks = walks i; pulls = zero i })

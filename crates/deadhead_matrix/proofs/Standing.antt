@@ -1,15 +1,18 @@
 -- The matrix without entries.
-use Rattle.std.proofs.Common.{◌≡◌, ℕ, ◌+◌, ◌<◌, ◌==◌, ◌&&◌, nat_le, Bool, true, false, List, [], ◌∷◌, length, map, get_or, Option, None, Some, if◌then◌else◌, refl, sym, ap, ◌∙◌, arith}
+use Rattle.std.proofs.Common.{◌≡◌, ℕ, zero, suc, ◌+◌, ◌<◌, ◌==◌, ◌&&◌, nat_le, Bool, true, false, List, [], ◌∷◌, length, map, replicate, get_or, Option, None, Some, if◌then◌else◌, refl, sym, ap, ◌∙◌, arith}
 use Rattle.std.specs.List.{range_with_len}
 use Rattle.std.proofs.lemmas.Bool.{eq-eqb, ne_eqb}
 use Rattle.std.proofs.lemmas.List.FromFn.{get_or-map-range_with_len, length-map-range_with_len}
 use Rattle.std.specs.Option.{is_some}
 use Rattle.trip_model.specs.declared.trip.Move.{Move}
 use Rattle.trip_model.specs.Plain.{move_at, meets, plain_network, AreMoves}
-use Rattle.deadhead_matrix.specs.Fitting.{in_time, empty_between, deadhead_network}
+use Rattle.deadhead_matrix.specs.Fitting.{in_time, empty_between, out_before, home_after, deadhead_network}
 use Rattle.deadhead_matrix.specs.declared.entry.Entry.{Entry}
+use Rattle.deadhead_matrix.specs.declared.pulls.Pull.{Pull}
+use Rattle.deadhead_matrix.specs.declared.pulls.TheConstants.{NO_PULL}
 use Rattle.deadhead_matrix.specs.Walks.{IsWalk}
 use Rattle.deadhead_matrix.specs.Matrix.{MatrixView, walk, standing, empty_matrix}
+use Rattle.deadhead_matrix.specs.Pulls.{pull_at}
 
 pub length-empty : (places : ℕ) → length (empty_matrix places).walks ≡ places
 length-empty places = length-map-range_with_len (λ a. map (standing a) (range_with_len 0 places)) 0 places
@@ -48,10 +51,23 @@ empty-standing places moves are i j None n first second = refl
 empty-standing places moves are i j (Some a) None first second = refl
 empty-standing places moves are i j (Some a) (Some b) first second = in_time-standing places a b (are.each i a first).to (are.each j b second).from
 
-pub network-standing : (places : ℕ) (moves : List (Option Move)) → AreMoves places moves → deadhead_network moves (walk (empty_matrix places)) ≡ plain_network moves
+no_pull-at : (places place : ℕ) → pull_at (replicate places NO_PULL) place ≡ NO_PULL
+no_pull-at zero place = refl
+no_pull-at (suc places) zero = refl
+no_pull-at (suc places) (suc place) = no_pull-at places place
+
+out-standing : (places : ℕ) (m : Option Move) → out_before (empty_matrix places).pulls m ≡ 0
+out-standing places None = refl
+out-standing places (Some m) = ap (λ (pull : Pull). pull.pull_out) (no_pull-at places m.from)
+
+home-standing : (places : ℕ) (m : Option Move) → home_after (empty_matrix places).pulls m ≡ 0
+home-standing places None = refl
+home-standing places (Some m) = ap (λ (pull : Pull). pull.pull_in) (no_pull-at places m.to)
+
+pub network-standing : (places : ℕ) (moves : List (Option Move)) → AreMoves places moves → deadhead_network moves (empty_matrix places) ≡ plain_network moves
 network-standing places moves are = λ k. record {
   live = λ s. is_some (move_at moves s);
   empty = λ i j. empty-standing places moves are i j (move_at moves i) (move_at moves j) refl refl k;
-  out = λ _. 0;
-  home = λ _. 0;
+  out = λ s. out-standing places (move_at moves s) k;
+  home = λ s. home-standing places (move_at moves s) k;
 }

@@ -3,6 +3,9 @@ use Rattle.std.specs.Prelude.{ℕ, ◌+◌, nat_le, List, Option, None, Some, is
 use Rattle.trip_model.specs.Network.{Network}
 use Rattle.trip_model.specs.Plain.{move_at}
 use Rattle.trip_model.specs.declared.trip.Move.{Move}
+use Rattle.deadhead_matrix.specs.declared.pulls.Pull.{Pull}
+use Rattle.deadhead_matrix.specs.Matrix.{MatrixView, walk}
+use Rattle.deadhead_matrix.specs.Pulls.{pull_at}
 
 -- the minutes of a walk between two moves, where they leave time for it
 abbrev pub in_time : Move → Move → Option ℕ → Option ℕ
@@ -14,11 +17,22 @@ abbrev pub empty_between : (ℕ → ℕ → Option ℕ) → Option Move → Opti
 empty_between walk (Some a) (Some b) = in_time a b (walk a.to b.from)
 empty_between walk _ _ = None
 
--- a vehicle goes on from a trip to every one that it can reach in time along a least walk
-abbrev pub deadhead_network : List (Option Move) → (ℕ → ℕ → Option ℕ) → Network
-deadhead_network moves walk = record {
+-- the minutes out of the depot to where a move begins; 0 where there is no move
+abbrev pub out_before : List Pull → Option Move → ℕ
+out_before pulls None = 0
+out_before pulls (Some m) = (pull_at pulls m.from).pull_out
+
+-- the minutes home from where a move ends; 0 where there is no move
+abbrev pub home_after : List Pull → Option Move → ℕ
+home_after pulls None = 0
+home_after pulls (Some m) = (pull_at pulls m.to).pull_in
+
+-- a vehicle goes on from a trip to every one that it can reach in time along a least walk, and comes from the depot and goes
+-- back to it by the pulls
+abbrev pub deadhead_network : List (Option Move) → MatrixView → Network
+deadhead_network moves matrix = record {
   live = λ s. is_some (move_at moves s);
-  empty = λ i j. empty_between walk (move_at moves i) (move_at moves j);
-  out = λ _. 0;
-  home = λ _. 0;
+  empty = λ i j. empty_between (walk matrix) (move_at moves i) (move_at moves j);
+  out = λ s. out_before matrix.pulls (move_at moves s);
+  home = λ s. home_after matrix.pulls (move_at moves s);
 }

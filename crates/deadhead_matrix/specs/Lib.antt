@@ -1,7 +1,10 @@
 pub mod Deadheads
+pub mod Depot
 pub mod Fitting
 pub mod Left
 pub mod Matrix
+pub mod Posts
 pub mod Prices
+pub mod Pulls
 pub mod Search
 pub mod Walks

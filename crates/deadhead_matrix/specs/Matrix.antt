@@ -1,14 +1,18 @@
 -- What a matrix of deadheads is seen as.
-use Rattle.std.specs.Prelude.{ℕ, ◌<◌, ◌==◌, List, [], length, map, slice_index_or, Option, None, Some, if◌then◌else◌}
+use Rattle.std.specs.Prelude.{ℕ, ◌<◌, ◌==◌, List, [], length, map, replicate, slice_index_or, Option, None, Some, if◌then◌else◌}
 use Rattle.std.specs.List.{range_with_len}
 use Rattle.deadhead_matrix.specs.declared.entry.Entry.{Entry}
-use Rattle.deadhead_matrix.specs.Search.{found_at}
+use Rattle.deadhead_matrix.specs.declared.pulls.Pull.{Pull}
+use Rattle.deadhead_matrix.specs.declared.pulls.TheConstants.{NO_PULL}
+use Rattle.deadhead_matrix.specs.Search.{walks_in}
 use Rattle.deadhead_matrix.specs.Walks.{IsLeastWalk}
 
--- the entries of the planner, and for each place and each place the minutes of a least walk from the one to the other
+-- the entries of the planner, for each place and each place the minutes of a least walk from the one to the other, and the
+-- pulls of each place
 pub record MatrixView : Type 0 where
   pub entries : List Entry
   pub walks : List (List (Option ℕ))
+  pub pulls : List Pull
 
 -- the minutes of a least walk from a to b, or None where there is no walk
 abbrev pub walk : MatrixView → ℕ → ℕ → Option ℕ
@@ -18,14 +22,14 @@ walk matrix a b = slice_index_or (slice_index_or matrix.walks a []) b None
 abbrev pub AreLeastWalks : MatrixView → Type 0
 AreLeastWalks matrix = (a b : ℕ) → a < length matrix.walks → b < length matrix.walks → IsLeastWalk matrix.entries a b (walk matrix a b)
 
--- the matrix of entries and of how far, in rows of minutes, each place is from each
-abbrev pub matrix_from : List Entry → List (List ℕ) → MatrixView
-matrix_from entries rows = record { entries = entries; walks = map (λ row. map (found_at row) (range_with_len 0 (length rows))) rows }
+-- the matrix of entries, of how far, in rows of minutes, each place is from each, and of pulls
+abbrev pub matrix_from : List Entry → List (List ℕ) → List Pull → MatrixView
+matrix_from entries rows pulls = record { entries = entries; walks = map (λ row. walks_in row (length rows)) rows; pulls = pulls }
 
 -- without entries a vehicle runs empty from no place to another
 abbrev pub standing : ℕ → ℕ → Option ℕ
 standing a b = if a == b then Some 0 else None
 
--- the matrix of so many places without entries
+-- the matrix of so many places without entries and pulls
 abbrev pub empty_matrix : ℕ → MatrixView
-empty_matrix places = record { entries = []; walks = map (λ a. map (standing a) (range_with_len 0 places)) (range_with_len 0 places) }
+empty_matrix places = record { entries = []; walks = map (λ a. map (standing a) (range_with_len 0 places)) (range_with_len 0 places); pulls = replicate places NO_PULL }

@@ -1,5 +1,6 @@
 -- The search for least walks from one place: how far the places are so far, and which are done.
-use Rattle.std.specs.Prelude.{◌≡◌, ◌≢◌, ℕ, ◌+◌, ◌*◌, ◌<◌, ◌≤◌, nat_lt, Bool, true, false, not, List, [], length, slice_index_or, count_by, Contains, Option, Some, None, if◌then◌else◌}
+use Rattle.std.specs.Prelude.{◌≡◌, ◌≢◌, ℕ, ◌+◌, ◌*◌, ◌<◌, ◌≤◌, nat_lt, Bool, true, false, not, List, [], length, map, slice_index_or, count_by, Contains, Option, Some, None, if◌then◌else◌}
+use Rattle.std.specs.List.{range_with_len}
 use Rattle.trip_model.specs.declared.limits.TheConstants.{MOST_PLACES}
 use Rattle.deadhead_matrix.specs.declared.limits.TheConstants.{LONGEST_WALK, MOST_DEADHEAD}
 use Rattle.deadhead_matrix.specs.declared.entry.Entry.{Entry}
@@ -69,6 +70,10 @@ pub record IsSearch (ways : List (List ℕ)) (start reach : ℕ) (done : List Bo
 -- the minutes to a place, where one is reached
 abbrev pub found_at : List ℕ → ℕ → Option ℕ
 found_at dist place = if nat_lt (dist_at dist place) far then Some (dist_at dist place) else None
+
+-- the minutes to each of so many places, where it is reached
+abbrev pub walks_in : List ℕ → ℕ → List (Option ℕ)
+walks_in dist places = map (found_at dist) (range_with_len 0 places)
 
 -- no place that is reached is farther than the longest walk
 abbrev pub IsBounded : List ℕ → Type 0

@@ -1,9 +1,10 @@
 //! Laws of the definitions that the contracts cite. Each is the contract of a function that does nothing.
-ghost use Rattle.std.specs.Prelude.{◌≡◌, ℕ, ◌+◌, ◌-◌, ◌*◌, ◌<◌, ◌≤◌, true, List, length, sum, Option, None};
+ghost use Rattle.std.specs.Prelude.{◌≡◌, ℕ, ◌+◌, ◌-◌, ◌*◌, ◌<◌, ◌≤◌, true, List, length, sum, All, Option, None};
 ghost use Rattle.deadhead_matrix.specs.declared.limits.TheConstants.{MOST_DEADHEAD, VEHICLE_WEIGHT};
 ghost use Rattle.deadhead_matrix.specs.Fitting.{deadhead_network};
-ghost use Rattle.deadhead_matrix.specs.Matrix.{empty_matrix, walk};
+ghost use Rattle.deadhead_matrix.specs.Matrix.{MatrixView, empty_matrix};
 ghost use Rattle.deadhead_matrix.specs.Prices.{Plan, IsCertified, IsDay, IsLoose};
+ghost use Rattle.deadhead_matrix.specs.Pulls.{IsPull};
 ghost use Rattle.trip_model.specs.declared.limits.TheConstants.{MOST_SLOTS};
 ghost use Rattle.trip_model.specs.declared.trip.Move.{Move};
 ghost use Rattle.trip_model.specs.Blocking.{StandsOnce, IsLeast};
@@ -12,18 +13,18 @@ ghost use Rattle.trip_model.specs.Network.{Network, AreDepartures};
 ghost use Rattle.trip_model.specs.Order.{minute_left};
 ghost use Rattle.trip_model.specs.Plain.{move_at, plain_network, AreMoves};
 
-/// Without entries a vehicle can go on exactly from a trip to one that it meets, and never runs empty.
+/// Without entries and pulls a vehicle can go on exactly from a trip to one that it meets, and never runs empty.
 pub fn standing_law()
     ensures { (places : ℕ) (moves : List (Option Move)) → AreMoves places moves
-        → deadhead_network moves (walk (empty_matrix places)) ≡ plain_network moves }
+        → deadhead_network moves (empty_matrix places) ≡ plain_network moves }
 {}
 
-/// The network of moves and walks is one of one day, and along trips that fit departures rise.
+/// The network of moves and a matrix is one of one day, and along trips that fit departures rise.
 pub fn deadhead_law()
-    ensures departures { (places : ℕ) (moves : List (Option Move)) (walk : ℕ → ℕ → Option ℕ) → AreMoves places moves
-        → AreDepartures (deadhead_network moves walk) (λ s. minute_left (move_at moves s)) }
-    ensures day { (places : ℕ) (moves : List (Option Move)) (walk : ℕ → ℕ → Option ℕ) → AreMoves places moves
-        → length moves ≤ MOST_SLOTS → IsDay (deadhead_network moves walk) (length moves) }
+    ensures departures { (places : ℕ) (moves : List (Option Move)) (matrix : MatrixView) → AreMoves places moves
+        → AreDepartures (deadhead_network moves matrix) (λ s. minute_left (move_at moves s)) }
+    ensures day { (places : ℕ) (moves : List (Option Move)) (matrix : MatrixView) → AreMoves places moves
+        → All IsPull matrix.pulls → length moves ≤ MOST_SLOTS → IsDay (deadhead_network moves matrix) (length moves) }
 {}
 
 /// The blocks of a certified plan are least over all blockings: no blocking weighs more than all its prices, and a vehicle

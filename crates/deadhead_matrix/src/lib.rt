@@ -2,34 +2,45 @@
 //!
 //! [`Deadheads::read`] reads what was found of `deadheads.csv` and adds the places that it names to the timetable; its
 //! records are seen as entries ([`Entry`]). [`Matrix::of`] makes the matrix of entries between all places, and
-//! [`Matrix::read`] both at once. [`Matrix::minutes`] answers by a look-up in how
-//! many minutes a vehicle can run empty from one place to another, along as many entries as it takes.
+//! [`Matrix::read`] both at once. [`Matrix::minutes`] answers by a look-up in how many minutes a vehicle can run empty
+//! from one place to another, along as many entries as it takes; [`Matrix::walks_from`] lends those from one place.
+//! [`Matrix::read_depot`] reads what was found of `depot.csv`, the pulls of places ([`Pulls`]): in how many minutes a
+//! vehicle comes from the depot and goes back to it.
 //!
 //! The contract that the crates above use: the entries are those of the file, or the first refusal that is due; `minutes`
 //! is the least walk of the entries; and the blocks of a certified plan are least ([`laws::certified_law`]).
 //!
 //! ```text
-//! let matrix = Matrix::read(alloc, &found, &mut timetable)?;
+//! let mut matrix = Matrix::read(alloc, &found, &mut timetable)?;
 //! let minutes = matrix.minutes(from, to);
+//! matrix.read_depot(&depot, &timetable)?;
+//! let out = matrix.pull_out(from);
 //! ```
 //!
 //! The contracts cite `Walks` (walks of entries, and the least), `Matrix` (what a matrix is seen as), `Deadheads` (the
-//! entries and the places of a file), `Left` (the places that stand where it is refused) and `Fitting` (which trips a
-//! vehicle can make one after the other); the laws besides `Prices` (plans of next trips whose prices prove that they are
-//! least). `Search` has the terms of the search from one place for proofs alone.
+//! entries and the places of a file), `Left` (the places that stand where it is refused), `Depot` and `Pulls` (the pulls
+//! of places) and `Fitting` (which trips a vehicle can make one after the other); the laws besides `Prices` (plans of next
+//! trips whose prices prove that they are least). `Search` has the terms of the search from one place for proofs alone.
 #![tactic(auto)]
 
 mod deadheads;
+mod depot;
 mod distances;
 mod entry;
 pub mod laws;
 mod limits;
 mod matrix;
+mod posts;
+mod pulls;
 mod read;
 mod search;
+mod unplaced;
+mod walks;
 mod ways;
 
 pub use deadheads::Deadheads;
 pub use entry::Entry;
 pub use limits::{LONGEST_WALK, MOST_DEADHEAD, VEHICLE_WEIGHT};
 pub use matrix::Matrix;
+pub use pulls::{Pull, Pulls};
+pub use walks::Walks;

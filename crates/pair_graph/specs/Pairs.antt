@@ -1,13 +1,15 @@
 -- What the pairs of a timetable are seen as.
-use Rattle.std.specs.Prelude.{ℕ, List, slice_set, Option, None, Some}
+use Rattle.std.specs.Prelude.{◌≡◌, ℕ, ◌+◌, ◌≤◌, List, [], length, slice_index_or, slice_set, Option, None, Some}
+use Rattle.deadhead_matrix.specs.declared.limits.TheConstants.{MOST_DEADHEAD, VEHICLE_WEIGHT}
 use Rattle.deadhead_matrix.specs.Fitting.{deadhead_network}
-use Rattle.deadhead_matrix.specs.Matrix.{MatrixView, walk}
+use Rattle.deadhead_matrix.specs.Matrix.{MatrixView}
+use Rattle.deadhead_matrix.specs.Pulls.{pull_at}
 use Rattle.trip_model.specs.Network.{Network}
-use Rattle.trip_model.specs.Plain.{trip_moves}
+use Rattle.trip_model.specs.Plain.{move_at, trip_moves}
 use Rattle.trip_model.specs.Timetable.{TimetableView}
 use Rattle.trip_model.specs.declared.trip.Move.{Move}
 
--- the moves of the slots, and the walks between their places
+-- the moves of the slots, and the walks between their places with the pulls of these
 pub record PairsView : Type 0 where
   pub moves : List (Option Move)
   pub matrix : MatrixView
@@ -23,4 +25,18 @@ pairs_of timetable matrix without = record { moves = moves_without (trip_moves t
 
 -- a vehicle goes on from a trip to every one that it can reach in time along a least walk
 abbrev pub pairs_network : PairsView → Network
-pairs_network pairs = deadhead_network pairs.moves (walk pairs.matrix)
+pairs_network pairs = deadhead_network pairs.moves pairs.matrix
+
+-- the pairs of one slot with each
+pub record RowView : Type 0 where
+  pub pairs : PairsView
+  pub slot : ℕ
+
+-- what the pairs of a slot share: its move, the walks from where that ends, and a vehicle's weight with the minutes home from
+-- there
+pub record IsRow (pairs : PairsView) (slot : ℕ) (before : Move) (walks : List (Option ℕ)) (saved : ℕ) : Type 0 where
+  pub made : move_at pairs.moves slot ≡ Some before
+  pub led : walks ≡ slice_index_or pairs.matrix.walks before.to []
+  pub places : length walks ≡ length pairs.matrix.walks
+  pub weighed : saved ≡ VEHICLE_WEIGHT + (pull_at pairs.matrix.pulls before.to).pull_in
+  pub bounded : saved ≤ VEHICLE_WEIGHT + MOST_DEADHEAD

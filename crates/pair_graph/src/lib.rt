@@ -2,7 +2,8 @@
 //!
 //! [`Pairs`] only borrows a timetable and a matrix of least walks. [`Pairs::weight`] answers for two slots whether the
 //! second trip can follow on the first, by a few look-ups and without memory. [`Pairs::without`] takes one slot as not
-//! live.
+//! live. [`Pairs::row`] is for a caller that looks at many pairs of one slot, and [`Pairs::move_at`] for one that lays out
+//! what it needs of the trips.
 //!
 //! The contract that the crates above use: a weight exactly where the pair fits, and then it is the weight of the network
 //! of deadheads; that network is one of one day, in which departures rise, as [`Pairs::slots`] says, so the laws of
@@ -11,6 +12,9 @@
 //! ```text
 //! let pairs = Pairs::of(&timetable, &matrix);
 //! let saved = pairs.weight(0, 1, &mut steps);
+//! if let Some(row) = pairs.row(0) {
+//!     let saved = row.weight(1, &mut steps);
+//! }
 //! ```
 //!
 //! The contracts cite `Pairs` (what the pairs are seen as), of `deadhead_matrix` `Fitting` and
@@ -18,8 +22,10 @@
 #![tactic(auto)]
 
 mod pairs;
+mod row;
 
 pub use pairs::Pairs;
+pub use row::Row;
 
 #[cfg(test)]
 mod tests;

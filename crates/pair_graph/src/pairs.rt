@@ -1,23 +1,23 @@
-ghost use Rattle.std.specs.Prelude.{◌≡◌, ◌+◌, ◌<◌, ◌≤◌, length, None, Some, IfSome, option_map};
+ghost use Rattle.std.specs.Prelude.{◌≡◌, ◌+◌, ◌<◌, ◌≤◌, length, None, Some, IfSome, is_some};
 ghost use Rattle.deadhead_matrix.specs.Prices.{weight, IsDay};
 ghost use Rattle.trip_model.specs.declared.limits.TheConstants.{MOST_SLOTS};
 ghost use Rattle.trip_model.specs.Network.{AreDepartures};
 ghost use Rattle.trip_model.specs.Order.{minute_left};
 ghost use Rattle.trip_model.specs.Plain.{move_at, AreMoves, IsMove};
-ghost use Rattle.trip_model.specs.Trip.{move_of};
 ghost use Rattle.pair_graph.specs.Pairs.{pairs_of, pairs_network};
 
+use crate::row::Row;
 use deadhead_matrix::{Matrix, VEHICLE_WEIGHT};
 use desk_io::Steps;
 use std::marker::Model;
 use std::sync::ledger::Ledger;
-use trip_model::{Timetable, Trip};
+use trip_model::{Move, Timetable};
 
 /// The pairs of trips of a timetable, with the least walks of a matrix between their places.
 #[derive(Drop)]
 pub struct Pairs<'a> {
-    timetable: &'a Timetable,
-    matrix: &'a Matrix,
+    pub(crate) timetable: &'a Timetable,
+    pub(crate) matrix: &'a Matrix,
     without: Option<u16>,
 }
 
@@ -67,38 +67,58 @@ impl<'a> Pairs<'a> {
         ensures day { IsDay (pairs_network self.now) result }
         ensures departures { AreDepartures (pairs_network self.now) (λ s. minute_left (move_at self.now.moves s)) }
     {
+        // Its clause says that no pull is longer than a day.
+        let _places = self.matrix.places();
         self.timetable.slots()
     }
 
-    // The trip of a slot, where it runs.
-    fn live(&self, slot: u16) -> Option<Trip>
+    /// The move of the trip of a slot, where that runs.
+    pub fn move_at(&self, slot: u16) -> Option<Move>
         requires { slot < length self.now.moves }
-        ensures made { option_map move_of result ≡ move_at self.now.moves slot }
-        ensures valid { IfSome result (λ trip. IsMove (length self.now.matrix.walks) (move_of trip)) }
+        ensures made { result ≡ move_at self.now.moves slot }
+        ensures valid { IfSome result (IsMove (length self.now.matrix.walks)) }
     {
         if self.without == Some(slot) {
             return None;
         }
         let trip = self.timetable.trip(slot);
-        if trip.live { Some(trip) } else { None }
+        if trip.live {
+            Some(trip.as_move())
+        } else {
+            None
+        }
     }
 
-    /// What it saves to make the trip of `j` next after that of `i`, where one vehicle can: 67,108,864 for a vehicle,
-    /// less the minutes of the least walk between them. One step.
+    /// The pairs of a slot with each, for a caller that looks at many of them; None where its trip does not run.
+    pub fn row(&self, slot: u16) -> Option<Row<'_>>
+        requires { slot < length self.now.moves }
+        ensures row { IfSome result (λ row. row ≡ record { pairs = self.now; slot = slot }) }
+        ensures live { is_some result ≡ (pairs_network self.now).live slot }
+    {
+        let before = self.move_at(slot)?;
+        Some(Row {
+            pairs: self,
+            slot,
+            before,
+            walks: self.matrix.walks_from(before.to),
+            saved: VEHICLE_WEIGHT + u64::from(self.matrix.pull_in(before.to)),
+        })
+    }
+
+    /// What it saves to make the trip of `j` next after that of `i`, where one vehicle can: 67,108,864 for a vehicle and the
+    /// minutes home after `i` and out to `j`, less those of the least walk between them. One step.
     pub fn weight<L: Ledger>(&self, i: u16, j: u16, steps: &mut Steps<L>) -> Option<u64>
         requires i { i < length self.now.moves }
         requires j { j < length self.now.moves }
         ensures weight { result ≡ weight (pairs_network self.now) i j }
         ensures counted { steps.new ≡ steps.old + 1 }
     {
-        steps.tick();
-        let before = self.live(i)?;
-        let after = self.live(j)?;
-        let spare = u32::from(after.departs.checked_sub(before.ends)?);
-        let minutes = self.matrix.minutes(before.to, after.from)?;
-        if minutes > spare {
-            return None;
+        match self.row(i) {
+            Some(row) => row.weight(j, steps),
+            None => {
+                steps.tick();
+                None
+            }
         }
-        Some(VEHICLE_WEIGHT - u64::from(minutes))
     }
 }

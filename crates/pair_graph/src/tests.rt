@@ -1,4 +1,5 @@
-ghost use Rattle.std.specs.Prelude.{◌≡◌, ◌<◌, false, length, IfOk};
+ghost use Rattle.std.specs.Prelude.{◌≡◌, ◌<◌, length, IfOk};
+ghost use Rattle.gtfs_tables.specs.Papers.{IsWithinLimit};
 
 use crate::Pairs;
 use deadhead_matrix::Matrix;
@@ -38,26 +39,40 @@ fn two_trips(rt: &impl Abort, alloc: Global) -> Result<Timetable, Memory> {
     Ok(timetable)
 }
 
-// The matrix of this file of deadheads.
-fn walked(alloc: Global, bytes: &[u8], timetable: &mut Timetable) -> Result<Matrix, Fail>
-    requires { timetable.old.classed ≡ false }
-    ensures { IfOk result (λ matrix. length timetable.new.places ≡ length matrix.walks) }
+fn found(alloc: Global, bytes: &[u8]) -> Result<Found, Fail>
+    ensures { IfOk result IsWithinLimit }
 {
     if bytes.len() > 1000 {
         Err("a long file")?;
     }
-    let deadheads = Found::File(Bytes::of(alloc, bytes)?);
-    match Matrix::read(alloc, &deadheads, timetable) {
-        Ok(matrix) => Ok(matrix),
-        Err(_fault) => Err("refused")?,
+    Ok(Found::File(Bytes::of(alloc, bytes)?))
+}
+
+// The matrix of these files of deadheads and of pulls.
+fn matrix_of(
+    alloc: Global,
+    deadheads: &[u8],
+    depot: &[u8],
+    timetable: &mut Timetable,
+) -> Result<Matrix, Fail>
+    ensures { IfOk result (λ matrix. length timetable.new.places ≡ length matrix.walks) }
+{
+    let mut matrix = match Matrix::read(alloc, &found(alloc, deadheads)?, timetable) {
+        Ok(matrix) => matrix,
+        Err(_fault) => Err("refused deadheads")?,
+    };
+    match matrix.read_depot(&found(alloc, depot)?, timetable) {
+        Ok(()) => Ok(matrix),
+        Err(_fault) => Err("a refused depot")?,
     }
 }
 
-// The weights of U2 after U1 and of U1 after U2, with these deadheads.
+// The weights of U2 after U1 and of U1 after U2, with these deadheads and pulls.
 fn weights<L: Ledger>(
     rt: &impl Abort,
     alloc: Global,
     deadheads: &[u8],
+    depot: &[u8],
     blank: Blank,
 ) -> Result<(Option<u64>, Option<u64>), Fail>
     requires name { blank.name ≡ L.name }
@@ -66,8 +81,7 @@ fn weights<L: Ledger>(
 {
     let mut steps: Steps<L> = Steps::open(blank);
     let mut timetable = two_trips(rt, alloc)?;
-    assert!(rt; !timetable.classed());
-    let matrix = walked(alloc, deadheads, &mut timetable)?;
+    let matrix = matrix_of(alloc, deadheads, depot, &mut timetable)?;
     let pairs = Pairs::of(&timetable, &matrix);
     assert!(rt; pairs.slots() == 2);
     Ok((
@@ -78,12 +92,15 @@ fn weights<L: Ledger>(
 
 #[test]
 fn a_trip_after_a_walk_that_arrives_in_time(rt: HostRuntime) -> Result<(), Fail> {
-    let cases: [(&[u8], Option<u64>); 2] = [
-        (b"from,to,minutes\nB,C,30\n", Some(67_108_834)),
-        (b"from,to,minutes\nB,C,31\n", None),
+    let no_rows = b"terminal,pull_out,pull_in\n";
+    let rows = b"terminal,pull_out,pull_in\nA,10,15\nC,7,0\n";
+    let cases: [(&[u8], &[u8], Option<u64>); 3] = [
+        (b"from,to,minutes\nB,C,30\n", no_rows, Some(67_108_834)),
+        (b"from,to,minutes\nB,C,31\n", no_rows, None),
+        (b"from,to,minutes\nB,C,20\n", rows, Some(67_108_851)),
     ];
-    for (deadheads, weight) in cases {
-        let weights = weights::<Brand>(&rt, rt.alloc(), deadheads, Blank::new(1))?;
+    for (deadheads, depot, weight) in cases {
+        let weights = weights::<Brand>(&rt, rt.alloc(), deadheads, depot, Blank::new(1))?;
         assert_eq!(rt; weights, (weight, None));
     }
     Ok(())
