@@ -9,53 +9,56 @@ use Rattle.gtfs_tables.specs.Fold.{AreLeft, IsTableLeft, LeftBy}
 use Rattle.gtfs_tables.specs.Reading.{◌>>=◌, judged, nothing, table_in}
 use Rattle.gtfs_tables.specs.Table.{TableView}
 use Rattle.trip_model.specs.Timetable.{TimetableView}
-use Rattle.deadhead_matrix.specs.declared.entry.Entry.{Entry}
 use Rattle.deadhead_matrix.specs.declared.read.Columns.{Columns}
-use Rattle.deadhead_matrix.specs.Deadheads.{columns_in, with_deadhead}
+use Rattle.deadhead_matrix.specs.Deadheads.{ReadingView, columns_in, begun, with_deadhead}
 use Rattle.deadhead_matrix.specs.Left.{as_before, left_after, left_by, left_by_each, left_by_paper, left_by_table, timetable_left, Leaves}
+use Rattle.deadhead_matrix.specs.Posts.{Class, classes_of}
 
 -- what a record leaves, and those after it
-left-step : (columns : Columns) (number : ℕ) (before after : TimetableView × List Entry) (fields : List (List ℕ)) (rows : List (List (List ℕ))) (read : Result (TimetableView × List Entry) FeedFault)
-    → LeftBy (Leaves columns number before fields after) (λ more. AreLeft (with_deadhead columns) (Leaves columns) (number + 1) more rows after) read
-    → ((more : TimetableView × List Entry) → AreLeft (with_deadhead columns) (Leaves columns) (number + 1) more rows after → after.0 ≡ left_by_each columns (number + 1) more rows)
-    → after.0 ≡ left_after read (λ more. left_by_each columns (number + 1) more rows) (left_by columns number before.0 fields)
-left-step columns number before after fields rows (Ok more) are each = each more are
-left-step columns number before after fields rows (Err refused) is each = is
+left-step : (classes : List Class) (columns : Columns) (number : ℕ) (before after : ReadingView) (fields : List (List ℕ)) (rows : List (List (List ℕ))) (read : Result ReadingView FeedFault)
+    → LeftBy (Leaves classes columns number before fields after) (λ more. AreLeft (with_deadhead classes columns) (Leaves classes columns) (number + 1) more rows after) read
+    → ((more : ReadingView) → AreLeft (with_deadhead classes columns) (Leaves classes columns) (number + 1) more rows after → after.timetable ≡ left_by_each classes columns (number + 1) more rows)
+    → after.timetable ≡ left_after read (λ more. left_by_each classes columns (number + 1) more rows) (left_by classes columns number before.timetable fields)
+left-step classes columns number before after fields rows (Ok more) are each = each more are
+left-step classes columns number before after fields rows (Err refused) is each = is
 
 -- what records leave
-left-each : (columns : Columns) (number : ℕ) (before after : TimetableView × List Entry) (rows : List (List (List ℕ)))
-    → AreLeft (with_deadhead columns) (Leaves columns) number before rows after → after.0 ≡ left_by_each columns number before rows
-left-each columns number before after [] are = λ i. (are i).0
-left-each columns number before after (fields ∷ rows) are =
-    left-step columns number before after fields rows (with_deadhead columns number before fields) are (λ more now. left-each columns (number + 1) more after rows now)
+left-each : (classes : List Class) (columns : Columns) (number : ℕ) (before after : ReadingView) (rows : List (List (List ℕ)))
+    → AreLeft (with_deadhead classes columns) (Leaves classes columns) number before rows after → after.timetable ≡ left_by_each classes columns number before rows
+left-each classes columns number before after [] are = λ i. (are i).timetable
+left-each classes columns number before after (fields ∷ rows) are =
+    left-step classes columns number before after fields rows (with_deadhead classes columns number before fields) are (λ more now. left-each classes columns (number + 1) more after rows now)
 
 -- what a table leaves
-left-table : (table : TableView) (before after : TimetableView × List Entry)
-    → IsTableLeft columns_in with_deadhead Leaves before table after → after.0 ≡ left_by_table before.0 before.1 table
-left-table table before after is = by (columns_in table.header) is
+left-table : (classes : List Class) (table : TableView) (before after : ReadingView)
+    → IsTableLeft columns_in (with_deadhead classes) (Leaves classes) before table after → after.timetable ≡ left_by_table classes before table
+left-table classes table before after is = by (columns_in table.header) is
   where
-    by : (columns : Result Columns FeedFault) → LeftBy (after ≡ before) (λ columns. AreLeft (with_deadhead columns) (Leaves columns) 1 before table.rows after) columns
-        → after.0 ≡ left_after columns (λ columns. left_by_each columns 1 (before.0, before.1) table.rows) before.0
-    by (Ok columns) are = left-each columns 1 before after table.rows are
-    by (Err refused) is = λ i. (is i).0
+    by : (columns : Result Columns FeedFault) → LeftBy (after ≡ before) (λ columns. AreLeft (with_deadhead classes columns) (Leaves classes columns) 1 before table.rows after) columns
+        → after.timetable ≡ left_after columns (λ columns. left_by_each classes columns 1 before table.rows) before.timetable
+    by (Ok columns) are = left-each classes columns 1 before after table.rows are
+    by (Err refused) is = λ i. (is i).timetable
 
 -- what a paper that is a table leaves
-left-paper : (found : Found) (before after : TimetableView × List Entry) → judged paper.Deadheads found ≡ nothing
-    → ((table : TableView) → table_in paper.Deadheads found ≡ Ok table → IsTableLeft columns_in with_deadhead Leaves before table after) → after.0 ≡ left_by_paper found before.0 before.1
-left-paper found before after judges each = by (table_in paper.Deadheads found) judges each
+left-paper : (classes : List Class) (found : Found) (before after : ReadingView) → judged paper.Deadheads found ≡ nothing
+    → ((table : TableView) → table_in paper.Deadheads found ≡ Ok table → IsTableLeft columns_in (with_deadhead classes) (Leaves classes) before table after)
+    → after.timetable ≡ left_by_paper classes found before
+left-paper classes found before after judges each = by (table_in paper.Deadheads found) judges each
   where
-    by : (table : Result TableView FeedFault) → (table >>= λ _. nothing) ≡ nothing → ((t : TableView) → table ≡ Ok t → IsTableLeft columns_in with_deadhead Leaves before t after)
-        → after.0 ≡ left_after table (left_by_table before.0 before.1) before.0
-    by (Ok table) judges each = left-table table before after (each table refl)
+    by : (table : Result TableView FeedFault) → (table >>= λ _. nothing) ≡ nothing → ((t : TableView) → table ≡ Ok t → IsTableLeft columns_in (with_deadhead classes) (Leaves classes) before t after)
+        → after.timetable ≡ left_after table (left_by_table classes before) before.timetable
+    by (Ok table) judges each = left-table classes table before after (each table refl)
     by (Err refused) judges each = cc judges
 
--- the same of the file, where no entry was read before
-pub left-file : (found : Found) (timetable : TimetableView) (entries : List Entry) (after : TimetableView × List Entry) → entries ≡ [] → judged paper.Deadheads found ≡ nothing
-    → ((table : TableView) → table_in paper.Deadheads found ≡ Ok table → IsTableLeft columns_in with_deadhead Leaves (timetable, entries) table after) → after.0 ≡ timetable_left found timetable
-left-file Missing timetable entries after none judges each = cc judges
-left-file TooLong timetable entries after none judges each = cc judges
-left-file (File bytes) timetable entries after none judges each =
-    left-paper (File bytes) (timetable, entries) after judges each ∙ ap (left_by_paper (File bytes) timetable) none
+-- the same of the file, where no record was read before
+pub left-file : (found : Found) (classes : List Class) (before after : ReadingView) → classes ≡ classes_of before.timetable → before ≡ begun before.timetable
+    → judged paper.Deadheads found ≡ nothing
+    → ((table : TableView) → table_in paper.Deadheads found ≡ Ok table → IsTableLeft columns_in (with_deadhead classes) (Leaves classes) before table after)
+    → after.timetable ≡ timetable_left found before.timetable
+left-file Missing classes before after are none judges each = cc judges
+left-file TooLong classes before after are none judges each = cc judges
+left-file (File bytes) classes before after are none judges each =
+    left-paper classes (File bytes) before after judges each ∙ (λ i. left_by_paper (are i) (File bytes) (none i))
 
 -- a timetable that has gained places is as before also without more of those that it had
 pub as_before-gained : (n : ℕ) (before after : TimetableView) → n ≤ length before.places → as_before (length before.places) after ≡ before → as_before n after ≡ as_before n before

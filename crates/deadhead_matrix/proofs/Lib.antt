@@ -1,3 +1,4 @@
+pub mod ClassLemmas
 pub mod Closed
 pub mod Days
 pub mod DepotLemmas
@@ -8,4 +9,5 @@ pub mod MatrixLemmas
 pub mod PriceSums
 pub mod SearchLemmas
 pub mod Standing
+pub mod UnplacedLemmas
 pub mod WaysLemmas

@@ -1,9 +1,9 @@
-ghost use Rattle.std.specs.Prelude.{◌≡◌, ◌≢◌, ℕ, ◌<◌, ◌≤◌, false, [], ◌∷◌, ◌++◌, length, slice_index_or, slice_set, Err, IfOk};
+ghost use Rattle.std.specs.Prelude.{◌≡◌, ◌≢◌, ℕ, ◌<◌, ◌≤◌, [], ◌∷◌, ◌++◌, length, slice_index_or, slice_set, All, Err, IfOk};
 ghost use Rattle.gtfs_tables.specs.Reading.{Gives};
 ghost use Rattle.trip_model.specs.declared.limits.TheConstants.{MOST_PLACES};
 ghost use Rattle.deadhead_matrix.specs.declared.limits.TheConstants.{MOST_DEADHEAD};
 ghost use Rattle.gtfs_tables.specs.Papers.{IsWithinLimit};
-ghost use Rattle.deadhead_matrix.specs.Deadheads.{deadheads_of, has_entry, with_entry};
+ghost use Rattle.deadhead_matrix.specs.Deadheads.{deadheads_of, has_entry, with_entries, with_entry};
 ghost use Rattle.deadhead_matrix.specs.Left.{as_before, timetable_left};
 ghost use Rattle.deadhead_matrix.specs.Search.{way, AreRows, AreLeastRows};
 
@@ -82,8 +82,8 @@ impl Deadheads {
         row.minutes()[usize::from(to)] != 0
     }
 
-    /// Appends the entry of a record, where no earlier one leads from the one place to the other.
-    pub(crate) fn add_record(&mut self, number: u32, entry: Entry) -> Result<(), FeedFault>
+    // Appends an entry of a record, where no earlier one leads from the one place to the other.
+    fn add(&mut self, number: u32, entry: Entry) -> Result<(), FeedFault>
         requires from { entry.from < MOST_PLACES }
         requires to { entry.to < MOST_PLACES }
         requires lasting { 1 ≤ entry.minutes }
@@ -100,6 +100,32 @@ impl Deadheads {
             usize::from(entry.to),
             entry.minutes,
         );
+        Ok(())
+    }
+
+    /// Appends the entries of a record, from each of these places to the one that stands with it.
+    pub(crate) fn add_record(
+        &mut self,
+        number: u32,
+        from: &[u16],
+        to: &[u16],
+        minutes: u16,
+    ) -> Result<(), FeedFault>
+        requires from { All (λ place. place < MOST_PLACES) from.now }
+        requires to { All (λ place. place < MOST_PLACES) to.now }
+        requires count { length from.now ≡ length to.now }
+        requires lasting { 1 ≤ minutes }
+        requires short { minutes ≤ MOST_DEADHEAD }
+        ensures { Gives (λ _. self.new) result (with_entries number minutes self.old from.now to.now) }
+    {
+        for n in 0..from.len() {
+            let entry = Entry {
+                from: from[n],
+                to: to[n],
+                minutes,
+            };
+            self.add(number, entry)?;
+        }
         Ok(())
     }
 
@@ -127,17 +153,18 @@ impl Deadheads {
     }
 
     /// The entries of what was found of `deadheads.csv`; a missing file has no records. The places that a record names are
-    /// added to the timetable where they are new, without layover, the first before the second. The file is refused as a
-    /// whole at the first record that is not of its form, of which the fields are judged before the places; the places of
-    /// the records before it have been added then, and its own as far as they were met. `FeedFault::Memory` may come at
-    /// any time, after any of these places.
+    /// added to the timetable where they are new, without layover, the first before the second. In a timetable of posts a
+    /// record names terminals, and its places and entries are those for each class of the posts, in the order in which the
+    /// classes first stand; so no entry leads from one class to another. The file is refused as a whole at the first record
+    /// that is not of its form, of which the fields are judged before the places; the places of the records before it have
+    /// been added then, and its own as far as they were met. `FeedFault::Memory` may come at any time, after any of these
+    /// places.
     pub fn read(
         alloc: Global,
         deadheads: &Found,
         timetable: &mut Timetable,
     ) -> Result<Deadheads, FeedFault>
-        requires within { IsWithinLimit deadheads.now }
-        requires unclassed { timetable.old.classed ≡ false }
+        requires { IsWithinLimit deadheads.now }
         ensures gives { Gives (λ read. (timetable.new, read)) result (deadheads_of deadheads.now timetable.old) }
         ensures left { result ≢ Err FeedFault.Memory → timetable.new ≡ timetable_left deadheads.now timetable.old }
         // Also after want of memory, the timetable is as it was but for places at the end of its list.

@@ -30,9 +30,11 @@ mod entry;
 pub mod laws;
 mod limits;
 mod matrix;
+mod posts;
 mod pulls;
 mod read;
 mod search;
+mod unplaced;
 mod walks;
 mod ways;
 

@@ -1,4 +1,4 @@
-ghost use Rattle.std.specs.Prelude.{◌≡◌, ◌≢◌, ℕ, ◌<◌, ◌≤◌, false, [], length, replicate, slice_index_or, All, Err, IfOk, OnErr, IfSome};
+ghost use Rattle.std.specs.Prelude.{◌≡◌, ◌≢◌, ℕ, ◌<◌, ◌≤◌, [], length, replicate, slice_index_or, All, Err, IfOk, OnErr, IfSome};
 ghost use Rattle.gtfs_tables.specs.Papers.{IsWithinLimit};
 ghost use Rattle.gtfs_tables.specs.Reading.{Gives};
 ghost use Rattle.trip_model.specs.declared.limits.TheConstants.{MOST_PLACES};
@@ -67,8 +67,7 @@ impl Matrix {
         deadheads: &Found,
         timetable: &mut Timetable,
     ) -> Result<Matrix, FeedFault>
-        requires within { IsWithinLimit deadheads.now }
-        requires unclassed { timetable.old.classed ≡ false }
+        requires { IsWithinLimit deadheads.now }
         ensures gives { Gives (λ matrix. (timetable.new, matrix.entries)) result (spec.deadheads_of deadheads.now timetable.old) }
         ensures least { IfOk result AreLeastWalks }
         ensures places { IfOk result (λ matrix. length matrix.walks ≡ length timetable.new.places) }

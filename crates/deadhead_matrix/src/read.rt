@@ -1,22 +1,24 @@
-ghost use Rattle.std.specs.Prelude.{◌≡◌, ◌≢◌, ◌<◌, ◌≤◌, false, [], length, Err, IfOk, OnErr};
+ghost use Rattle.std.specs.Prelude.{◌≡◌, ◌≢◌, ◌≤◌, false, [], length, All, Err, IfOk};
 ghost use Rattle.gtfs_tables.specs.Papers.{IsWithinLimit};
 ghost use Rattle.gtfs_tables.specs.Reading.{Gives};
-ghost use Rattle.trip_model.specs.declared.limits.TheConstants.{MOST_PLACES};
 ghost use Rattle.deadhead_matrix.specs.declared.limits.TheConstants.{MOST_DEADHEAD};
 ghost use Rattle.deadhead_matrix.specs.Deadheads as spec;
 ghost use Rattle.deadhead_matrix.specs.Left as left;
+ghost use Rattle.deadhead_matrix.specs.Posts.{classes_of};
+ghost use Rattle.trip_model.specs.Place.{has_slash};
 
 use crate::deadheads::Deadheads;
-use crate::entry::Entry;
 use crate::limits::MOST_DEADHEAD;
-use desk_io::Found;
+use crate::posts::{classes_of, places_of};
+use crate::unplaced::Unplaced;
+use desk_io::{Found, Text};
 use gtfs_tables::{
     Column, FeedFault, Paper, RecordReader, Row, column_in, filled_in, judge_table, number_in,
     read_records, text_in,
 };
 use std::alloc::Global;
 use std::mem;
-use trip_model::{MOST_PLACES, Timetable};
+use trip_model::Timetable;
 
 /// The columns of a record's fields, each counted from 0.
 #[derive(Clone, Copy)]
@@ -65,58 +67,42 @@ fn deadhead_in<'a>(
     Ok((from, to, minutes))
 }
 
-// The place of that name, a new one at the end where there is none.
-fn place_of(timetable: &mut Timetable, name: &str) -> Result<u16, FeedFault>
-    requires { timetable.old.classed ≡ false }
-    ensures gives { Gives (λ place. (timetable.new, place)) result (spec.with_place timetable.old name.now) }
-    ensures err { OnErr result (timetable.new ≡ timetable.old) }
-    ensures kept { left.as_before (length timetable.old.places) timetable.new ≡ timetable.old }
-    ensures longer { length timetable.old.places ≤ length timetable.new.places }
-    ensures unclassed { timetable.new.classed ≡ false }
-    ensures within { IfOk result (λ place. place < MOST_PLACES) }
-{
-    let places = timetable.places();
-    if let Some(place) = timetable.find_place(name) {
-        return Ok(place);
-    }
-    if places >= MOST_PLACES {
-        return Err(FeedFault::TooManyPlaces(Paper::Deadheads));
-    }
-    Ok(timetable.push_place(name, 0)?)
-}
-
-// The timetable with the places of the records that were read, and their entries; how many places it had before.
+// The timetable with the places of the records that were read, their entries, and the ends of those whose terminals have no
+// places; how many places it had before, and the classes of these.
 #[derive(Drop)]
 struct Reading {
+    alloc: Global,
     before: u16,
+    classes: Vec<Text>,
     timetable: Timetable,
     deadheads: Deadheads,
+    unplaced: Unplaced,
     ghost gained: { before ≤ length timetable.places },
-    ghost unclassed: { timetable.classed ≡ false },
+    ghost named: { All (λ class. has_slash class ≡ false) classes.items },
 }
 
 impl RecordReader for Reading {
     ghost use Rattle.std.specs.Prelude.{◌≡◌, ℕ, List, take};
     ghost use Rattle.trip_model.specs.Timetable.{TimetableView};
-    ghost use Rattle.deadhead_matrix.specs.declared.entry.Entry.{Entry};
     ghost use Rattle.deadhead_matrix.specs.Deadheads as spec;
     ghost use Rattle.deadhead_matrix.specs.Left as left;
+    ghost use Rattle.deadhead_matrix.specs.Posts.{Class};
 
     type Columns = Columns;
 
-    ghost Kept = { ℕ × TimetableView };
+    ghost Kept = { ℕ × TimetableView × List Class };
 
-    ghost State = { TimetableView × List Entry };
+    ghost State = { spec.ReadingView };
 
-    ghost kept = { λ read. (read.before, left.as_before read.before read.timetable) };
+    ghost kept = { λ read. (read.before, left.as_before read.before read.timetable, read.classes.items) };
 
-    ghost state = { λ read. (read.timetable, read.deadheads) };
+    ghost state = { λ read. record { timetable = read.timetable; entries = read.deadheads; unplaced = read.unplaced } };
 
     ghost columns_in = { spec.columns_in };
 
-    ghost step = { λ _. spec.with_deadhead };
+    ghost step = { λ kept. spec.with_deadhead kept.2 };
 
-    ghost Leaves = { λ _. left.Leaves };
+    ghost Leaves = { λ kept. left.Leaves kept.2 };
 
     #[tactic(auto, unfolding(crate::specs::Deadheads::columns_in))]
     fn columns(&self, header: &Row) -> Result<Columns, FeedFault> {
@@ -129,10 +115,13 @@ impl RecordReader for Reading {
     #[tactic(auto, unfolding(crate::specs::Deadheads::with_deadhead, crate::specs::Left::left_by))]
     fn record(&mut self, columns: &Columns, number: u32, row: &Row) -> Result<(), FeedFault> {
         let (from, to, minutes) = deadhead_in(row, columns, number)?;
-        let from = place_of(&mut self.timetable, from)?;
-        let to = place_of(&mut self.timetable, to)?;
-        self.deadheads
-            .add_record(number, Entry { from, to, minutes })
+        let froms = places_of(self.alloc, &mut self.timetable, from, &self.classes)?;
+        let tos = places_of(self.alloc, &mut self.timetable, to, &self.classes)?;
+        self.deadheads.add_record(number, &froms, &tos, minutes)?;
+        if self.classes.is_empty() {
+            return self.unplaced.add_record(number, from, to);
+        }
+        Ok(())
     }
 }
 
@@ -141,6 +130,8 @@ impl RecordReader for Reading {
 fn read_all(alloc: Global, found: &Found, reading: &mut Reading) -> Result<(), FeedFault>
     requires within { IsWithinLimit found.now }
     requires begun { reading.old.deadheads ≡ [] }
+    requires placed { reading.old.unplaced ≡ [] }
+    requires classes { reading.old.classes.items ≡ classes_of reading.old.timetable }
     ensures gives { Gives (λ _. (reading.new.timetable, reading.new.deadheads)) result (spec.deadheads_of found.now reading.old.timetable) }
     ensures left { result ≢ Err FeedFault.Memory → reading.new.timetable ≡ left.timetable_left found.now reading.old.timetable }
     ensures kept { left.as_before reading.old.before reading.new.timetable ≡ left.as_before reading.old.before reading.old.timetable }
@@ -160,18 +151,21 @@ pub(crate) fn read_deadheads(
     found: &Found,
     timetable: &mut Timetable,
 ) -> Result<Deadheads, FeedFault>
-    requires within { IsWithinLimit found.now }
-    requires unclassed { timetable.old.classed ≡ false }
+    requires { IsWithinLimit found.now }
     ensures gives { Gives (λ deadheads. (timetable.new, deadheads)) result (spec.deadheads_of found.now timetable.old) }
     ensures left { result ≢ Err FeedFault.Memory → timetable.new ≡ left.timetable_left found.now timetable.old }
     ensures kept { left.as_before (length timetable.old.places) timetable.new ≡ timetable.old }
 {
     let deadheads = Deadheads::none(alloc)?;
+    let classes = classes_of(alloc, timetable)?;
     let none = Timetable::open(alloc, 0, 0);
     let mut reading = Reading {
+        alloc,
         before: timetable.places(),
+        classes,
         timetable: mem::replace(timetable, none),
         deadheads,
+        unplaced: Unplaced::none(alloc),
     };
     let read = read_all(alloc, found, &mut reading);
     *timetable = reading.timetable;

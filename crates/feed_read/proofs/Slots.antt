@@ -1,11 +1,11 @@
 -- Slots made of trips, one after the other.
 use Rattle.std.proofs.Common.{◌≡◌, ℕ, ◌+◌, ◌<◌, true, List, [], ◌∷◌, ◌++◌, length, map, get_or, take, Some, None, pos, refl, sym, ap, ◌∙◌, subst, arith}
 use Rattle.std.specs.Prelude.{Contains, Option, IsSome, IfNone, unwrap_or}
-use Rattle.std.proofs.Math.ListN.{get_or-map}
-use Rattle.std.proofs.lemmas.List.{map_push, take_more, take-map, get_or-take, length-map, length-take}
+use Rattle.std.proofs.lemmas.List.{map_push, take_more}
 use Rattle.desk_settings.specs.Entries.{Name}
 use Rattle.desk_settings.specs.Settings.{SettingsView}
 use Rattle.trip_model.specs.Timetable.{TimetableView, Slot, AreDistinct, place_names, slot_names, number_of}
+use Rattle.trip_model.proofs.TimetableLemmas.{new_after_front}
 use Rattle.feed_read.specs.declared.journey.Journey.{Journey}
 use Rattle.feed_read.specs.Base.{slot_of, timetable_over}
 use Rattle.feed_read.proofs.Places.{place_names-over}
@@ -31,22 +31,12 @@ place_is_numbered settings names journeys timetable name place number so_far is 
     numbered names place number
     (subst (λ known. IfNone number (¬ Contains known place)) (ap place_names so_far ∙ place_names-over settings names journeys) (subst (λ n. IfNone number (¬ Contains (place_names timetable) n)) is missing)) there
 
--- no name of distinct names stands among those before it
-apart_before : (names : List Name) (i : ℕ) (name : Name) → AreDistinct names → i < length names → get_or names i name ≡ name → ¬ Contains (take i names) name
-apart_before names i name distinct lt is there =
-    let k = there.0 in
-    let before : k < i = omega (arith, simp length-take at there.1) in
-    distinct k i name before lt (sym (get_or-take i names k name before) ∙ there.2 ∙ sym is)
-
 -- the name of the next trip stands in no slot yet
 pub name_is_new : (settings : SettingsView) (names : List Name) (journeys : List Journey) (i : ℕ) (journey : Journey) (timetable : TimetableView) (name : Name) → i < length journeys
     → AreDistinct (map (λ (journey : Journey). journey.name) journeys) → timetable ≡ timetable_over settings names (take i journeys) → name ≡ journey.name → journey ≡ get_or journeys i journey
     → ¬ Contains (slot_names timetable) name
 name_is_new settings names journeys i journey timetable name lt distinct so_far is here =
-    let lt_names : i < length (map name_of journeys) = omega (arith, length-map journeys name_of) in
-    let at : get_or (map name_of journeys) i journey.name ≡ journey.name = get_or-map name_of journeys i journey ∙ ap name_of (sym here) in
-    let known : slot_names timetable ≡ take i (map name_of journeys) = ap slot_names so_far ∙ slot_names-over settings names (take i journeys) ∙ sym (take-map name_of i journeys) in
-    subst (λ n. ¬ Contains (slot_names timetable) n) (sym is) (subst (λ known. ¬ Contains known journey.name) (sym known) (apart_before (map name_of journeys) i journey.name distinct lt_names at))
+    new_after_front name_of journeys i journey (slot_names timetable) name distinct lt (ap slot_names so_far ∙ slot_names-over settings names (take i journeys)) (is ∙ ap name_of here)
 
 -- a number that was found
 found_number : (names : List Name) (name : Name) (number : Option ℕ) (p : ℕ) → number ≡ number_of names name → number ≡ Some p → p ≡ unwrap_or (number_of names name) 0

@@ -1,4 +1,4 @@
-ghost use Rattle.std.specs.Prelude.{◌≡◌, false, length, map, All, IfOk};
+ghost use Rattle.std.specs.Prelude.{◌≡◌, length, map, All, IfOk};
 ghost use Rattle.gtfs_tables.specs.Papers.{IsWithinLimit};
 ghost use Rattle.gtfs_tables.specs.Reading.{Gives};
 ghost use Rattle.trip_model.specs.Timetable.{AreDistinct};
@@ -48,8 +48,7 @@ pub fn read_feed(
 ) -> Result<Timetable, FeedFault>
     requires trips { IsWithinLimit trips.now }
     requires stop_times { IsWithinLimit stop_times.now }
-    ensures gives { Gives (λ timetable. timetable) result (base_of settings.now trips.now stop_times.now) }
-    ensures unclassed { IfOk result (λ timetable. timetable.classed ≡ false) }
+    ensures { Gives (λ timetable. timetable) result (base_of settings.now trips.now stop_times.now) }
 {
     let names = trips_in(alloc, settings, trips)?;
     let journeys = journeys_in(alloc, settings, &names, stop_times)?;

@@ -1,4 +1,4 @@
-ghost use Rattle.std.specs.Prelude.{◌≡◌, ◌≤◌, false, [], length, map, All, IfOk, IfErr, OnOk};
+ghost use Rattle.std.specs.Prelude.{◌≡◌, ◌≤◌, false, [], length, map, All, IfErr, OnOk};
 ghost use Rattle.desk_settings.specs.Names.{with_name};
 ghost use Rattle.gtfs_tables.specs.Reading.{Gives};
 ghost use Rattle.trip_model.specs.declared.limits.TheConstants.{MOST_SLOTS};
@@ -89,8 +89,7 @@ pub(crate) fn timetable_of(
     requires few { length journeys.now ≤ MOST_SLOTS }
     requires distinct { AreDistinct (map (λ journey. journey.name) journeys.now) }
     requires valid { All IsJourney journeys.now }
-    ensures gives { Gives (λ timetable. timetable) result (spec.timetable_of settings.now journeys.now) }
-    ensures unclassed { IfOk result (λ timetable. timetable.classed ≡ false) }
+    ensures { Gives (λ timetable. timetable) result (spec.timetable_of settings.now journeys.now) }
 {
     let mut timetable = Timetable::open(alloc, settings.early(), settings.late());
     push_places(settings, &mut timetable, journeys)?;

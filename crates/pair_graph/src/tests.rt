@@ -1,4 +1,4 @@
-ghost use Rattle.std.specs.Prelude.{◌≡◌, ◌<◌, false, length, IfOk};
+ghost use Rattle.std.specs.Prelude.{◌≡◌, ◌<◌, length, IfOk};
 ghost use Rattle.gtfs_tables.specs.Papers.{IsWithinLimit};
 
 use crate::Pairs;
@@ -55,7 +55,6 @@ fn matrix_of(
     depot: &[u8],
     timetable: &mut Timetable,
 ) -> Result<Matrix, Fail>
-    requires { timetable.old.classed ≡ false }
     ensures { IfOk result (λ matrix. length timetable.new.places ≡ length matrix.walks) }
 {
     let mut matrix = match Matrix::read(alloc, &found(alloc, deadheads)?, timetable) {
@@ -82,7 +81,6 @@ fn weights<L: Ledger>(
 {
     let mut steps: Steps<L> = Steps::open(blank);
     let mut timetable = two_trips(rt, alloc)?;
-    assert!(rt; !timetable.classed());
     let matrix = matrix_of(alloc, deadheads, depot, &mut timetable)?;
     let pairs = Pairs::of(&timetable, &matrix);
     assert!(rt; pairs.slots() == 2);
@@ -105,5 +103,16 @@ fn a_trip_after_a_walk_that_arrives_in_time(rt: HostRuntime) -> Result<(), Fail>
         let weights = weights::<Brand>(&rt, rt.alloc(), deadheads, depot, Blank::new(1))?;
         assert_eq!(rt; weights, (weight, None));
     }
+    Ok(())
+}
+
+#[test]
+fn a_copy_has_the_post_of_a_class(rt: HostRuntime) -> Result<(), Fail> {
+    let mut timetable = Timetable::open_classed(rt.alloc(), 0, 0);
+    let post = timetable.push_post("A", "bus", 5)?;
+    let copy = timetable.copy(rt.alloc())?;
+    assert_eq!(rt; copy.find_place("A/bus"), Some(post));
+    assert_eq!(rt; copy.terminal_name(post), "A");
+    assert_eq!(rt; copy.class_name(post), "bus");
     Ok(())
 }

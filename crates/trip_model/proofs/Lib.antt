@@ -1,7 +1,9 @@
+pub mod BeforeLemmas
 pub mod Chains
 pub mod Counting
 pub mod MaximumLemmas
 pub mod OrderLemmas
 pub mod PlainLemmas
+pub mod SlotLemmas
 pub mod StepsLemmas
 pub mod TimetableLemmas

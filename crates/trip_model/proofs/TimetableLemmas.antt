@@ -1,21 +1,21 @@
 -- Names and their numbers, and what a push keeps of a timetable.
-use Rattle.std.proofs.Common.{◌≡◌, ◌≢◌, ℕ, ◌+◌, ◌<◌, ◌≤◌, Bool, true, false, cond, not, List, [], ◌∷◌, ◌++◌, map, length, get_or, slice_get, position, Some, None, Contains, All, if◌then◌else◌, refl, sym, ap, subst, ◌∙◌, ⊎_elim, nat_lt, arith}
+use Rattle.std.proofs.Common.{◌≡◌, ◌≢◌, ℕ, ◌+◌, ◌<◌, Bool, true, false, cond, not, List, [], ◌∷◌, ◌++◌, map, length, get_or, take, slice_get, position, Some, None, Contains, All, if◌then◌else◌, refl, sym, ap, subst, ◌∙◌, nat_lt, arith}
 use Rattle.std.specs.Prelude.{String, string_bytes, string_eq}
-use Rattle.std.specs.List.{prefix_len, position_or_len}
+use Rattle.std.specs.List.{prefix_len}
 use Rattle.std.specs.Str.{bytes_eq}
 use Rattle.std.specs.Map.{keys_of}
-use Rattle.std.proofs.Math.ListN.{get_or-append}
-use Rattle.std.proofs.lemmas.Bool.{cases_lt, lt-ltb, false≢true}
+use Rattle.std.proofs.Math.ListN.{get_or-append, get_or-map}
+use Rattle.std.proofs.lemmas.Bool.{false≢true}
 use Rattle.std.proofs.lemmas.Slice.Eq.{bytes_eq-Decides}
 use Rattle.std.specs.Option.{option_map}
 use Rattle.std.proofs.lemmas.Option.{slice_get-get_or, slice_get-map, slice_get_within, get_or_from_slice_get}
-use Rattle.std.proofs.lemmas.List.{length-map, length-append, map-append, get_or_default}
+use Rattle.std.proofs.lemmas.List.{length-map, length-append, length-take, map-append, take-map, get_or-take, get_or_default}
 use Rattle.std.proofs.lemmas.List.Elements.{All-push, All-weaker, Contains-append_right}
 use Rattle.std.proofs.lemmas.List.Quantifiers.{position-Some, all_pairs_push}
-use Rattle.std.proofs.lemmas.List.Sums.{fails_before_first}
 use Rattle.indexmap.specs.IndexMap.{insert_entry}
 use Rattle.trip_model.specs.declared.trip.Trip.{Trip}
 use Rattle.trip_model.specs.Trip.{IsValidTrip}
+use Rattle.trip_model.proofs.BeforeLemmas.{position-None}
 use Rattle.trip_model.specs.declared.timetable.Post.{Post}
 use Rattle.trip_model.specs.Place.{Place, IsPlace, class_of, terminal_place}
 use Rattle.trip_model.specs.Timetable.{TimetableView, Slot, IsTimetable, AreDistinct, place_names, slot_names, number_of, place_from, places_of, slots_of, timetable_of}
@@ -52,13 +52,8 @@ number_of-Some names name p e =
 
 -- a name without a number stands nowhere
 pub number_of-None : (names : List (List ℕ)) (name : List ℕ) → number_of names name ≡ None → ¬ Contains names name
-number_of-None names name e there = ⊎_elim
-    (λ (h : position_or_len (bytes_eq name) names < length names).
-    let found = sym (ap (λ b. cond b (Some (position_or_len (bytes_eq name) names)) None) (lt-ltb _ _ h)) ∙ e in cc)
-    (λ (h : length names ≤ position_or_len (bytes_eq name) names).
-    let fails = fails_before_first (bytes_eq name) names there.0 name (omega (arith, there.1)) in
-    false≢true (sym fails ∙ (bytes_eq-Decides name (get_or names there.0 name)).1 (sym there.2)))
-    (cases_lt (position_or_len (bytes_eq name) names) (length names))
+number_of-None names name none there =
+    false≢true (sym (position-None (bytes_eq name) names there.0 name none there.1) ∙ (bytes_eq-Decides name (get_or names there.0 name)).1 (sym there.2))
 
 -- a key with a new name goes last
 pub insert_entry-new_name : {Y X : Type 0} (es : List (String Y × X)) (k : String Y) (v : X) → ¬ Contains (map string_bytes (keys_of es)) (string_bytes k)
@@ -75,6 +70,18 @@ insert_entry-new_name (e ∷ es) k v new =
 AreDistinct-push : (names : List (List ℕ)) (name : List ℕ) → AreDistinct names → ¬ Contains names name → AreDistinct (names ++ name ∷ [])
 AreDistinct-push names name distinct new =
     all_pairs_push (λ x y. x ≢ y) names name distinct (λ k d h e. new (k, h, get_or_default names k name d h ∙ e))
+
+-- of distinct names that of an item is none of those before it
+pub new_after_front : {X : Type 0} (name_of : X → List ℕ) (xs : List X) (i : ℕ) (d : X) (known : List (List ℕ)) (name : List ℕ) → AreDistinct (map name_of xs) → i < length xs
+    → known ≡ map name_of (take i xs) → name ≡ name_of (get_or xs i d) → ¬ Contains known name
+new_after_front name_of xs i d known name distinct lt known_is name_is there =
+    let names = map name_of xs in
+    let in_front : Contains (take i names) name = subst (λ ns. Contains ns name) (known_is ∙ sym (take-map name_of i xs)) there in
+    let k = in_front.0 in
+    let before : k < i = omega (arith, simp length-take at in_front.1) in
+    let lt_names : i < length names = omega (arith, length-map xs name_of) in
+    distinct k i name before lt_names
+    (sym (get_or-take i names k name before) ∙ in_front.2 ∙ name_is ∙ sym (get_or-map name_of xs i d) ∙ get_or_default names i (name_of d) name lt_names)
 
 -- a place keeps its class as one more is pushed
 class_of-push : (places : List Place) (p : Place) (i : ℕ) → i < length places → class_of (places ++ p ∷ []) i ≡ class_of places i

@@ -1,5 +1,5 @@
 -- Links: for each slot the trip that its vehicle makes next; and the blocks that they make.
-use Rattle.std.specs.Prelude.{◌≡◌, ℕ, zero, suc, ◌==◌, Bool, false, not, List, [], ◌∷◌, map, filter, count_by, slice_index_or, Option, None, Some, is_some}
+use Rattle.std.specs.Prelude.{◌≡◌, ℕ, zero, suc, ◌==◌, Bool, false, not, List, [], ◌∷◌, map, filter, count_by, position, slice_index_or, Option, None, Some, is_some}
 use Rattle.std.specs.List.{list_any}
 use Rattle.trip_model.specs.declared.limits.TheConstants.{MINUTES}
 use Rattle.trip_model.specs.Network.{Network, Fits}
@@ -8,10 +8,14 @@ use Rattle.trip_model.specs.Network.{Network, Fits}
 abbrev pub next_of : List (Option ℕ) → ℕ → Option ℕ
 next_of links s = slice_index_or links s None
 
+-- no trip is the next of two
+abbrev pub AreApart : List (Option ℕ) → Type 0
+AreApart links = (h i j : ℕ) → next_of links h ≡ Some j → next_of links i ≡ Some j → h ≡ i
+
 -- a vehicle can go on along each link, and no trip is the next of two
 pub record AreLinks (network : Network) (links : List (Option ℕ)) : Type 0 where
   pub fits : (i j : ℕ) → next_of links i ≡ Some j → Fits network i j
-  pub once : (h i j : ℕ) → next_of links h ≡ Some j → next_of links i ≡ Some j → h ≡ i
+  pub once : AreApart links
 
 -- how many links there are
 abbrev pub link_count : List (Option ℕ) → ℕ
@@ -21,6 +25,10 @@ link_count links = count_by is_some links
 abbrev pub leads_to : ℕ → Option ℕ → Bool
 leads_to s None = false
 leads_to s (Some j) = j == s
+
+-- the trip before that of s, of which it is the next; the first such slot
+abbrev pub before_of : List (Option ℕ) → ℕ → Option ℕ
+before_of links s = position (leads_to s) links
 
 -- the trip of s is the next of none
 abbrev pub is_first : List (Option ℕ) → ℕ → Bool

@@ -1,5 +1,5 @@
 -- What a timetable is seen as, and what holds of each one.
-use Rattle.std.specs.Prelude.{◌≢◌, ℕ, Bool, ◌≤◌, List, [], map, length, slice_index_or, Option, position, All, AllPairs, false, pos, String, string_bytes}
+use Rattle.std.specs.Prelude.{◌≢◌, ℕ, Bool, ◌≤◌, List, [], map, length, slice_index_or, slice_set, Option, position, All, AllPairs, false, pos, String, string_bytes}
 use Rattle.std.specs.Str.{bytes_eq}
 use Rattle.trip_model.specs.declared.limits.TheConstants.{MOST_PLACES, MOST_SLOTS, MOST_TOLERANCE}
 use Rattle.trip_model.specs.declared.trip.Trip.{Trip}
@@ -40,6 +40,10 @@ place_at timetable p = place_in timetable.places p
 -- the slot of that number, and past the last one a slot with no name and a trip that does not run
 abbrev pub slot_at : TimetableView → ℕ → Slot
 slot_at timetable s = slice_index_or timetable.slots s (record { name = []; trip = record { from = 0; to = 0; departs = 0; ends = 0; offset = pos 0; early = 0; late = 0; live = false } })
+
+-- the timetable with another trip in a slot, under the name that the slot has
+abbrev pub with_trip : TimetableView → ℕ → Trip → TimetableView
+with_trip timetable s trip = record timetable { slots = slice_set timetable.slots s (record (slot_at timetable s) { trip = trip }) }
 
 -- no name stands twice
 abbrev pub AreDistinct : List (List ℕ) → Type 0

@@ -1,5 +1,5 @@
 -- When a trip is valid, and what a deficit counts of it.
-use Rattle.std.specs.Prelude.{◌≡◌, ◌<◌, ◌≤◌, List, length, ℤ, pos, neg_ℤ, ◌-ℤ◌, ◌≤ℤ◌}
+use Rattle.std.specs.Prelude.{◌≡◌, ◌<◌, ◌≤◌, List, length, ℤ, pos, neg_ℤ, ◌+ℤ◌, ◌-ℤ◌, ◌≤ℤ◌, unsigned_abs}
 use Rattle.trip_model.specs.declared.limits.TheConstants.{LAST_DEPARTURE, LAST_END, MOST_TOLERANCE}
 use Rattle.trip_model.specs.declared.trip.Trip.{Trip}
 use Rattle.trip_model.specs.declared.trip.Move.{Move}
@@ -31,3 +31,17 @@ pub record IsValidTrip (places : List Place) (trip : Trip) : Type 0 where
   pub departs_from_midnight : pos 0 ≤ℤ (published_departure trip)
   pub departs_in_day : (published_departure trip) ≤ℤ pos LAST_DEPARTURE
   pub ends_in_day : (published_end trip) ≤ℤ pos LAST_END
+
+-- the trip moved by so many minutes
+abbrev pub shifted : Trip → ℤ → Trip
+shifted trip by = record trip {
+  departs = unsigned_abs (pos trip.departs +ℤ by);
+  ends = unsigned_abs (pos trip.ends +ℤ by);
+  offset = trip.offset +ℤ by;
+}
+
+-- the trip may be moved by so many minutes: then its offset is within its tolerances, and it departs at midnight or later
+pub record MayShift (trip : Trip) (by : ℤ) : Type 0 where
+  pub not_too_early : neg_ℤ (pos trip.early) ≤ℤ (trip.offset +ℤ by)
+  pub not_too_late : (trip.offset +ℤ by) ≤ℤ pos trip.late
+  pub departs : pos 0 ≤ℤ (pos trip.departs +ℤ by)

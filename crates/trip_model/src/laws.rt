@@ -1,10 +1,10 @@
 //! Laws of the definitions that the contracts cite. Each is the contract of a function that does nothing.
 ghost use Rattle.trip_model.specs.declared.limits.TheConstants.{LAST_MINUTE};
-ghost use Rattle.std.specs.Prelude.{◌≡◌, ℕ, ◌+◌, ◌<◌, ◌≤◌, true, ℤ, pos, ◌≤ℤ◌, List, length, Option, is_some, All};
+ghost use Rattle.std.specs.Prelude.{◌≡◌, ℕ, ◌+◌, ◌<◌, ◌≤◌, true, ℤ, pos, ◌≤ℤ◌, List, length, Option, Some, is_some, All};
 ghost use Rattle.trip_model.specs.declared.trip.Move.{Move};
 ghost use Rattle.trip_model.specs.Blocking.{StandsOnce, IsBlocking, IsFewest, IsLeast};
 ghost use Rattle.trip_model.specs.Deficit.{deficit, live_moves};
-ghost use Rattle.trip_model.specs.Links.{AreLinks, link_count, blocks_along};
+ghost use Rattle.trip_model.specs.Links.{next_of, before_of, AreApart, AreLinks, link_count, blocks_along};
 ghost use Rattle.trip_model.specs.Maximum.{IsFirstMaximum, first_maximum};
 ghost use Rattle.trip_model.specs.Network.{Network, AreDepartures};
 ghost use Rattle.trip_model.specs.Order.{minute_left, by_departure, RiseBy, TiesRise};
@@ -47,6 +47,12 @@ pub fn links_law()
         → AreDepartures network departs → AreLinks network links → StandsOnce network.live order
         → ((s : ℕ) → network.live s ≡ true → s < length links)
         → length (blocks_along links order) + link_count links ≡ length order }
+{}
+
+/// The trip before another is one of which that is the next. Where no trip is the next of two, it is the only one.
+pub fn before_law()
+    ensures next { (links : List (Option ℕ)) (i j : ℕ) → before_of links j ≡ Some i → next_of links i ≡ Some j }
+    ensures before { (links : List (Option ℕ)) (i j : ℕ) → AreApart links → next_of links i ≡ Some j → before_of links j ≡ Some i }
 {}
 
 /// In the order of departure each slot stands once whose trip runs, departures rise, and of one departure the lesser slot

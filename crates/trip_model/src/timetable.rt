@@ -37,8 +37,8 @@ impl Model for Timetable {
 impl Timetable {
     ghost use Rattle.trip_model.specs.declared.limits.TheConstants.{MOST_LAYOVER, MOST_PLACES, MOST_SLOTS, MOST_TOLERANCE};
     ghost use Rattle.trip_model.specs.Place.{Place, IsPlace, class_of, has_slash, terminal_place, post_place};
-    ghost use Rattle.trip_model.specs.Trip.{IsValidTrip};
-    ghost use Rattle.trip_model.specs.Timetable.{Slot, TimetableView, IsTimetable, place_names, slot_names, number_of, place_at, slot_at};
+    ghost use Rattle.trip_model.specs.Trip.{IsValidTrip, MayShift, shifted};
+    ghost use Rattle.trip_model.specs.Timetable.{Slot, TimetableView, IsTimetable, place_names, slot_names, number_of, place_at, slot_at, with_trip};
 
     fn empty(alloc: Global, classed: bool, early: u8, late: u8) -> Timetable
         requires early { early ≤ MOST_TOLERANCE }
@@ -268,5 +268,78 @@ impl Timetable {
         let name = String::from_str(*self.trips.allocator(), name)?;
         self.trips.insert(name, trip)?;
         Ok(slot)
+    }
+
+    /// Takes off the last slot; None where there is none.
+    pub fn pop_trip(&mut self) -> Option<(Text, Trip)>
+        ensures some { IfSome result (λ popped. self.old ≡ record self.new {
+          slots = self.new.slots ++ record { name = popped.0; trip = popped.1 } ∷ [];
+        }) }
+        ensures none { IfNone result ((self.old.slots ≡ []) × (self.new ≡ self.old)) }
+    {
+        let (name, trip) = self.trips.pop()?;
+        Some((Text::wrap(name), trip))
+    }
+
+    // Puts another trip into a slot.
+    fn set_trip(&mut self, slot: u16, trip: Trip)
+        requires slot { slot < length self.old.slots }
+        requires valid { IsValidTrip self.old.places trip }
+        ensures { self.new ≡ with_trip self.old slot trip }
+    {
+        *self.trips.get_index_mut(usize::from(slot)).unwrap() = trip;
+    }
+
+    /// Moves a trip that runs by so many minutes, within its tolerances.
+    pub fn shift(&mut self, slot: u16, by: i16)
+        requires slot { slot < length self.old.slots }
+        requires live { (slot_at self.old slot).trip.live ≡ true }
+        requires within { MayShift (slot_at self.old slot).trip by }
+        ensures { self.new ≡ with_trip self.old slot (shifted (slot_at self.old slot).trip by) }
+    {
+        let trip = self.trip(slot).shifted(by);
+        self.set_trip(slot, trip);
+    }
+
+    /// Cancels a trip that runs. It keeps its slot.
+    pub fn cancel(&mut self, slot: u16)
+        requires slot { slot < length self.old.slots }
+        requires live { (slot_at self.old slot).trip.live ≡ true }
+        ensures { self.new ≡ with_trip self.old slot (record (slot_at self.old slot).trip { live = false }) }
+    {
+        let trip = Trip {
+            live: false,
+            ..self.trip(slot)
+        };
+        self.set_trip(slot, trip);
+    }
+
+    /// Makes a cancelled trip run again, as it was.
+    pub fn restore(&mut self, slot: u16)
+        requires slot { slot < length self.old.slots }
+        requires cancelled { (slot_at self.old slot).trip.live ≡ false }
+        ensures { self.new ≡ with_trip self.old slot (record (slot_at self.old slot).trip { live = true }) }
+    {
+        let trip = Trip {
+            live: true,
+            ..self.trip(slot)
+        };
+        self.set_trip(slot, trip);
+    }
+
+    /// An equal timetable.
+    pub fn copy(&self, alloc: Global) -> Result<Timetable, Memory>
+        ensures { IfOk result (λ copy. copy ≡ self.now) }
+    {
+        let mut copy = Timetable::empty(alloc, self.classed, self.early, self.late);
+        for place in 0..self.places() {
+            let name = String::from_str(alloc, self.place_name(place))?;
+            let (terminal, class) = (self.terminal_name(place), self.class_name(place));
+            copy.push(name, terminal, class, self.layover(place))?;
+        }
+        for slot in 0..self.slots() {
+            copy.push_trip(self.name(slot), self.trip(slot))?;
+        }
+        Ok(copy)
     }
 }

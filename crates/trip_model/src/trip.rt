@@ -1,4 +1,4 @@
-ghost use Rattle.std.specs.Prelude.{◌≡◌};
+ghost use Rattle.std.specs.Prelude.{◌≡◌, List};
 
 /// A trip between two places, in minutes of the service day as they stand now.
 #[derive(Clone, Copy, Debug, PartialEq, Eq)]
@@ -32,7 +32,8 @@ pub struct Move {
 }
 
 impl Trip {
-    ghost use Rattle.trip_model.specs.Trip.{move_of};
+    ghost use Rattle.trip_model.specs.Place.{Place};
+    ghost use Rattle.trip_model.specs.Trip.{move_of, shifted, IsValidTrip, MayShift};
 
     /// The trip as its deficit counts it.
     pub fn as_move(&self) -> Move
@@ -43,6 +44,21 @@ impl Trip {
             to: self.to,
             leaves: self.departs,
             arrives: self.ends,
+        }
+    }
+
+    // The trip moved by so many minutes.
+    pub(crate) fn shifted(self, by: i16) -> Trip
+        requires valid { (places : List Place) × IsValidTrip places self }
+        requires within { MayShift self by }
+        ensures trip { result ≡ shifted self by }
+        ensures valid { (places : List Place) → IsValidTrip places self → IsValidTrip places result }
+    {
+        Trip {
+            departs: self.departs.checked_add_signed(by).unwrap(),
+            ends: self.ends.checked_add_signed(by).unwrap(),
+            offset: (i16::from(self.offset) + by) as i8,
+            ..self
         }
     }
 }

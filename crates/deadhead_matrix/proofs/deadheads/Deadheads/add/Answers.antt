@@ -4,7 +4,7 @@ use Rattle.deadhead_matrix.specs.declared.entry.Entry.{Entry}
 use Rattle.deadhead_matrix.specs.Deadheads.{has_entry}
 use Rattle.deadhead_matrix.specs.Search.{AreTold}
 use Rattle.deadhead_matrix.proofs.WaysLemmas.{AreTold-push, given-back}
-use Rattle.deadhead_matrix.proofs.deadheads.Deadheads.add_record.Goals as goal
+use Rattle.deadhead_matrix.proofs.deadheads.Deadheads.add.Goals as goal
 
 pub invariant_of-self-2 : goal.invariant_of-self-2
 invariant_of-self-2 c =
