@@ -6,6 +6,7 @@ pub mod Duality
 pub mod LeftLemmas
 pub mod Looseness
 pub mod MatrixLemmas
+pub mod OneClass
 pub mod PriceSums
 pub mod SearchLemmas
 pub mod Standing

@@ -1,9 +1,10 @@
 -- The places of a terminal: the terminal itself, or where vehicles are of classes a post of it for each class.
-use Rattle.std.specs.Prelude.{ℕ, Bool, true, false, List, [], ◌∷◌, ◌++◌, fold, if◌then◌else◌}
+use Rattle.std.specs.Prelude.{◌≡◌, ℕ, Bool, true, false, List, [], ◌∷◌, ◌++◌, fold, if◌then◌else◌}
 use Rattle.std.specs.List.{list_any}
 use Rattle.std.specs.Str.{bytes_eq}
-use Rattle.trip_model.specs.Place.{Place, post_place, terminal_place}
+use Rattle.trip_model.specs.Place.{Place, class_of, post_place, terminal_place}
 use Rattle.trip_model.specs.Timetable.{TimetableView}
+use Rattle.deadhead_matrix.specs.declared.entry.Entry.{Entry}
 
 -- a class, as its bytes
 abbrev pub Class : Type 0
@@ -29,3 +30,7 @@ classes_of timetable = if timetable.classed then classes_met timetable.places el
 abbrev pub place_for : Bool → List ℕ → Class → Place
 place_for true terminal class = post_place terminal class 0
 place_for false terminal class = terminal_place terminal 0
+
+-- an entry leads between places of one class
+abbrev pub JoinsOneClass : List Place → Entry → Type 0
+JoinsOneClass places entry = class_of places entry.from ≡ class_of places entry.to

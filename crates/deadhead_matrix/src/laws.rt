@@ -1,17 +1,24 @@
 //! Laws of the definitions that the contracts cite. Each is the contract of a function that does nothing.
-ghost use Rattle.std.specs.Prelude.{◌≡◌, ℕ, ◌+◌, ◌-◌, ◌*◌, ◌<◌, ◌≤◌, true, List, length, sum, All, Option, None};
+ghost use Rattle.std.specs.Prelude.{◌≡◌, ℕ, ◌+◌, ◌-◌, ◌*◌, ◌<◌, ◌≤◌, true, List, length, sum, All, Option, None, Ok};
 ghost use Rattle.deadhead_matrix.specs.declared.limits.TheConstants.{MOST_DEADHEAD, VEHICLE_WEIGHT};
+ghost use Rattle.deadhead_matrix.specs.declared.entry.Entry.{Entry};
+ghost use Rattle.deadhead_matrix.specs.Deadheads.{deadheads_of};
 ghost use Rattle.deadhead_matrix.specs.Fitting.{deadhead_network};
 ghost use Rattle.deadhead_matrix.specs.Matrix.{MatrixView, empty_matrix};
+ghost use Rattle.deadhead_matrix.specs.Posts.{JoinsOneClass};
 ghost use Rattle.deadhead_matrix.specs.Prices.{Plan, IsCertified, IsDay, IsLoose};
 ghost use Rattle.deadhead_matrix.specs.Pulls.{IsPull};
+ghost use Rattle.deadhead_matrix.specs.Walks.{IsWalk};
+ghost use Rattle.desk_io.specs.declared.shelf.Found.{Found};
 ghost use Rattle.trip_model.specs.declared.limits.TheConstants.{MOST_SLOTS};
 ghost use Rattle.trip_model.specs.declared.trip.Move.{Move};
 ghost use Rattle.trip_model.specs.Blocking.{StandsOnce, IsLeast};
 ghost use Rattle.trip_model.specs.Links.{blocks_along};
 ghost use Rattle.trip_model.specs.Network.{Network, AreDepartures};
 ghost use Rattle.trip_model.specs.Order.{minute_left};
+ghost use Rattle.trip_model.specs.Place.{Place, class_of};
 ghost use Rattle.trip_model.specs.Plain.{move_at, plain_network, AreMoves};
+ghost use Rattle.trip_model.specs.Timetable.{TimetableView, IsTimetable};
 
 /// Without entries and pulls a vehicle can go on exactly from a trip to one that it meets, and never runs empty.
 pub fn standing_law()
@@ -25,6 +32,15 @@ pub fn deadhead_law()
         → AreDepartures (deadhead_network moves matrix) (λ s. minute_left (move_at moves s)) }
     ensures day { (places : ℕ) (moves : List (Option Move)) (matrix : MatrixView) → AreMoves places moves
         → All IsPull matrix.pulls → length moves ≤ MOST_SLOTS → IsDay (deadhead_network moves matrix) (length moves) }
+{}
+
+/// The entries of a file lead between places of one class, and so does a walk along such entries: a vehicle that runs empty
+/// stays among the posts of its class.
+pub fn class_law()
+    ensures entries { (found : Found) (timetable after : TimetableView) (entries : List Entry) → IsTimetable timetable
+        → deadheads_of found timetable ≡ Ok (after, entries) → All (JoinsOneClass after.places) entries }
+    ensures walks { (places : List Place) (entries es : List Entry) (a b : ℕ) → All (JoinsOneClass places) entries
+        → IsWalk entries a es b → class_of places a ≡ class_of places b }
 {}
 
 /// The blocks of a certified plan are least over all blockings: no blocking weighs more than all its prices, and a vehicle

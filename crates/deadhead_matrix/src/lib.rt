@@ -1,4 +1,4 @@
-//! Least walks between the places of a timetable, over the deadheads that the planner allows.
+//! Least walks between the places of a timetable, over the deadheads that the planner allows between its terminals.
 //!
 //! [`Deadheads::read`] reads what was found of `deadheads.csv` and adds the places that it names to the timetable; its
 //! records are seen as entries ([`Entry`]). [`Matrix::of`] makes the matrix of entries between all places, and
@@ -18,9 +18,10 @@
 //! ```
 //!
 //! The contracts cite `Walks` (walks of entries, and the least), `Matrix` (what a matrix is seen as), `Deadheads` (the
-//! entries and the places of a file), `Left` (the places that stand where it is refused), `Depot` and `Pulls` (the pulls
-//! of places) and `Fitting` (which trips a vehicle can make one after the other); the laws besides `Prices` (plans of next
-//! trips whose prices prove that they are least). `Search` has the terms of the search from one place for proofs alone.
+//! entries and the places of a file), `Posts` (the places of a terminal, one for each class), `Left` (the places that stand
+//! where the file is refused), `Depot` and `Pulls` (the pulls of places) and `Fitting` (which trips a vehicle can make one
+//! after the other); the laws besides `Prices` (plans of next trips whose prices prove that they are least). `Search` has
+//! the terms of the search from one place for proofs alone.
 #![tactic(auto)]
 
 mod deadheads;

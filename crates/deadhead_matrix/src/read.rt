@@ -1,11 +1,11 @@
 ghost use Rattle.std.specs.Prelude.{◌≡◌, ◌≢◌, ◌≤◌, false, [], length, All, Err, IfOk};
 ghost use Rattle.gtfs_tables.specs.Papers.{IsWithinLimit};
 ghost use Rattle.gtfs_tables.specs.Reading.{Gives};
+ghost use Rattle.trip_model.specs.Place.{has_slash};
 ghost use Rattle.deadhead_matrix.specs.declared.limits.TheConstants.{MOST_DEADHEAD};
 ghost use Rattle.deadhead_matrix.specs.Deadheads as spec;
 ghost use Rattle.deadhead_matrix.specs.Left as left;
 ghost use Rattle.deadhead_matrix.specs.Posts.{classes_of};
-ghost use Rattle.trip_model.specs.Place.{has_slash};
 
 use crate::deadheads::Deadheads;
 use crate::limits::MOST_DEADHEAD;
