@@ -38,8 +38,7 @@ fn deadheads_for(
     deadheads: &Found,
     timetable: &mut Timetable,
 ) -> Result<Deadheads, FeedFault>
-    requires within { IsWithinLimit deadheads.now }
-    requires unclassed { timetable.old.classed ≡ false }
+    requires { IsWithinLimit deadheads.now }
     ensures gives { Gives (λ read. (timetable.new, read)) result (spec.deadheads_for reads deadheads.now timetable.old) }
     ensures none { reads ≡ false → IfOk result (λ read. read ≡ []) }
 {
@@ -81,8 +80,7 @@ fn read_settings(alloc: Global, read: &Read) -> Result<Settings, FeedFault>
 
 fn read_timetable(alloc: Global, settings: &Settings, read: &Read) -> Result<Timetable, FeedFault>
     requires { spec.HasPapers read.now.pages }
-    ensures gives { Gives (λ timetable. timetable) result (spec.timetable_in (found_of read.now.pages) settings.now) }
-    ensures unclassed { IfOk result (λ timetable. timetable.classed ≡ false) }
+    ensures { Gives (λ timetable. timetable) result (spec.timetable_in (found_of read.now.pages) settings.now) }
 {
     let trips = read.found(Paper::Trips);
     let stop_times = read.found(Paper::StopTimes);
@@ -95,8 +93,7 @@ fn read_deadheads(
     timetable: &mut Timetable,
     read: &Read,
 ) -> Result<Deadheads, FeedFault>
-    requires papers { spec.HasPapers read.now.pages }
-    requires unclassed { timetable.old.classed ≡ false }
+    requires { spec.HasPapers read.now.pages }
     ensures gives { Gives (λ entries. (timetable.new, entries)) result (spec.deadheads_in (found_of read.now.pages) reads timetable.old) }
     ensures none { reads ≡ false → IfOk result (λ entries. entries ≡ []) }
 {
