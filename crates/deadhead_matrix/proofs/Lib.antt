@@ -3,9 +3,12 @@ pub mod Closed
 pub mod Days
 pub mod DepotLemmas
 pub mod Duality
+pub mod GreatestPrice
 pub mod LeftLemmas
 pub mod Looseness
 pub mod MatrixLemmas
+pub mod PathLemmas
+pub mod PlanLemmas
 pub mod PriceSums
 pub mod SearchLemmas
 pub mod Standing
