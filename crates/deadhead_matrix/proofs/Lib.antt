@@ -3,10 +3,13 @@ pub mod Closed
 pub mod Days
 pub mod DepotLemmas
 pub mod Duality
+pub mod GreatestPrice
 pub mod LeftLemmas
 pub mod Looseness
 pub mod MatrixLemmas
 pub mod OneClass
+pub mod PathLemmas
+pub mod PlanLemmas
 pub mod PriceSums
 pub mod SearchLemmas
 pub mod Standing

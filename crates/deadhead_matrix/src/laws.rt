@@ -1,12 +1,12 @@
 //! Laws of the definitions that the contracts cite. Each is the contract of a function that does nothing.
-ghost use Rattle.std.specs.Prelude.{◌≡◌, ℕ, ◌+◌, ◌-◌, ◌*◌, ◌<◌, ◌≤◌, true, List, length, sum, All, Option, None, Ok};
+ghost use Rattle.std.specs.Prelude.{◌≡◌, ◌≢◌, ℕ, ◌+◌, ◌-◌, ◌*◌, ◌<◌, ◌≤◌, true, List, length, sum, All, Option, None, Some, Ok};
 ghost use Rattle.deadhead_matrix.specs.declared.limits.TheConstants.{MOST_DEADHEAD, VEHICLE_WEIGHT};
 ghost use Rattle.deadhead_matrix.specs.declared.entry.Entry.{Entry};
 ghost use Rattle.deadhead_matrix.specs.Deadheads.{deadheads_of};
 ghost use Rattle.deadhead_matrix.specs.Fitting.{deadhead_network};
 ghost use Rattle.deadhead_matrix.specs.Matrix.{MatrixView, empty_matrix};
 ghost use Rattle.deadhead_matrix.specs.Posts.{JoinsOneClass};
-ghost use Rattle.deadhead_matrix.specs.Prices.{Plan, IsCertified, IsDay, IsLoose};
+ghost use Rattle.deadhead_matrix.specs.Prices.{Plan, price, IsCertified, IsDay, IsLoose, IsPlanFor};
 ghost use Rattle.deadhead_matrix.specs.Pulls.{IsPull};
 ghost use Rattle.deadhead_matrix.specs.Walks.{IsWalk};
 ghost use Rattle.desk_io.specs.declared.shelf.Found.{Found};
@@ -15,9 +15,9 @@ ghost use Rattle.trip_model.specs.declared.trip.Move.{Move};
 ghost use Rattle.trip_model.specs.Blocking.{StandsOnce, IsLeast};
 ghost use Rattle.trip_model.specs.Links.{blocks_along};
 ghost use Rattle.trip_model.specs.Network.{Network, AreDepartures};
-ghost use Rattle.trip_model.specs.Order.{minute_left};
+ghost use Rattle.trip_model.specs.Order.{minute_left, by_departure};
 ghost use Rattle.trip_model.specs.Place.{Place, class_of};
-ghost use Rattle.trip_model.specs.Plain.{move_at, plain_network, AreMoves};
+ghost use Rattle.trip_model.specs.Plain.{move_at, plain_network, trip_moves, AreMoves};
 ghost use Rattle.trip_model.specs.Timetable.{TimetableView, IsTimetable};
 
 /// Without entries and pulls a vehicle can go on exactly from a trip to one that it meets, and never runs empty.
@@ -65,4 +65,23 @@ pub fn loose_law()
         → ((s : ℕ) → network.live s ≡ true → s < length plan.next) → IsLoose network plan None None → IsCertified network plan }
     ensures loose { (network : Network) (departs : ℕ → ℕ) (plan : Plan) → AreDepartures network departs
         → ((s : ℕ) → network.live s ≡ true → s < length plan.next) → IsCertified network plan → IsLoose network plan None None }
+{}
+
+/// No price of a plan is greater than what a vehicle and the longest ways home and out weigh: it is 0, or a part of the
+/// weight of a link. Of a loose plan this is said of every price but those of leaving `a` and of entering `b`.
+pub fn greatest_price_law()
+    ensures leave { (network : Network) (slots : ℕ) (plan : Plan) (a b : Option ℕ) → IsDay network slots → IsLoose network plan a b
+        → (s : ℕ) → a ≢ Some s → price plan.leave s ≤ VEHICLE_WEIGHT + 2 * MOST_DEADHEAD }
+    ensures enter { (network : Network) (slots : ℕ) (plan : Plan) (a b : Option ℕ) → IsDay network slots → IsLoose network plan a b
+        → (s : ℕ) → b ≢ Some s → price plan.enter s ≤ VEHICLE_WEIGHT + 2 * MOST_DEADHEAD }
+    ensures certified { (network : Network) (slots : ℕ) (plan : Plan) (departs : ℕ → ℕ) → IsDay network slots
+        → length plan.next ≡ slots → IsCertified network plan → AreDepartures network departs → (s : ℕ)
+        → (price plan.leave s ≤ VEHICLE_WEIGHT + 2 * MOST_DEADHEAD) × (price plan.enter s ≤ VEHICLE_WEIGHT + 2 * MOST_DEADHEAD) }
+{}
+
+/// The blocks of a plan for a timetable and a matrix are least, in the order of departure of their first trips.
+pub fn plan_law()
+    ensures { (timetable : TimetableView) (matrix : MatrixView) (plan : Plan) → IsTimetable timetable → All IsPull matrix.pulls
+        → IsPlanFor timetable matrix plan
+        → IsLeast (deadhead_network (trip_moves timetable.slots) matrix) (blocks_along plan.next (by_departure (trip_moves timetable.slots))) }
 {}

@@ -20,8 +20,8 @@
 //! The contracts cite `Walks` (walks of entries, and the least), `Matrix` (what a matrix is seen as), `Deadheads` (the
 //! entries and the places of a file), `Posts` (the places of a terminal, one for each class), `Left` (the places that stand
 //! where the file is refused), `Depot` and `Pulls` (the pulls of places) and `Fitting` (which trips a vehicle can make one
-//! after the other); the laws besides `Prices` (plans of next trips whose prices prove that they are least). `Search` has
-//! the terms of the search from one place for proofs alone.
+//! after the other); the laws besides `Prices` (plans of next trips whose prices prove that they are least) and `Paths` (along
+//! which such a plan is repaired). `Search` has the terms of the search from one place for proofs alone.
 #![tactic(auto)]
 
 mod deadheads;
@@ -31,6 +31,7 @@ mod entry;
 pub mod laws;
 mod limits;
 mod matrix;
+pub mod path_laws;
 mod posts;
 mod pulls;
 mod read;

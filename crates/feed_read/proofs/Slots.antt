@@ -1,5 +1,5 @@
 -- Slots made of trips, one after the other.
-use Rattle.std.proofs.Common.{◌≡◌, ℕ, ◌+◌, ◌<◌, true, List, [], ◌∷◌, ◌++◌, length, map, get_or, take, Some, None, pos, refl, sym, ap, ◌∙◌, subst, arith}
+use Rattle.std.proofs.Common.{◌≡◌, ℕ, ◌+◌, ◌<◌, true, List, [], ◌∷◌, ◌++◌, length, map, get_or, take, Some, None, pos, refl, sym, ap, ◌∙◌, subst}
 use Rattle.std.specs.Prelude.{Contains, Option, IsSome, IfNone, unwrap_or}
 use Rattle.std.proofs.lemmas.List.{map_push, take_more}
 use Rattle.desk_settings.specs.Entries.{Name}
