@@ -7,6 +7,8 @@ use Rattle.trip_model.specs.Links.{blocks_along}
 use Rattle.trip_model.specs.Maximum.{sum_of_maxima}
 use Rattle.trip_model.specs.Order.{by_departure}
 use Rattle.trip_model.specs.Plain.{plain_network, trip_moves}
+use Rattle.trip_model.specs.Timetable.{TimetableView}
+use Rattle.deadhead_matrix.specs.declared.pulls.Pull.{Pull}
 use Rattle.deadhead_matrix.specs.Matrix.{MatrixView, empty_matrix}
 use Rattle.fixed_fleet.specs.Rule.{first_in_first_out}
 use Rattle.block_build.specs.Lines.{block_text}
@@ -15,21 +17,24 @@ use Rattle.desk_feed.specs.Feed.{Said}
 use Rattle.desk_feed.specs.Judging.{showing}
 
 -- the matrix without entries that has the pulls: no vehicle runs empty from one trip to the next
-abbrev pub standing_matrix : Said → MatrixView
-standing_matrix said = record (empty_matrix (length said.timetable.places)) { pulls = said.pulls }
+abbrev pub standing_matrix : TimetableView → List Pull → MatrixView
+standing_matrix timetable pulls = record (empty_matrix (length timetable.places)) { pulls = pulls }
 
 -- the lines of the blocks, and then their number
-abbrev pub fixed_text : Said → List (List ℕ) → List ℕ
-fixed_text said blocks = block_text said.timetable (standing_matrix said) said.settings.prefix blocks ++ (codes "fixed " ++ (decimal (length blocks) ++ 10 ∷ []))
+abbrev pub fixed_text : TimetableView → List Pull → List ℕ → List (List ℕ) → List ℕ
+fixed_text timetable pulls prefix blocks = block_text timetable (standing_matrix timetable pulls) prefix blocks ++ (codes "fixed " ++ (decimal (length blocks) ++ 10 ∷ []))
 
 -- The text is that of the blocks which the rule of first in, first out makes. No blocking without deadheads has fewer, and
 -- they are as many as the sum of the maxima.
-pub record IsFixed (said : Said) (text : List ℕ) : Type 0 where
+pub record IsFixedText (timetable : TimetableView) (pulls : List Pull) (prefix : List ℕ) (text : List ℕ) : Type 0 where
   pub blocks : List (List ℕ)
-  pub by_rule : blocks ≡ blocks_along (first_in_first_out (trip_moves said.timetable.slots)) (by_departure (trip_moves said.timetable.slots))
-  pub fewest : IsFewest (plain_network (trip_moves said.timetable.slots)) blocks
-  pub number : pos (length blocks) ≡ sum_of_maxima (deficit (live_moves said.timetable.slots)) (length said.timetable.places)
-  pub printed : text ≡ fixed_text said blocks
+  pub by_rule : blocks ≡ blocks_along (first_in_first_out (trip_moves timetable.slots)) (by_departure (trip_moves timetable.slots))
+  pub fewest : IsFewest (plain_network (trip_moves timetable.slots)) blocks
+  pub number : pos (length blocks) ≡ sum_of_maxima (deficit (live_moves timetable.slots)) (length timetable.places)
+  pub printed : text ≡ fixed_text timetable pulls prefix blocks
+
+abbrev pub IsFixed : Said → List ℕ → Type 0
+IsFixed said text = IsFixedText said.timetable said.pulls said.settings.prefix text
 
 abbrev pub fixed_asked : Asked
 fixed_asked = showing true IsFixed

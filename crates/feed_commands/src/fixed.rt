@@ -1,4 +1,4 @@
-ghost use Rattle.std.specs.Prelude.{◌≡◌, ◌<◌, true, pos, length, All, IfOk};
+ghost use Rattle.std.specs.Prelude.{◌≡◌, ◌<◌, pos, length, All, IfOk};
 ghost use Rattle.trip_model.specs.Blocking.{IsFewest};
 ghost use Rattle.trip_model.specs.Deficit.{deficit, live_moves};
 ghost use Rattle.trip_model.specs.Links.{AreLinks, blocks_along};
@@ -6,15 +6,14 @@ ghost use Rattle.trip_model.specs.Maximum.{sum_of_maxima};
 ghost use Rattle.trip_model.specs.Order.{by_departure};
 ghost use Rattle.trip_model.specs.Plain.{plain_network, trip_moves};
 ghost use Rattle.fixed_fleet.specs.Rule.{first_in_first_out};
-ghost use Rattle.desk_feed.specs.Feed.{IsFeed, said_of};
 ghost use Rattle.desk_run.specs.Causes.{HasCause, IsComplete};
 ghost use Rattle.desk_run.specs.Runs.{RunsAs};
 ghost use Rattle.desk_run.specs.World.{world};
-ghost use Rattle.feed_commands.specs.Fixed.{IsFixed, fixed_asked};
+ghost use Rattle.feed_commands.specs.Fixed.{IsFixedText, fixed_asked};
 
 use block_build::{Blocks, block_lines, blocks_of};
-use deadhead_matrix::{Deadheads, Matrix};
-use desk_feed::{FEED_PAPERS, Feed, Judged, judge_feed};
+use deadhead_matrix::{Deadheads, Matrix, Pulls};
+use desk_feed::{FEED_PAPERS, Judged, judge_feed};
 use desk_io::{Memory, Shelf, Sink, Steps, Text};
 use desk_keeper::Keeper;
 use desk_run::{Command, Ending, Outcome, Read, perform};
@@ -42,20 +41,19 @@ pub(crate) fn fixed_blocks(alloc: Global, timetable: &Timetable) -> Result<Block
 
 // The lines of the blocks without deadheads, and their number. No least walk is asked for: no vehicle runs empty but out of
 // the depot and home.
-fn fixed_text(alloc: Global, feed: Feed) -> Result<Text, Memory>
-    requires { IsFeed true feed }
-    ensures { IfOk result (IsFixed (said_of feed)) }
+fn fixed_text(
+    alloc: Global,
+    timetable: &Timetable,
+    pulls: Pulls,
+    prefix: &str,
+) -> Result<Text, Memory>
+    requires { length pulls ≡ length timetable.now.places }
+    ensures { IfOk result (IsFixedText timetable.now pulls prefix.now) }
 {
-    let blocks = fixed_blocks(alloc, &feed.timetable)?;
-    let mut matrix = Matrix::of(alloc, &Deadheads::none(alloc)?, feed.timetable.places())?;
-    matrix.set_pulls(feed.pulls);
-    let lines = block_lines(
-        alloc,
-        &feed.timetable,
-        &matrix,
-        &blocks,
-        feed.settings.prefix(),
-    )?;
+    let blocks = fixed_blocks(alloc, timetable)?;
+    let mut matrix = Matrix::of(alloc, &Deadheads::none(alloc)?, timetable.places())?;
+    matrix.set_pulls(pulls);
+    let lines = block_lines(alloc, timetable, &matrix, &blocks, prefix)?;
     let lines = lines.as_str();
     Ok(Text::wrap(format!(in alloc; "{lines}fixed {}\n", blocks.len())?))
 }
@@ -84,7 +82,9 @@ impl Command for ShowFixed {
         match judge_feed(alloc, true, read)? {
             Judged::Refused(outcome) => Ok(outcome),
             Judged::Accepted(feed) => {
-                let text = fixed_text(alloc, feed)?;
+                let pulls = feed.pulls;
+                let prefix = feed.settings.prefix();
+                let text = fixed_text(alloc, &feed.timetable, pulls, prefix)?;
                 Ok(Outcome::putting(alloc, text, Ending::Done))
             }
         }
