@@ -1,0 +1,3 @@
+pub mod CostLemmas
+pub mod First
+pub mod RowLemmas
