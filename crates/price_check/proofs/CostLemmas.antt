@@ -30,7 +30,7 @@ names-known [] known = tt
 names-known (r ∷ rows) known = (known 0 (omega arith), names-known rows (λ at lt. known (suc at) (omega (arith, lt))))
 
 -- the slot that is there
-slot-there : (slot : Option ℕ) → IsSome slot → (s : ℕ) × (slot ≡ Some s)
+pub slot-there : (slot : Option ℕ) → IsSome slot → (s : ℕ) × (slot ≡ Some s)
 slot-there None known = absurd (false≢true known)
 slot-there (Some s) known = (s, refl)
 
@@ -73,7 +73,7 @@ minutes_on-more network before s (block ∷ blocks) false apart =
     omega (arith, more, one)
 
 -- records that name slots make a block, so that where there is none no record goes on
-filled : (rows : List BlockRow) (number : ℕ) → EachNames rows → blocks_in rows ≡ [] → begin_with rows number ≡ false
+pub filled : (rows : List BlockRow) (number : ℕ) → EachNames rows → blocks_in rows ≡ [] → begin_with rows number ≡ false
 filled [] number known none = refl
 filled (r ∷ rows) number known none = absurd (by (blocks_in rows) (begin_with rows r.block) r.slot known.0 none)
   where

@@ -9,15 +9,19 @@
 //! if let Verdict::Yes { vehicles, minutes } = check(&timetable, &matrix, &claimed) { .. }
 //! ```
 //!
-//! The contract that the crates above use: the verdict is its definition.
+//! The contract that the crates above use: the verdict is its definition, and a claim against which no reason holds is a
+//! certificate ([`laws::certificate_law`]).
 //!
 //! The contracts cite `Claim` (the records, and the blocks that they make) and `Reasons` (the seven reasons, and the first of
-//! them); of `trip_model` and `deadhead_matrix` the networks, blocks and weights.
+//! them), the laws besides `Certificate` (the plan that a claim gives, and what it proves); of `trip_model` and
+//! `deadhead_matrix` the networks, blocks, weights and certified plans. `Onward` has the terms of the ways on from a trip for
+//! proofs alone.
 #![tactic(auto)]
 
 mod blocks;
 mod claim;
 mod judging;
+pub mod laws;
 mod onward;
 mod prices;
 mod trips;
