@@ -97,7 +97,7 @@ blocks-parts network before s [] joins on = ((goes-parts network before s [] on.
 blocks-parts network before s (block ∷ blocks) true on = let parts = goes-parts network before s block on.0 in (parts.0, (parts.1, on.1))
 blocks-parts network before s (block ∷ blocks) false on = ((goes-parts network before s [] on.0).0, on.1)
 
-before_rest-is : (r : BlockRow) (rows : List BlockRow) (s : ℕ) → r.slot ≡ Some s → before_rest r rows ≡ (if begin_with rows r.block then Some s else None)
+pub before_rest-is : (r : BlockRow) (rows : List BlockRow) (s : ℕ) → r.slot ≡ Some s → before_rest r rows ≡ (if begin_with rows r.block then Some s else None)
 before_rest-is r [] s is = refl
 before_rest-is r (q ∷ rows) s is = ap (λ slot. if r.block == q.block then slot else None) is
 

@@ -3,6 +3,7 @@ pub mod CertifiedLemmas
 pub mod ChainLemmas
 pub mod CostLemmas
 pub mod First
+pub mod LeastLemmas
 pub mod NamedLemmas
 pub mod PlanLemmas
 pub mod RowLemmas

@@ -106,6 +106,13 @@ named-once live slots names s = omega (arith, names.once.once s, one-most (live 
 pub dead-stands : (live : ℕ → Bool) (slots : List (Option ℕ)) → NameOnce live slots → (s : ℕ) → live s ≡ false → stands slots s ≡ false
 dead-stands live slots names s e = stands-times slots s ∙ ap (nat_lt 0) (names.once.once s ∙ ap (λ b. cond b 1 0) e)
 
+-- a slot that is named is live
+pub standing-live : (live : ℕ → Bool) (slots : List (Option ℕ)) → NameOnce live slots → (s : ℕ) → 0 < times s (slots_named slots) → live s ≡ true
+standing-live live slots names s there = ⊎_elim
+    (λ (lives : live s ≡ true). lives)
+    (λ (dead : live s ≡ false). let none : ◌≡◌ {A = ℕ} (cond (live s) 1 0) 0 = ap (λ b. cond b 1 0) dead in absurd (omega (arith, there, names.once.once s, none)))
+    (cases_Bool (live s))
+
 -- and the three facts are given by it
 pub repeats-once : (live : ℕ → Bool) (slots : List (Option ℕ)) → NameOnce live slots → (at : ℕ) → at < length slots → repeats slots at ≡ false
 repeats-once live slots names at lt = by (named slots at) refl

@@ -129,7 +129,7 @@ weight-picked network r rows s = by (option_eq nat_eq r.slot (Some s)) refl
         ∙ sym (ap (λ b. if b then weight_after network r rows else weight_to network s (next_in rows s)) e)
 
 -- where a next trip comes from: the record of the slot is the first, or a later one
-next-cases : (r : BlockRow) (rows : List BlockRow) (i j : ℕ) → next_in (r ∷ rows) i ≡ Some j
+pub next-cases : (r : BlockRow) (rows : List BlockRow) (i j : ℕ) → next_in (r ∷ rows) i ≡ Some j
     → ((r.slot ≡ Some i) × (slot_after r rows ≡ Some j)) ⊎ (next_in rows i ≡ Some j)
 next-cases r rows i j e = ⊎_elim
     (λ (here : option_eq nat_eq r.slot (Some i) ≡ true). inl (is-slot i r.slot here, sym (ap (λ b. if b then slot_after r rows else next_in rows i) here) ∙ e))
@@ -137,17 +137,17 @@ next-cases r rows i j e = ⊎_elim
     (cases_Bool (option_eq nat_eq r.slot (Some i)))
 
 -- the trip after that of a record is that of the next one
-after-next : (r q : BlockRow) (rows : List BlockRow) (j : ℕ) → slot_after r (q ∷ rows) ≡ Some j → (q.slot ≡ Some j) × (slot_on r q ≡ r.slot)
+pub after-next : (r q : BlockRow) (rows : List BlockRow) (j : ℕ) → slot_after r (q ∷ rows) ≡ Some j → (q.slot ≡ Some j) × (slot_on r q ≡ r.slot)
 after-next r q rows j e = by (r.block == q.block) e
   where
     by : (same : Bool) → (if same then q.slot else None) ≡ Some j → (q.slot ≡ Some j) × ((if same then r.slot else None) ≡ r.slot)
     by true e = (e, refl)
     by false e = absurd (none-some j e)
 
-times-more : (r : BlockRow) (rows : List BlockRow) (j : ℕ) → times j (slots_named (block_slots rows)) ≤ times j (slots_named (block_slots (r ∷ rows)))
+pub times-more : (r : BlockRow) (rows : List BlockRow) (j : ℕ) → times j (slots_named (block_slots rows)) ≤ times j (slots_named (block_slots (r ∷ rows)))
 times-more r rows j = omega (arith, times-named j r.slot (block_slots rows))
 
-times-head : (r : BlockRow) (rows : List BlockRow) (j : ℕ) → r.slot ≡ Some j → times j (slots_named (block_slots (r ∷ rows))) ≡ 1 + times j (slots_named (block_slots rows))
+pub times-head : (r : BlockRow) (rows : List BlockRow) (j : ℕ) → r.slot ≡ Some j → times j (slots_named (block_slots (r ∷ rows))) ≡ 1 + times j (slots_named (block_slots rows))
 times-head r rows j is =
     let head : times j (slots_named (block_slots (r ∷ rows))) ≡ times j (j ∷ slots_named (block_slots rows)) = ap (λ o. times j (slots_named (o ∷ block_slots rows))) is in
     let one : ◌≡◌ {A = ℕ} (cond (j == j) 1 0) 1 = ap (λ b. cond b 1 0) (eq-eqb j j refl) in
