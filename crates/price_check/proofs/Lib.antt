@@ -6,4 +6,5 @@ pub mod First
 pub mod LeastLemmas
 pub mod NamedLemmas
 pub mod PlanLemmas
+pub mod ReasonLemmas
 pub mod RowLemmas

@@ -9,11 +9,13 @@ ghost use Rattle.price_check.specs.Certificate.{IsCertificate};
 ghost use Rattle.price_check.specs.Claim.{ClaimedView, AreBlockRows, ArePriceRows, blocks_in, network_of};
 ghost use Rattle.price_check.specs.Reasons.{reason_of};
 
-/// A claim against which no reason holds is a certificate.
+/// A claim against which no reason holds is a certificate, and the other way round.
 pub fn certificate_law()
-    ensures { (timetable : TimetableView) (matrix : MatrixView) (claimed : ClaimedView) → IsTimetable timetable
+    ensures certificate { (timetable : TimetableView) (matrix : MatrixView) (claimed : ClaimedView) → IsTimetable timetable
         → AreBlockRows timetable claimed.blocks → ArePriceRows timetable claimed.prices → reason_of timetable matrix claimed ≡ None
         → IsCertificate (network_of timetable matrix) (length timetable.slots) claimed }
+    ensures reasonless { (timetable : TimetableView) (matrix : MatrixView) (claimed : ClaimedView) → IsTimetable timetable
+        → IsCertificate (network_of timetable matrix) (length timetable.slots) claimed → reason_of timetable matrix claimed ≡ None }
 {}
 
 /// The blocks of a certificate are least over all blockings.

@@ -9,8 +9,8 @@
 //! if let Verdict::Yes { vehicles, minutes } = check(&timetable, &matrix, &claimed) { .. }
 //! ```
 //!
-//! The contract that the crates above use: the verdict is its definition, and a claim against which no reason holds is a
-//! certificate ([`laws::certificate_law`]), whose blocks are least ([`laws::least_law`]).
+//! The contract that the crates above use: the verdict is its definition; no reason holds exactly against a certificate
+//! ([`laws::certificate_law`]), whose blocks are least ([`laws::least_law`]).
 //!
 //! The contracts cite `Claim` (the records, and the blocks that they make) and `Reasons` (the seven reasons, and the first of
 //! them), the laws besides `Certificate` (the plan that a claim gives, and what it proves); of `trip_model` and
