@@ -1,9 +1,9 @@
 -- The plan of a claim whose records name each live slot once, and fit, is certified where its prices reach all weights and
 -- come to those of the links.
-use Rattle.std.proofs.Common.{◌≡◌, ℕ, suc, ◌+◌, ◌<◌, ◌≤◌, nat_eq, nat_lt, Bool, true, false, List, [], ◌∷◌, length, map, Option, None, Some, if◌then◌else◌, refl, sym, ap, ◌∙◌, ⊎_elim, arith}
-use Rattle.std.specs.Prelude.{is_some, IsSome}
+use Rattle.std.proofs.Common.{◌≡◌, ℕ, ◌+◌, ◌<◌, ◌≤◌, nat_eq, nat_lt, Bool, true, false, List, [], length, map, Option, None, Some, if◌then◌else◌, refl, sym, ap, ◌∙◌, ⊎_elim, arith}
+use Rattle.std.specs.Prelude.{is_some}
 use Rattle.std.specs.Bool.{then_some}
-use Rattle.std.specs.List.{AllByRecursion, range_with_len, sum}
+use Rattle.std.specs.List.{range_with_len, sum}
 use Rattle.std.specs.Option.{option_eq, option_and_then, option_map}
 use Rattle.std.proofs.lemmas.Bool.{cases_lt, false≢true, ltb-false}
 use Rattle.std.proofs.lemmas.List.FromFn.{length-map-range_with_len}
@@ -18,17 +18,13 @@ use Rattle.price_check.specs.declared.claim.BlockRow.{BlockRow}
 use Rattle.price_check.specs.declared.claim.PriceRow.{PriceRow}
 use Rattle.price_check.specs.declared.verdict.Reason.{Reason}
 use Rattle.price_check.specs.declared.verdict.Reason.TheVariants.{PriceLow}
-use Rattle.price_check.specs.Claim.{ClaimedView, AreKnown, block_slots, price_slots, block_row, price_row, slot_before}
+use Rattle.price_check.specs.Claim.{ClaimedView, block_slots, price_slots, block_row, price_row, slot_before}
 use Rattle.price_check.specs.Certificate.{slots_named, NameOnce, next_in, row_of, plan_of}
 use Rattle.price_check.specs.Reasons.{fit, lower, low_from, price_sum, weight_sum}
+use Rattle.price_check.proofs.CostLemmas.{known-each}
 use Rattle.price_check.proofs.ChainLemmas.{Chained, chained-from, before_at-none}
 use Rattle.price_check.proofs.NamedLemmas.{named-once, dead-stands, stands-once}
 use Rattle.price_check.proofs.PlanLemmas.{total, sum-picked, prices-total, weight_after, weight_sum-is, weight-picked, next-once, next-fits, row-there, row-none, at-plan, past-plan, next-plan}
-
--- each record names a slot
-known-each : {X : Type 0} (slot_of : X → Option ℕ) (rows : List X) → AreKnown (map slot_of rows) → AllByRecursion (λ r. IsSome (slot_of r)) rows
-known-each slot_of [] known = tt
-known-each slot_of (r ∷ rows) known = (known 0 (omega arith), known-each slot_of rows (λ at lt. known (suc at) (omega (arith, lt))))
 
 if-out : {X Y : Type 0} (g : X → Y) (b : Bool) (x y : X) → g (if b then x else y) ≡ (if b then g x else g y)
 if-out g true x y = refl

@@ -1,5 +1,5 @@
 -- What the records of blocks come to, record by record: the blocks that they make, and their empty minutes.
-use Rattle.std.proofs.Common.{◌≡◌, ℕ, zero, suc, ◌+◌, ◌<◌, Bool, true, false, List, [], ◌∷◌, length, get_or, drop, Option, None, Some, if◌then◌else◌, refl, sym, ap, subst, ◌∙◌, drop-cons, add-one, arith}
+use Rattle.std.proofs.Common.{◌≡◌, ℕ, zero, suc, ◌+◌, ◌<◌, Bool, true, false, List, [], ◌∷◌, length, map, get_or, drop, Option, None, Some, if◌then◌else◌, refl, sym, ap, subst, ◌∙◌, drop-cons, add-one, arith}
 use Rattle.std.specs.Prelude.{IsSome, unwrap_or}
 use Rattle.std.specs.List.{AllByRecursion}
 use Rattle.std.proofs.lemmas.Bool.{false≢true}
@@ -25,9 +25,12 @@ names-drop rows zero known = known
 names-drop [] (suc n) known = known
 names-drop (r ∷ rows) (suc n) known = names-drop rows n known.1
 
+pub known-each : {X : Type 0} (slot_of : X → Option ℕ) (rows : List X) → AreKnown (map slot_of rows) → AllByRecursion (λ r. IsSome (slot_of r)) rows
+known-each slot_of [] known = tt
+known-each slot_of (r ∷ rows) known = (known 0 (omega arith), known-each slot_of rows (λ at lt. known (suc at) (omega (arith, lt))))
+
 pub names-known : (rows : List BlockRow) → AreKnown (block_slots rows) → EachNames rows
-names-known [] known = tt
-names-known (r ∷ rows) known = (known 0 (omega arith), names-known rows (λ at lt. known (suc at) (omega (arith, lt))))
+names-known = known-each (λ (r : BlockRow). r.slot)
 
 -- the slot that is there
 pub slot-there : (slot : Option ℕ) → IsSome slot → (s : ℕ) × (slot ≡ Some s)

@@ -4,7 +4,7 @@ use Rattle.std.specs.Prelude.{is_none, ⊤}
 use Rattle.std.specs.List.{AllByRecursion, list_any, range_with_len}
 use Rattle.std.specs.Option.{option_eq}
 use Rattle.std.proofs.lemmas.Bool.{cases_Bool, eq-eqb, ne_eqb}
-use Rattle.std.proofs.lemmas.List.{length-append, length-map}
+use Rattle.std.proofs.lemmas.List.{get_or-map, length-append, length-map}
 use Rattle.std.proofs.lemmas.List.FromFn.{length-map-range_with_len}
 use Rattle.std.proofs.lemmas.Option.{none-some}
 use Rattle.trip_model.specs.Blocking.{times, slots_in, IsLeast}
@@ -25,14 +25,13 @@ use Rattle.price_check.specs.Certificate.{slots_named, slot_after, next_in, Name
 use Rattle.price_check.proofs.CertificateLemmas.{network-departures, network-within}
 use Rattle.price_check.proofs.ChainLemmas.{slots_in-blocks, before_rest, before_rest-is, before_at, before_at-more}
 use Rattle.price_check.proofs.CostLemmas.{EachNames, names-known, slot-there}
-use Rattle.price_check.proofs.NamedLemmas.{is-slot, slot-is, named-once, standing-live}
+use Rattle.price_check.proofs.NamedLemmas.{named-stands, is-slot, slot-is, named-once, standing-live}
 use Rattle.price_check.proofs.PlanLemmas.{next-cases, after-next, times-more, times-head, at-plan, next-plan}
 
 -- a slot that a record names stands in those that are named
 at-stands : (rows : List BlockRow) (at s : ℕ) → at < length rows → (block_row rows at).slot ≡ Some s → 0 < times s (slots_named (block_slots rows))
-at-stands [] at s lt is = absurd (omega arith)
-at-stands (r ∷ rows) zero s lt is = omega (arith, times-head r rows s is)
-at-stands (r ∷ rows) (suc at) s lt is = omega (arith, times-more r rows s, at-stands rows at s (omega (arith, lt)) is)
+at-stands rows at s lt is =
+    named-stands (block_slots rows) at s (omega (arith, lt, length-map rows (λ (r : BlockRow). r.slot))) (get_or-map (λ (r : BlockRow). r.slot) rows at _ None lt ∙ is)
 
 -- where no slot is named twice, one record alone names it
 one-record : (rows : List BlockRow) (a b s : ℕ) → times s (slots_named (block_slots rows)) ≤ 1 → a < length rows → b < length rows → (block_row rows a).slot ≡ Some s → (block_row rows b).slot ≡ Some s → a ≡ b

@@ -53,6 +53,11 @@ times-front-le slots s zero = omega arith
 times-front-le [] s (suc n) = omega arith
 times-front-le (slot ∷ slots) s (suc n) = omega (arith, times-named s slot (take n slots), times-named s slot slots, times-front-le slots s n)
 
+-- a slot that a record names stands in the slots that are named
+pub named-stands : (slots : List (Option ℕ)) (at s : ℕ) → at < length slots → named slots at ≡ Some s → 0 < times s (slots_named slots)
+named-stands slots at s lt is =
+    omega (arith, times-front slots s at lt, hit-is s (named slots at) true (slot-is s (named slots at) is), times-front-le slots s (suc at))
+
 -- a slot that stands is named by some record
 pub standing-record : (slots : List (Option ℕ)) (s : ℕ) → stands slots s ≡ true → (at : ℕ) × (at < length slots) × (named slots at ≡ Some s)
 standing-record [] s e = absurd (false≢true e)

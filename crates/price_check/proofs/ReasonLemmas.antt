@@ -3,7 +3,7 @@ use Rattle.std.proofs.Common.{◌≡◌, ℕ, zero, suc, ◌+◌, ◌<◌, ◌�
 use Rattle.std.specs.Bool.{then_some}
 use Rattle.std.specs.Option.{option_and_then, option_eq, option_or}
 use Rattle.std.proofs.lemmas.Bool.{eq-eqb, le-ltb}
-use Rattle.std.proofs.lemmas.List.{length-map}
+use Rattle.std.proofs.lemmas.List.{get_or-map, length-map}
 use Rattle.gtfs_tables.specs.declared.paper.Paper.{Paper}
 use Rattle.gtfs_tables.specs.declared.paper.Paper.TheVariants.{Blocks, Prices}
 use Rattle.trip_model.specs.Blocking.{times}
@@ -25,7 +25,7 @@ use Rattle.price_check.proofs.CertifiedLemmas.{plan-prices, plan-weights, plan-p
 use Rattle.price_check.proofs.ChainLemmas.{chained-from, before_at-none, fit-blocks}
 use Rattle.price_check.proofs.CostLemmas.{names-known}
 use Rattle.price_check.proofs.First.{NoneBelow, none_first}
-use Rattle.price_check.proofs.NamedLemmas.{standing-live, slot-is, times-named, named-once, stands-once, repeats-once}
+use Rattle.price_check.proofs.NamedLemmas.{named-stands, standing-live, slot-is, times-named, named-once, stands-once, repeats-once}
 use Rattle.price_check.proofs.RowLemmas.{live-is, unknown-none}
 
 -- a reason whose test fails is none
@@ -70,10 +70,8 @@ differing-none network rows shown at lt = by (block_row rows at).slot refl
 
 -- the record of the prices of a slot that a record names is that one
 price-stands : (rows : List PriceRow) (at s : ℕ) → at < length rows → (price_row rows at).slot ≡ Some s → 0 < times s (slots_named (price_slots rows))
-price-stands [] at s lt is = absurd (omega arith)
-price-stands (r ∷ rows) zero s lt is =
-    let one : ◌≡◌ {A = ℕ} (cond (option_eq nat_eq r.slot (Some s)) 1 0) 1 = ap (λ b. cond b 1 0) (slot-is s r.slot is) in omega (arith, times-named s r.slot (price_slots rows), one)
-price-stands (r ∷ rows) (suc at) s lt is = omega (arith, times-named s r.slot (price_slots rows), price-stands rows at s (omega (arith, lt)) is)
+price-stands rows at s lt is =
+    named-stands (price_slots rows) at s (omega (arith, lt, length-map rows (λ (r : PriceRow). r.slot))) (get_or-map (λ (r : PriceRow). r.slot) rows at _ None lt ∙ is)
 
 row-at : (rows : List PriceRow) (at s : ℕ) → times s (slots_named (price_slots rows)) ≤ 1 → at < length rows → (price_row rows at).slot ≡ Some s → row_of rows s ≡ price_row rows at
 row-at [] at s few lt is = absurd (omega arith)

@@ -1,5 +1,5 @@
 -- Why a claim is no certificate: the seven reasons, each with the record or the slots at which it holds first.
-use Rattle.std.specs.Prelude.{ℕ, ◌+◌, ◌==◌, ◌&&◌, not, nat_eq, nat_lt, Bool, true, false, List, [], ◌∷◌, length, map, take, sum_by, Option, None, Some, is_none, is_some, unwrap_or}
+use Rattle.std.specs.Prelude.{ℕ, ◌+◌, ◌==◌, ◌&&◌, not, nat_eq, nat_lt, Bool, true, false, List, [], ◌∷◌, length, map, take, sum_by, Option, None, Some, is_none, is_some, unwrap_or, ⊤}
 use Rattle.std.specs.Bool.{then_some}
 use Rattle.std.specs.List.{list_any, range_with_len}
 use Rattle.std.specs.Option.{option_or, option_and_then, option_eq, option_map_or}
@@ -139,3 +139,8 @@ verdict_by network rows (Some reason) = No reason
 -- the verdict on a claim
 abbrev pub verdict_of : TimetableView → MatrixView → ClaimedView → Verdict
 verdict_of timetable matrix claimed = verdict_by (network_of timetable matrix) claimed.blocks (reason_of timetable matrix claimed)
+
+-- the fact, where the verdict is yes
+abbrev pub OnYes : Verdict → Type 0 → Type 0
+OnYes (Yes vehicles minutes) P = P
+OnYes (No reason) P = ⊤

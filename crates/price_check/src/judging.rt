@@ -1,7 +1,8 @@
 ghost use Rattle.std.specs.Prelude.{◌≡◌, length, OnOk};
 ghost use Rattle.std.specs.Result.{result_err};
-ghost use Rattle.price_check.specs.Claim.{AreBlockRows, AreKnown, ArePriceRows, block_slots, network_of};
-ghost use Rattle.price_check.specs.Reasons.{misnamed, reason_of, unequal, unproved, verdict_of};
+ghost use Rattle.trip_model.specs.Blocking.{IsLeast};
+ghost use Rattle.price_check.specs.Claim.{AreBlockRows, AreKnown, ArePriceRows, block_slots, blocks_in, network_of};
+ghost use Rattle.price_check.specs.Reasons.{OnYes, misnamed, reason_of, unequal, unproved, verdict_of};
 
 use crate::blocks::{accepted, all_fit, all_shown, weight_sum};
 use crate::claim::{BlockRow, Claimed, PriceRow};
@@ -74,8 +75,13 @@ pub fn check(timetable: &Timetable, matrix: &Matrix, claimed: &Claimed) -> Verdi
     requires places { length timetable.now.places ≡ length matrix.now.walks }
     requires blocks { AreBlockRows timetable.now claimed.now.blocks }
     requires prices { ArePriceRows timetable.now claimed.now.prices }
-    ensures { result ≡ verdict_of timetable.now matrix.now claimed.now }
+    ensures verdict { result ≡ verdict_of timetable.now matrix.now claimed.now }
+    // No blocking has fewer vehicles than the blocks of a yes, and none with as few fewer empty minutes.
+    ensures least { OnYes result (IsLeast (network_of timetable.now matrix.now) (blocks_in claimed.now.blocks)) }
 {
+    // Their clauses say that the timetable is valid and that no pull is longer than a day.
+    let _slots = timetable.slots();
+    let _places = matrix.places();
     match judge(timetable, matrix, claimed) {
         Ok(()) => accepted(timetable, matrix, claimed.blocks()),
         Err(reason) => Verdict::No(reason),
