@@ -35,11 +35,11 @@ stands slots s = list_any (λ slot. option_eq nat_eq slot (Some s)) slots
 abbrev pub unknown : Paper → List (Option ℕ) → ℕ → Option Reason
 unknown paper slots at = then_some (is_none (named slots at)) (UnknownTrip paper (at + 1))
 
--- an earlier record names the slot of the record
+-- the slot that a record names is named by an earlier one
 abbrev pub repeats : List (Option ℕ) → ℕ → Bool
 repeats slots at = option_map_or (stands (take at slots)) (named slots at) false
 
--- 2: so it is in a file
+-- 2: the record names a slot that an earlier record of the file names
 abbrev pub twice : Paper → List (Option ℕ) → ℕ → Option Reason
 twice paper slots at = then_some (repeats slots at) (TripTwice paper (at + 1))
 
@@ -74,15 +74,15 @@ differing network rows at =
 abbrev pub lower : ℕ → ℕ → ℕ → Option ℕ → Option Reason
 lower i j prices weighs = option_and_then (λ w. then_some (nat_lt prices w) (PriceLow i j)) weighs
 
--- the trip of a record fits after that of i, and the price of leaving i and that of entering it do not reach the weight
+-- the trip of a record fits after that of i, and the prices of leaving i and of entering it do not reach the weight
 abbrev pub low_from : Network → ℕ → ℕ → PriceRow → Option Reason
 low_from network i leave row = option_and_then (λ j. lower i j (leave + row.enter) (weight network i j)) row.slot
 
--- the first record of which this is so
+-- the first record of which that is so
 abbrev pub first_low_from : Network → List PriceRow → ℕ → ℕ → Option Reason
 first_low_from network rows i leave = first_at (λ b. low_from network i leave (price_row rows b)) (length rows)
 
--- 6: there is such a record for the trip of the record and the price of leaving it
+-- 6: there is such a record for the trip of the record, with the price of leaving it
 abbrev pub low : Network → List PriceRow → ℕ → Option Reason
 low network rows a = option_and_then (λ i. first_low_from network rows i (price_row rows a).leave) (price_row rows a).slot
 
@@ -107,7 +107,7 @@ weight_sum network rows = sum_by (weight_before network rows) (range_with_len 0 
 abbrev pub unequal : ℕ → ℕ → Option Reason
 unequal prices weights = then_some (not (prices == weights)) (SumsDiffer prices weights)
 
--- the first of the first three, blocks before prices
+-- the first of the first three reasons, each sought in the blocks before the prices
 abbrev pub misnamed : TimetableView → ClaimedView → Option Reason
 misnamed timetable claimed = first_of (
     first_at (unknown Blocks (block_slots claimed.blocks)) (length claimed.blocks)
@@ -118,7 +118,7 @@ misnamed timetable claimed = first_of (
     ∷ first_at (missing timetable Prices (price_slots claimed.prices)) (length timetable.slots)
     ∷ [])
 
--- the first of the other four
+-- the first of the other four reasons
 abbrev pub unproved : Network → ClaimedView → Option Reason
 unproved network claimed = first_of (
     first_at (unfit network claimed.blocks) (length claimed.blocks)
