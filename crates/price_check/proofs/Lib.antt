@@ -1,0 +1,10 @@
+pub mod CertificateLemmas
+pub mod CertifiedLemmas
+pub mod ChainLemmas
+pub mod CostLemmas
+pub mod First
+pub mod LeastLemmas
+pub mod NamedLemmas
+pub mod PlanLemmas
+pub mod ReasonLemmas
+pub mod RowLemmas

@@ -1,0 +1,7 @@
+use Rattle.price_check.specs.Claim.{network_of}
+use Rattle.price_check.specs.Reasons.{low}
+use Rattle.price_check.proofs.First.{NoneBelow}
+use Rattle.price_check.proofs.prices.all_reached.Given as goal
+
+abbrev pub invariant-loop-at : goal.invariant-loop-at
+invariant-loop-at l = NoneBelow (low (network_of l.timetable l.matrix) l.rows) l.at

@@ -1,0 +1,4 @@
+pub mod Certificate
+pub mod Claim
+pub mod Onward
+pub mod Reasons

@@ -1,0 +1,32 @@
+//! The checker of a certificate: whether blocks and prices that were written prove that these blocks are least.
+//!
+//! A [`Claimed`] is what stands in `blocks.csv` and `prices.csv`, record by record, by whoever wrote it. [`check`] judges it
+//! against a timetable and a matrix of least walks, and takes no memory: it answers yes with the vehicles and the empty
+//! minutes of the blocks, or the first [`Reason`] why not. No solver stands below it.
+//!
+//! ```text
+//! let claimed = Claimed::of(blocks, prices);
+//! if let Verdict::Yes { vehicles, minutes } = check(&timetable, &matrix, &claimed) { .. }
+//! ```
+//!
+//! The contract that the crates above use: the verdict is its definition; no reason holds exactly against a certificate
+//! ([`laws::certificate_law`]), whose blocks are least ([`laws::least_law`]).
+//!
+//! The contracts cite `Claim` (the records, and the blocks that they make) and `Reasons` (the seven reasons, and the first of
+//! them), the laws besides `Certificate` (the plan that a claim gives, and what it proves); of `trip_model` and
+//! `deadhead_matrix` the networks, blocks, weights and certified plans. `Onward` has the terms of the ways on from a trip for
+//! proofs alone.
+#![tactic(auto)]
+
+mod blocks;
+mod claim;
+mod judging;
+pub mod laws;
+mod onward;
+mod prices;
+mod trips;
+mod verdict;
+
+pub use claim::{BlockRow, Claimed, MOST_PRICE, PriceRow};
+pub use judging::check;
+pub use verdict::{Reason, Verdict};

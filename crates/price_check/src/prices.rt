@@ -1,0 +1,87 @@
+ghost use Rattle.std.specs.Prelude.{◌≡◌, ◌<◌, ◌≤◌, length, All};
+ghost use Rattle.std.specs.Result.{result_err};
+ghost use Rattle.trip_model.specs.declared.limits.TheConstants.{MOST_SLOTS};
+ghost use Rattle.price_check.specs.declared.claim.TheConstants.{MOST_PRICE};
+ghost use Rattle.price_check.specs.Claim.{ArePriceRows, IsPriced, NamesLive, network_of};
+ghost use Rattle.price_check.specs.Reasons as spec;
+
+use crate::claim::PriceRow;
+use crate::onward::Onward;
+use crate::verdict::Reason;
+use deadhead_matrix::Matrix;
+use trip_model::Timetable;
+
+// The price of leaving the trip from which the ways lead on, and that of entering the trip of a record, reach the weight of
+// the pair, where it fits.
+fn reach(onward: &Onward, leave: u64, row: &PriceRow) -> Result<(), Reason>
+    requires leave { leave ≤ MOST_PRICE }
+    requires slot { NamesLive onward.now.timetable row.now.slot }
+    requires priced { IsPriced row.now }
+    ensures { result_err result ≡ spec.low_from (network_of onward.now.timetable onward.now.matrix) onward.now.slot leave row.now }
+{
+    if let Some(slot) = row.slot {
+        if let Some(weight) = onward.weight_to(slot) {
+            if leave + row.enter < weight {
+                return Err(Reason::PriceLow(onward.slot(), slot));
+            }
+        }
+    }
+    Ok(())
+}
+
+// So it is with the trips of all records, or the first of which it is not so.
+fn all_reach(onward: &Onward, rows: &[PriceRow], leave: u64) -> Result<(), Reason>
+    requires leave { leave ≤ MOST_PRICE }
+    requires rows { ArePriceRows onward.now.timetable rows.now }
+    ensures { result_err result ≡ spec.first_low_from (network_of onward.now.timetable onward.now.matrix) rows.now onward.now.slot leave }
+{
+    for at in 0..rows.len() {
+        let row = &rows[at];
+        reach(onward, leave, row)?;
+    }
+    Ok(())
+}
+
+// The prices reach the weights of all pairs that the trip of a record is the first of, or the first that they do not reach.
+fn reach_from(
+    timetable: &Timetable,
+    matrix: &Matrix,
+    rows: &[PriceRow],
+    at: usize,
+) -> Result<(), Reason>
+    requires places { length timetable.now.places ≡ length matrix.now.walks }
+    requires rows { ArePriceRows timetable.now rows.now }
+    requires at { at < length rows.now }
+    ensures { result_err result ≡ spec.low (network_of timetable.now matrix.now) rows.now at }
+{
+    let row = &rows[at];
+    match row.slot {
+        Some(slot) => all_reach(&Onward::from(timetable, matrix, slot), rows, row.leave),
+        None => Ok(()),
+    }
+}
+
+/// The prices reach the weights of all pairs that fit, or the first that they do not reach.
+pub fn all_reached(timetable: &Timetable, matrix: &Matrix, rows: &[PriceRow]) -> Result<(), Reason>
+    requires places { length timetable.now.places ≡ length matrix.now.walks }
+    requires rows { ArePriceRows timetable.now rows.now }
+    ensures { result_err result ≡ spec.first_at (spec.low (network_of timetable.now matrix.now) rows.now) (length rows.now) }
+{
+    for at in 0..rows.len() {
+        reach_from(timetable, matrix, rows, at)?;
+    }
+    Ok(())
+}
+
+/// All prices together.
+pub fn price_sum(rows: &[PriceRow]) -> u64
+    requires few { length rows.now ≤ MOST_SLOTS }
+    requires priced { All IsPriced rows.now }
+    ensures { result ≡ spec.price_sum rows.now }
+{
+    let mut sum = 0;
+    for row in rows {
+        sum += row.leave + row.enter;
+    }
+    sum
+}
