@@ -1,0 +1,9 @@
+pub mod AddLemmas
+pub mod InverseLemmas
+pub mod ListLemmas
+pub mod LookLemmas
+pub mod LooseLemmas
+pub mod RelinkLemmas
+pub mod ShiftLemmas
+pub mod SideLemmas
+pub mod TreeLemmas
