@@ -4,6 +4,7 @@ pub mod ListLemmas
 pub mod LookLemmas
 pub mod LooseLemmas
 pub mod RelinkLemmas
+pub mod RightLemmas
 pub mod ShiftLemmas
 pub mod SideLemmas
 pub mod TreeLemmas

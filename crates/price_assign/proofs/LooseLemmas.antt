@@ -17,7 +17,7 @@ pub record IsWithout (w v : ℕ → ℕ → Option ℕ) (b : Option ℕ) : Type 
   pub none : (i j : ℕ) → b ≡ Some j → w i j ≡ None
 
 -- a pair that has a weight fits
-weight-fits : (network : Network) (i j k : ℕ) → weight network i j ≡ Some k → Fits network i j
+pub weight-fits : (network : Network) (i j k : ℕ) → weight network i j ≡ Some k → Fits network i j
 weight-fits network i j k e = by (network.empty i j) refl e
   where
     by : (minutes : Option ℕ) → network.empty i j ≡ minutes → option_map (λ m. 67108864 + network.home i + network.out j - m) minutes ≡ Some k → Fits network i j
@@ -25,7 +25,7 @@ weight-fits network i j k e = by (network.empty i j) refl e
     by (Some m) is e = subst IsSome (sym is) refl
 
 -- and one that fits has a weight
-fits-weight : (network : Network) (i j : ℕ) → Fits network i j → weight network i j ≡ Some (weight_to network i (Some j))
+pub fits-weight : (network : Network) (i j : ℕ) → Fits network i j → weight network i j ≡ Some (weight_to network i (Some j))
 fits-weight network i j fits = by (network.empty i j) refl
   where
     by : (minutes : Option ℕ) → network.empty i j ≡ minutes → weight network i j ≡ Some (weight_to network i (Some j))
@@ -65,6 +65,11 @@ AreWeights-without w v b n without weights = record {
 said : (P : ℕ → Type 0) (b : Option ℕ) (s : ℕ) → IfSome b P → b ≡ Some s → P s
 said P b s h e = subst (λ o. IfSome o P) e h
 
+-- one that is left out is this slot or not
+pub is-at : (o : Option ℕ) (j : ℕ) → (o ≡ Some j) ⊎ (o ≢ Some j)
+is-at None j = inr (λ e. none-some j e)
+is-at (Some s) j = ⊎_elim (λ (e : s ≡ j). inl (ap Some e)) (λ (ne : s ≡ j → ⊥). inr (λ e. ne (same_Some s j e))) (cases_eq s j)
+
 -- a search from a leaving side may begin
 pub MayBegin-left : (network : Network) (slots : ℕ) (plan : Plan) (a : ℕ) (b : Option ℕ) (w : ℕ → ℕ → Option ℕ) → IsDay network slots → IsWithout w (weight network) b
     → IsLoose network plan (Some a) b → MayBegin w slots (λ _. false) a b plan.next plan.leave plan.enter
@@ -88,10 +93,6 @@ MayBegin-left network slots plan a b w day without loose = record {
       (λ (away : b ≢ Some j). loose.covers i j k other away (without.some i j k e))
       (is-at b j);
 }
-  where
-    is-at : (o : Option ℕ) (j : ℕ) → (o ≡ Some j) ⊎ (o ≢ Some j)
-    is-at None j = inr (λ e. none-some j e)
-    is-at (Some s) j = ⊎_elim (λ (e : s ≡ j). inl (ap Some e)) (λ (ne : s ≡ j → ⊥). inr (λ e. ne (same_Some s j e))) (cases_eq s j)
 
 -- what a search leaves is loose, where each trip that runs is added
 pub IsLoose-matched : (network : Network) (departs : ℕ → ℕ) (plan : Plan) (out : ℕ → Bool) (b : Option ℕ) (w : ℕ → ℕ → Option ℕ) → AreDepartures network departs → IsWithout w (weight network) b
@@ -133,7 +134,7 @@ pub lives-after : (network : Network) (plan : Plan) (a b : Option ℕ) → IsLoo
 lives-after network plan a b loose s e = (said (λ s. (network.live s ≡ true) × ((h : ℕ) → next_of plan.next h ≢ Some s)) b s loose.after e).0
 
 -- links of a loose plan are next trips
-AreNextTrips-loose : (network : Network) (slots : ℕ) (departs : ℕ → ℕ) (plan : Plan) (a b : Option ℕ) → IsDay network slots → AreDepartures network departs → length plan.next ≡ slots
+pub AreNextTrips-loose : (network : Network) (slots : ℕ) (departs : ℕ → ℕ) (plan : Plan) (a b : Option ℕ) → IsDay network slots → AreDepartures network departs → length plan.next ≡ slots
     → IsLoose network plan a b → AreNextTrips plan.next
 AreNextTrips-loose network slots departs plan a b day clock len loose = record {
   within = λ i j e. omega (arith, day.within j (clock.runs i j (loose.links.fits i j e)).1, len);

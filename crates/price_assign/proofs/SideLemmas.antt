@@ -10,6 +10,8 @@ use Rattle.deadhead_matrix.proofs.Looseness.{IsCertified-loose}
 use Rattle.pair_graph.specs.Pairs.{PairsView, pairs_network}
 use Rattle.price_assign.specs.Assignment.{AreWeights, IsMatched, Covers, MayBegin}
 use Rattle.price_assign.specs.Side.{SideView, side_slots, side_weight}
+use Rattle.price_assign.specs.Turned.{MayBeginTurned, IsFoundTurned}
+use Rattle.price_assign.proofs.RightLemmas.{MayBegin-right, IsLoose-right}
 use Rattle.price_assign.proofs.LooseLemmas.{IsWithout, AreWeights-turned, AreWeights-without, MayBegin-left, IsLoose-matched, lives-after}
 
 -- the weights of all pairs, from the side
@@ -87,3 +89,22 @@ IsCertified-leaving pairs departs side plan is day clock slots leaves enters mat
     (λ s e. absurd (none-some s e)) leaves enters
     (subst (λ (s : SideView). IsMatched (side_weight s) (nat_le (side_slots s)) None None plan.next plan.leave plan.enter) is matched)
     (subst (λ (s : SideView). Covers (side_weight s) (nat_le (side_slots s)) None plan.leave plan.enter) is covers))
+
+-- the entering side
+abbrev pub entering : PairsView → Option ℕ → SideView
+entering pairs without = record { pairs = pairs; turned = true; without = without }
+
+-- a search from an entering side of a loose plan may begin
+pub MayBegin-entering : (pairs : PairsView) (side : SideView) (plan : Plan) (a : Option ℕ) (b : ℕ) → side ≡ entering pairs a → IsDay (pairs_network pairs) (length pairs.moves)
+    → IsLoose (pairs_network pairs) plan a (Some b) → MayBeginTurned (side_weight side) (side_slots side) b a plan.next plan.leave plan.enter
+MayBegin-entering pairs side plan a b is day loose =
+    subst (λ (s : SideView). MayBeginTurned (side_weight s) (side_slots s) b a plan.next plan.leave plan.enter) (sym is)
+    (MayBegin-right (pairs_network pairs) (length pairs.moves) plan a b (side_weight (entering pairs a)) day (IsWithout-side (entering pairs a)) loose)
+
+-- and leaves the plan loose
+pub IsLoose-entering : (pairs : PairsView) (departs : ℕ → ℕ) (side : SideView) (plan new : Plan) (a : Option ℕ) (b : ℕ) → side ≡ entering pairs a → AreDepartures (pairs_network pairs) departs
+    → IsLoose (pairs_network pairs) plan a (Some b) → length new.leave ≡ length new.next → length new.enter ≡ length new.next
+    → IsFoundTurned (side_weight side) b a plan.next new.next new.leave new.enter → IsLoose (pairs_network pairs) new a None
+IsLoose-entering pairs departs side plan new a b is clock loose leaves enters found =
+    IsLoose-right (pairs_network pairs) departs plan new a b (side_weight (entering pairs a)) clock (IsWithout-side (entering pairs a)) loose leaves enters
+    (subst (λ (s : SideView). IsFoundTurned (side_weight s) b a plan.next new.next new.leave new.enter) is found)

@@ -5,3 +5,4 @@ pub mod Plans
 pub mod Relinking
 pub mod Search
 pub mod Side
+pub mod Turned

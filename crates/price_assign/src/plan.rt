@@ -1,5 +1,5 @@
 ghost use Rattle.std.specs.Prelude.{◌≡◌, ◌+◌, ◌*◌, ◌<◌, ◌≤◌, [], length, vec_len, Option, None, Some, IfOk, IfSome};
-ghost use Rattle.deadhead_matrix.specs.Paths.{IsLeftPath};
+ghost use Rattle.deadhead_matrix.specs.Paths.{IsLeftPath, IsRightPath};
 ghost use Rattle.deadhead_matrix.specs.Prices.{IsCertified, IsLoose};
 ghost use Rattle.pair_graph.specs.Pairs.{pairs_network};
 ghost use Rattle.price_assign.specs.Lists.{AreLists};
@@ -7,7 +7,7 @@ ghost use Rattle.price_assign.specs.Plans.{with_slots, with_entry};
 ghost use Rattle.trip_model.specs.declared.limits.TheConstants.{MOST_SLOTS};
 
 use crate::lists::Lists;
-use crate::search::{link_all, search_links};
+use crate::search::{link_all, search_befores, search_links};
 use crate::side::Side;
 use desk_io::{Memory, Steps};
 use pair_graph::Pairs;
@@ -122,6 +122,45 @@ impl Plan {
             &mut self.leave,
             &mut self.enter,
             next,
+            lists,
+            steps,
+        );
+    }
+
+    /// Adds the entering side of `b`, by a search that goes out from it.
+    pub(crate) fn search_right<L: Ledger>(
+        &mut self,
+        pairs: &Pairs<'_>,
+        b: u16,
+        a: Option<u16>,
+        next: &mut Vec<Option<u16>>,
+        turned: &mut Vec<Option<u16>>,
+        lists: &mut Lists,
+        steps: &mut Steps<L>,
+    )
+        requires slots { length self.old.next ≡ length pairs.now.moves }
+        requires loose { IsLoose (pairs_network pairs.now) self.old a (Some b) }
+        requires next { vec_len next.old ≡ MOST_SLOTS }
+        requires turned { vec_len turned.old ≡ MOST_SLOTS }
+        requires lists { AreLists lists.old }
+        ensures next { vec_len next.new ≡ MOST_SLOTS }
+        ensures turned { vec_len turned.new ≡ MOST_SLOTS }
+        ensures lists { AreLists lists.new }
+        ensures loose { IsLoose (pairs_network pairs.now) self.new a None }
+        ensures path { IsRightPath self.old.next self.new.next b }
+        ensures counted { steps.new ≤ steps.old + length pairs.now.moves * length pairs.now.moves + length pairs.now.moves }
+    {
+        // Its clauses say that the network is one of one day, along which departures rise.
+        let _slots = pairs.slots();
+        let side = Side::entering(pairs, a);
+        search_befores(
+            &side,
+            b,
+            &mut self.links,
+            &mut self.leave,
+            &mut self.enter,
+            next,
+            turned,
             lists,
             steps,
         );

@@ -1,8 +1,9 @@
 ghost use Rattle.std.specs.Prelude.{◌≡◌, ℕ, ◌+◌, ◌*◌, ◌≤◌, Bool, length, Option, None, vec_len, vec_capacity, nat_le, replicate};
-ghost use Rattle.deadhead_matrix.specs.Paths.{IsPath};
+ghost use Rattle.deadhead_matrix.specs.Paths.{AreNextTrips, IsPath};
 ghost use Rattle.trip_model.specs.declared.limits.TheConstants.{MOST_SLOTS};
 ghost use Rattle.trip_model.specs.Links.{next_of, before_of};
 ghost use Rattle.price_assign.specs.Assignment.{AreWeights, IsMatched, Covers, MayBegin};
+ghost use Rattle.price_assign.specs.Turned.{MayBeginTurned, IsFoundTurned};
 ghost use Rattle.price_assign.specs.Lists.{AreLists};
 ghost use Rattle.price_assign.specs.Side.{side_slots, side_weight};
 
@@ -201,6 +202,46 @@ pub(crate) fn search_links<L: Ledger>(
     read_links(links, next);
     search_with(side, a, next, leave, enter, lists, steps);
     write_links(next, links);
+}
+
+/// Searches over links, of which the slots are the columns: what stands before each is linked anew.
+pub(crate) fn search_befores<L: Ledger>(
+    side: &Side<'_>,
+    b: u16,
+    links: &mut Links,
+    leave: &mut Vec<u64>,
+    enter: &mut Vec<u64>,
+    next: &mut Vec<Option<u16>>,
+    turned: &mut Vec<Option<u16>>,
+    lists: &mut Lists,
+    steps: &mut Steps<L>,
+)
+    requires links { length links.old ≡ side_slots side.now }
+    requires leave { vec_len leave.old ≡ side_slots side.now }
+    requires enter { vec_len enter.old ≡ side_slots side.now }
+    requires next { vec_len next.old ≡ MOST_SLOTS }
+    requires turned { vec_len turned.old ≡ MOST_SLOTS }
+    requires lists { AreLists lists.old }
+    requires apart { AreNextTrips links.old }
+    requires begins { (a : Option ℕ) × MayBeginTurned (side_weight side.now) (side_slots side.now) b a links.old leave.old.items enter.old.items }
+    ensures links { length links.new ≡ length links.old }
+    ensures leave { (vec_len leave.new ≡ vec_len leave.old) × (vec_capacity leave.new ≡ vec_capacity leave.old) }
+    ensures enter { (vec_len enter.new ≡ vec_len enter.old) × (vec_capacity enter.new ≡ vec_capacity enter.old) }
+    ensures next { vec_len next.new ≡ vec_len next.old }
+    ensures turned { vec_len turned.new ≡ vec_len turned.old }
+    ensures lists { AreLists lists.new }
+    ensures found { (a : Option ℕ) → MayBeginTurned (side_weight side.now) (side_slots side.now) b a links.old leave.old.items enter.old.items
+        → IsFoundTurned (side_weight side.now) b a links.old links.new leave.new.items enter.new.items }
+    ensures counted { steps.new ≤ steps.old + side_slots side.now * side_slots side.now + side_slots side.now }
+{
+    let slots = side.slots() as usize;
+    let next = &mut next[..slots];
+    let turned = &mut turned[..slots];
+    read_links(links, turned);
+    invert(turned, next);
+    search_with(side, b, next, enter, leave, lists, steps);
+    invert(next, turned);
+    write_links(turned, links);
 }
 
 /// Adds one row after the other to links that link none, each by a search over the rows added so far.

@@ -1,5 +1,5 @@
 ghost use Rattle.std.specs.Prelude.{◌≡◌, ◌+◌, ◌*◌, ◌<◌, ◌≤◌, [], length, Option, None, Some, IfOk, IfSome};
-ghost use Rattle.deadhead_matrix.specs.Paths.{IsLeftPath};
+ghost use Rattle.deadhead_matrix.specs.Paths.{IsLeftPath, IsRightPath};
 ghost use Rattle.deadhead_matrix.specs.Prices.{IsCertified, IsLoose};
 ghost use Rattle.pair_graph.specs.Pairs.{pairs_network};
 ghost use Rattle.price_assign.specs.Plans.{with_slots, with_entry};
@@ -19,6 +19,7 @@ use trip_model::MOST_SLOTS;
 pub struct Solver {
     plan: Plan,
     next: Vec<Option<u16>>,
+    turned: Vec<Option<u16>>,
     lists: Lists,
 }
 
@@ -33,7 +34,7 @@ impl Model for Solver {
 
     ghost view = { λ s. s.plan };
 
-    ghost invariant = { λ s. (vec_len s.next ≡ MOST_SLOTS) × AreLists s.lists };
+    ghost invariant = { λ s. (vec_len s.next ≡ MOST_SLOTS) × (vec_len s.turned ≡ MOST_SLOTS) × AreLists s.lists };
 }
 
 impl Solver {
@@ -44,6 +45,7 @@ impl Solver {
         Ok(Solver {
             plan: Plan::open(alloc)?,
             next: vec![in alloc; None; usize::from(MOST_SLOTS)]?,
+            turned: vec![in alloc; None; usize::from(MOST_SLOTS)]?,
             lists: Lists::open(alloc)?,
         })
     }
@@ -100,5 +102,31 @@ impl Solver {
     {
         self.plan
             .search_left(pairs, a, b, &mut self.next, &mut self.lists, steps);
+    }
+
+    /// Adds the entering side of `b`, as [`Solver::search_left`] adds a leaving one: a search goes out from it over pairs that
+    /// do not leave `a`. At most n^2 + n steps for n slots.
+    pub fn search_right<L: Ledger>(
+        &mut self,
+        pairs: &Pairs<'_>,
+        b: u16,
+        a: Option<u16>,
+        steps: &mut Steps<L>,
+    )
+        requires slots { length self.old.next ≡ length pairs.now.moves }
+        requires loose { IsLoose (pairs_network pairs.now) self.old a (Some b) }
+        ensures loose { IsLoose (pairs_network pairs.now) self.new a None }
+        ensures path { IsRightPath self.old.next self.new.next b }
+        ensures counted { let n = length pairs.now.moves in steps.new ≤ steps.old + n * n + n }
+    {
+        self.plan.search_right(
+            pairs,
+            b,
+            a,
+            &mut self.next,
+            &mut self.turned,
+            &mut self.lists,
+            steps,
+        );
     }
 }
