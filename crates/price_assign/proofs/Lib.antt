@@ -1,6 +1,6 @@
 pub mod AddLemmas
 pub mod InverseLemmas
-pub mod ListLemmas
+pub mod LentLemmas
 pub mod LookLemmas
 pub mod LooseLemmas
 pub mod RelinkLemmas

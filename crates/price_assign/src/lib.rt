@@ -33,3 +33,6 @@ mod solver;
 
 pub use plan::Plan;
 pub use solver::Solver;
+
+#[cfg(test)]
+mod tests;

@@ -85,8 +85,8 @@ impl Solver {
             .solve(pairs, &mut self.next, &mut self.lists, steps);
     }
 
-    /// Adds the leaving side of `a`, with the least that prices of the pairs can then be: a search goes out from it over
-    /// pairs that do not enter `b`. At most n^2 + n steps for n slots.
+    /// Adds the leaving side of `a` to a plan from which it is left out, as is the entering side of `b` where there is one: a
+    /// search goes out from it over the pairs that do not enter `b`. At most n^2 + n steps for n slots.
     pub fn search_left<L: Ledger>(
         &mut self,
         pairs: &Pairs<'_>,
@@ -104,8 +104,8 @@ impl Solver {
             .search_left(pairs, a, b, &mut self.next, &mut self.lists, steps);
     }
 
-    /// Adds the entering side of `b`, as [`Solver::search_left`] adds a leaving one: a search goes out from it over pairs that
-    /// do not leave `a`. At most n^2 + n steps for n slots.
+    /// Adds the entering side of `b`, as [`Solver::search_left`] adds a leaving one: a search goes out from it over the pairs
+    /// that do not leave `a`. At most n^2 + n steps for n slots.
     pub fn search_right<L: Ledger>(
         &mut self,
         pairs: &Pairs<'_>,
