@@ -2,6 +2,7 @@
 -- reached.
 use Rattle.std.specs.Prelude.{◌≡◌, ◌≢◌, ℕ, ◌+◌, ◌<◌, ◌≤◌, ◌⊎◌, Bool, true, false, not, List, length, count_by, Option, None, Some, slice_index_or}
 use Rattle.price_assign.specs.declared.limits.TheConstants.{GREATEST_PRICE, FAR}
+use Rattle.trip_model.specs.declared.limits.TheConstants.{MOST_SLOTS}
 use Rattle.trip_model.specs.Links.{next_of, AreApart}
 use Rattle.price_assign.specs.declared.grow.End.{End}
 use Rattle.price_assign.specs.Assignment.{AreWeights}
@@ -67,7 +68,7 @@ IsInside p i = (i ≡ p.a) ⊎ ((j : ℕ) × (next_of p.before j ≡ Some i))
 -- No row is linked to two columns, and the one from which the search goes out to none. No price that is used is greater
 -- than the greatest, and from rows that can be in the tree the two prices of each pair that fits reach its weight.
 pub record IsGiven (p : Problem) : Type 0 where
-  pub few : p.n ≤ 4096
+  pub few : p.n ≤ MOST_SLOTS
   pub weights : AreWeights p.w p.n
   pub start : p.a < p.n
   pub root : (j : ℕ) → next_of p.before j ≢ Some p.a

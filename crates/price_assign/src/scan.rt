@@ -1,4 +1,5 @@
 ghost use Rattle.std.specs.Prelude.{◌≡◌, ℕ, ◌+◌, ◌*◌, ◌<◌, ◌≤◌, false, List, length, Some, IfSome, IfNone};
+ghost use Rattle.trip_model.specs.declared.limits.TheConstants.{MOST_SLOTS};
 ghost use Rattle.price_assign.specs.Search.{at, is_done, weight_at, AreLooked, IsNearest};
 
 use crate::limits::GREATEST_PRICE;
@@ -65,7 +66,7 @@ pub(crate) fn look_from(
 // The nearest column that is not done, if one is nearer than a bound.
 pub(crate) fn nearest(done: &[bool], dist: &[u64], bound: u64) -> Option<u16>
     requires done { length done.now ≡ length dist.now }
-    requires few { length dist.now ≤ 4096 }
+    requires few { length dist.now ≤ MOST_SLOTS }
     ensures some { IfSome result (IsNearest done.now dist.now bound (length dist.now)) }
     ensures none { IfNone result ((j : ℕ) → j < length dist.now → is_done done.now j ≡ false → bound ≤ at dist.now j) }
 {
