@@ -1,0 +1,10 @@
+pub mod AddLemmas
+pub mod InverseLemmas
+pub mod LentLemmas
+pub mod LookLemmas
+pub mod LooseLemmas
+pub mod RelinkLemmas
+pub mod RightLemmas
+pub mod ShiftLemmas
+pub mod SideLemmas
+pub mod TreeLemmas

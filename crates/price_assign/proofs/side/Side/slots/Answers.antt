@@ -1,0 +1,16 @@
+use Rattle.std.proofs.Common.{ℕ, subst}
+use Rattle.trip_model.specs.Order.{minute_left}
+use Rattle.trip_model.specs.Plain.{move_at}
+use Rattle.pair_graph.specs.Pairs.{pairs_network}
+use Rattle.price_assign.specs.Assignment.{AreWeights}
+use Rattle.price_assign.specs.Side.{SideView, side_weight}
+use Rattle.price_assign.proofs.LooseLemmas.{AreWeights-network}
+use Rattle.price_assign.proofs.SideLemmas.{AreWeights-side}
+use Rattle.price_assign.proofs.side.Side.slots.Goals as goal
+
+pub returns-clause-sound : goal.returns-clause-sound
+returns-clause-sound c =
+    let side : SideView = record { pairs = c.self.inside.pairs.now; turned = c.self.inside.turned; without = c.self.inside.without } in
+    let departs : ℕ → ℕ = λ s. minute_left (move_at side.pairs.moves s) in
+    subst (λ (s : SideView). AreWeights (side_weight s) c.slots.result) c.self.view_is
+    (AreWeights-side side c.slots.result (AreWeights-network (pairs_network side.pairs) c.slots.result departs c.slots.ensures.day c.slots.ensures.departures))

@@ -1,0 +1,14 @@
+-- The lists of a search.
+use Rattle.std.specs.Prelude.{◌≡◌, ◌+◌, vec_len}
+use Rattle.trip_model.specs.declared.limits.TheConstants.{MOST_SLOTS}
+use Rattle.price_assign.specs.declared.lists.Lists.{Lists}
+
+-- lists for as many slots as there may be; a tree has one row more than there are columns
+pub record AreLists (lists : Lists) : Type 0 where
+  pub before : vec_len lists.before ≡ MOST_SLOTS
+  pub weights : vec_len lists.weights ≡ MOST_SLOTS
+  pub dist : vec_len lists.dist ≡ MOST_SLOTS
+  pub parent : vec_len lists.parent ≡ MOST_SLOTS
+  pub done : vec_len lists.done ≡ MOST_SLOTS
+  pub rows : vec_len lists.rows ≡ MOST_SLOTS + 1
+  pub far : vec_len lists.far ≡ MOST_SLOTS + 1

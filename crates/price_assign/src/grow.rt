@@ -1,0 +1,200 @@
+ghost use Rattle.std.specs.Prelude.{◌≡◌, ℕ, ◌+◌, ◌*◌, ◌<◌, ◌≤◌, ◌⊎◌, List, length, slice_set, Option, None, Some};
+ghost use Rattle.price_assign.specs.Search.{at, problem, tree_of, AreRead, IsGiven, IsTree, IsNext, IsGrown};
+ghost use Rattle.price_assign.specs.Side.{side_slots, side_weight};
+
+use crate::limits::{FAR, GREATEST_PRICE};
+use crate::scan::{look_from, nearest};
+use crate::side::Side;
+use desk_io::Steps;
+use std::sync::ledger::Ledger;
+
+/// Where a search ends: when prices have fallen so far, the row at a place of the tree is linked to a column, or to none.
+#[derive(Clone, Copy)]
+pub(crate) struct End {
+    pub from: u16,
+    pub to: Option<u16>,
+    pub fall: u64,
+}
+
+// The weights of a row with each column, each of which is read once.
+fn read_row<L: Ledger>(side: &Side<'_>, row: u16, weights: &mut [Option<u64>], steps: &mut Steps<L>)
+    requires row { row < side_slots side.now }
+    requires slots { length weights.old ≡ side_slots side.now }
+    ensures read { AreRead (side_weight side.now row) weights.new }
+    ensures counted { steps.new ≤ steps.old + side_slots side.now }
+{
+    for column in 0..side.slots() {
+        weights[column as usize] = side.weight(row, column, steps);
+    }
+}
+
+/// Begins the tree of a search with its first row, to which it gives the greatest price: so it covers every pair.
+pub(crate) fn begin<L: Ledger>(
+    side: &Side<'_>,
+    a: u16,
+    leave: &mut [u64],
+    enter: &[u64],
+    weights: &mut [Option<u64>],
+    dist: &mut [u64],
+    parent: &mut [u16],
+    done: &mut [bool],
+    rows: &mut [u16],
+    far: &mut [u64],
+    steps: &mut Steps<L>,
+)
+    requires start { a < side_slots side.now }
+    requires leave { length leave.old ≡ side_slots side.now }
+    requires enter { length enter.now ≡ side_slots side.now }
+    requires weights { length weights.old ≡ side_slots side.now }
+    requires dist { length dist.old ≡ side_slots side.now }
+    requires parent { length parent.old ≡ side_slots side.now }
+    requires done { length done.old ≡ side_slots side.now }
+    requires rows { length rows.old ≡ side_slots side.now + 1 }
+    requires far { length far.old ≡ side_slots side.now + 1 }
+    requires enter_low { (j k : ℕ) → side_weight side.now a j ≡ Some k → at enter.now j ≤ GREATEST_PRICE }
+    requires most { (j k : ℕ) → side_weight side.now a j ≡ Some k → k ≤ GREATEST_PRICE }
+    ensures leave { leave.new ≡ slice_set leave.old a GREATEST_PRICE }
+    ensures rows { at rows.new 0 ≡ a }
+    ensures tree { (before : List (Option ℕ))
+        → IsGiven (problem (side_weight side.now) (side_slots side.now) a before leave.new enter.now)
+        → IsTree (problem (side_weight side.now) (side_slots side.now) a before leave.new enter.now)
+        (tree_of dist.new parent.new done.new rows.new far.new 1 0) }
+    ensures counted { steps.new ≤ steps.old + side_slots side.now }
+{
+    leave[a as usize] = GREATEST_PRICE;
+    dist.fill(FAR);
+    done.fill(false);
+    rows[0] = a;
+    far[0] = 0;
+    read_row(side, a, weights, steps);
+    look_from(weights, 0, GREATEST_PRICE, enter, done, dist, parent);
+}
+
+// A row comes into the tree by a column, and all columns are looked at from it.
+fn visit<L: Ledger>(
+    side: &Side<'_>,
+    row: u16,
+    column: u16,
+    place: u16,
+    leave: &[u64],
+    enter: &[u64],
+    weights: &mut [Option<u64>],
+    dist: &mut [u64],
+    parent: &mut [u16],
+    done: &mut [bool],
+    rows: &mut [u16],
+    far: &mut [u64],
+    steps: &mut Steps<L>,
+)
+    requires row { row < side_slots side.now }
+    requires column { column < side_slots side.now }
+    requires place { place ≤ side_slots side.now }
+    requires leave { length leave.now ≡ side_slots side.now }
+    requires enter { length enter.now ≡ side_slots side.now }
+    requires weights { length weights.old ≡ side_slots side.now }
+    requires dist { length dist.old ≡ side_slots side.now }
+    requires parent { length parent.old ≡ side_slots side.now }
+    requires done { length done.old ≡ side_slots side.now }
+    requires rows { length rows.old ≡ side_slots side.now + 1 }
+    requires far { length far.old ≡ side_slots side.now + 1 }
+    requires near { at dist.old column ≤ GREATEST_PRICE }
+    requires leave_low { at leave.now row ≤ GREATEST_PRICE }
+    requires enter_low { (j k : ℕ) → side_weight side.now row j ≡ Some k → at enter.now j ≤ GREATEST_PRICE }
+    requires covers { (j k : ℕ) → side_weight side.now row j ≡ Some k → k ≤ at leave.now row + at enter.now j }
+    ensures tree { (a reach : ℕ) (before : List (Option ℕ))
+        → IsGiven (problem (side_weight side.now) (side_slots side.now) a before leave.now enter.now)
+        → IsTree (problem (side_weight side.now) (side_slots side.now) a before leave.now enter.now)
+        (tree_of dist.old parent.old done.old rows.old far.old place reach)
+        → IsNext (problem (side_weight side.now) (side_slots side.now) a before leave.now enter.now)
+        (tree_of dist.old parent.old done.old rows.old far.old place reach) row column
+        → IsTree (problem (side_weight side.now) (side_slots side.now) a before leave.now enter.now)
+        (tree_of dist.new parent.new done.new rows.new far.new (place + 1) (at dist.old column)) }
+    ensures rows { rows.new ≡ slice_set rows.old place row }
+    ensures far { far.new ≡ slice_set far.old place (at dist.old column) }
+    ensures counted { steps.new ≤ steps.old + side_slots side.now }
+{
+    let distance = dist[column as usize];
+    done[column as usize] = true;
+    rows[place as usize] = row;
+    far[place as usize] = distance;
+    read_row(side, row, weights, steps);
+    look_from(
+        weights,
+        place,
+        distance + leave[row as usize],
+        enter,
+        done,
+        dist,
+        parent,
+    );
+}
+
+// Of two ends at rows the one at which prices have fallen less.
+fn sooner(best: End, from: u16, fall: u64) -> End
+    ensures one { (result ≡ best) ⊎ (result ≡ record { from = from; to = None; fall = fall }) }
+    ensures best { result.fall ≤ best.fall }
+    ensures other { result.fall ≤ fall }
+{
+    if fall < best.fall {
+        return End {
+            from,
+            to: None,
+            fall,
+        };
+    }
+    best
+}
+
+/// Grows the tree of a search from its first row, row by row by the nearest column, until it ends.
+pub(crate) fn grow<L: Ledger>(
+    side: &Side<'_>,
+    before: &[Option<u16>],
+    leave: &[u64],
+    enter: &[u64],
+    weights: &mut [Option<u64>],
+    dist: &mut [u64],
+    parent: &mut [u16],
+    done: &mut [bool],
+    rows: &mut [u16],
+    far: &mut [u64],
+    steps: &mut Steps<L>,
+) -> End
+    requires before { length before.now ≡ side_slots side.now }
+    requires leave { length leave.now ≡ side_slots side.now }
+    requires enter { length enter.now ≡ side_slots side.now }
+    requires weights { length weights.old ≡ side_slots side.now }
+    requires dist { length dist.old ≡ side_slots side.now }
+    requires parent { length parent.old ≡ side_slots side.now }
+    requires done { length done.old ≡ side_slots side.now }
+    requires rows { length rows.old ≡ side_slots side.now + 1 }
+    requires far { length far.old ≡ side_slots side.now + 1 }
+    requires given { IsGiven (problem (side_weight side.now) (side_slots side.now) (at rows.old 0) before.now leave.now enter.now) }
+    requires begun { IsTree (problem (side_weight side.now) (side_slots side.now) (at rows.old 0) before.now leave.now enter.now)
+        (tree_of dist.old parent.old done.old rows.old far.old 1 0) }
+    ensures grown { IsGrown (problem (side_weight side.now) (side_slots side.now) (at rows.old 0) before.now leave.now enter.now)
+        dist.new parent.new done.new rows.new far.new result }
+    ensures counted { steps.new ≤ steps.old + side_slots side.now * side_slots side.now }
+{
+    let mut size = 1;
+    let mut best = End {
+        from: 0,
+        to: None,
+        fall: leave[rows[0] as usize],
+    };
+    while let Some(column) = nearest(done, dist, best.fall) {
+        let distance = dist[column as usize];
+        let Some(row) = before[column as usize] else {
+            return End {
+                from: parent[column as usize],
+                to: Some(column),
+                fall: distance,
+            };
+        };
+        visit(
+            side, row, column, size, leave, enter, weights, dist, parent, done, rows, far, steps,
+        );
+        best = sooner(best, size, distance + leave[row as usize]);
+        size += 1;
+    }
+    best
+}

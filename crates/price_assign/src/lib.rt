@@ -1,0 +1,38 @@
+//! A plan of next trips with its dual prices, for the pairs of a timetable.
+//!
+//! A [`Solver`] holds a [`Plan`] and all the memory for making and repairing it, which [`Solver::open`] takes. What a plan is
+//! certified or loose for is said of the network of the pairs. [`Solver::solve`] makes a plan from nothing: it adds the
+//! leaving side of one trip after the other. [`Solver::search_left`] adds one to a loose plan, and
+//! [`Solver::search_right`] an entering side, each by a search along a shortest augmenting path of the assignment problem.
+//!
+//! The contract that the crates above use: after `solve` the plan is certified, within a count of steps; a search takes a
+//! loose plan to one from which one side less is left out, along the path of its definition.
+//!
+//! ```text
+//! let mut solver = Solver::open(alloc)?;
+//! solver.solve(&pairs, &mut steps);
+//! let next = solver.plan().links().next(0);
+//! ```
+//!
+//! The contracts cite `Plans` (plans with other slots, or another entry), and of `deadhead_matrix` `Prices` and `Paths`.
+//! `Side`, `Assignment`, `Search`, `Relinking`, `Inverse`, `Turned` and `Lists` have the terms of the search for proofs alone.
+#![tactic(auto)]
+
+mod grow;
+mod invert;
+mod limits;
+mod links;
+mod lists;
+mod plan;
+mod relink;
+mod scan;
+mod search;
+mod shift;
+mod side;
+mod solver;
+
+pub use plan::Plan;
+pub use solver::Solver;
+
+#[cfg(test)]
+mod tests;

@@ -1,0 +1,199 @@
+ghost use Rattle.std.specs.Prelude.{◌≡◌, ◌+◌, ◌*◌, ◌<◌, ◌≤◌, [], length, vec_len, Option, None, Some, IfOk, IfSome};
+ghost use Rattle.deadhead_matrix.specs.Paths.{IsLeftPath, IsRightPath};
+ghost use Rattle.deadhead_matrix.specs.Prices.{IsCertified, IsLoose};
+ghost use Rattle.pair_graph.specs.Pairs.{pairs_network};
+ghost use Rattle.price_assign.specs.Lists.{AreLists};
+ghost use Rattle.price_assign.specs.Plans.{with_slots, with_entry};
+ghost use Rattle.trip_model.specs.declared.limits.TheConstants.{MOST_SLOTS};
+
+use crate::lists::Lists;
+use crate::search::{link_all, search_befores, search_links};
+use crate::side::Side;
+use desk_io::{Memory, Steps};
+use pair_graph::Pairs;
+use std::alloc::Global;
+use std::marker::Model;
+use std::sync::ledger::Ledger;
+use trip_model::{Links, MOST_SLOTS};
+
+/// For each slot the trip that its vehicle makes next, the price of leaving its trip and the price of entering it.
+#[derive(Drop)]
+pub struct Plan {
+    links: Links,
+    leave: Vec<u64>,
+    enter: Vec<u64>,
+}
+
+impl Model for Plan {
+    ghost use Rattle.deadhead_matrix.specs.Prices as prices;
+    ghost use Rattle.std.specs.Prelude.{◌≡◌, ◌≤◌, length, vec_len, vec_capacity};
+    ghost use Rattle.trip_model.specs.declared.limits.TheConstants.{MOST_SLOTS};
+
+    ghost Value = { prices.Plan };
+
+    ghost view = { λ p. record { next = p.links; leave = p.leave.items; enter = p.enter.items } };
+
+    ghost invariant = { λ p. (length p.links ≤ MOST_SLOTS) × (vec_len p.leave ≡ length p.links) × (vec_len p.enter ≡ length p.links)
+        × (MOST_SLOTS ≤ vec_capacity p.leave) × (MOST_SLOTS ≤ vec_capacity p.enter) };
+}
+
+impl Plan {
+    /// A plan without slots. It takes the memory for as many as there may be.
+    pub(crate) fn open(alloc: Global) -> Result<Plan, Memory>
+        ensures { IfOk result (λ plan. plan ≡ record { next = []; leave = []; enter = [] }) }
+    {
+        Ok(Plan {
+            links: Links::open(alloc, 0)?,
+            leave: Vec::with_capacity(alloc, usize::from(MOST_SLOTS))?,
+            enter: Vec::with_capacity(alloc, usize::from(MOST_SLOTS))?,
+        })
+    }
+
+    /// The next trips.
+    pub fn links(&self) -> &Links
+        ensures { result.now ≡ self.now.next }
+    {
+        &self.links
+    }
+
+    /// The prices of leaving, by slot.
+    pub fn leave(&self) -> &[u64]
+        ensures prices { result.now ≡ self.now.leave }
+        ensures slots { length result.now ≡ length self.now.next }
+    {
+        self.leave.as_slice()
+    }
+
+    /// The prices of entering, by slot.
+    pub fn enter(&self) -> &[u64]
+        ensures prices { result.now ≡ self.now.enter }
+        ensures slots { length result.now ≡ length self.now.next }
+    {
+        self.enter.as_slice()
+    }
+
+    /// Cuts the plan to so many slots, or adds slots without a next trip and without prices.
+    pub(crate) fn set_slots(&mut self, slots: u16)
+        requires { slots ≤ MOST_SLOTS }
+        ensures { self.new ≡ with_slots self.old slots }
+    {
+        self.links.set_slots(slots);
+        let _ = self.leave.resize(usize::from(slots), 0);
+        let _ = self.enter.resize(usize::from(slots), 0);
+    }
+
+    /// Gives a slot another next trip and other prices. It asks nothing of them.
+    pub(crate) fn put(&mut self, slot: u16, next: Option<u16>, leave: u64, enter: u64)
+        requires { slot < length self.old.next }
+        ensures { self.new ≡ with_entry self.old slot next leave enter }
+    {
+        self.links.set(slot, next);
+        self.leave[slot as usize] = leave;
+        self.enter[slot as usize] = enter;
+    }
+
+    /// Adds the leaving side of `a`, by a search that goes out from it.
+    pub(crate) fn search_left<L: Ledger>(
+        &mut self,
+        pairs: &Pairs<'_>,
+        a: u16,
+        b: Option<u16>,
+        next: &mut Vec<Option<u16>>,
+        lists: &mut Lists,
+        steps: &mut Steps<L>,
+    )
+        requires slots { length self.old.next ≡ length pairs.now.moves }
+        requires loose { IsLoose (pairs_network pairs.now) self.old (Some a) b }
+        requires next { vec_len next.old ≡ MOST_SLOTS }
+        requires lists { AreLists lists.old }
+        ensures next { vec_len next.new ≡ MOST_SLOTS }
+        ensures lists { AreLists lists.new }
+        ensures loose { IsLoose (pairs_network pairs.now) self.new None b }
+        ensures path { IsLeftPath self.old.next self.new.next a }
+        ensures counted { steps.new ≤ steps.old + length pairs.now.moves * length pairs.now.moves + length pairs.now.moves }
+    {
+        // Its clauses say that the network is one of one day, along which departures rise.
+        let _slots = pairs.slots();
+        let side = Side::leaving(pairs, b);
+        search_links(
+            &side,
+            a,
+            &mut self.links,
+            &mut self.leave,
+            &mut self.enter,
+            next,
+            lists,
+            steps,
+        );
+    }
+
+    /// Adds the entering side of `b`, by a search that goes out from it.
+    pub(crate) fn search_right<L: Ledger>(
+        &mut self,
+        pairs: &Pairs<'_>,
+        b: u16,
+        a: Option<u16>,
+        next: &mut Vec<Option<u16>>,
+        turned: &mut Vec<Option<u16>>,
+        lists: &mut Lists,
+        steps: &mut Steps<L>,
+    )
+        requires slots { length self.old.next ≡ length pairs.now.moves }
+        requires loose { IsLoose (pairs_network pairs.now) self.old a (Some b) }
+        requires next { vec_len next.old ≡ MOST_SLOTS }
+        requires turned { vec_len turned.old ≡ MOST_SLOTS }
+        requires lists { AreLists lists.old }
+        ensures next { vec_len next.new ≡ MOST_SLOTS }
+        ensures turned { vec_len turned.new ≡ MOST_SLOTS }
+        ensures lists { AreLists lists.new }
+        ensures loose { IsLoose (pairs_network pairs.now) self.new a None }
+        ensures path { IsRightPath self.old.next self.new.next b }
+        ensures counted { steps.new ≤ steps.old + length pairs.now.moves * length pairs.now.moves + length pairs.now.moves }
+    {
+        // Its clauses say that the network is one of one day, along which departures rise.
+        let _slots = pairs.slots();
+        let side = Side::entering(pairs, a);
+        search_befores(
+            &side,
+            b,
+            &mut self.links,
+            &mut self.leave,
+            &mut self.enter,
+            next,
+            turned,
+            lists,
+            steps,
+        );
+    }
+
+    /// Makes a certified plan for the pairs, whatever the plan was: it adds one leaving side after the other.
+    pub(crate) fn solve<L: Ledger>(
+        &mut self,
+        pairs: &Pairs<'_>,
+        next: &mut Vec<Option<u16>>,
+        lists: &mut Lists,
+        steps: &mut Steps<L>,
+    )
+        requires next { vec_len next.old ≡ MOST_SLOTS }
+        requires lists { AreLists lists.old }
+        ensures next { vec_len next.new ≡ MOST_SLOTS }
+        ensures lists { AreLists lists.new }
+        ensures slots { length self.new.next ≡ length pairs.now.moves }
+        ensures certified { IsCertified (pairs_network pairs.now) self.new }
+        ensures counted { steps.new ≤ steps.old + length pairs.now.moves * (length pairs.now.moves * length pairs.now.moves + length pairs.now.moves) }
+    {
+        // Its clauses say that the network is one of one day, along which departures rise.
+        let slots = pairs.slots();
+        self.set_slots(0);
+        self.set_slots(slots);
+        link_all(
+            &Side::leaving(pairs, None),
+            &mut self.links,
+            &mut self.leave,
+            &mut self.enter,
+            next,
+            lists,
+            steps,
+        );
+    }
+}

@@ -1,0 +1,132 @@
+ghost use Rattle.std.specs.Prelude.{◌≡◌, ◌+◌, ◌*◌, ◌<◌, ◌≤◌, [], length, Option, None, Some, IfOk, IfSome};
+ghost use Rattle.deadhead_matrix.specs.Paths.{IsLeftPath, IsRightPath};
+ghost use Rattle.deadhead_matrix.specs.Prices.{IsCertified, IsLoose};
+ghost use Rattle.pair_graph.specs.Pairs.{pairs_network};
+ghost use Rattle.price_assign.specs.Plans.{with_slots, with_entry};
+ghost use Rattle.trip_model.specs.declared.limits.TheConstants.{MOST_SLOTS};
+
+use crate::Plan;
+use crate::lists::Lists;
+use desk_io::{Memory, Steps};
+use pair_graph::Pairs;
+use std::alloc::Global;
+use std::marker::Model;
+use std::sync::ledger::Ledger;
+use trip_model::MOST_SLOTS;
+
+/// A plan, with the memory for making and repairing one of as many slots as there may be.
+#[derive(Drop)]
+pub struct Solver {
+    plan: Plan,
+    next: Vec<Option<u16>>,
+    turned: Vec<Option<u16>>,
+    lists: Lists,
+}
+
+impl Model for Solver {
+    ghost use Rattle.deadhead_matrix.specs.Prices as prices;
+    ghost use Rattle.std.specs.Prelude.{◌≡◌, vec_len};
+    ghost use Rattle.trip_model.specs.declared.limits.TheConstants.{MOST_SLOTS};
+
+    ghost Value = { prices.Plan };
+
+    ghost use Rattle.price_assign.specs.Lists.{AreLists};
+
+    ghost view = { λ s. s.plan };
+
+    ghost invariant = { λ s. (vec_len s.next ≡ MOST_SLOTS) × (vec_len s.turned ≡ MOST_SLOTS) × AreLists s.lists };
+}
+
+impl Solver {
+    /// Takes all memory that any call needs. The plan has no slots.
+    pub fn open(alloc: Global) -> Result<Solver, Memory>
+        ensures { IfOk result (λ plan. plan ≡ record { next = []; leave = []; enter = [] }) }
+    {
+        Ok(Solver {
+            plan: Plan::open(alloc)?,
+            next: vec![in alloc; None; usize::from(MOST_SLOTS)]?,
+            turned: vec![in alloc; None; usize::from(MOST_SLOTS)]?,
+            lists: Lists::open(alloc)?,
+        })
+    }
+
+    /// The plan as it stands.
+    pub fn plan(&self) -> &Plan
+        ensures { result.now ≡ self.now }
+    {
+        &self.plan
+    }
+
+    /// Cuts the plan to so many slots, or adds slots without a next trip and without prices.
+    pub fn set_slots(&mut self, slots: u16)
+        requires { slots ≤ MOST_SLOTS }
+        ensures { self.new ≡ with_slots self.old slots }
+    {
+        self.plan.set_slots(slots);
+    }
+
+    /// Gives a slot another next trip, or none, and other prices. Whether the plan is then certified is not asked here.
+    pub fn put(&mut self, slot: u16, next: Option<u16>, leave: u64, enter: u64)
+        requires slot { slot < length self.old.next }
+        requires next { IfSome next (λ j. j < length self.old.next) }
+        ensures { self.new ≡ with_entry self.old slot next leave enter }
+    {
+        self.plan.put(slot, next, leave, enter);
+    }
+
+    /// Makes a certified plan for the pairs, whatever the plan was: it adds the leaving side of one trip after the other, in
+    /// the order of the slots. At most n^3 + n^2 steps for n slots.
+    pub fn solve<L: Ledger>(&mut self, pairs: &Pairs<'_>, steps: &mut Steps<L>)
+        ensures slots { length self.new.next ≡ length pairs.now.moves }
+        ensures certified { IsCertified (pairs_network pairs.now) self.new }
+        ensures counted { let n = length pairs.now.moves in steps.new ≤ steps.old + n * n * n + n * n }
+    {
+        self.plan
+            .solve(pairs, &mut self.next, &mut self.lists, steps);
+    }
+
+    /// Adds the leaving side of `a` to a plan from which it is left out, as is the entering side of `b` where there is one: a
+    /// search goes out from it over the pairs that do not enter `b`. At most n^2 + n steps for n slots.
+    pub fn search_left<L: Ledger>(
+        &mut self,
+        pairs: &Pairs<'_>,
+        a: u16,
+        b: Option<u16>,
+        steps: &mut Steps<L>,
+    )
+        requires slots { length self.old.next ≡ length pairs.now.moves }
+        requires loose { IsLoose (pairs_network pairs.now) self.old (Some a) b }
+        ensures loose { IsLoose (pairs_network pairs.now) self.new None b }
+        ensures path { IsLeftPath self.old.next self.new.next a }
+        ensures counted { let n = length pairs.now.moves in steps.new ≤ steps.old + n * n + n }
+    {
+        self.plan
+            .search_left(pairs, a, b, &mut self.next, &mut self.lists, steps);
+    }
+
+    /// Adds the entering side of `b`, as [`Solver::search_left`] adds a leaving one: a search goes out from it over the pairs
+    /// that do not leave `a`. At most n^2 + n steps for n slots.
+    pub fn search_right<L: Ledger>(
+        &mut self,
+        pairs: &Pairs<'_>,
+        b: u16,
+        a: Option<u16>,
+        steps: &mut Steps<L>,
+    )
+        requires slots { length self.old.next ≡ length pairs.now.moves }
+        requires loose { IsLoose (pairs_network pairs.now) self.old a (Some b) }
+        ensures loose { IsLoose (pairs_network pairs.now) self.new a None }
+        ensures path { IsRightPath self.old.next self.new.next b }
+        ensures counted { let n = length pairs.now.moves in steps.new ≤ steps.old + n * n + n }
+    {
+        self.plan.search_right(
+            pairs,
+            b,
+            a,
+            &mut self.next,
+            &mut self.turned,
+            &mut self.lists,
+            steps,
+        );
+    }
+}
