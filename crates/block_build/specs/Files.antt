@@ -1,5 +1,5 @@
 -- The written texts of blocks and of prices, as records of comma-separated fields.
-use Rattle.std.specs.Prelude.{◌≡◌, ℕ, zero, suc, ◌<◌, List, [], ◌∷◌, length, map, slice_index, slice_index_or, All, IsSome, unwrap_or, codes, if◌then◌else◌}
+use Rattle.std.specs.Prelude.{ℕ, zero, suc, List, [], ◌∷◌, length, map, slice_index, slice_index_or, unwrap_or, if◌then◌else◌}
 use Rattle.std.specs.Fmt.{decimal}
 use Rattle.std.specs.List.{flat_map, range_with_len}
 use Rattle.gtfs_tables.specs.Papers.{column_name_of}
@@ -22,18 +22,17 @@ minutes_before timetable matrix block zero = pull_out timetable matrix.pulls blo
 minutes_before timetable matrix block (suc n) = unwrap_or (walk_between timetable (walk matrix) (slice_index block n) (slice_index block (suc n))) 0
 
 -- the record of the n-th trip of a block: the name of the block, that of the trip, and the empty minutes before it
-abbrev pub block_record : TimetableView → MatrixView → List ℕ → ℕ → List ℕ → ℕ → List (List ℕ)
-block_record timetable matrix prefix number block n =
-    block_name prefix number ∷ (slot_at timetable (slice_index block n)).name ∷ decimal (minutes_before timetable matrix block n) ∷ []
+abbrev pub block_record : TimetableView → MatrixView → List ℕ → List ℕ → ℕ → List (List ℕ)
+block_record timetable matrix name block n = name ∷ (slot_at timetable (slice_index block n)).name ∷ decimal (minutes_before timetable matrix block n) ∷ []
 
--- the records of a block, trip by trip
-abbrev pub records_of_block : TimetableView → MatrixView → List ℕ → ℕ → List ℕ → List (List (List ℕ))
-records_of_block timetable matrix prefix number block = map (block_record timetable matrix prefix number block) (range_with_len 0 (length block))
+-- the records of the block of a name, trip by trip
+abbrev pub records_of_block : TimetableView → MatrixView → List ℕ → List ℕ → List (List (List ℕ))
+records_of_block timetable matrix name block = map (block_record timetable matrix name block) (range_with_len 0 (length block))
 
 -- the records of blocks, block by block
 unfoldable pub block_records : TimetableView → MatrixView → List ℕ → List (List ℕ) → List (List (List ℕ))
 block_records timetable matrix prefix blocks =
-    flat_map (λ number. records_of_block timetable matrix prefix number (slice_index_or blocks number [])) (range_with_len 0 (length blocks))
+    flat_map (λ number. records_of_block timetable matrix (block_name prefix number) (slice_index_or blocks number [])) (range_with_len 0 (length blocks))
 
 -- the text of `blocks.csv`
 unfoldable pub blocks_text : TimetableView → MatrixView → List ℕ → List (List ℕ) → List ℕ
@@ -53,8 +52,3 @@ price_records timetable leave enter = flat_map (price_record timetable leave ent
 -- the text of `prices.csv`
 unfoldable pub prices_text : TimetableView → List ℕ → List ℕ → List ℕ
 prices_text timetable leave enter = records_text (price_header ∷ price_records timetable leave enter)
-
--- between each two trips of a block there is a way
-abbrev pub HaveWays : TimetableView → MatrixView → List (List ℕ) → Type 0
-HaveWays timetable matrix blocks = All (λ block. (n : ℕ) → suc n < length block
-    → IsSome (walk_between timetable (walk matrix) (slice_index block n) (slice_index block (suc n)))) blocks
