@@ -1,0 +1,5 @@
+pub mod Blocks
+pub mod Claims
+pub mod Lines
+pub mod Prices
+pub mod Running
