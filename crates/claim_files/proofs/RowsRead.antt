@@ -32,7 +32,7 @@ use Rattle.claim_files.specs.Running.{if_runs, running}
 use Rattle.claim_files.proofs.EachRecord.{read-parts, provided-parts, same_Ok, each-keeps}
 
 -- a slot whose trip runs is one of the slots
-slot-within : (t : TimetableView) (s : ℕ) → (slot_at t s).trip.live ≡ true → s < length t.slots
+pub slot-within : (t : TimetableView) (s : ℕ) → (slot_at t s).trip.live ≡ true → s < length t.slots
 slot-within t s live = ⊎_elim
     (λ (h : s < length t.slots). h)
     (λ (h : length t.slots ≤ s). absurd (false≢true (sym (ap (λ (slot : Slot). slot.trip.live) (get_or_past t.slots s _ h)) ∙ live)))

@@ -3,3 +3,4 @@ pub mod Claims
 pub mod Lines
 pub mod Prices
 pub mod Running
+pub mod Written
