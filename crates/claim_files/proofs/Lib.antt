@@ -1,0 +1,12 @@
+pub mod BlocksBack
+pub mod Digits
+pub mod EachRecord
+pub mod EvenTables
+pub mod FieldsBack
+pub mod FilesBack
+pub mod NamesFound
+pub mod NamesWritten
+pub mod Numbered
+pub mod PricesBack
+pub mod RowsRead
+pub mod RunningBack

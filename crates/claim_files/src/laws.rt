@@ -1,0 +1,24 @@
+//! Laws of the definitions that the contracts cite. Each is the contract of a function that does nothing.
+ghost use Rattle.std.specs.Prelude.{◌≡◌, ℕ, List, Ok};
+ghost use Rattle.deadhead_matrix.specs.Matrix.{MatrixView};
+ghost use Rattle.desk_io.specs.declared.shelf.Found.{Found};
+ghost use Rattle.price_check.specs.Claim.{ClaimedView, AreBlockRows, ArePriceRows};
+ghost use Rattle.trip_model.specs.Timetable.{TimetableView, IsTimetable};
+ghost use Rattle.claim_files.specs.Claims.{claimed_of};
+ghost use Rattle.claim_files.specs.Written.{CanBeWritten, written, written_claim};
+
+/// What is claimed are rows that the checker judges: at most 4,096 of each file, which name slots whose trips run, or none.
+pub fn rows_law()
+    ensures blocks { (timetable : TimetableView) (blocks prices : Found) (claimed : ClaimedView)
+        → claimed_of timetable blocks prices ≡ Ok claimed → AreBlockRows timetable claimed.blocks }
+    ensures prices { (timetable : TimetableView) (blocks prices : Found) (claimed : ClaimedView)
+        → claimed_of timetable blocks prices ≡ Ok claimed → ArePriceRows timetable claimed.prices }
+{}
+
+/// Blocks and prices that are written read back: a row for each trip, with its name, its slot and the empty minutes before it
+/// or its prices. Names and prefix may have any bytes of text, commas, quotes and line ends too.
+pub fn read_back_law()
+    ensures { (timetable : TimetableView) (matrix : MatrixView) (prefix : List ℕ) (blocks : List (List ℕ)) (leave enter : List ℕ)
+        → IsTimetable timetable → CanBeWritten timetable matrix prefix blocks leave enter
+        → written timetable matrix prefix blocks leave enter ≡ Ok (written_claim timetable matrix blocks leave enter) }
+{}

@@ -1,0 +1,30 @@
+//! The claim of `blocks.csv` and `prices.csv`: blocks and prices as somebody hands them in, and the line of a `no`.
+//!
+//! [`read_claimed`] reads what was found of the two files as a claim, which `price_check::check` judges. [`claim_line`] is
+//! the line of a claim that cannot be read ([`ClaimFault`]), and [`reason_line`] that of a reason against one that can.
+//!
+//! The contract that the crates above use: a claim has one row for each record, with its values and the slot of its trip; or
+//! the fault is the first that is due, of `blocks.csv` before `prices.csv`.
+//!
+//! ```text
+//! match read_claimed(alloc, &timetable, &blocks, &prices) {
+//!     Ok(claimed) => check(&timetable, &matrix, &claimed),
+//!     Err(fault) => claim_line(alloc, &fault)?,
+//! }
+//! ```
+//!
+//! The contracts cite `Claims` (what the two files claim, or why nothing), with `Blocks` and `Prices` (the records of each)
+//! and `Running` (the slots that names speak of), and `Lines` (the printed lines).
+#![tactic(auto)]
+
+mod blocks;
+mod claim;
+mod fault;
+pub mod laws;
+mod lines;
+mod prices;
+mod running;
+
+pub use claim::read_claimed;
+pub use fault::ClaimFault;
+pub use lines::{claim_line, reason_line};
