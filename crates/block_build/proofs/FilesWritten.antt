@@ -12,7 +12,6 @@ use Rattle.gtfs_tables.specs.Writing.{record_text, records_text}
 use Rattle.deadhead_matrix.specs.Matrix.{MatrixView}
 use Rattle.trip_model.specs.Timetable.{TimetableView}
 use Rattle.block_build.specs.Files.{block_header, records_of_block, block_records, blocks_text, price_header, price_record, price_records, prices_text}
-use Rattle.block_build.specs.Lines.{block_name}
 use Rattle.block_build.proofs.LinesWritten.{flat_map-range_more}
 
 -- a record of three texts is text
@@ -53,11 +52,11 @@ records-more f before now next n so_far written =
 
 -- the text of all blocks
 pub blocks-written : (t : TimetableView) (matrix : MatrixView) (prefix : List ℕ) (blocks : List (List ℕ)) (now : List ℕ) (n : ℕ) → length blocks ≡ n
-    → now ≡ record_text block_header ++ records_text (flat_map (λ n. records_of_block t matrix (block_name prefix n) (get_or blocks n [])) (range_with_len 0 n))
+    → now ≡ record_text block_header ++ records_text (flat_map (λ n. records_of_block t matrix prefix n (get_or blocks n [])) (range_with_len 0 n))
     → now ≡ blocks_text t matrix prefix blocks
 unfolding blocks_text block_records
 blocks-written t matrix prefix blocks now n all so_far =
-    so_far ∙ ap (λ m. record_text block_header ++ records_text (flat_map (λ n. records_of_block t matrix (block_name prefix n) (get_or blocks n [])) (range_with_len 0 m))) (sym all)
+    so_far ∙ ap (λ m. record_text block_header ++ records_text (flat_map (λ n. records_of_block t matrix prefix n (get_or blocks n [])) (range_with_len 0 m))) (sym all)
 
 -- the text of all prices
 pub prices-written : (t : TimetableView) (leave enter now : List ℕ) (n : ℕ) → length t.slots ≡ n

@@ -40,23 +40,26 @@ fn minutes_before(timetable: &Timetable, matrix: &Matrix, block: &[u16], n: usiz
     matrix.minutes(to, from).unwrap_or(0)
 }
 
-// The records of the block of a name, trip by trip.
+// The records of the block of a number, counted from 0, trip by trip.
 fn push_block(
     alloc: Global,
     records: &mut RecordWriter,
     timetable: &Timetable,
     matrix: &Matrix,
-    name: &str,
+    prefix: &str,
+    number: usize,
     block: &[u16],
 ) -> Result<(), Memory>
+    requires number { number + 1 < 2 ^ 64 }
     requires slots { All (λ s. s < length timetable.now.slots) block.now }
     requires places { length matrix.now.walks ≡ length timetable.now.places }
-    ensures written { OnOk result (records.new ≡ records.old ++ records_text (spec.records_of_block timetable.now matrix.now name.now block.now)) }
+    ensures written { OnOk result (records.new ≡ records.old ++ records_text (spec.records_of_block timetable.now matrix.now prefix.now number block.now)) }
     ensures text { OnOk result (IsUtf8 records.old → IsUtf8 records.new) }
 {
+    let name = format!(in alloc; "{prefix}{}", number + 1)?;
     for n in 0..block.len() {
         let minutes = format!(in alloc; "{}", minutes_before(timetable, matrix, block, n))?;
-        push_record(records, name, timetable.name(block[n]), &minutes)?;
+        push_record(records, &name, timetable.name(block[n]), &minutes)?;
     }
     Ok(())
 }
@@ -83,13 +86,13 @@ pub fn blocks_text(
         Column::Deadhead.name(),
     )?;
     for number in 0..blocks.len() {
-        let name = format!(in alloc; "{prefix}{}", number + 1)?;
         push_block(
             alloc,
             &mut records,
             timetable,
             matrix,
-            &name,
+            prefix,
+            number,
             blocks.block(number),
         )?;
     }

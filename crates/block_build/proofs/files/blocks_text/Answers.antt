@@ -1,7 +1,6 @@
 use Rattle.std.proofs.Common.{◌++◌, [], get_or, ◌∙◌, arith}
 use Rattle.gtfs_tables.specs.Writing.{record_text, records_text}
 use Rattle.block_build.specs.Files.{block_header, records_of_block}
-use Rattle.block_build.specs.Lines.{block_name}
 use Rattle.block_build.proofs.FilesWritten.{records-more, blocks-written, if-text}
 use Rattle.block_build.proofs.files.blocks_text.Goals as goal
 
@@ -10,9 +9,9 @@ loop-number-preserved c =
     let t = c.args.timetable.now in
     let m = c.args.matrix.now in
     record {
-      written = records-more (λ n. records_of_block t m (block_name c.args.prefix.now n) (get_or c.args.blocks.now n [])) (record_text block_header)
+      written = records-more (λ n. records_of_block t m c.args.prefix.now n (get_or c.args.blocks.now n [])) (record_text block_header)
           c.loop-number.records c.push_block.new.records c.loop-number.number c.loop-number.invariant.written
-          (c.in_ok-push_block.ensures.written ∙ (λ i. c.loop-number.records ++ records_text (records_of_block t m ((c.deref.ensures ∙ c.in_ok-name.ensures.ok) i) (c.block.ensures i))));
+          (c.in_ok-push_block.ensures.written ∙ (λ i. c.loop-number.records ++ records_text (records_of_block t m c.args.prefix.now c.loop-number.number (c.block.ensures i))));
       text = c.in_ok-push_block.ensures.text c.loop-number.invariant.text;
     }
 
