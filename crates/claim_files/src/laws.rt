@@ -1,11 +1,13 @@
 //! Laws of the definitions that the contracts cite. Each is the contract of a function that does nothing.
-ghost use Rattle.std.specs.Prelude.{◌≡◌, ℕ, List, Ok};
+ghost use Rattle.std.specs.Prelude.{◌≡◌, ℕ, List, length, Ok};
 ghost use Rattle.deadhead_matrix.specs.Matrix.{MatrixView};
+ghost use Rattle.deadhead_matrix.specs.Prices.{Plan};
 ghost use Rattle.desk_io.specs.declared.shelf.Found.{Found};
-ghost use Rattle.price_check.specs.Claim.{ClaimedView, AreBlockRows, ArePriceRows};
+ghost use Rattle.price_check.specs.Certificate.{IsCertificate};
+ghost use Rattle.price_check.specs.Claim.{ClaimedView, AreBlockRows, ArePriceRows, network_of};
 ghost use Rattle.trip_model.specs.Timetable.{TimetableView, IsTimetable};
 ghost use Rattle.claim_files.specs.Claims.{claimed_of};
-ghost use Rattle.claim_files.specs.Written.{CanBeWritten, written, written_claim};
+ghost use Rattle.claim_files.specs.Written.{AreOfPlan, CanBeWritten, IsAccepted, written, written_claim};
 
 /// What is claimed are rows that the checker judges: at most 4,096 of each file, which name slots whose trips run, or none.
 pub fn rows_law()
@@ -21,4 +23,14 @@ pub fn read_back_law()
     ensures { (timetable : TimetableView) (matrix : MatrixView) (prefix : List ℕ) (blocks : List (List ℕ)) (leave enter : List ℕ)
         → IsTimetable timetable → CanBeWritten timetable matrix prefix blocks leave enter
         → written timetable matrix prefix blocks leave enter ≡ Ok (written_claim timetable matrix blocks leave enter) }
+{}
+
+/// Of a certified plan what is written is a certificate, and is accepted: it reads back, and the verdict on it is yes, with the
+/// vehicles and the empty minutes of its blocks.
+pub fn accepted_law()
+    ensures certificate { (timetable : TimetableView) (matrix : MatrixView) (prefix : List ℕ) (plan : Plan) (blocks : List (List ℕ))
+        → AreOfPlan timetable matrix prefix plan blocks
+        → IsCertificate (network_of timetable matrix) (length timetable.slots) (written_claim timetable matrix blocks plan.leave plan.enter) }
+    ensures accepted { (timetable : TimetableView) (matrix : MatrixView) (prefix : List ℕ) (plan : Plan) (blocks : List (List ℕ))
+        → AreOfPlan timetable matrix prefix plan blocks → IsAccepted timetable matrix prefix blocks plan.leave plan.enter }
 {}
