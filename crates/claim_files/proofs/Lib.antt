@@ -15,3 +15,4 @@ pub mod PlanWritten
 pub mod PricesBack
 pub mod RowsRead
 pub mod RunningBack
+pub mod Told

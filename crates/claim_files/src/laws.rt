@@ -5,8 +5,12 @@ ghost use Rattle.deadhead_matrix.specs.Prices.{Plan};
 ghost use Rattle.desk_io.specs.declared.shelf.Found.{Found};
 ghost use Rattle.price_check.specs.Certificate.{IsCertificate};
 ghost use Rattle.price_check.specs.Claim.{ClaimedView, AreBlockRows, ArePriceRows, network_of};
+ghost use Rattle.price_check.specs.declared.verdict.Reason.{Reason};
+ghost use Rattle.price_check.specs.declared.verdict.Verdict.TheVariants.{No};
+ghost use Rattle.price_check.specs.Reasons.{verdict_of};
 ghost use Rattle.trip_model.specs.Timetable.{TimetableView, IsTimetable};
 ghost use Rattle.claim_files.specs.Claims.{claimed_of};
+ghost use Rattle.claim_files.specs.Lines.{IsTold};
 ghost use Rattle.claim_files.specs.Written.{AreOfPlan, CanBeWritten, IsAccepted, written, written_claim};
 
 /// What is claimed are rows that the checker judges: at most 4,096 of each file, which name slots whose trips run, or none.
@@ -15,6 +19,12 @@ pub fn rows_law()
         → claimed_of timetable blocks prices ≡ Ok claimed → AreBlockRows timetable claimed.blocks }
     ensures prices { (timetable : TimetableView) (blocks prices : Found) (claimed : ClaimedView)
         → claimed_of timetable blocks prices ≡ Ok claimed → ArePriceRows timetable claimed.prices }
+{}
+
+/// The records and the slots whose names are printed of the reason of a no are there.
+pub fn told_law()
+    ensures { (timetable : TimetableView) (matrix : MatrixView) (claimed : ClaimedView) (reason : Reason) → ArePriceRows timetable claimed.prices
+        → verdict_of timetable matrix claimed ≡ No reason → IsTold timetable claimed reason }
 {}
 
 /// Blocks and prices that are written read back: a row for each trip, with its name, its slot and the empty minutes before it
