@@ -34,7 +34,7 @@ even-table header rows full =
     ap (λ found. with_header header (unless_too_long found (map (padded (length header)) rows))) (none-longer (length header) 1 rows full)
     ∙ ap (λ rows. Ok (record { header = header; rows = rows })) (all-padded (length header) rows full)
 
-all-of : {X : Type 0} (P : X → Type 0) (xs : List X) → AllByRecursion P xs → All P xs
+pub all-of : {X : Type 0} (P : X → Type 0) (xs : List X) → AllByRecursion P xs → All P xs
 all-of P [] each = All-nil P
 all-of P (x ∷ xs) each = All-cons P x xs each.0 (all-of P xs each.1)
 

@@ -1,4 +1,7 @@
 pub mod BlocksBack
+pub mod ChainRows
+pub mod ClaimedLinks
+pub mod ClaimedMinutes
 pub mod Digits
 pub mod EachRecord
 pub mod EvenTables
@@ -7,6 +10,9 @@ pub mod FilesBack
 pub mod NamesFound
 pub mod NamesWritten
 pub mod Numbered
+pub mod PlanClaimed
+pub mod PlanWritten
 pub mod PricesBack
 pub mod RowsRead
 pub mod RunningBack
+pub mod Told

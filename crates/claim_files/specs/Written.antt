@@ -1,18 +1,23 @@
 -- The claim that written blocks and prices make.
-use Rattle.std.specs.Prelude.{ℕ, ◌<◌, ◌≤◌, List, [], length, map, slice_index, slice_index_or, All, IsUtf8, Some, Result}
+use Rattle.std.specs.Prelude.{◌≡◌, ℕ, ◌<◌, ◌≤◌, List, [], length, map, slice_index, slice_index_or, All, IsUtf8, Some, Result, Ok}
 use Rattle.std.specs.List.{flat_map, range_with_len}
 use Rattle.desk_io.specs.declared.shelf.Found.TheVariants.{File}
 use Rattle.block_build.specs.Files.{blocks_text, minutes_before, prices_text}
 use Rattle.deadhead_matrix.specs.Matrix.{MatrixView}
-use Rattle.deadhead_matrix.specs.Prices.{price}
+use Rattle.deadhead_matrix.specs.Prices.{Plan, price, IsPlanFor}
+use Rattle.deadhead_matrix.specs.Pulls.{IsPull}
 use Rattle.price_check.specs.declared.claim.BlockRow.{BlockRow}
 use Rattle.price_check.specs.declared.claim.PriceRow.{PriceRow}
 use Rattle.price_check.specs.declared.claim.TheConstants.{MOST_PRICE}
-use Rattle.price_check.specs.Claim.{ClaimedView, Runs}
+use Rattle.price_check.specs.declared.verdict.Verdict.TheVariants.{Yes}
+use Rattle.price_check.specs.Claim.{ClaimedView, Runs, network_of}
+use Rattle.price_check.specs.Reasons.{verdict_of}
 use Rattle.trip_model.specs.declared.limits.TheConstants.{MOST_SLOTS}
-use Rattle.trip_model.specs.Blocking.{slots_in}
+use Rattle.trip_model.specs.Blocking.{empty_minutes, slots_in}
+use Rattle.trip_model.specs.Links.{blocks_along}
+use Rattle.trip_model.specs.Order.{by_departure}
 use Rattle.trip_model.specs.Plain.{live_slots, trip_moves}
-use Rattle.trip_model.specs.Timetable.{TimetableView, slot_at}
+use Rattle.trip_model.specs.Timetable.{TimetableView, IsTimetable, slot_at}
 use Rattle.claim_files.specs.declared.blocks.TheConstants.{MOST_SHOWN}
 use Rattle.claim_files.specs.declared.fault.ClaimFault.{ClaimFault}
 use Rattle.claim_files.specs.Claims.{claimed_of}
@@ -67,3 +72,19 @@ pub record CanBeWritten (timetable : TimetableView) (matrix : MatrixView) (prefi
   pub shown : All (λ block. (n : ℕ) → n < length block → minutes_before timetable matrix block n ≤ MOST_SHOWN) blocks
   pub left : All (λ price. price ≤ MOST_PRICE) leave
   pub entered : All (λ price. price ≤ MOST_PRICE) enter
+
+-- The blocks of a certified plan: those along its links, by the departures of their first trips; its timetable and its matrix
+-- are valid, and names and prefix are text.
+pub record AreOfPlan (timetable : TimetableView) (matrix : MatrixView) (prefix : List ℕ) (plan : Plan) (blocks : List (List ℕ)) : Type 0 where
+  pub valid : IsTimetable timetable
+  pub pulls : All IsPull matrix.pulls
+  pub certified : IsPlanFor timetable matrix plan
+  pub along : blocks ≡ blocks_along plan.next (by_departure (trip_moves timetable.slots))
+  pub begun : IsUtf8 prefix
+  pub names : All (λ slot. IsName slot.name) timetable.slots
+
+-- What is written is read as a claim on which the verdict is yes, with as many vehicles and empty minutes as the blocks have.
+abbrev pub IsAccepted : TimetableView → MatrixView → List ℕ → List (List ℕ) → List ℕ → List ℕ → Type 0
+IsAccepted timetable matrix prefix blocks leave enter =
+    (claimed : ClaimedView) × (written timetable matrix prefix blocks leave enter ≡ Ok claimed)
+    × (verdict_of timetable matrix claimed ≡ Yes (length blocks) (empty_minutes (network_of timetable matrix) blocks))
