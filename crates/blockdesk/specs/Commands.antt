@@ -2,17 +2,21 @@
 use Rattle.std.specs.Prelude.{ℕ, List, [], ◌∷◌, Option, None, Some, codes, if◌then◌else◌}
 use Rattle.std.specs.Str.{bytes_eq}
 use Rattle.desk_run.specs.Commands.{Asked}
-use Rattle.feed_commands.specs.Chart.{chart_asked}
 use Rattle.feed_commands.specs.Deficits.{deficits_asked}
 use Rattle.feed_commands.specs.Fixed.{fixed_asked}
+use Rattle.plan_commands.specs.Blocks.{blocks_asked}
+use Rattle.plan_commands.specs.Chart.{chart_asked}
+use Rattle.plan_commands.specs.Check.{check_asked}
 use Rattle.blockdesk.specs.declared.command.Command.{Command}
-use Rattle.blockdesk.specs.declared.command.Command.TheVariants.{Deficits, Fixed, Chart}
+use Rattle.blockdesk.specs.declared.command.Command.TheVariants.{Deficits, Fixed, Blocks, Check, Chart}
 
 -- the command of that name
 abbrev pub command_named : List ℕ → Option Command
 command_named word =
     if bytes_eq word (codes "deficits") then Some Deficits
     else if bytes_eq word (codes "fixed") then Some Fixed
+    else if bytes_eq word (codes "blocks") then Some Blocks
+    else if bytes_eq word (codes "check") then Some Check
     else if bytes_eq word (codes "chart") then Some Chart
     else None
 
@@ -25,6 +29,8 @@ command_of words = None
 abbrev pub asked_by : Command → Asked
 asked_by Deficits = deficits_asked
 asked_by Fixed = fixed_asked
+asked_by Blocks = blocks_asked
+asked_by Check = check_asked
 asked_by Chart = chart_asked
 
 -- the folder that is read and written: the second of two words, but for `sample`, which works on none

@@ -3,6 +3,7 @@ use Rattle.std.specs.Prelude.{◌≡◌, ◌⊎◌, ℕ, List, [], ◌∷◌, �
 use Rattle.desk_io.specs.Faults.{Rose}
 use Rattle.desk_io.specs.Sink.{put_bytes, PutsFront}
 use Rattle.desk_run.specs.Causes.{HasCause, IsComplete}
+use Rattle.desk_run.specs.Commands.{IsCounted}
 use Rattle.desk_run.specs.Runs.{RunsAs}
 use Rattle.desk_run.specs.World.{World, NoCountRose}
 use Rattle.desk_run.specs.declared.status.TheConstants.{USAGE, WRITE_FAULT}
@@ -37,3 +38,8 @@ IsCaused (Some command) before after status = HasCause (asked_by command) before
 abbrev pub IsDue : Option Command → World → World → ℕ → Type 0
 IsDue None before after status = HasUsageCause before after status
 IsDue (Some command) before after status = IsComplete (asked_by command) before after status
+
+-- the steps: for words of no form none are counted
+abbrev pub IsWithin : Option Command → World → ℕ → ℕ → Type 0
+IsWithin None before old new = new ≡ old
+IsWithin (Some command) before old new = IsCounted (asked_by command) before old new

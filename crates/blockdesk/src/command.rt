@@ -10,6 +10,10 @@ pub enum Command {
     Deficits,
     /// Blocks without deadheads, and their number.
     Fixed,
+    /// The blocks with the fewest vehicles and then the fewest empty minutes, with the prices that prove it.
+    Blocks,
+    /// Whether two files of blocks and prices prove that the blocks are least.
+    Check,
     /// Charts of deficits and of blocks.
     Chart,
 }
@@ -21,6 +25,8 @@ fn command_named(word: &str) -> Option<Command>
     match word {
         "deficits" => Some(Command::Deficits),
         "fixed" => Some(Command::Fixed),
+        "blocks" => Some(Command::Blocks),
+        "check" => Some(Command::Check),
         "chart" => Some(Command::Chart),
         _ => None,
     }

@@ -5,7 +5,7 @@
 //! those of the files and the journal.
 //!
 //! The contracts cite `Commands` (what the words ask for) and `Runs` (what a run does, and when each status comes), of
-//! `desk_run` and `feed_commands` what each command asks and what becomes of that.
+//! `desk_run`, `feed_commands` and `plan_commands` what each command asks and what becomes of that.
 #![tactic(auto)]
 
 mod command;

@@ -57,7 +57,7 @@ fn ran(alloc: Global, command: &str, shelf: &mut NotedReads) -> Result<u8, Memor
 #[test]
 fn each_file_is_read_once_in_the_order_of_judging(rt: HostRuntime) -> Result<(), Fail> {
     let alloc = rt.alloc();
-    for command in ["deficits", "fixed", "chart"] {
+    for command in ["deficits", "fixed", "blocks", "chart"] {
         let mut shelf = NotedReads {
             names: String::new(alloc),
         };
@@ -67,5 +67,10 @@ fn each_file_is_read_once_in_the_order_of_judging(rt: HostRuntime) -> Result<(),
             "desk.toml terminals.csv tolerances.csv trips.txt stop_times.txt deadheads.csv depot.csv edits.csv "
         );
     }
+    let mut shelf = NotedReads {
+        names: String::new(alloc),
+    };
+    assert_eq!(rt; ran(alloc, "check", &mut shelf)?, 3);
+    assert!(rt; shelf.names.ends_with(" edits.csv blocks.csv prices.csv "));
     Ok(())
 }

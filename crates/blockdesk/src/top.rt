@@ -1,11 +1,12 @@
 ghost use Rattle.desk_run.specs.World.{world};
 ghost use Rattle.blockdesk.specs.Commands as spec;
-ghost use Rattle.blockdesk.specs.Runs.{IsCaused, IsDue, IsRun};
+ghost use Rattle.blockdesk.specs.Runs.{IsCaused, IsDue, IsRun, IsWithin};
 
 use crate::{Command, command_of, put_usage};
 use desk_io::{Shelf, Sink, Steps, Text};
 use desk_keeper::Keeper;
-use feed_commands::{run_chart, run_deficits, run_fixed};
+use feed_commands::{run_deficits, run_fixed};
+use plan_commands::{run_blocks, run_chart, run_check};
 use std::alloc::Global;
 use std::sync::ledger::Ledger;
 
@@ -27,11 +28,15 @@ pub fn run<S: Shelf, O: Sink, K: Keeper, L: Ledger>(
     // Which status comes where all is told and no fault was counted.
     ensures complete { let at = world S.state O.state K.state in
         IsDue (spec.command_of words.now) (at shelf.old out.old keeper.old) (at shelf.new out.new keeper.new) result }
+    // How many steps are counted at the most.
+    ensures counted { IsWithin (spec.command_of words.now) (world S.state O.state K.state shelf.old out.old keeper.old) steps.old steps.new }
 {
     match command_of(words) {
         None => put_usage(shelf, out, keeper),
         Some(Command::Deficits) => run_deficits(alloc, shelf, out, keeper, steps),
         Some(Command::Fixed) => run_fixed(alloc, shelf, out, keeper, steps),
+        Some(Command::Blocks) => run_blocks(alloc, shelf, out, keeper, steps),
+        Some(Command::Check) => run_check(alloc, shelf, out, keeper, steps),
         Some(Command::Chart) => run_chart(alloc, shelf, out, keeper, steps),
     }
 }

@@ -1,5 +1,5 @@
 -- What `deficits` asks, and what it puts of a feed.
-use Rattle.std.specs.Prelude.{◌≡◌, ℕ, true, List}
+use Rattle.std.specs.Prelude.{◌≡◌, ℕ, ◌*◌, List, length}
 use Rattle.trip_model.specs.Deficit.{deficit, live_moves}
 use Rattle.trip_model.specs.Timetable.{TimetableView, place_names}
 use Rattle.deficit_steps.specs.Lines.{deficit_text}
@@ -16,4 +16,4 @@ abbrev pub IsDeficits : Said → List ℕ → Type 0
 IsDeficits said text = text ≡ deficits_text said.timetable
 
 abbrev pub deficits_asked : Asked
-deficits_asked = showing true IsDeficits
+deficits_asked = showing IsDeficits (λ said. 28 * length said.timetable.slots)

@@ -1,5 +1,5 @@
 -- What `fixed` asks, and what it puts of a feed.
-use Rattle.std.specs.Prelude.{◌≡◌, ℕ, true, List, [], ◌∷◌, ◌++◌, length, pos, codes}
+use Rattle.std.specs.Prelude.{◌≡◌, ℕ, List, [], ◌∷◌, ◌++◌, length, pos, codes}
 use Rattle.std.specs.Fmt.{decimal}
 use Rattle.trip_model.specs.Blocking.{IsFewest}
 use Rattle.trip_model.specs.Deficit.{deficit, live_moves}
@@ -37,4 +37,4 @@ abbrev pub IsFixed : Said → List ℕ → Type 0
 IsFixed said text = IsFixedText said.timetable said.pulls said.settings.prefix text
 
 abbrev pub fixed_asked : Asked
-fixed_asked = showing true IsFixed
+fixed_asked = showing IsFixed (λ said. 0)

@@ -1,3 +1,2 @@
-pub mod Chart
 pub mod Deficits
 pub mod Fixed

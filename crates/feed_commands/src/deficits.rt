@@ -1,14 +1,11 @@
-ghost use Rattle.std.specs.Prelude.{◌≡◌, length, IfOk};
-ghost use Rattle.deficit_steps.specs.Holds.{Holds};
-ghost use Rattle.trip_model.specs.Deficit.{live_moves};
-ghost use Rattle.trip_model.specs.Timetable.{IsTimetable};
+ghost use Rattle.std.specs.Prelude.{◌≡◌, ◌+◌, ◌*◌, ◌≤◌, length, IfOk};
 ghost use Rattle.desk_run.specs.Causes.{HasCause, IsComplete};
+ghost use Rattle.desk_run.specs.Commands.{IsCounted};
 ghost use Rattle.desk_run.specs.Runs.{RunsAs};
 ghost use Rattle.desk_run.specs.World.{world};
 ghost use Rattle.feed_commands.specs.Deficits.{deficits_asked, deficits_text};
 
-use deficit_steps::laws::held_law;
-use deficit_steps::{Deficits, deficit_lines};
+use deficit_steps::{deficit_lines, deficits_of};
 use desk_feed::{FEED_PAPERS, Judged, judge_feed};
 use desk_io::{Memory, Shelf, Sink, Steps, Text};
 use desk_keeper::Keeper;
@@ -18,34 +15,14 @@ use std::alloc::Global;
 use std::sync::ledger::Ledger;
 use trip_model::Timetable;
 
-/// The deficits of the trips that run.
-pub(crate) fn deficits_of<L: Ledger>(
-    alloc: Global,
-    timetable: &Timetable,
-    steps: &mut Steps<L>,
-) -> Result<Deficits, Memory>
-    ensures held { IfOk result (λ deficits. Holds deficits (live_moves timetable.now.slots)) }
-    ensures places { IfOk result (λ deficits. length deficits ≡ length timetable.now.places) }
-    ensures valid { IsTimetable timetable.now }
-{
-    let mut deficits = Deficits::open(alloc, timetable.places())?;
-    for s in 0..timetable.slots() {
-        let trip = timetable.trip(s);
-        if trip.live {
-            held_law();
-            deficits.add(&trip.as_move(), steps);
-        }
-    }
-    Ok(deficits)
-}
-
 // The text of the deficits of the trips that run.
 fn deficits_text<L: Ledger>(
     alloc: Global,
     timetable: &Timetable,
     steps: &mut Steps<L>,
 ) -> Result<Text, Memory>
-    ensures { IfOk result (λ text. text ≡ deficits_text timetable.now) }
+    ensures text { IfOk result (λ text. text ≡ deficits_text timetable.now) }
+    ensures counted { steps.new ≤ steps.old + 28 * length timetable.now.slots }
 {
     let deficits = deficits_of(alloc, timetable, steps)?;
     deficit_lines(alloc, timetable, &deficits)
@@ -72,7 +49,7 @@ impl Command for ShowDeficits {
         read: &Read,
         steps: &mut Steps<L>,
     ) -> Result<Outcome, Memory> {
-        match judge_feed(alloc, true, read)? {
+        match judge_feed(alloc, read)? {
             Judged::Refused(outcome) => Ok(outcome),
             Judged::Accepted(feed) => {
                 let text = deficits_text(alloc, &feed.timetable, steps)?;
@@ -97,6 +74,7 @@ pub fn run_deficits<S: Shelf, O: Sink, K: Keeper, L: Ledger>(
         HasCause deficits_asked (at shelf.old out.old keeper.old) (at shelf.new out.new keeper.new) result }
     ensures complete { let at = world S.state O.state K.state in
         IsComplete deficits_asked (at shelf.old out.old keeper.old) (at shelf.new out.new keeper.new) result }
+    ensures counted { IsCounted deficits_asked (world S.state O.state K.state shelf.old out.old keeper.old) steps.old steps.new }
 {
     perform(&ShowDeficits, alloc, shelf, out, keeper, steps)
 }

@@ -7,6 +7,7 @@ ghost use Rattle.trip_model.specs.Order.{by_departure};
 ghost use Rattle.trip_model.specs.Plain.{plain_network, trip_moves};
 ghost use Rattle.fixed_fleet.specs.Rule.{first_in_first_out};
 ghost use Rattle.desk_run.specs.Causes.{HasCause, IsComplete};
+ghost use Rattle.desk_run.specs.Commands.{IsCounted};
 ghost use Rattle.desk_run.specs.Runs.{RunsAs};
 ghost use Rattle.desk_run.specs.World.{world};
 ghost use Rattle.feed_commands.specs.Fixed.{IsFixedText, fixed_asked};
@@ -25,7 +26,7 @@ use trip_model::Timetable;
 use trip_model::laws::plain_law;
 
 // The blocks that the trips make without deadheads, first in, first out.
-pub(crate) fn fixed_blocks(alloc: Global, timetable: &Timetable) -> Result<Blocks, Memory>
+fn fixed_blocks(alloc: Global, timetable: &Timetable) -> Result<Blocks, Memory>
     ensures rule { IfOk result (λ blocks. blocks ≡ blocks_along
         (first_in_first_out (trip_moves timetable.now.slots)) (by_departure (trip_moves timetable.now.slots))) }
     ensures linked { IfOk result (λ blocks. AreLinks (plain_network (trip_moves timetable.now.slots)) (first_in_first_out (trip_moves timetable.now.slots))) }
@@ -79,7 +80,7 @@ impl Command for ShowFixed {
         read: &Read,
         _steps: &mut Steps<L>,
     ) -> Result<Outcome, Memory> {
-        match judge_feed(alloc, true, read)? {
+        match judge_feed(alloc, read)? {
             Judged::Refused(outcome) => Ok(outcome),
             Judged::Accepted(feed) => {
                 let pulls = feed.pulls;
@@ -105,6 +106,7 @@ pub fn run_fixed<S: Shelf, O: Sink, K: Keeper, L: Ledger>(
         HasCause fixed_asked (at shelf.old out.old keeper.old) (at shelf.new out.new keeper.new) result }
     ensures complete { let at = world S.state O.state K.state in
         IsComplete fixed_asked (at shelf.old out.old keeper.old) (at shelf.new out.new keeper.new) result }
+    ensures counted { IsCounted fixed_asked (world S.state O.state K.state shelf.old out.old keeper.old) steps.old steps.new }
 {
     perform(&ShowFixed, alloc, shelf, out, keeper, steps)
 }

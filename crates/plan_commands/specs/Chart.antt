@@ -1,26 +1,34 @@
 -- What `chart` asks, and what it puts of a feed.
-use Rattle.std.specs.Prelude.{◌≡◌, ℕ, false, List, ◌++◌}
+use Rattle.std.specs.Prelude.{◌≡◌, ℕ, List, ◌++◌, length}
 use Rattle.trip_model.specs.Deficit.{deficit, live_moves}
+use Rattle.trip_model.specs.Timetable.{TimetableView}
 use Rattle.deadhead_matrix.specs.Matrix.{MatrixView, walk}
+use Rattle.deadhead_matrix.specs.Prices.{Plan}
 use Rattle.chart_text.specs.Blocks.{block_chart_text}
 use Rattle.chart_text.specs.Deficits.{deficit_chart_text}
 use Rattle.desk_run.specs.Commands.{Asked}
 use Rattle.desk_feed.specs.Feed.{Said}
 use Rattle.desk_feed.specs.Judging.{showing}
-use Rattle.desk_feed.specs.Schedule.{IsSchedule}
+use Rattle.desk_feed.specs.Schedule.{IsMatrixFor, IsScheduled}
+use Rattle.plan_commands.specs.Steps.{most_steps}
 
 -- the chart of the deficits, and then that of the blocks
-abbrev pub chart_text : Said → MatrixView → List (List ℕ) → List ℕ
-chart_text said matrix blocks =
-    deficit_chart_text said.timetable (deficit (live_moves said.timetable.slots)) ++ block_chart_text said.timetable (walk matrix) said.settings.prefix blocks
+abbrev pub chart_text : TimetableView → MatrixView → List ℕ → List (List ℕ) → List ℕ
+chart_text timetable matrix prefix blocks =
+    deficit_chart_text timetable (deficit (live_moves timetable.slots)) ++ block_chart_text timetable (walk matrix) prefix blocks
 
--- the text is the chart of the deficits and of the blocks of a schedule
+-- the text is the chart of the deficits and of the blocks of a plan
+pub record IsChartText (timetable : TimetableView) (matrix : MatrixView) (prefix text : List ℕ) : Type 0 where
+  pub plan : Plan
+  pub blocks : List (List ℕ)
+  pub scheduled : IsScheduled timetable matrix plan blocks
+  pub printed : text ≡ chart_text timetable matrix prefix blocks
+
+-- and that of a feed
 pub record IsChart (said : Said) (text : List ℕ) : Type 0 where
   pub matrix : MatrixView
-  pub blocks : List (List ℕ)
-  pub schedule : IsSchedule said matrix blocks
-  pub printed : text ≡ chart_text said matrix blocks
+  pub matrix_is : IsMatrixFor said matrix
+  pub chart : IsChartText said.timetable matrix said.settings.prefix text
 
--- the deadheads are not read as yet
 abbrev pub chart_asked : Asked
-chart_asked = showing false IsChart
+chart_asked = showing IsChart (λ said. most_steps (length said.timetable.slots))

@@ -1,44 +1,47 @@
-ghost use Rattle.std.specs.Prelude.{◌≡◌, false, IfOk};
-ghost use Rattle.desk_feed.specs.Feed.{IsFeed, said_of};
+ghost use Rattle.std.specs.Prelude.{◌≡◌, ◌+◌, ◌≤◌, length, IfOk};
 ghost use Rattle.desk_run.specs.Causes.{HasCause, IsComplete};
+ghost use Rattle.desk_run.specs.Commands.{IsCounted};
 ghost use Rattle.desk_run.specs.Runs.{RunsAs};
 ghost use Rattle.desk_run.specs.World.{world};
-ghost use Rattle.feed_commands.specs.Chart.{IsChart, chart_asked};
+ghost use Rattle.plan_commands.specs.Chart.{IsChartText, chart_asked};
+ghost use Rattle.plan_commands.specs.Steps.{most_steps};
 
-use crate::deficits::deficits_of;
-use crate::fixed::fixed_blocks;
+use crate::schedule::{matrix_of, schedule_of};
 use chart_text::{block_chart, deficit_chart};
 use deadhead_matrix::Matrix;
-use deadhead_matrix::laws::standing_law;
-use desk_feed::{FEED_PAPERS, Feed, Judged, judge_feed};
+use deficit_steps::deficits_of;
+use desk_feed::{FEED_PAPERS, Judged, judge_feed};
 use desk_io::{Memory, Shelf, Sink, Steps, Text};
 use desk_keeper::Keeper;
 use desk_run::{Command, Ending, Outcome, Read, perform};
 use gtfs_tables::Paper;
 use std::alloc::Global;
 use std::sync::ledger::Ledger;
-use trip_model::laws::plain_law;
+use trip_model::Timetable;
 
-// The charts of the deficits and of the blocks of a feed. Without deadheads and pulls the fewest blocks are least.
-fn charts<L: Ledger>(alloc: Global, feed: &Feed, steps: &mut Steps<L>) -> Result<Text, Memory>
-    requires { IsFeed false feed.now }
-    ensures { IfOk result (IsChart (said_of feed.now)) }
+// The charts of the deficits and of the blocks of a plan.
+fn charts<L: Ledger>(
+    alloc: Global,
+    timetable: &Timetable,
+    matrix: &Matrix,
+    prefix: &str,
+    steps: &mut Steps<L>,
+) -> Result<Text, Memory>
+    requires { length timetable.now.places ≡ length matrix.now.walks }
+    ensures text { IfOk result (IsChartText timetable.now matrix.now prefix.now) }
+    ensures counted { steps.new ≤ steps.old + most_steps (length timetable.now.slots) }
 {
-    plain_law();
-    standing_law();
-    let timetable = &feed.timetable;
     let deficits = deficits_of(alloc, timetable, steps)?;
     let above = deficit_chart(alloc, timetable, &deficits)?;
-    let blocks = fixed_blocks(alloc, timetable)?;
-    let matrix = Matrix::of(alloc, &feed.deadheads, timetable.places())?;
-    let below = block_chart(alloc, timetable, &matrix, &blocks, feed.settings.prefix())?;
+    let schedule = schedule_of(alloc, timetable, matrix, steps)?;
+    let below = block_chart(alloc, timetable, matrix, &schedule.blocks, prefix)?;
     Ok(Text::wrap(format!(in alloc; "{}{}", above.as_str(), below.as_str())?))
 }
 
 struct ShowChart;
 
 impl Command for ShowChart {
-    ghost use Rattle.feed_commands.specs.Chart.{chart_asked};
+    ghost use Rattle.plan_commands.specs.Chart.{chart_asked};
 
     ghost asked = { λ _. chart_asked };
 
@@ -56,17 +59,20 @@ impl Command for ShowChart {
         read: &Read,
         steps: &mut Steps<L>,
     ) -> Result<Outcome, Memory> {
-        match judge_feed(alloc, false, read)? {
+        match judge_feed(alloc, read)? {
             Judged::Refused(outcome) => Ok(outcome),
             Judged::Accepted(feed) => {
-                let text = charts(alloc, &feed, steps)?;
+                let pulls = feed.pulls;
+                let timetable = &feed.timetable;
+                let matrix = matrix_of(alloc, timetable, &feed.deadheads, pulls)?;
+                let text = charts(alloc, timetable, &matrix, feed.settings.prefix(), steps)?;
                 Ok(Outcome::putting(alloc, text, Ending::Done))
             }
         }
     }
 }
 
-/// The command `chart`: charts of the deficits and of the blocks, ten minutes a character. It answers the status.
+/// The command `chart`: charts of the deficits and of the blocks of a plan, ten minutes a character. It answers the status.
 pub fn run_chart<S: Shelf, O: Sink, K: Keeper, L: Ledger>(
     alloc: Global,
     shelf: &mut S,
@@ -80,6 +86,7 @@ pub fn run_chart<S: Shelf, O: Sink, K: Keeper, L: Ledger>(
         HasCause chart_asked (at shelf.old out.old keeper.old) (at shelf.new out.new keeper.new) result }
     ensures complete { let at = world S.state O.state K.state in
         IsComplete chart_asked (at shelf.old out.old keeper.old) (at shelf.new out.new keeper.new) result }
+    ensures counted { IsCounted chart_asked (world S.state O.state K.state shelf.old out.old keeper.old) steps.old steps.new }
 {
     perform(&ShowChart, alloc, shelf, out, keeper, steps)
 }

@@ -1,0 +1,4 @@
+pub mod Blocks
+pub mod Chart
+pub mod Check
+pub mod Steps

@@ -1,0 +1,153 @@
+ghost use Rattle.std.specs.Prelude.{◌≡◌, length, IfOk};
+ghost use Rattle.gtfs_tables.specs.Papers.{IsWithinLimit};
+ghost use Rattle.trip_model.specs.Plain.{trip_moves, AreMoves};
+ghost use Rattle.price_check.specs.Claim.{AreBlockRows, ArePriceRows};
+ghost use Rattle.price_check.specs.Reasons.{verdict_of};
+ghost use Rattle.claim_files.specs.Claims.{claimed_of};
+ghost use Rattle.desk_run.specs.Causes.{HasCause, IsComplete};
+ghost use Rattle.desk_run.specs.Commands.{IsCounted};
+ghost use Rattle.desk_run.specs.Runs.{RunsAs};
+ghost use Rattle.desk_run.specs.World.{world};
+ghost use Rattle.plan_commands.specs.Check.{Proves, check_asked, claim_outcome, verdict_outcome};
+
+use crate::schedule::matrix_of;
+use claim_files::laws::{rows_law, told_law};
+use claim_files::{ClaimFault, claim_line, read_claimed, reason_line};
+use deadhead_matrix::Matrix;
+use desk_feed::{Judged, judge_feed};
+use desk_io::{Found, Memory, Shelf, Sink, Steps, Text};
+use desk_keeper::Keeper;
+use desk_run::{Command, Ending, Outcome, Read, perform};
+use gtfs_tables::Paper;
+use price_check::laws::{certificate_law, least_law};
+use price_check::{Claimed, Verdict, check};
+use std::alloc::Global;
+use std::sync::ledger::Ledger;
+use trip_model::Timetable;
+use trip_model::laws::plain_law;
+
+/// The papers of a feed, and then the two files of a claim.
+pub const CLAIM_PAPERS: [Paper; 10] = [
+    Paper::Settings,
+    Paper::Terminals,
+    Paper::Tolerances,
+    Paper::Trips,
+    Paper::StopTimes,
+    Paper::Deadheads,
+    Paper::Depot,
+    Paper::Edits,
+    Paper::Blocks,
+    Paper::Prices,
+];
+
+// What is put of a claim that was read.
+fn judged(
+    alloc: Global,
+    timetable: &Timetable,
+    matrix: &Matrix,
+    claimed: &Claimed,
+) -> Result<Outcome, Memory>
+    requires places { length timetable.now.places ≡ length matrix.now.walks }
+    requires blocks { AreBlockRows timetable.now claimed.now.blocks }
+    requires prices { ArePriceRows timetable.now claimed.now.prices }
+    ensures { IfOk result (λ outcome. outcome ≡ verdict_outcome timetable.now claimed.now (verdict_of timetable.now matrix.now claimed.now)) }
+{
+    told_law();
+    match check(timetable, matrix, claimed) {
+        Verdict::Yes { vehicles, minutes } => {
+            let line = format!(in alloc; "yes, vehicles {vehicles}, minutes {minutes}\n")?;
+            Ok(Outcome::putting(alloc, Text::wrap(line), Ending::Done))
+        }
+        Verdict::No(reason) => {
+            let line = reason_line(alloc, timetable, claimed, &reason)?;
+            Ok(Outcome::putting(alloc, line, Ending::No))
+        }
+    }
+}
+
+// What is put of the two files of a claim.
+fn checked(
+    alloc: Global,
+    timetable: &Timetable,
+    matrix: &Matrix,
+    blocks: &Found,
+    prices: &Found,
+) -> Result<Outcome, Memory>
+    requires places { length timetable.now.places ≡ length matrix.now.walks }
+    requires blocks { IsWithinLimit blocks.now }
+    requires prices { IsWithinLimit prices.now }
+    ensures done { IfOk result (λ outcome. outcome ≡ claim_outcome timetable.now matrix.now (claimed_of timetable.now blocks.now prices.now)) }
+    ensures proved { Proves timetable.now matrix.now (claimed_of timetable.now blocks.now prices.now) }
+    ensures moves { AreMoves (length timetable.now.places) (trip_moves timetable.now.slots) }
+{
+    plain_law();
+    rows_law();
+    certificate_law();
+    least_law();
+    // Their clauses say that the timetable is valid and that no pull is longer than a day.
+    let _slots = timetable.slots();
+    let _places = matrix.places();
+    match read_claimed(alloc, timetable, blocks, prices) {
+        Ok(claimed) => judged(alloc, timetable, matrix, &claimed),
+        Err(ClaimFault::Memory) => Err(Memory),
+        Err(fault) => {
+            let line = claim_line(alloc, &fault)?;
+            Ok(Outcome::putting(alloc, line, Ending::No))
+        }
+    }
+}
+
+struct CheckClaim;
+
+impl Command for CheckClaim {
+    ghost use Rattle.plan_commands.specs.Check.{check_asked};
+
+    ghost asked = { λ _. check_asked };
+
+    fn papers(&self) -> &[Paper] {
+        &CLAIM_PAPERS
+    }
+
+    fn keeps(&self) -> bool {
+        false
+    }
+
+    fn outcome<L: Ledger>(
+        &self,
+        alloc: Global,
+        read: &Read,
+        _steps: &mut Steps<L>,
+    ) -> Result<Outcome, Memory> {
+        match judge_feed(alloc, read)? {
+            Judged::Refused(outcome) => Ok(outcome),
+            Judged::Accepted(feed) => {
+                let pulls = feed.pulls;
+                let timetable = &feed.timetable;
+                let matrix = matrix_of(alloc, timetable, &feed.deadheads, pulls)?;
+                let blocks = read.found(Paper::Blocks);
+                let prices = read.found(Paper::Prices);
+                checked(alloc, timetable, &matrix, blocks, prices)
+            }
+        }
+    }
+}
+
+/// The command `check`: whether `blocks.csv` and `prices.csv` prove that their blocks are least, and else why not. It answers
+/// the status.
+pub fn run_check<S: Shelf, O: Sink, K: Keeper, L: Ledger>(
+    alloc: Global,
+    shelf: &mut S,
+    out: &mut O,
+    keeper: &mut K,
+    steps: &mut Steps<L>,
+) -> u8
+    ensures run { let at = world S.state O.state K.state in
+        RunsAs check_asked (at shelf.old out.old keeper.old) (at shelf.new out.new keeper.new) result }
+    ensures cause { let at = world S.state O.state K.state in
+        HasCause check_asked (at shelf.old out.old keeper.old) (at shelf.new out.new keeper.new) result }
+    ensures complete { let at = world S.state O.state K.state in
+        IsComplete check_asked (at shelf.old out.old keeper.old) (at shelf.new out.new keeper.new) result }
+    ensures counted { IsCounted check_asked (world S.state O.state K.state shelf.old out.old keeper.old) steps.old steps.new }
+{
+    perform(&CheckClaim, alloc, shelf, out, keeper, steps)
+}

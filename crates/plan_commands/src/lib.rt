@@ -1,0 +1,24 @@
+//! The commands that schedule a feed: its plan with the fewest vehicles and then the fewest empty minutes, charts of it, and the
+//! judging of one that somebody hands in.
+//!
+//! two such files. Each is a whole run over any shelf, sink and keeper, with its `Command` of `desk_run`: what it asks
+//!
+//! The contract that the crates above use: a run is one of what its command asks, with the cause of its status, which status
+//! comes where no fault was counted, and the most steps that it counts.
+//!
+//! ```text
+//! let status = run_blocks(alloc, shelf, out, keeper, steps);
+//! ```
+//!
+//! The contracts cite `Blocks`, `Chart` and `Check` (what each command asks and does), of `desk_run` `Runs`, `Causes` and
+//! `Commands`, and of `desk_feed` `Feed`, `Judging` and `Schedule`.
+#![tactic(auto)]
+
+mod blocks;
+mod chart;
+mod check;
+mod schedule;
+
+pub use blocks::run_blocks;
+pub use chart::run_chart;
+pub use check::run_check;
