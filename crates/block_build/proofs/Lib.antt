@@ -1,2 +1,4 @@
 pub mod BlocksMade
+pub mod CostLemmas
+pub mod FilesWritten
 pub mod LinesWritten

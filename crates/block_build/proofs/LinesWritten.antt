@@ -1,5 +1,5 @@
 -- Printed blocks, as they are written piece by piece.
-use Rattle.std.proofs.Common.{◌≡◌, ℕ, zero, suc, ◌+◌, ◌-◌, ◌<◌, ◌≤◌, List, [], ◌∷◌, ◌++◌, length, get_or, Option, refl, sym, ap, ◌∙◌, codes, append_assoc, arith}
+use Rattle.std.proofs.Common.{◌≡◌, ℕ, zero, suc, ◌+◌, ◌-◌, ◌<◌, ◌≤◌, List, [], ◌∷◌, ◌++◌, length, get_or, Option, true, false, refl, sym, ap, ◌∙◌, codes, append_assoc, arith}
 use Rattle.std.specs.Fmt.{decimal}
 use Rattle.std.specs.List.{flat_map, range_with_len}
 use Rattle.std.proofs.lemmas.Grind.{flat_map-append}
@@ -7,9 +7,10 @@ use Rattle.std.proofs.lemmas.List.{append-nil, map-id}
 use Rattle.std.proofs.lemmas.List.FromFn.{map-range_with_len_more}
 use Rattle.trip_model.specs.Timetable.{TimetableView, slot_at}
 use Rattle.deadhead_matrix.specs.Matrix.{MatrixView, walk}
-use Rattle.block_build.specs.Lines.{walk_between, deadhead_text, joint, trip_text, trips_text, pull_out, pull_in, pull_out_text, pull_in_text, block_line, block_text}
+use Rattle.block_build.specs.Lines.{walk_between, deadhead_text, joint, trip_text, trips_text, pull_out, pull_in, pull_out_text, pull_in_text, block_line, block_text, price_line, price_text}
 
-flat_map-range_more : (f : ℕ → List ℕ) (n : ℕ) → flat_map f (range_with_len 0 (n + 1)) ≡ flat_map f (range_with_len 0 n) ++ f n
+-- what is made of the numbers below one more
+pub flat_map-range_more : {A : Type 0} (f : ℕ → List A) (n : ℕ) → flat_map f (range_with_len 0 (n + 1)) ≡ flat_map f (range_with_len 0 n) ++ f n
 flat_map-range_more f n =
     ap (flat_map f) (sym (map-id (range_with_len 0 (n + 1))) ∙ map-range_with_len_more (λ x. x) 0 n n (omega arith) ∙ ap (λ xs. xs ++ n ∷ []) (map-id (range_with_len 0 n)))
     ∙ flat_map-append f (range_with_len 0 n) (n ∷ [])
@@ -72,3 +73,17 @@ pub lines-written : (t : TimetableView) (matrix : MatrixView) (prefix : List ℕ
 unfolding block_text
 lines-written t matrix prefix blocks now n all so_far =
     so_far ∙ ap (λ m. flat_map (λ n. block_line t matrix prefix n (get_or blocks n [])) (range_with_len 0 m)) (sym all)
+
+pub prices-written : (t : TimetableView) (leave enter now : List ℕ) (n : ℕ) → length t.slots ≡ n
+    → now ≡ flat_map (price_line t leave enter) (range_with_len 0 n) → now ≡ price_text t leave enter
+unfolding price_text
+prices-written t leave enter now n all so_far = so_far ∙ ap (λ m. flat_map (price_line t leave enter) (range_with_len 0 m)) (sym all)
+
+pub price-none : (t : TimetableView) (leave enter : List ℕ) (s : ℕ) → (slot_at t s).trip.live ≡ false → price_line t leave enter s ≡ []
+unfolding price_line
+price-none t leave enter s dead = rw dead refl
+
+pub price-one : (t : TimetableView) (leave enter : List ℕ) (s : ℕ) → (slot_at t s).trip.live ≡ true
+    → price_line t leave enter s ≡ codes " price " ++ ((slot_at t s).name ++ (codes " " ++ (decimal (get_or leave s 0) ++ (codes " " ++ (decimal (get_or enter s 0) ++ 10 ∷ [])))))
+unfolding price_line
+price-one t leave enter s live = rw live (simp append_assoc)

@@ -1,5 +1,5 @@
 -- The written texts of blocks and of prices, as records of comma-separated fields.
-use Rattle.std.specs.Prelude.{◌≡◌, ℕ, zero, suc, ◌<◌, List, [], ◌∷◌, length, map, slice_index, slice_index_or, All, IsSome, unwrap_or, codes, if◌then◌else◌}
+use Rattle.std.specs.Prelude.{ℕ, zero, suc, List, [], ◌∷◌, length, map, slice_index, slice_index_or, unwrap_or, if◌then◌else◌}
 use Rattle.std.specs.Fmt.{decimal}
 use Rattle.std.specs.List.{flat_map, range_with_len}
 use Rattle.gtfs_tables.specs.Papers.{column_name_of}
@@ -53,8 +53,3 @@ price_records timetable leave enter = flat_map (price_record timetable leave ent
 -- the text of `prices.csv`
 unfoldable pub prices_text : TimetableView → List ℕ → List ℕ → List ℕ
 prices_text timetable leave enter = records_text (price_header ∷ price_records timetable leave enter)
-
--- between each two trips of a block there is a way
-abbrev pub HaveWays : TimetableView → MatrixView → List (List ℕ) → Type 0
-HaveWays timetable matrix blocks = All (λ block. (n : ℕ) → suc n < length block
-    → IsSome (walk_between timetable (walk matrix) (slice_index block n) (slice_index block (suc n)))) blocks

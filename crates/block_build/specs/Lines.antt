@@ -61,3 +61,14 @@ block_line timetable matrix prefix number block =
 unfoldable pub block_text : TimetableView → MatrixView → List ℕ → List (List ℕ) → List ℕ
 block_text timetable matrix prefix blocks =
     flat_map (λ number. block_line timetable matrix prefix number (slice_index_or blocks number [])) (range_with_len 0 (length blocks))
+
+-- the line of the prices of a slot, one space before it; none where its trip does not run
+unfoldable pub price_line : TimetableView → List ℕ → List ℕ → ℕ → List ℕ
+price_line timetable leave enter s =
+    if (slot_at timetable s).trip.live
+    then codes " price " ++ (slot_at timetable s).name ++ codes " " ++ decimal (slice_index_or leave s 0) ++ codes " " ++ decimal (slice_index_or enter s 0) ++ 10 ∷ []
+    else []
+
+-- the lines of the prices of the trips that run, slot by slot
+unfoldable pub price_text : TimetableView → List ℕ → List ℕ → List ℕ
+price_text timetable leave enter = flat_map (price_line timetable leave enter) (range_with_len 0 (length timetable.slots))

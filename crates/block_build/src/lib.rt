@@ -1,23 +1,28 @@
-//! Blocks, the trips that one vehicle makes one after the other, and how they are printed.
+//! Blocks, the trips that one vehicle makes one after the other, and how they and the prices of a plan are printed and written.
 //!
-//! [`blocks_of`] makes the blocks of links, and [`block_lines`] prints them.
+//! [`blocks_of`] makes the blocks of links and [`empty_minutes`] counts the minutes that they run empty. [`block_lines`] and
+//! [`price_lines`] print, [`blocks_text`] and [`prices_text`] make the texts of `blocks.csv` and `prices.csv`.
 //!
 //! The contract that the crates above use: blocks are the chains of the links, in the order in which their first trips
-//! depart, and each live slot stands in them exactly once.
+//! depart, and each live slot stands in them exactly once; a text is the definition of it, over all names.
 //!
 //! ```text
 //! let blocks = blocks_of(alloc, &timetable, &links)?;
 //! let text = block_lines(alloc, &timetable, &matrix, &blocks, "B")?;
 //! ```
 //!
-//! The contracts cite `Lines` (the printed text), of `trip_model` `Blocking`, `Links`, `Order`, `Plain` and `Timetable`,
-//! and of `deadhead_matrix` `Matrix`.
+//! The contracts cite `Lines` (the printed texts) and `Files` (the written ones); of `trip_model` `Blocking`, `Links`, `Order`,
+//! `Plain` and `Timetable`; and of `deadhead_matrix` `Fitting` and `Matrix`.
 #![tactic(auto)]
 
 mod blocks;
 mod build;
+mod cost;
+mod files;
 mod lines;
 
 pub use blocks::Blocks;
 pub use build::blocks_of;
-pub use lines::block_lines;
+pub use cost::empty_minutes;
+pub use files::{blocks_text, prices_text};
+pub use lines::{block_lines, price_lines};

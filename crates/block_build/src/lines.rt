@@ -167,3 +167,46 @@ pub fn block_lines(
     }
     Ok(Text::wrap(text))
 }
+
+// The line of the prices of a slot, where its trip runs.
+#[tactic(auto, unfolding(crate::specs::Lines::price_line))]
+fn push_price(
+    text: &mut String,
+    timetable: &Timetable,
+    leave: &[u64],
+    enter: &[u64],
+    slot: u16,
+) -> Result<(), Memory>
+    requires slot { slot < length timetable.now.slots }
+    requires leave { length leave.now ≡ length timetable.now.slots }
+    requires enter { length enter.now ≡ length timetable.now.slots }
+    ensures { OnOk result (string_bytes text.new ≡ string_bytes text.old ++ spec.price_line timetable.now leave.now enter.now slot) }
+{
+    if !timetable.trip(slot).live {
+        return Ok(());
+    }
+    let name = timetable.name(slot);
+    let leaving = leave[usize::from(slot)];
+    let entering = enter[usize::from(slot)];
+    writeln!(text, " price {name} {leaving} {entering}")?;
+    Ok(())
+}
+
+/// The lines of prices as they are printed, one space before each: for each trip that runs, slot by slot, its name, the price
+/// of leaving it and that of entering it.
+pub fn price_lines(
+    alloc: Global,
+    timetable: &Timetable,
+    leave: &[u64],
+    enter: &[u64],
+) -> Result<Text, Memory>
+    requires leave { length leave.now ≡ length timetable.now.slots }
+    requires enter { length enter.now ≡ length timetable.now.slots }
+    ensures { IfOk result (λ text. text ≡ spec.price_text timetable.now leave.now enter.now) }
+{
+    let mut text = String::new(alloc);
+    for slot in 0..timetable.slots() {
+        push_price(&mut text, timetable, leave, enter, slot)?;
+    }
+    Ok(Text::wrap(text))
+}

@@ -1,3 +1,4 @@
 pub mod DeficitsLemmas
+pub mod Held
 pub mod LinesLemmas
 pub mod RowLemmas

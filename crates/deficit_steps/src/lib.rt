@@ -4,15 +4,14 @@
 //! [`Deficits::take`] counts them no more.
 //! The value of a place at a minute is the sum of its changes so far; `max` answers its greatest value and the first
 //! minute that has it, `total` the sum of these over all places, and `step_list` the minutes at which it changes.
-//! [`deficit_lines`] prints them.
+//! [`deficits_of`] holds the trips of a timetable that run, and [`deficit_lines`] prints them.
 //!
 //! The contract that the crate above uses: deficits are seen as the list of the changes of each place, 8,192 for each.
 //! Where they hold a list of moves, the value of each place at each minute is the deficit of that list
 //! ([`laws::held_law`]), a move that is added is held besides, and one that is taken away no more.
 //!
 //! ```text
-//! let mut deficits = Deficits::open(alloc, timetable.places())?;
-//! deficits.add(&timetable.trip(0).as_move(), &mut steps);
+//! let deficits = deficits_of(alloc, &timetable, &mut steps)?;
 //! let (vehicles, minute) = deficits.max(0);
 //! ```
 //!
@@ -24,6 +23,8 @@ mod deficits;
 pub mod laws;
 mod lines;
 mod row;
+mod trips;
 
 pub use deficits::Deficits;
 pub use lines::deficit_lines;
+pub use trips::deficits_of;

@@ -1,5 +1,5 @@
 -- What the papers say, where one of them is refused.
-use Rattle.std.proofs.Common.{◌≡◌, Bool, List, Result, Ok, sym, ap, ◌∙◌}
+use Rattle.std.proofs.Common.{◌≡◌, List, Result, Ok, sym, ap, ◌∙◌}
 use Rattle.desk_io.specs.declared.shelf.Found.{Found}
 use Rattle.gtfs_tables.specs.declared.fault.FeedFault.{FeedFault}
 use Rattle.gtfs_tables.specs.declared.paper.Paper.{Paper}
@@ -11,48 +11,48 @@ use Rattle.deadhead_matrix.specs.declared.entry.Entry.{Entry}
 use Rattle.deadhead_matrix.specs.declared.pulls.Pull.{Pull}
 use Rattle.desk_feed.specs.Feed.{Said, settings_in, timetable_in, deadheads_in, pulls_in, no_edits, said_by}
 
-module _ (reads : Bool) (found : Paper → Found) (settings : SettingsView) where
+module _ (found : Paper → Found) (settings : SettingsView) where
   -- what is said once the pulls are read, once the deadheads are, and once the timetable is
   abbrev with_pulls : TimetableView × List Entry → List Pull → Result Said FeedFault
   with_pulls deadheads pulls = no_edits found >>= λ _. Ok (record { settings = settings; base = deadheads.0; timetable = deadheads.0; entries = deadheads.1; pulls = pulls })
 
   abbrev with_deadheads : TimetableView × List Entry → Result Said FeedFault
-  with_deadheads deadheads = pulls_in found reads deadheads.0 >>= with_pulls deadheads
+  with_deadheads deadheads = pulls_in found deadheads.0 >>= with_pulls deadheads
 
   abbrev with_timetable : TimetableView → Result Said FeedFault
-  with_timetable timetable = deadheads_in found reads timetable >>= with_deadheads
+  with_timetable timetable = deadheads_in found timetable >>= with_deadheads
 
   module _ (known : settings_in found ≡ Ok settings) where
-    said_with_settings : said_by reads found ≡ (timetable_in found settings >>= with_timetable)
+    said_with_settings : said_by found ≡ (timetable_in found settings >>= with_timetable)
     unfolding said_by
-    said_with_settings = ap (λ read. read >>= λ s. timetable_in found s >>= λ t. deadheads_in found reads t >>= λ d. pulls_in found reads d.0 >>= λ p. no_edits found
+    said_with_settings = ap (λ read. read >>= λ s. timetable_in found s >>= λ t. deadheads_in found t >>= λ d. pulls_in found d.0 >>= λ p. no_edits found
         >>= λ _. Ok (record { settings = s; base = d.0; timetable = d.0; entries = d.1; pulls = p })) known
 
     -- the timetable is refused
-    pub said-no_timetable : (refused : FeedFault) → Fails refused (timetable_in found settings) → Fails refused (said_by reads found)
+    pub said-no_timetable : (refused : FeedFault) → Fails refused (timetable_in found settings) → Fails refused (said_by found)
     said-no_timetable refused due =
-        Fails-equal refused (timetable_in found settings >>= with_timetable) (said_by reads found) (sym said_with_settings) (Fails->>= refused (timetable_in found settings) with_timetable due)
+        Fails-equal refused (timetable_in found settings >>= with_timetable) (said_by found) (sym said_with_settings) (Fails->>= refused (timetable_in found settings) with_timetable due)
 
     module _ (timetable : TimetableView) (read : timetable_in found settings ≡ Ok timetable) where
-      said_with_timetable : said_by reads found ≡ with_timetable timetable
+      said_with_timetable : said_by found ≡ with_timetable timetable
       said_with_timetable = said_with_settings ∙ ap (λ read. read >>= with_timetable) read
 
       -- the deadheads are refused
-      pub said-no_deadheads : (refused : FeedFault) → Fails refused (deadheads_in found reads timetable) → Fails refused (said_by reads found)
+      pub said-no_deadheads : (refused : FeedFault) → Fails refused (deadheads_in found timetable) → Fails refused (said_by found)
       said-no_deadheads refused due =
-          Fails-equal refused (with_timetable timetable) (said_by reads found) (sym said_with_timetable) (Fails->>= refused (deadheads_in found reads timetable) with_deadheads due)
+          Fails-equal refused (with_timetable timetable) (said_by found) (sym said_with_timetable) (Fails->>= refused (deadheads_in found timetable) with_deadheads due)
 
-      module _ (deadheads : TimetableView × List Entry) (entered : deadheads_in found reads timetable ≡ Ok deadheads) where
-        said_with_deadheads : said_by reads found ≡ with_deadheads deadheads
+      module _ (deadheads : TimetableView × List Entry) (entered : deadheads_in found timetable ≡ Ok deadheads) where
+        said_with_deadheads : said_by found ≡ with_deadheads deadheads
         said_with_deadheads = said_with_timetable ∙ ap (λ read. read >>= with_deadheads) entered
 
         -- the pulls are refused
-        pub said-no_pulls : (refused : FeedFault) → Fails refused (pulls_in found reads deadheads.0) → Fails refused (said_by reads found)
+        pub said-no_pulls : (refused : FeedFault) → Fails refused (pulls_in found deadheads.0) → Fails refused (said_by found)
         said-no_pulls refused due =
-            Fails-equal refused (with_deadheads deadheads) (said_by reads found) (sym said_with_deadheads) (Fails->>= refused (pulls_in found reads deadheads.0) (with_pulls deadheads) due)
+            Fails-equal refused (with_deadheads deadheads) (said_by found) (sym said_with_deadheads) (Fails->>= refused (pulls_in found deadheads.0) (with_pulls deadheads) due)
 
         -- the edits are refused
-        pub said-no_edits : (pulls : List Pull) (refused : FeedFault) → pulls_in found reads deadheads.0 ≡ Ok pulls → Fails refused (no_edits found) → Fails refused (said_by reads found)
+        pub said-no_edits : (pulls : List Pull) (refused : FeedFault) → pulls_in found deadheads.0 ≡ Ok pulls → Fails refused (no_edits found) → Fails refused (said_by found)
         said-no_edits pulls refused pulled due =
-            Fails-equal refused (with_pulls deadheads pulls) (said_by reads found) (sym (said_with_deadheads ∙ ap (λ read. read >>= with_pulls deadheads) pulled))
+            Fails-equal refused (with_pulls deadheads pulls) (said_by found) (sym (said_with_deadheads ∙ ap (λ read. read >>= with_pulls deadheads) pulled))
             (Fails->>= refused (no_edits found) (λ _. Ok (record { settings = settings; base = deadheads.0; timetable = deadheads.0; entries = deadheads.1; pulls = pulls })) due)

@@ -1,5 +1,5 @@
 -- From the papers of a feed to its settings, its timetable, its deadheads and its depot, or the first refusal.
-use Rattle.std.specs.Prelude.{◌≡◌, Bool, true, false, List, [], ◌∷◌, length, replicate, All, Result, Ok, Err}
+use Rattle.std.specs.Prelude.{◌≡◌, List, [], ◌∷◌, length, All, Result, Ok, Err}
 use Rattle.desk_io.specs.declared.shelf.Found.{Found}
 use Rattle.desk_io.specs.declared.shelf.Found.TheVariants.{File, Missing, TooLong}
 use Rattle.gtfs_tables.specs.declared.fault.FeedFault.{FeedFault}
@@ -12,7 +12,6 @@ use Rattle.trip_model.specs.Timetable.{TimetableView}
 use Rattle.feed_read.specs.Base.{base_of}
 use Rattle.deadhead_matrix.specs.declared.entry.Entry.{Entry}
 use Rattle.deadhead_matrix.specs.declared.pulls.Pull.{Pull}
-use Rattle.deadhead_matrix.specs.declared.pulls.TheConstants.{NO_PULL}
 use Rattle.deadhead_matrix.specs.Deadheads.{deadheads_of}
 use Rattle.deadhead_matrix.specs.Depot.{pulls_of}
 use Rattle.desk_run.specs.Reading.{IsAmong, papers_of}
@@ -38,20 +37,6 @@ not_there name Missing = Ok tt
 not_there name TooLong = Err (fault.NotYet name)
 not_there name (File bytes) = Err (fault.NotYet name)
 
--- the timetable with the places of the deadheads, and their entries
-abbrev pub deadheads_for : Bool → Found → TimetableView → Result (TimetableView × List Entry) FeedFault
-deadheads_for true found timetable = deadheads_of found timetable
-deadheads_for false found timetable = not_there paper.Deadheads found >>= λ _. Ok (timetable, [])
-
--- no pulls of the places
-abbrev pub no_pulls : TimetableView → List Pull
-no_pulls timetable = replicate (length timetable.places) NO_PULL
-
--- the pulls of the places
-abbrev pub pulls_for : Bool → Found → TimetableView → Result (List Pull) FeedFault
-pulls_for true found timetable = pulls_of found timetable
-pulls_for false found timetable = not_there paper.Depot found >>= λ _. Ok (no_pulls timetable)
-
 -- each part of a feed, of what was found of its papers
 abbrev pub settings_in : (Paper → Found) → Result SettingsView FeedFault
 settings_in found = settings_of (found paper.Settings) (found paper.Terminals) (found paper.Tolerances)
@@ -59,23 +44,23 @@ settings_in found = settings_of (found paper.Settings) (found paper.Terminals) (
 abbrev pub timetable_in : (Paper → Found) → SettingsView → Result TimetableView FeedFault
 timetable_in found settings = base_of settings (found paper.Trips) (found paper.StopTimes)
 
-abbrev pub deadheads_in : (Paper → Found) → Bool → TimetableView → Result (TimetableView × List Entry) FeedFault
-deadheads_in found reads timetable = deadheads_for reads (found paper.Deadheads) timetable
+abbrev pub deadheads_in : (Paper → Found) → TimetableView → Result (TimetableView × List Entry) FeedFault
+deadheads_in found timetable = deadheads_of (found paper.Deadheads) timetable
 
-abbrev pub pulls_in : (Paper → Found) → Bool → TimetableView → Result (List Pull) FeedFault
-pulls_in found reads timetable = pulls_for reads (found paper.Depot) timetable
+abbrev pub pulls_in : (Paper → Found) → TimetableView → Result (List Pull) FeedFault
+pulls_in found timetable = pulls_of (found paper.Depot) timetable
 
 abbrev pub no_edits : (Paper → Found) → Result (Unit {0}) FeedFault
 no_edits found = not_there paper.Edits (found paper.Edits)
 
--- What the papers say, to a command that reads the deadheads and the depot or does not. They are judged one after the other, and the
--- first refusal ends it. No script is read as yet, so the base timetable stands.
-unfoldable pub said_by : Bool → (Paper → Found) → Result Said FeedFault
-said_by reads found = do
+-- What the papers say. They are judged one after the other, and the first refusal ends it. No script is read as yet, so the
+-- base timetable stands.
+unfoldable pub said_by : (Paper → Found) → Result Said FeedFault
+said_by found = do
   settings ← settings_in found
   timetable ← timetable_in found settings
-  deadheads ← deadheads_in found reads timetable
-  pulls ← pulls_in found reads deadheads.0
+  deadheads ← deadheads_in found timetable
+  pulls ← pulls_in found deadheads.0
   _ ← no_edits found
   Ok (record { settings = settings; base = deadheads.0; timetable = deadheads.0; entries = deadheads.1; pulls = pulls })
 
@@ -87,8 +72,6 @@ said_of feed = record { settings = feed.settings; base = feed.timetable; timetab
 abbrev pub HasPapers : List Page → Type 0
 HasPapers pages = All (IsAmong (papers_of pages)) feed_papers
 
--- a feed has the pulls of each of its places; where deadheads and depot are not read there are no entries and no pulls
-pub record IsFeed (reads : Bool) (feed : Feed) : Type 0 where
-  pub places : length feed.pulls ≡ length feed.timetable.places
-  pub no_entries : reads ≡ false → feed.deadheads ≡ []
-  pub none : reads ≡ false → feed.pulls ≡ no_pulls feed.timetable
+-- a feed has the pulls of each of its places
+abbrev pub HavePulls : Feed → Type 0
+HavePulls feed = length feed.pulls ≡ length feed.timetable.places

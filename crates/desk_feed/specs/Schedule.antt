@@ -1,21 +1,36 @@
--- The blocks of a feed that are drawn, written or listed, for every command that does so.
-use Rattle.std.specs.Prelude.{◌≡◌, ℕ, List, length, Option}
+-- The plan of a feed and its blocks, for every command that draws, writes or lists them.
+use Rattle.std.specs.Prelude.{◌≡◌, ℕ, List, length}
 use Rattle.trip_model.specs.Blocking.{IsLeast}
-use Rattle.trip_model.specs.Links.{AreLinks, blocks_along}
+use Rattle.trip_model.specs.Links.{blocks_along}
 use Rattle.trip_model.specs.Order.{by_departure}
 use Rattle.trip_model.specs.Plain.{trip_moves}
+use Rattle.trip_model.specs.Timetable.{TimetableView}
+use Rattle.deadhead_matrix.specs.declared.entry.Entry.{Entry}
+use Rattle.deadhead_matrix.specs.declared.pulls.Pull.{Pull}
 use Rattle.deadhead_matrix.specs.Fitting.{deadhead_network}
 use Rattle.deadhead_matrix.specs.Matrix.{MatrixView, AreLeastWalks}
+use Rattle.deadhead_matrix.specs.Prices.{Plan, IsPlanFor}
 use Rattle.desk_feed.specs.Feed.{Said}
 
--- The matrix has the least walks of the entries and the pulls, and the blocks are those along links, in order of departure. They are
--- least: no blocking, also with deadheads, has fewer vehicles, and none with as few has fewer empty minutes.
-pub record IsSchedule (said : Said) (matrix : MatrixView) (blocks : List (List ℕ)) : Type 0 where
-  pub entries : matrix.entries ≡ said.entries
-  pub pulls : matrix.pulls ≡ said.pulls
-  pub places : length matrix.walks ≡ length said.timetable.places
+-- the matrix has the least walks of the entries between so many places, and the pulls
+pub record IsMatrixOf (entries : List Entry) (pulls : List Pull) (places : ℕ) (matrix : MatrixView) : Type 0 where
+  pub entries_are : matrix.entries ≡ entries
+  pub pulls_are : matrix.pulls ≡ pulls
+  pub count : length matrix.walks ≡ places
   pub walks : AreLeastWalks matrix
-  pub links : List (Option ℕ)
-  pub linked : AreLinks (deadhead_network (trip_moves said.timetable.slots) matrix) links
-  pub along : blocks ≡ blocks_along links (by_departure (trip_moves said.timetable.slots))
-  pub least : IsLeast (deadhead_network (trip_moves said.timetable.slots) matrix) blocks
+
+-- the matrix of what a feed says
+abbrev pub IsMatrixFor : Said → MatrixView → Type 0
+IsMatrixFor said matrix = IsMatrixOf said.entries said.pulls (length said.timetable.places) matrix
+
+-- A plan that its prices prove, and the blocks along its links, in order of departure. They are least: no blocking, also with
+-- deadheads, has fewer vehicles, and none with as few has fewer empty minutes.
+pub record IsScheduled (timetable : TimetableView) (matrix : MatrixView) (plan : Plan) (blocks : List (List ℕ)) : Type 0 where
+  pub certified : IsPlanFor timetable matrix plan
+  pub along : blocks ≡ blocks_along plan.next (by_departure (trip_moves timetable.slots))
+  pub least : IsLeast (deadhead_network (trip_moves timetable.slots) matrix) blocks
+
+-- the schedule of what a feed says
+pub record IsSchedule (said : Said) (matrix : MatrixView) (plan : Plan) (blocks : List (List ℕ)) : Type 0 where
+  pub matrix_is : IsMatrixFor said matrix
+  pub scheduled : IsScheduled said.timetable matrix plan blocks

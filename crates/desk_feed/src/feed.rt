@@ -1,5 +1,4 @@
-ghost use Rattle.std.specs.Prelude.{◌≡◌, false, [], length, IfOk};
-ghost use Rattle.gtfs_tables.specs.Papers.{IsWithinLimit};
+ghost use Rattle.std.specs.Prelude.{◌≡◌, length, IfOk};
 ghost use Rattle.gtfs_tables.specs.Reading.{Gives};
 ghost use Rattle.desk_run.specs.Reading.{found_of};
 ghost use Rattle.desk_feed.specs.Feed as spec;
@@ -31,43 +30,6 @@ fn not_there(paper: Paper, found: &Found) -> Result<(), FeedFault>
     }
 }
 
-// The deadheads between the places of a timetable, which gains the places that they name; none where they are not read.
-fn deadheads_for(
-    alloc: Global,
-    reads: bool,
-    deadheads: &Found,
-    timetable: &mut Timetable,
-) -> Result<Deadheads, FeedFault>
-    requires { IsWithinLimit deadheads.now }
-    ensures gives { Gives (λ read. (timetable.new, read)) result (spec.deadheads_for reads deadheads.now timetable.old) }
-    ensures none { reads ≡ false → IfOk result (λ read. read ≡ []) }
-{
-    if reads {
-        return Deadheads::read(alloc, deadheads, timetable);
-    }
-    not_there(Paper::Deadheads, deadheads)?;
-    Ok(Deadheads::none(alloc)?)
-}
-
-// The pulls of the places of a timetable; none where they are not read.
-fn pulls_for(
-    alloc: Global,
-    reads: bool,
-    depot: &Found,
-    timetable: &Timetable,
-) -> Result<Pulls, FeedFault>
-    requires { IsWithinLimit depot.now }
-    ensures gives { Gives (λ pulls. pulls) result (spec.pulls_for reads depot.now timetable.now) }
-    ensures places { IfOk result (λ pulls. length pulls ≡ length timetable.now.places) }
-    ensures none { reads ≡ false → IfOk result (λ pulls. pulls ≡ spec.no_pulls timetable.now) }
-{
-    if reads {
-        return Pulls::read(alloc, depot, timetable);
-    }
-    not_there(Paper::Depot, depot)?;
-    Ok(Pulls::none(alloc, timetable.places())?)
-}
-
 fn read_settings(alloc: Global, read: &Read) -> Result<Settings, FeedFault>
     requires { spec.HasPapers read.now.pages }
     ensures { Gives (λ settings. settings) result (spec.settings_in (found_of read.now.pages)) }
@@ -89,29 +51,21 @@ fn read_timetable(alloc: Global, settings: &Settings, read: &Read) -> Result<Tim
 
 fn read_deadheads(
     alloc: Global,
-    reads: bool,
     timetable: &mut Timetable,
     read: &Read,
 ) -> Result<Deadheads, FeedFault>
     requires { spec.HasPapers read.now.pages }
-    ensures gives { Gives (λ entries. (timetable.new, entries)) result (spec.deadheads_in (found_of read.now.pages) reads timetable.old) }
-    ensures none { reads ≡ false → IfOk result (λ entries. entries ≡ []) }
+    ensures { Gives (λ entries. (timetable.new, entries)) result (spec.deadheads_in (found_of read.now.pages) timetable.old) }
 {
-    deadheads_for(alloc, reads, read.found(Paper::Deadheads), timetable)
+    Deadheads::read(alloc, read.found(Paper::Deadheads), timetable)
 }
 
-fn read_pulls(
-    alloc: Global,
-    reads: bool,
-    timetable: &Timetable,
-    read: &Read,
-) -> Result<Pulls, FeedFault>
+fn read_pulls(alloc: Global, timetable: &Timetable, read: &Read) -> Result<Pulls, FeedFault>
     requires { spec.HasPapers read.now.pages }
-    ensures gives { Gives (λ pulls. pulls) result (spec.pulls_in (found_of read.now.pages) reads timetable.now) }
+    ensures gives { Gives (λ pulls. pulls) result (spec.pulls_in (found_of read.now.pages) timetable.now) }
     ensures places { IfOk result (λ pulls. length pulls ≡ length timetable.now.places) }
-    ensures none { reads ≡ false → IfOk result (λ pulls. pulls ≡ spec.no_pulls timetable.now) }
 {
-    pulls_for(alloc, reads, read.found(Paper::Depot), timetable)
+    Pulls::read(alloc, read.found(Paper::Depot), timetable)
 }
 
 fn no_edits(read: &Read) -> Result<(), FeedFault>
@@ -122,17 +76,17 @@ fn no_edits(read: &Read) -> Result<(), FeedFault>
 }
 
 /// The settings, the timetable, the deadheads and the pulls of a feed, or the first refusal in the order in which its papers
-/// are judged. Where deadheads and depot are not read there must be no file of them.
+/// are judged.
 #[tactic(auto, unfolding(crate::specs::Feed::said_by))]
-pub(crate) fn read_feed(alloc: Global, reads: bool, read: &Read) -> Result<Feed, FeedFault>
+pub(crate) fn read_feed(alloc: Global, read: &Read) -> Result<Feed, FeedFault>
     requires { spec.HasPapers read.now.pages }
-    ensures gives { Gives spec.said_of result (spec.said_by reads (found_of read.now.pages)) }
-    ensures feed { IfOk result (spec.IsFeed reads) }
+    ensures gives { Gives spec.said_of result (spec.said_by (found_of read.now.pages)) }
+    ensures pulls { IfOk result spec.HavePulls }
 {
     let settings = read_settings(alloc, read)?;
     let mut timetable = read_timetable(alloc, &settings, read)?;
-    let deadheads = read_deadheads(alloc, reads, &mut timetable, read)?;
-    let pulls = read_pulls(alloc, reads, &timetable, read)?;
+    let deadheads = read_deadheads(alloc, &mut timetable, read)?;
+    let pulls = read_pulls(alloc, &timetable, read)?;
     no_edits(read)?;
     Ok(Feed {
         settings,

@@ -28,11 +28,11 @@ pub enum Judged {
 }
 
 /// Reads the feed of what was read, which has to have all its papers: what it says, or the outcome of its first refusal.
-pub fn judge_feed(alloc: Global, reads: bool, read: &Read) -> Result<Judged, Memory>
+pub fn judge_feed(alloc: Global, read: &Read) -> Result<Judged, Memory>
     requires { HasPapers read.now.pages }
-    ensures { IfOk result (Judges reads read.now) }
+    ensures { IfOk result (Judges read.now) }
 {
-    match read_feed(alloc, reads, read) {
+    match read_feed(alloc, read) {
         Ok(feed) => Ok(Judged::Accepted(feed)),
         Err(FeedFault::Memory) => Err(Memory),
         Err(refused) => {

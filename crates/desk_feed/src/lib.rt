@@ -7,15 +7,15 @@
 //! first refusal in the order of judging is put, and the run ends as refused.
 //!
 //! ```text
-//! match judge_feed(alloc, true, read)? {
+//! match judge_feed(alloc, read)? {
 //!     Judged::Accepted(feed) => ..,
 //!     Judged::Refused(outcome) => Ok(outcome),
 //! }
 //! ```
 //!
 //! The contracts cite `Feed` (what the papers say, or their first refusal) and `Judging` (what is made of that, and what a
-//! command asks that works on a feed); of `desk_run` what is read and what an outcome is. `Schedule` has the blocks of a feed
-//! that commands draw, write or list.
+//! command asks that works on a feed); of `desk_run` what is read and what an outcome is. `Schedule` has the plan of a feed and
+//! its blocks, which commands draw, write or list.
 #![tactic(auto)]
 
 mod feed;

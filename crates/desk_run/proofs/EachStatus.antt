@@ -1,5 +1,5 @@
 -- When each status of a command comes, from what its run did.
-use Rattle.std.proofs.Common.{◌≡◌, ◌⊎◌, ℕ, inl, inr, Bool, true, false, List, [], ◌∷◌, get_or, take, Some, None, refl, sym, ap, ◌∙◌, subst, arith}
+use Rattle.std.proofs.Common.{◌≡◌, ◌⊎◌, ℕ, ◌+◌, ◌≤◌, inl, inr, Bool, true, false, List, [], ◌∷◌, get_or, take, Some, None, refl, sym, ap, ◌∙◌, subst, arith}
 use Rattle.std.specs.Prelude.{Option, IfSome, IsSome, is_some, option_map}
 use Rattle.std.proofs.lemmas.List.Folds.{map_fixed}
 use Rattle.std.proofs.lemmas.Simd.{map-map}
@@ -9,7 +9,7 @@ use Rattle.gtfs_tables.specs.declared.paper.Paper.{Paper}
 use Rattle.desk_keeper.specs.Keeper.{Journal, KeeperState}
 use Rattle.desk_run.specs.Becomes.{with_writings, with_appended}
 use Rattle.desk_run.specs.Causes.{HasCause, IsComplete}
-use Rattle.desk_run.specs.Commands.{Asked, told, told_both, told_journal}
+use Rattle.desk_run.specs.Commands.{Asked, IsCounted, IsEnding, IsReadIn, told, told_both, told_journal}
 use Rattle.desk_run.specs.Outcome.{status_of}
 use Rattle.desk_run.specs.Reading.{ReadView, AreRead, IsLoaded, page_in, pages_in}
 use Rattle.desk_run.specs.Runs.{HasEnded, IsCutShort, IsUnkept, RunsAs}
@@ -43,6 +43,19 @@ any_some : {A : Type 0} {P : A → Type 0} (o : Option A) → ((a : A) → P a) 
 any_some None all = tt
 any_some (Some a) all = all a
 
+-- what was read of the papers and of the journal that a command asks for is what it reads of the world
+pub read_in : (asked : Asked) (before : World) (papers : List Paper) (keeps : Bool) (read : ReadView) → papers ≡ asked.papers → keeps ≡ asked.keeps
+    → AreRead before.shelf.files papers read.pages → IsLoaded keeps before.keeper.journal read.journal → IsReadIn asked before read
+read_in asked before papers keeps read papers_are keeps_are pages loaded = record {
+  pages = subst (λ papers. AreRead before.shelf.files papers read.pages) papers_are pages;
+  journal = subst (λ keeps. IsLoaded keeps before.keeper.journal read.journal) keeps_are loaded;
+}
+
+-- steps that are no more than what was read allows are no more than what is told allows
+pub counted_by : (asked : Asked) (before : World) (read : ReadView) (old new : ℕ) → IsReadIn asked before read → new ≤ old + asked.most read → IsCounted asked before old new
+counted_by asked before read old new from few =
+    each_some (told asked before) (λ all is. subst (λ r. new ≤ old + asked.most r) is few) (told_by asked.papers asked.keeps before.shelf.files before.keeper.journal read from.pages from.journal)
+
 no_usage : (e : Ending) → status_of e ≡ USAGE → ⊥
 no_usage ending.Done is = omega (arith, is)
 no_usage ending.EditsRefused is = omega (arith, is)
@@ -67,10 +80,10 @@ not_risen : (before now : ℕ) → NoneCounted before now → Rose before now �
 not_risen before now none rose = omega (arith, none.same, none.below, rose)
 
 module _ (asked : Asked) (before after : World) (status : ℕ) where
-  ended_by : HasEnded asked before after status → IfSome (told asked before) (λ read. status ≡ status_of (asked.ending read))
+  ended_by : HasEnded asked before after status → IfSome (told asked before) (λ read. IsEnding asked read status)
   ended_by ended =
       let chosen = ended.chosen in
-      each_some (told asked before) (λ read is. ended.answered ∙ ap status_of chosen.given.ending ∙ ap (λ r. status_of (asked.ending r)) is)
+      each_some (told asked before) (λ read is. record { ending = chosen.outcome.ending; ends = subst (λ r. asked.Ends r chosen.outcome.ending) is chosen.given.ends; answered = ended.answered })
       (told_by asked.papers asked.keeps before.shelf.files before.keeper.journal chosen.read chosen.told.pages chosen.told.journal)
 
   quiet : HasEnded asked before after status → NoCountRose before after

@@ -1,14 +1,13 @@
 -- When each status of a command comes.
 use Rattle.std.specs.Prelude.{◌≡◌, ◌≢◌, ◌⊎◌, ℕ, ◌≤◌, true, IfSome}
 use Rattle.desk_io.specs.Faults.{Rose}
-use Rattle.desk_run.specs.Commands.{Asked, told}
-use Rattle.desk_run.specs.Outcome.{status_of}
+use Rattle.desk_run.specs.Commands.{Asked, IsEnding, told}
 use Rattle.desk_run.specs.World.{World, NoCountRose, NoFaultCounted}
 use Rattle.desk_run.specs.declared.status.TheConstants.{USAGE, NO, READ_FAULT, WRITE_FAULT, KEEPER_FAULT, NO_MEMORY}
 
 pub record HasCause (asked : Asked) (before after : World) (status : ℕ) : Type 0 where
-  -- the status of the ending to which what is told leads
-  pub ended : status ≤ NO → IfSome (told asked before) (λ read. status ≡ status_of (asked.ending read))
+  -- the status of an ending to which what is told leads
+  pub ended : status ≤ NO → IfSome (told asked before) (λ read. IsEnding asked read status)
   -- the status of words of no form is no command's
   pub no_usage : status ≢ USAGE
   -- a read failed
@@ -24,4 +23,4 @@ pub record HasCause (asked : Asked) (before after : World) (status : ℕ) : Type
 -- which status comes where what a command reads is told and no fault was counted
 abbrev pub IsComplete : Asked → World → World → ℕ → Type 0
 IsComplete asked before after status =
-    IfSome (told asked before) (λ read. NoFaultCounted before after → (status ≡ status_of (asked.ending read)) ⊎ (status ≡ NO_MEMORY))
+    IfSome (told asked before) (λ read. NoFaultCounted before after → IsEnding asked read status ⊎ (status ≡ NO_MEMORY))

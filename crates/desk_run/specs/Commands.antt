@@ -1,8 +1,8 @@
 -- What a command asks: what it reads, and what it may then do.
-use Rattle.std.specs.Prelude.{◌≡◌, Bool, true, false, List, Option, None, Some, option_map}
+use Rattle.std.specs.Prelude.{◌≡◌, ℕ, ◌+◌, ◌≤◌, Bool, true, false, List, Option, None, Some, IfSome, option_map}
 use Rattle.gtfs_tables.specs.declared.paper.Paper.{Paper}
 use Rattle.desk_keeper.specs.Keeper.{Journal}
-use Rattle.desk_run.specs.Outcome.{OutcomeView}
+use Rattle.desk_run.specs.Outcome.{OutcomeView, status_of}
 use Rattle.desk_run.specs.Reading.{ReadView, AreRead, IsLoaded, loaded_in, pages_in}
 use Rattle.desk_run.specs.World.{World}
 use Rattle.desk_run.specs.declared.reading.Loaded.{Loaded}
@@ -11,17 +11,18 @@ use Rattle.desk_run.specs.declared.reading.Page.{Page}
 use Rattle.desk_run.specs.declared.status.Ending.{Ending}
 
 -- The papers that it reads, in their order; whether it reads the journal besides, and alone may append to it; how it ends
--- after what it has read; and which outcomes it may give of that.
+-- after what it has read; which outcomes it may give of that; and how many steps it may count then.
 pub record Asked : Type 1 where
   pub papers : List Paper
   pub keeps : Bool
-  pub ending : ReadView → Ending
+  pub Ends : ReadView → Ending → Type 0
   pub Gives : ReadView → OutcomeView → Type 0
+  pub most : ReadView → ℕ
 
 -- an outcome that a command gives of what it has read
 pub record IsGiven (asked : Asked) (read : ReadView) (outcome : OutcomeView) : Type 0 where
   pub gives : asked.Gives read outcome
-  pub ending : outcome.ending ≡ asked.ending read
+  pub ends : asked.Ends read outcome.ending
   pub unkept : asked.keeps ≡ false → outcome.lines ≡ None
 
 -- what a command reads of the world: what stands in it, where that is told
@@ -48,3 +49,13 @@ told_both pages journal = None
 -- what a command reads of a world in which that is told
 abbrev pub told : Asked → World → Option ReadView
 told asked world = told_both (option_map (pages_in asked.papers) world.shelf.files) (told_journal asked.keeps world.keeper.journal)
+
+-- a status is that of an ending to which what was read leads
+pub record IsEnding (asked : Asked) (read : ReadView) (status : ℕ) : Type 0 where
+  pub ending : Ending
+  pub ends : asked.Ends read ending
+  pub answered : status ≡ status_of ending
+
+-- no more steps were counted than what is told allows
+abbrev pub IsCounted : Asked → World → ℕ → ℕ → Type 0
+IsCounted asked before old new = IfSome (told asked before) (λ read. new ≤ old + asked.most read)

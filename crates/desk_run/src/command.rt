@@ -1,4 +1,4 @@
-ghost use Rattle.std.specs.Prelude.{◌≡◌, IfOk};
+ghost use Rattle.std.specs.Prelude.{◌≡◌, ◌+◌, ◌≤◌, IfOk};
 ghost use Rattle.desk_run.specs.Commands.{Asked, IsGiven};
 ghost use Rattle.desk_run.specs.Reading.{papers_of};
 
@@ -30,5 +30,6 @@ pub trait Command {
         steps: &mut Steps<L>,
     ) -> Result<Outcome, Memory>
         requires { papers_of read.now.pages ≡ (asked self.now).papers }
-        ensures { IfOk result (IsGiven (asked self.now) read.now) };
+        ensures given { IfOk result (IsGiven (asked self.now) read.now) }
+        ensures counted { steps.new ≤ steps.old + (asked self.now).most read.now };
 }

@@ -7,7 +7,8 @@
 //! [`perform`], by what the command asks, so a new command proves nothing but its own outcome.
 //!
 //! The contract that the crates above use: by the status, the one outcome that was carried out, whole or in part (`RunsAs`);
-//! the cause of each status (`HasCause`); and which status comes where no fault was counted (`IsComplete`).
+//! the cause of each status (`HasCause`); which status comes where no fault was counted (`IsComplete`); and how many
+//! steps are counted at the most (`IsCounted`).
 //!
 //! ```text
 //! perform(&Deficits, alloc, shelf, out, keeper, steps)

@@ -1,4 +1,5 @@
 ghost use Rattle.desk_run.specs.Causes.{HasCause, IsComplete};
+ghost use Rattle.desk_run.specs.Commands.{IsCounted};
 ghost use Rattle.desk_run.specs.Runs.{Attempts, RunsAs};
 ghost use Rattle.desk_run.specs.World.{world};
 
@@ -21,8 +22,9 @@ fn attempt<C: Command, S: Shelf, O: Sink, K: Keeper, L: Ledger>(
     keeper: &mut K,
     steps: &mut Steps<L>,
 ) -> Result<u8, RunFault>
-    ensures { let at = world S.state O.state K.state in
+    ensures attempts { let at = world S.state O.state K.state in
         Attempts (C.asked command.now) result (at shelf.old out.old keeper.old) (at shelf.new out.new keeper.new) }
+    ensures counted { IsCounted (C.asked command.now) (world S.state O.state K.state shelf.old out.old keeper.old) steps.old steps.new }
 {
     let pages = read_papers(alloc, shelf, command.papers())?;
     let journal = load(alloc, keeper, command.keeps())?;
@@ -31,7 +33,7 @@ fn attempt<C: Command, S: Shelf, O: Sink, K: Keeper, L: Ledger>(
     carry_out(alloc, &outcome, shelf, out, keeper)
 }
 
-// The run of a command, apart from `perform`, whose other two clauses follow from this one.
+// The run of a command, apart from `perform`, whose other two clauses follow from the first of these.
 fn answered<C: Command, S: Shelf, O: Sink, K: Keeper, L: Ledger>(
     command: &C,
     alloc: Global,
@@ -40,8 +42,9 @@ fn answered<C: Command, S: Shelf, O: Sink, K: Keeper, L: Ledger>(
     keeper: &mut K,
     steps: &mut Steps<L>,
 ) -> u8
-    ensures { let at = world S.state O.state K.state in
+    ensures run { let at = world S.state O.state K.state in
         RunsAs (C.asked command.now) (at shelf.old out.old keeper.old) (at shelf.new out.new keeper.new) result }
+    ensures counted { IsCounted (C.asked command.now) (world S.state O.state K.state shelf.old out.old keeper.old) steps.old steps.new }
 {
     match attempt(command, alloc, shelf, out, keeper, steps) {
         Ok(status) => status,
@@ -70,6 +73,8 @@ pub fn perform<C: Command, S: Shelf, O: Sink, K: Keeper, L: Ledger>(
     // Which status comes where all is told and no fault was counted.
     ensures complete { let at = world S.state O.state K.state in
         IsComplete (C.asked command.now) (at shelf.old out.old keeper.old) (at shelf.new out.new keeper.new) result }
+    // How many steps it counts at the most.
+    ensures counted { IsCounted (C.asked command.now) (world S.state O.state K.state shelf.old out.old keeper.old) steps.old steps.new }
 {
     answered(command, alloc, shelf, out, keeper, steps)
 }

@@ -21,8 +21,9 @@ impl Command for Everything {
     ghost asked = { λ _. record {
       papers = paper.Trips ∷ paper.Edits ∷ [];
       keeps = true;
-      ending = λ read. ending.EditsRefused;
+      Ends = λ read end. end ≡ ending.EditsRefused;
       Gives = λ read outcome. length outcome.writes ≡ 2;
+      most = λ _. 0;
     } };
 
     fn papers(&self) -> &[Paper] {

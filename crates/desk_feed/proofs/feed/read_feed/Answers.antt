@@ -7,25 +7,25 @@ pub returns-in_err-timetable-clause-gives : goal.returns-in_err-timetable-clause
 returns-in_err-timetable-clause-gives c =
     let p = err_from_is_err_and c.from_residual-in_err-timetable.result c.from_residual-in_err-timetable.ensures.1 in
     let found = found_of c.args.read.now.pages in
-    rw (p.1, p.2) (said-no_timetable c.args.reads found c.in_ok-settings.settings c.in_ok-settings.ensures c.in_err-timetable.field-0.0 c.in_err-timetable.ensures)
+    rw (p.1, p.2) (said-no_timetable found c.in_ok-settings.settings c.in_ok-settings.ensures c.in_err-timetable.field-0.0 c.in_err-timetable.ensures)
 
 pub returns-in_err-deadheads-clause-gives : goal.returns-in_err-deadheads-clause-gives
 returns-in_err-deadheads-clause-gives c =
     let p = err_from_is_err_and c.from_residual-in_err-deadheads.result c.from_residual-in_err-deadheads.ensures.1 in
     let found = found_of c.args.read.now.pages in
-    rw (p.1, p.2) (said-no_deadheads c.args.reads found c.in_ok-settings.settings c.in_ok-settings.ensures c.in_ok-timetable.timetable c.in_ok-timetable.ensures
-    c.in_err-deadheads.field-0.0 c.in_err-deadheads.ensures.gives)
+    rw (p.1, p.2) (said-no_deadheads found c.in_ok-settings.settings c.in_ok-settings.ensures c.in_ok-timetable.timetable c.in_ok-timetable.ensures
+    c.in_err-deadheads.field-0.0 c.in_err-deadheads.ensures)
 
 pub returns-in_err-pulls-clause-gives : goal.returns-in_err-pulls-clause-gives
 returns-in_err-pulls-clause-gives c =
     let p = err_from_is_err_and c.from_residual-in_err-pulls.result c.from_residual-in_err-pulls.ensures.1 in
     let found = found_of c.args.read.now.pages in
-    rw (p.1, p.2) (said-no_pulls c.args.reads found c.in_ok-settings.settings c.in_ok-settings.ensures c.in_ok-timetable.timetable c.in_ok-timetable.ensures
-    _ c.in_ok-deadheads.ensures.gives c.in_err-pulls.field-0.0 c.in_err-pulls.ensures.gives)
+    rw (p.1, p.2) (said-no_pulls found c.in_ok-settings.settings c.in_ok-settings.ensures c.in_ok-timetable.timetable c.in_ok-timetable.ensures
+    _ c.in_ok-deadheads.ensures c.in_err-pulls.field-0.0 c.in_err-pulls.ensures.gives)
 
 pub returns-in_err-no_edits-clause-gives : goal.returns-in_err-no_edits-clause-gives
 returns-in_err-no_edits-clause-gives c =
     let p = err_from_is_err_and c.from_residual-in_err-no_edits.result c.from_residual-in_err-no_edits.ensures.1 in
     let found = found_of c.args.read.now.pages in
-    rw (p.1, p.2) (said-no_edits c.args.reads found c.in_ok-settings.settings c.in_ok-settings.ensures c.in_ok-timetable.timetable c.in_ok-timetable.ensures
-    _ c.in_ok-deadheads.ensures.gives c.in_ok-pulls.pulls c.in_err-no_edits.field-0.0 c.in_ok-pulls.ensures.gives c.in_err-no_edits.ensures)
+    rw (p.1, p.2) (said-no_edits found c.in_ok-settings.settings c.in_ok-settings.ensures c.in_ok-timetable.timetable c.in_ok-timetable.ensures
+    _ c.in_ok-deadheads.ensures c.in_ok-pulls.pulls c.in_err-no_edits.field-0.0 c.in_ok-pulls.ensures.gives c.in_err-no_edits.ensures)

@@ -1,0 +1,14 @@
+use Rattle.std.proofs.Common.{◌≡◌, ◌+◌, ◌-◌, ◌≤◌, drop, get_or}
+use Rattle.deadhead_matrix.specs.Fitting.{deadhead_network}
+use Rattle.trip_model.specs.Blocking.{Follow, block_minutes, minutes_after}
+use Rattle.trip_model.specs.Plain.{trip_moves}
+use Rattle.block_build.proofs.cost.block_minutes.Given as goal
+
+abbrev pub invariant-loop-n : goal.invariant-loop-n
+invariant-loop-n l =
+    let network = deadhead_network (trip_moves l.timetable.slots) l.matrix in
+    record {
+      begun : 1 ≤ l.n;
+      follow : Follow network (get_or l.block (l.n - 1) 0) (drop l.n l.block);
+      sum : l.minutes + minutes_after network (get_or l.block (l.n - 1) 0) (drop l.n l.block) ≡ block_minutes network l.block;
+    }

@@ -1,0 +1,147 @@
+ghost use Rattle.std.specs.Prelude.{◌≡◌, ◌+◌, ◌<◌, ◌^◌, ◌++◌, [], ◌∷◌, length, All, IfOk, IsUtf8, OnOk};
+ghost use Rattle.gtfs_tables.specs.Writing.{record_text, records_text};
+ghost use Rattle.trip_model.specs.Timetable.{slot_at};
+ghost use Rattle.block_build.specs.Files as spec;
+
+use crate::Blocks;
+use deadhead_matrix::Matrix;
+use desk_io::{Memory, Text};
+use gtfs_tables::laws::written_text_law;
+use gtfs_tables::{Column, RecordWriter};
+use std::alloc::Global;
+use trip_model::Timetable;
+
+// Appends a record of three texts. What is text stays so.
+fn push_record(
+    records: &mut RecordWriter,
+    first: &str,
+    second: &str,
+    third: &str,
+) -> Result<(), Memory>
+    ensures written { OnOk result (records.new ≡ records.old ++ record_text (first.now ∷ second.now ∷ third.now ∷ [])) }
+    ensures text { OnOk result (IsUtf8 records.old → IsUtf8 records.new) }
+{
+    written_text_law();
+    records.push(&[first.as_bytes(), second.as_bytes(), third.as_bytes()])
+}
+
+// The empty minutes before the trip of a number in a block: out of the depot, or from the trip before.
+fn minutes_before(timetable: &Timetable, matrix: &Matrix, block: &[u16], n: usize) -> u32
+    requires n { n < length block.now }
+    requires slots { All (λ s. s < length timetable.now.slots) block.now }
+    requires places { length matrix.now.walks ≡ length timetable.now.places }
+    ensures { result ≡ spec.minutes_before timetable.now matrix.now block.now n }
+{
+    let from = timetable.trip(block[n]).from;
+    if n == 0 {
+        return u32::from(matrix.pull_out(from));
+    }
+    let to = timetable.trip(block[n - 1]).to;
+    matrix.minutes(to, from).unwrap_or(0)
+}
+
+// The records of the block of a number, counted from 0, trip by trip.
+fn push_block(
+    alloc: Global,
+    records: &mut RecordWriter,
+    timetable: &Timetable,
+    matrix: &Matrix,
+    prefix: &str,
+    number: usize,
+    block: &[u16],
+) -> Result<(), Memory>
+    requires number { number + 1 < 2 ^ 64 }
+    requires slots { All (λ s. s < length timetable.now.slots) block.now }
+    requires places { length matrix.now.walks ≡ length timetable.now.places }
+    ensures written { OnOk result (records.new ≡ records.old ++ records_text (spec.records_of_block timetable.now matrix.now prefix.now number block.now)) }
+    ensures text { OnOk result (IsUtf8 records.old → IsUtf8 records.new) }
+{
+    let name = format!(in alloc; "{prefix}{}", number + 1)?;
+    for n in 0..block.len() {
+        let minutes = format!(in alloc; "{}", minutes_before(timetable, matrix, block, n))?;
+        push_record(records, &name, timetable.name(block[n]), &minutes)?;
+    }
+    Ok(())
+}
+
+/// The text of `blocks.csv`: for each trip, block by block, the name of its block, its own name and the empty minutes before
+/// it, which are those out of the depot for the first of a block and those from the trip before for every other. Where
+/// there is no way from the trip before it has none.
+pub fn blocks_text(
+    alloc: Global,
+    timetable: &Timetable,
+    matrix: &Matrix,
+    blocks: &Blocks,
+    prefix: &str,
+) -> Result<Text, Memory>
+    requires slots { All (All (λ s. s < length timetable.now.slots)) blocks.now }
+    requires places { length matrix.now.walks ≡ length timetable.now.places }
+    ensures { IfOk result (λ text. text ≡ spec.blocks_text timetable.now matrix.now prefix.now blocks.now) }
+{
+    let mut records = RecordWriter::new(alloc);
+    push_record(
+        &mut records,
+        Column::BlockId.name(),
+        Column::TripId.name(),
+        Column::Deadhead.name(),
+    )?;
+    for number in 0..blocks.len() {
+        push_block(
+            alloc,
+            &mut records,
+            timetable,
+            matrix,
+            prefix,
+            number,
+            blocks.block(number),
+        )?;
+    }
+    records.into_text()
+}
+
+// The record of a slot, where its trip runs.
+fn push_prices(
+    alloc: Global,
+    records: &mut RecordWriter,
+    timetable: &Timetable,
+    leave: &[u64],
+    enter: &[u64],
+    slot: u16,
+) -> Result<(), Memory>
+    requires slot { slot < length timetable.now.slots }
+    requires leave { length leave.now ≡ length timetable.now.slots }
+    requires enter { length enter.now ≡ length timetable.now.slots }
+    ensures written { OnOk result (records.new ≡ records.old ++ records_text (spec.price_record timetable.now leave.now enter.now slot)) }
+    ensures text { OnOk result (IsUtf8 records.old → IsUtf8 records.new) }
+{
+    if !timetable.trip(slot).live {
+        return Ok(());
+    }
+    let leaving = format!(in alloc; "{}", leave[usize::from(slot)])?;
+    let entering = format!(in alloc; "{}", enter[usize::from(slot)])?;
+    push_record(records, timetable.name(slot), &leaving, &entering)
+}
+
+/// The text of `prices.csv`: for each trip that runs, slot by slot, its name, the price of leaving it and that of entering it.
+pub fn prices_text(
+    alloc: Global,
+    timetable: &Timetable,
+    leave: &[u64],
+    enter: &[u64],
+) -> Result<Text, Memory>
+    requires leave { length leave.now ≡ length timetable.now.slots }
+    requires enter { length enter.now ≡ length timetable.now.slots }
+    ensures { IfOk result (λ text. text ≡ spec.prices_text timetable.now leave.now enter.now) }
+{
+    let mut records = RecordWriter::new(alloc);
+    push_record(
+        &mut records,
+        Column::TripId.name(),
+        Column::Leave.name(),
+        Column::Enter.name(),
+    )?;
+    for slot in 0..timetable.slots() {
+        push_prices(alloc, &mut records, timetable, leave, enter, slot)?;
+    }
+    records.into_text()
+}
