@@ -1,7 +1,6 @@
 -- What numbered blocks give, one after the other.
-use Rattle.std.proofs.Common.{◌≡◌, ℕ, zero, suc, ◌+◌, ◌<◌, List, [], ◌∷◌, ◌++◌, length, get_or, map, All, refl, ap, ◌∙◌, arith}
+use Rattle.std.proofs.Common.{◌≡◌, ℕ, zero, suc, ◌+◌, ◌<◌, List, [], ◌∷◌, ◌++◌, length, get_or, map, refl, ap, ◌∙◌, arith}
 use Rattle.std.specs.List.{AllByRecursion, flat_map, range_with_len}
-use Rattle.std.proofs.lemmas.List.Elements.{All-head, All-tail}
 
 -- what blocks give, each with its number, the first with this one
 abbrev pub on : {X : Type 0} → (ℕ → List ℕ → List X) → ℕ → List (List ℕ) → List X
@@ -20,11 +19,7 @@ flat-on f all (block ∷ rest) k same =
 pub flat-numbered : {X : Type 0} (f : ℕ → List ℕ → List X) (blocks : List (List ℕ)) → flat_map (λ n. f n (get_or blocks n [])) (range_with_len 0 (length blocks)) ≡ on f 0 blocks
 flat-numbered f blocks = flat-on f blocks blocks 0 (λ j lt. (let same : 0 + j ≡ j = omega arith in ap (λ n. get_or blocks n []) same))
 
--- what holds of each element, element by element
-pub each-of : {X : Type 0} (P : X → Type 0) (xs : List X) → All P xs → AllByRecursion P xs
-each-of P [] all = tt
-each-of P (x ∷ xs) all = (All-head P x xs all, each-of P xs (All-tail P x xs all))
-
+-- what holds of each element of two lists
 pub each-append : {X : Type 0} (P : X → Type 0) (xs ys : List X) → AllByRecursion P xs → AllByRecursion P ys → AllByRecursion P (xs ++ ys)
 each-append P [] ys first second = second
 each-append P (x ∷ xs) ys first second = (first.0, each-append P xs ys first.1 second)

@@ -1,9 +1,9 @@
 -- The rows that are read: at most 4,096, which name slots whose trips run, with prices of at most twelve digits.
-use Rattle.std.proofs.Common.{◌≡◌, ℕ, ◌<◌, ◌≤◌, nat_le, nat_lt, cond, Bool, true, false, List, [], ◌∷◌, ◌++◌, length, Option, None, Some, Result, Ok, Err, refl, sym, ap, subst, ◌∙◌, ⊎_elim, arith}
+use Rattle.std.proofs.Common.{◌≡◌, ℕ, ◌<◌, ◌≤◌, nat_le, nat_lt, cond, Bool, true, false, List, [], ◌∷◌, ◌++◌, length, Option, None, Some, Result, Ok, Err, refl, sym, ap, subst, ◌∙◌, arith}
 use Rattle.std.specs.Bool.{then_some}
 use Rattle.std.specs.Option.{option_and_then, ok_or}
-use Rattle.std.proofs.lemmas.Bool.{cases_lt, false≢true, leb-true, ltb-true}
-use Rattle.std.proofs.lemmas.List.{get_or_past, length-append}
+use Rattle.std.proofs.lemmas.Bool.{leb-true, ltb-true}
+use Rattle.std.proofs.lemmas.List.{length-append, length-map}
 use Rattle.std.proofs.lemmas.List.Elements.{All-nil, All-push}
 use Rattle.desk_io.specs.declared.shelf.Found.{Found}
 use Rattle.gtfs_tables.specs.declared.fault.FeedFault.{FeedFault}
@@ -19,6 +19,9 @@ use Rattle.price_check.specs.declared.claim.PriceRow.{PriceRow}
 use Rattle.price_check.specs.Claim.{ClaimedView, AreBlockRows, ArePriceRows, IsPriced, NamesLive}
 use Rattle.trip_model.specs.Timetable.{TimetableView, Slot, slot_at, slot_names}
 use Rattle.trip_model.specs.Timetable as named
+use Rattle.trip_model.specs.Plain.{move_of_slot, trip_moves}
+use Rattle.trip_model.proofs.Counting.{runs-within}
+use Rattle.trip_model.proofs.OrderLemmas.{slot-live}
 use Rattle.trip_model.specs.declared.limits.TheConstants.{MOST_SLOTS}
 use Rattle.price_check.specs.declared.claim.TheConstants.{MOST_PRICE}
 use Rattle.claim_files.specs.declared.blocks.Columns.{Columns}
@@ -33,10 +36,7 @@ use Rattle.claim_files.proofs.EachRecord.{read-parts, provided-parts, same_Ok, e
 
 -- a slot whose trip runs is one of the slots
 pub slot-within : (t : TimetableView) (s : ℕ) → (slot_at t s).trip.live ≡ true → s < length t.slots
-slot-within t s live = ⊎_elim
-    (λ (h : s < length t.slots). h)
-    (λ (h : length t.slots ≤ s). absurd (false≢true (sym (ap (λ (slot : Slot). slot.trip.live) (get_or_past t.slots s _ h)) ∙ live)))
-    (cases_lt s (length t.slots))
+slot-within t s live = omega (arith, runs-within (trip_moves t.slots) s (slot-live t s ∙ live), length-map t.slots move_of_slot)
 
 -- the slot of a name runs
 if_runs-live : (t : TimetableView) (s : ℕ) → NamesLive t (if_runs t s)

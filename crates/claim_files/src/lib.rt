@@ -4,7 +4,8 @@
 //! the line of a claim that cannot be read ([`ClaimFault`]), and [`reason_line`] that of a reason against one that can.
 //!
 //! The contract that the crates above use: a claim has one row for each record, with its values and the slot of its trip; or
-//! the fault is the first that is due, of `blocks.csv` before `prices.csv`.
+//! the fault is the first that is due, of `blocks.csv` before `prices.csv`. What is written of blocks and prices reads back
+//! ([`laws::read_back_law`]), and of a certified plan it is accepted ([`laws::accepted_law`]).
 //!
 //! ```text
 //! match read_claimed(alloc, &timetable, &blocks, &prices) {
@@ -14,7 +15,8 @@
 //! ```
 //!
 //! The contracts cite `Claims` (what the two files claim, or why nothing), with `Blocks` and `Prices` (the records of each)
-//! and `Running` (the slots that names speak of), and `Lines` (the printed lines).
+//! and `Running` (the slots that names speak of), and `Lines` (the printed lines); the laws besides `Written` (the claim of
+//! written blocks and prices, and when they can be written), of `block_build` `Files`, and of `price_check` the verdict.
 #![tactic(auto)]
 
 mod blocks;
@@ -25,6 +27,7 @@ mod lines;
 mod prices;
 mod running;
 
+pub use blocks::MOST_SHOWN;
 pub use claim::read_claimed;
 pub use fault::ClaimFault;
 pub use lines::{claim_line, reason_line};
