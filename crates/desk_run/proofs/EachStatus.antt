@@ -21,7 +21,7 @@ use Rattle.desk_run.specs.declared.status.Ending.TheVariants as ending
 use Rattle.desk_run.specs.declared.status.TheConstants.{USAGE}
 
 -- the pages that a shelf tells are those that stand in its files
-pages_told : (files : Files) (papers : List Paper) (pages : List Page) → AreRead (Some files) papers pages → pages ≡ pages_in papers files
+pub pages_told : (files : Files) (papers : List Paper) (pages : List Page) → AreRead (Some files) papers pages → pages ≡ pages_in papers files
 pages_told files papers pages read =
     sym (map_fixed (λ (page : Page). page_in files page.paper) pages (λ k d lt i. record { paper = (get_or pages k d).paper; found = sym (read.told k d lt) i }))
     ∙ sym (map-map (page_in files) (λ (page : Page). page.paper) pages) ∙ ap (λ ps. pages_in ps files) read.named

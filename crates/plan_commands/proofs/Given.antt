@@ -1,5 +1,5 @@
 -- What the commands give of an accepted feed is what they ask.
-use Rattle.std.proofs.Common.{◌≡◌, ℕ, List, length, None, Result, Ok, Err, refl, sym, ap, subst, ◌∙◌}
+use Rattle.std.proofs.Common.{◌≡◌, ℕ, List, [], length, None, Result, Ok, Err, refl, sym, ap, subst, ◌∙◌}
 use Rattle.std.specs.Prelude.{IfOk}
 use Rattle.trip_model.specs.Plain.{trip_moves, AreMoves}
 use Rattle.deadhead_matrix.specs.Matrix.{MatrixView}
@@ -24,14 +24,15 @@ use Rattle.plan_commands.specs.Chart.{IsChart, IsChartText, chart_asked}
 use Rattle.plan_commands.specs.Check.{EndsAs, IsChecked, Proves, check_asked, claim_in, claim_outcome, verdict_outcome}
 use Rattle.plan_commands.proofs.ScheduleLemmas.{outcome-same}
 
--- a verdict appends no lines
-no-lines : (timetable : TimetableView) (matrix : MatrixView) (claim : Result ClaimedView ClaimFault) → (claim_outcome timetable matrix claim).lines ≡ None
-no-lines timetable matrix (Err fault) = refl
-no-lines timetable matrix (Ok claimed) = by (verdict_of timetable matrix claimed)
+-- a verdict is put alone: no file is written, and no lines are appended
+pub put-alone : (timetable : TimetableView) (matrix : MatrixView) (claim : Result ClaimedView ClaimFault)
+    → ((claim_outcome timetable matrix claim).writes ≡ []) × ((claim_outcome timetable matrix claim).lines ≡ None)
+put-alone timetable matrix (Err fault) = (refl, refl)
+put-alone timetable matrix (Ok claimed) = by (verdict_of timetable matrix claimed)
   where
-    by : (verdict : Verdict) → (verdict_outcome timetable claimed verdict).lines ≡ None
-    by (Yes vehicles minutes) = refl
-    by (No reason) = refl
+    by : (verdict : Verdict) → ((verdict_outcome timetable claimed verdict).writes ≡ []) × ((verdict_outcome timetable claimed verdict).lines ≡ None)
+    by (Yes vehicles minutes) = (refl, refl)
+    by (No reason) = (refl, refl)
 
 -- an accepted feed says what was read
 pub says-of : (read : ReadView) (judged : Judged) (feed : Feed) → judged ≡ Accepted feed → Judges read judged → said_in read ≡ Ok (said_of feed)
@@ -55,7 +56,7 @@ module _ (read : ReadView) (feed : Feed) (matrix : MatrixView) (says : said_in r
     gives = subst (λ said. Does (IsChecked read) said outcome) (sym says) (record { matrix = matrix; matrix_is = is; done = done; proved = proved });
     ends = subst (λ said. EndsBy (EndsAs read) said outcome.ending) (sym says)
         (λ other other_is. ap (λ (o : OutcomeView). o.ending) (done ∙ outcome-same feed.deadheads feed.pulls (length feed.timetable.places) matrix other is other_is feed.timetable moves (claim_in read (said_of feed))));
-    unkept = λ _. ap (λ (o : OutcomeView). o.lines) done ∙ no-lines feed.timetable matrix (claim_in read (said_of feed));
+    unkept = λ _. ap (λ (o : OutcomeView). o.lines) done ∙ (put-alone feed.timetable matrix (claim_in read (said_of feed))).1;
   }
 
   -- the charts of a plan

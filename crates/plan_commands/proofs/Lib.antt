@@ -1,2 +1,4 @@
+pub mod ConfirmedLemmas
 pub mod Given
+pub mod NamesSaid
 pub mod ScheduleLemmas

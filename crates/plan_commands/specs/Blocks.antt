@@ -1,5 +1,5 @@
 -- What `blocks` asks, and what it writes and puts of a feed.
-use Rattle.std.specs.Prelude.{◌≡◌, ℕ, ◌∷◌, [], List, ◌++◌, length, None, pos, codes}
+use Rattle.std.specs.Prelude.{◌≡◌, ℕ, ◌∷◌, [], List, ◌++◌, length, All, IsUtf8, None, pos, codes}
 use Rattle.std.specs.Fmt.{decimal}
 use Rattle.gtfs_tables.specs.Papers.{file_name_of}
 use Rattle.gtfs_tables.specs.declared.paper.Paper.TheVariants as paper
@@ -7,10 +7,11 @@ use Rattle.trip_model.specs.Blocking.{IsFewest, empty_minutes}
 use Rattle.trip_model.specs.Deficit.{deficit, live_moves}
 use Rattle.trip_model.specs.Maximum.{sum_of_maxima}
 use Rattle.trip_model.specs.Plain.{plain_network, trip_moves}
-use Rattle.trip_model.specs.Timetable.{TimetableView}
+use Rattle.trip_model.specs.Timetable.{TimetableView, IsTimetable}
 use Rattle.deadhead_matrix.specs.Fitting.{deadhead_network}
 use Rattle.deadhead_matrix.specs.Matrix.{MatrixView}
 use Rattle.deadhead_matrix.specs.Prices.{Plan}
+use Rattle.deadhead_matrix.specs.Pulls.{IsPull}
 use Rattle.block_build.specs.Files.{blocks_text, prices_text}
 use Rattle.desk_run.specs.Commands.{Asked}
 use Rattle.desk_run.specs.Outcome.{OutcomeView}
@@ -41,11 +42,15 @@ pub record IsFixed (timetable : TimetableView) (fixed : ℕ) : Type 0 where
   pub count : length blocks ≡ fixed
 
 -- The files are those of one certified plan, whose blocks are least over all blockings; and the numbers of the text are the
--- fewest vehicles without deadheads, and the vehicles and the empty minutes of these blocks.
+-- fewest vehicles without deadheads, and the vehicles and the empty minutes of these blocks. Timetable, pulls and prefix are
+-- valid.
 pub record IsPlanned (timetable : TimetableView) (matrix : MatrixView) (prefix : List ℕ) (outcome : OutcomeView) : Type 0 where
   pub plan : Plan
   pub blocks : List (List ℕ)
   pub scheduled : IsScheduled timetable matrix plan blocks
+  pub valid : IsTimetable timetable
+  pub pulls : All IsPull matrix.pulls
+  pub begun : IsUtf8 prefix
   pub fixed : ℕ
   pub without : IsFixed timetable fixed
   pub done : outcome ≡ record {

@@ -1,4 +1,5 @@
 pub mod Blocks
 pub mod Chart
 pub mod Check
+pub mod Confirmed
 pub mod Steps

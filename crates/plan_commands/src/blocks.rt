@@ -63,6 +63,9 @@ fn planned<L: Ledger>(
     ensures planned { IfOk result (IsPlanned timetable.now matrix.now prefix.now) }
     ensures counted { steps.new ≤ steps.old + most_steps (length timetable.now.slots) }
 {
+    // Their clauses say that the timetable is valid and that no pull is longer than a day.
+    let _slots = timetable.slots();
+    let _places = matrix.places();
     let fixed = fixed_number(alloc, timetable, steps)?;
     let schedule = schedule_of(alloc, timetable, matrix, steps)?;
     let plan = schedule.solver.plan();

@@ -17,8 +17,10 @@
 mod blocks;
 mod chart;
 mod check;
+mod confirmed;
 mod schedule;
 
 pub use blocks::run_blocks;
 pub use chart::run_chart;
 pub use check::run_check;
+pub use confirmed::run_blocks_and_check;

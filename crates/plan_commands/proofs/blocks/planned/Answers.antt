@@ -21,6 +21,9 @@ returns-clause-planned g c =
       plan = c.in_ok-schedule.schedule.solver;
       blocks = c.in_ok-schedule.schedule.blocks;
       scheduled = c.in_ok-schedule.ensures.scheduled;
+      valid = c.slots-slots.ensures.valid;
+      pulls = c.places-places.ensures.valid;
+      begun = c.utf8.prefix;
       fixed = c.in_ok-fixed.fixed;
       without = c.in_ok-fixed.ensures.fixed;
       done = c.of.ensures ∙ (λ i. record { writes = writes i; lines = None; text = line i; ending = ending.Done });

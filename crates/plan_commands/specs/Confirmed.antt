@@ -1,0 +1,31 @@
+-- `blocks`, and then `check` over the same shelf.
+use Rattle.std.specs.Prelude.{◌≡◌, ◌≢◌, ℕ, ◌≤◌, IfSome}
+use Rattle.desk_io.specs.Shelf.{Files, found_in}
+use Rattle.desk_io.specs.Sink.{put_bytes}
+use Rattle.desk_io.specs.declared.shelf.Found.TheVariants.{TooLong}
+use Rattle.gtfs_tables.specs.Papers.{file_name_of}
+use Rattle.gtfs_tables.specs.declared.paper.Paper.{Paper}
+use Rattle.gtfs_tables.specs.declared.paper.Paper.TheVariants as paper
+use Rattle.gtfs_tables.specs.declared.paper.TheConstants.{MOST_BYTES}
+use Rattle.desk_run.specs.World.{World}
+use Rattle.desk_run.specs.declared.status.TheConstants.{DONE, NO}
+use Rattle.plan_commands.specs.Blocks.{summary}
+use Rattle.plan_commands.specs.Check.{yes_line}
+
+-- the file of a paper is not longer than a file may be
+abbrev pub IsShort : Files → Paper → Type 0
+IsShort files paper = found_in files (file_name_of paper) MOST_BYTES ≢ TooLong
+
+-- the second run says yes to what the first has written: it puts the vehicles and the empty minutes that the first has put
+pub record IsConfirmed (before after : World) (second : ℕ) : Type 0 where
+  pub fixed : ℕ
+  pub vehicles : ℕ
+  pub minutes : ℕ
+  pub yes : second ≡ DONE
+  pub put : after.sink ≡ put_bytes (yes_line vehicles minutes) (put_bytes (summary fixed vehicles minutes) before.sink)
+
+-- Where the first run has done all and the second came to its end, and the shelf tells its files, of which neither of the two
+-- that were written is too long, it is so.
+abbrev pub Confirms : World → World → ℕ → ℕ → Type 0
+Confirms before after first second =
+    first ≡ DONE → second ≤ NO → IfSome after.shelf.files (λ files. IsShort files paper.Blocks → IsShort files paper.Prices → IsConfirmed before after second)
