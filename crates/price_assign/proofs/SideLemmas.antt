@@ -27,7 +27,7 @@ leads (Some s) j = ⊎_elim
     (λ (ne : s ≡ j → ⊥). inr (λ e. ne (same_Some s j e), ne_eqb s j ne))
     (cases_eq s j)
 
-masked : (side : SideView) (i j : ℕ) (left : Bool) → leads_to j side.without ≡ left → side_weight side i j ≡ cond left None (all_weights side.pairs side.turned i j)
+pub masked : (side : SideView) (i j : ℕ) (left : Bool) → leads_to j side.without ≡ left → side_weight side i j ≡ cond left None (all_weights side.pairs side.turned i j)
 unfolding side_weight
 masked side i j left e = ap (λ t. cond t None (all_weights side.pairs side.turned i j)) e
 

@@ -17,9 +17,18 @@ abbrev pub row_minute : Bool → Option Move → ℕ
 row_minute turned None = 0
 row_minute turned (Some m) = if turned then LAST_MINUTE - m.leaves else m.arrives
 
+-- where the column stands: the place at which its trip begins; seen from the entering side, at which it ends
+abbrev pub column_post : Bool → Option Move → Option ℕ
+column_post turned None = None
+column_post turned (Some m) = Some (if turned then m.to else m.from)
+
+-- stands past the last of so many columns
+abbrev pub no_column : ℕ → Column
+no_column n = record { minute = 0; slot = n; post = None }
+
 -- the slot of the column at a place of so many; none past the last
 abbrev pub slot_at : ℕ → List Column → ℕ → ℕ
-slot_at n columns k = (slice_index_or columns k (record { minute = 0; slot = n })).slot
+slot_at n columns k = (slice_index_or columns k (no_column n)).slot
 
 -- the place of the column of a slot
 abbrev pub place_of : ℕ → List ℕ → ℕ → ℕ
@@ -34,10 +43,11 @@ pub record IsRenaming (n : ℕ) (slot place : ℕ → ℕ) : Type 0 where
   pub no_slot : (k : ℕ) → n ≤ k → n ≤ slot k
   pub no_place : (j : ℕ) → n ≤ j → n ≤ place j
 
--- each column stands once, with its minute, and minutes rise
-pub record IsOrder (n : ℕ) (minute : ℕ → ℕ) (columns : List Column) (places : List ℕ) : Type 0 where
+-- each column stands once, with its minute and where it stands, and minutes rise
+pub record IsOrder (n : ℕ) (minute : ℕ → ℕ) (post : ℕ → Option ℕ) (columns : List Column) (places : List ℕ) : Type 0 where
   pub count : length columns ≡ n
   pub slots : length places ≡ n
   pub renaming : IsRenaming n (slot_at n columns) (place_of n places)
-  pub minutes : (k : ℕ) → k < n → (slice_index_or columns k (record { minute = 0; slot = n })).minute ≡ minute (slot_at n columns k)
+  pub minutes : (k : ℕ) → k < n → (slice_index_or columns k (no_column n)).minute ≡ minute (slot_at n columns k)
+  pub posts : (k : ℕ) → k < n → (slice_index_or columns k (no_column n)).post ≡ post (slot_at n columns k)
   pub rise : IsNonDecreasingBy (λ (c : Column). c.minute) columns

@@ -23,6 +23,7 @@ pub(crate) fn begin<L: Ledger>(
     a: u16,
     leave: &mut [u64],
     enter: &[u64],
+    known: &mut [Option<u64>],
     dist: &mut [u64],
     parent: &mut [u16],
     done: &mut [bool],
@@ -62,6 +63,7 @@ pub(crate) fn begin<L: Ledger>(
         GREATEST_PRICE,
         enter,
         done,
+        known,
         dist,
         parent,
         steps,
@@ -77,6 +79,7 @@ fn visit<L: Ledger>(
     place: u16,
     leave: &[u64],
     enter: &[u64],
+    known: &mut [Option<u64>],
     dist: &mut [u64],
     parent: &mut [u16],
     done: &mut [bool],
@@ -125,6 +128,7 @@ fn visit<L: Ledger>(
         distance + leave[row as usize],
         enter,
         done,
+        known,
         dist,
         parent,
         steps,
@@ -164,6 +168,7 @@ pub(crate) fn grow<L: Ledger>(
     before: &[Option<u16>],
     leave: &[u64],
     enter: &[u64],
+    known: &mut [Option<u64>],
     dist: &mut [u64],
     parent: &mut [u16],
     done: &mut [bool],
@@ -204,7 +209,8 @@ pub(crate) fn grow<L: Ledger>(
         };
         let row_first = side.first(row);
         visit(
-            side, row, row_first, column, size, leave, enter, dist, parent, done, rows, far, steps,
+            side, row, row_first, column, size, leave, enter, known, dist, parent, done, rows, far,
+            steps,
         );
         first = sooner_place(first, row_first);
         best = sooner(best, size, distance + leave[row as usize]);

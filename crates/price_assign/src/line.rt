@@ -1,5 +1,5 @@
 ghost use Rattle.std.specs.Prelude.{◌≡◌, ◌+◌, ◌<◌, ◌≤◌};
-ghost use Rattle.price_assign.specs.Side.{side_slots, line_weight};
+ghost use Rattle.price_assign.specs.Side.{side_slots, line_weight, AreKnown};
 
 use crate::side::Side;
 use desk_io::Steps;
@@ -44,5 +44,33 @@ impl<'a> Line<'a> {
             return None;
         }
         row.weight(column, steps)
+    }
+
+    /// The same, where the weights of some posts are known: only the first column of a post that the row fits is read.
+    pub(crate) fn weigh<L: Ledger>(
+        &self,
+        place: u16,
+        known: &mut [Option<u64>],
+        steps: &mut Steps<L>,
+    ) -> Option<u64>
+        requires place { place < side_slots self.now.side }
+        requires known { AreKnown self.now place known.old }
+        ensures weight { result ≡ line_weight self.now place }
+        ensures known { AreKnown self.now (place + 1) known.new }
+        ensures counted { steps.new ≤ steps.old + 1 }
+    {
+        let Some(post) = self.side.post(place) else {
+            return self.weight(place, steps);
+        };
+        let post = usize::from(post);
+        if post >= known.len() {
+            return self.weight(place, steps);
+        }
+        if let Some(weight) = known[post] {
+            return Some(weight);
+        }
+        let weight = self.weight(place, steps)?;
+        known[post] = Some(weight);
+        Some(weight)
     }
 }

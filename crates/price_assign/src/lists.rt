@@ -6,7 +6,7 @@ use crate::limits::FAR;
 use crate::order::Column;
 use desk_io::Memory;
 use std::alloc::Global;
-use trip_model::MOST_SLOTS;
+use trip_model::{MOST_PLACES, MOST_SLOTS};
 
 /// The lists of a search, each for as many slots as there may be.
 #[derive(Drop)]
@@ -14,6 +14,7 @@ pub(crate) struct Lists {
     pub placed: Vec<Option<u16>>,
     pub entering: Vec<u64>,
     pub before: Vec<Option<u16>>,
+    pub known: Vec<Option<u64>>,
     pub dist: Vec<u64>,
     pub parent: Vec<u16>,
     pub done: Vec<bool>,
@@ -31,6 +32,7 @@ impl Lists {
             placed: vec![in alloc; None; slots]?,
             entering: vec![in alloc; 0; slots]?,
             before: vec![in alloc; None; slots]?,
+            known: vec![in alloc; None; usize::from(MOST_PLACES)]?,
             dist: vec![in alloc; FAR; slots]?,
             parent: vec![in alloc; 0; slots]?,
             done: vec![in alloc; false; slots]?,
@@ -54,7 +56,11 @@ impl Order {
     {
         let slots = usize::from(MOST_SLOTS);
         Ok(Order {
-            columns: vec![in alloc; Column { minute: 0, slot: 0 }; slots]?,
+            columns: vec![in alloc; Column {
+                minute: 0,
+                slot: 0,
+                post: None
+            }; slots]?,
             places: vec![in alloc; 0; slots]?,
         })
     }

@@ -3,16 +3,18 @@ ghost use Rattle.std.specs.List.Sorted.{IsNonDecreasingBy};
 ghost use Rattle.trip_model.specs.declared.limits.TheConstants.{LAST_MINUTE, MOST_SLOTS};
 ghost use Rattle.price_assign.specs.Order as spec;
 ghost use Rattle.price_assign.specs.Order.{slot_at, place_of, IsOrder};
-ghost use Rattle.price_assign.specs.Side.{pairs_minute};
+ghost use Rattle.price_assign.specs.Side.{pairs_minute, pairs_post};
 
 use pair_graph::Pairs;
 use trip_model::{LAST_MINUTE, Move};
 
-/// A column of a search: the minute by which a row that is linked to it must be ready, and its slot.
+/// A column of a search: the minute by which a row that is linked to it must be ready, its slot, and where its trip begins
+/// or, seen from the entering side, ends.
 #[derive(Clone, Copy, Debug, PartialEq, Eq, PartialOrd, Ord)]
 pub(crate) struct Column {
     pub minute: u16,
     pub slot: u16,
+    pub post: Option<u16>,
 }
 
 /// The minute by which a row that is linked to this trip's column must be ready.
@@ -28,6 +30,14 @@ fn column_minute(turned: bool, made: Option<Move>) -> u16
     } else {
         made.leaves
     }
+}
+
+// Where this trip's column stands.
+fn column_post(turned: bool, made: Option<Move>) -> Option<u16>
+    ensures { result ≡ spec.column_post turned made }
+{
+    let made = made?;
+    Some(if turned { made.to } else { made.from })
 }
 
 /// The minute at which this trip's row is ready.
@@ -50,10 +60,13 @@ fn list_columns(pairs: &Pairs<'_>, turned: bool, columns: &mut [Column])
     requires { length columns.old ≡ length pairs.now.moves }
     ensures slots { (j : ℕ) (d : _) → j < length columns.old → (slice_index_or columns.new j d).slot ≡ j }
     ensures minutes { (j : ℕ) (d : _) → j < length columns.old → (slice_index_or columns.new j d).minute ≡ pairs_minute pairs.now turned j }
+    ensures posts { (j : ℕ) (d : _) → j < length columns.old → (slice_index_or columns.new j d).post ≡ pairs_post pairs.now turned j }
 {
     for slot in 0..pairs.slots() {
-        let minute = column_minute(turned, pairs.move_at(slot));
-        columns[slot as usize] = Column { minute, slot };
+        let made = pairs.move_at(slot);
+        let minute = column_minute(turned, made);
+        let post = column_post(turned, made);
+        columns[slot as usize] = Column { minute, slot, post };
     }
 }
 
@@ -76,7 +89,7 @@ fn number_places(columns: &[Column], places: &mut [u16])
 pub(crate) fn arrange(pairs: &Pairs<'_>, turned: bool, columns: &mut [Column], places: &mut [u16])
     requires columns { length columns.old ≡ length pairs.now.moves }
     requires places { length places.old ≡ length pairs.now.moves }
-    ensures { IsOrder (length pairs.now.moves) (pairs_minute pairs.now turned) columns.new places.new }
+    ensures { IsOrder (length pairs.now.moves) (pairs_minute pairs.now turned) (pairs_post pairs.now turned) columns.new places.new }
 {
     // Its clause says how many there may be.
     let _slots = pairs.slots();

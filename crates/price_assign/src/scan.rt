@@ -1,7 +1,7 @@
 ghost use Rattle.std.specs.Prelude.{◌≡◌, ℕ, ◌+◌, ◌*◌, ◌<◌, ◌≤◌, false, List, length, Some, IfSome, IfNone};
 ghost use Rattle.trip_model.specs.declared.limits.TheConstants.{MOST_SLOTS};
 ghost use Rattle.price_assign.specs.Search.{at, is_done, AreLooked, IsNearest};
-ghost use Rattle.price_assign.specs.Side.{side_slots, line_weight};
+ghost use Rattle.price_assign.specs.Side.{side_slots, line_weight, AreKnown};
 
 use crate::limits::GREATEST_PRICE;
 use crate::line::Line;
@@ -15,6 +15,7 @@ fn look<L: Ledger>(
     start: u64,
     enter: &[u64],
     done: &[bool],
+    known: &mut [Option<u64>],
     dist: &mut [u64],
     parent: &mut [u16],
     column: u16,
@@ -25,19 +26,21 @@ fn look<L: Ledger>(
     requires done { length done.now ≡ length dist.old }
     requires parent { length parent.old ≡ length dist.old }
     requires column { column < length dist.old }
+    requires known { AreKnown line.now column known.old }
     requires start { start ≤ 2 * GREATEST_PRICE }
     requires low { (j k : ℕ) → line_weight line.now j ≡ Some k → at enter.now j ≤ GREATEST_PRICE }
     requires covers { (j k : ℕ) → line_weight line.now j ≡ Some k → k ≤ start + at enter.now j }
     ensures looked { (dist0 parent0 : List ℕ)
         → AreLooked (line_weight line.now) column from start enter.now done.now dist0 parent0 dist.old parent.old
         → AreLooked (line_weight line.now) (column + 1) from start enter.now done.now dist0 parent0 dist.new parent.new }
+    ensures known { AreKnown line.now (column + 1) known.new }
     ensures counted { steps.new ≤ steps.old + 1 }
 {
     let place = column as usize;
     if done[place] {
         return;
     }
-    if let Some(weight) = line.weight(column, steps) {
+    if let Some(weight) = line.weigh(column, known, steps) {
         let along = start + enter[place] - weight;
         if along < dist[place] {
             dist[place] = along;
@@ -54,6 +57,7 @@ pub(crate) fn look_from<L: Ledger>(
     start: u64,
     enter: &[u64],
     done: &[bool],
+    known: &mut [Option<u64>],
     dist: &mut [u64],
     parent: &mut [u16],
     steps: &mut Steps<L>,
@@ -71,8 +75,11 @@ pub(crate) fn look_from<L: Ledger>(
     ensures looked { AreLooked (line_weight line.now) (length dist.old) from start enter.now done.now dist.old parent.old dist.new parent.new }
     ensures counted { steps.new ≤ steps.old + length dist.old }
 {
+    known.fill(None);
     for column in first..dist.len() as u16 {
-        look(line, from, start, enter, done, dist, parent, column, steps);
+        look(
+            line, from, start, enter, done, known, dist, parent, column, steps,
+        );
     }
 }
 
@@ -86,7 +93,7 @@ pub(crate) fn nearest(done: &[bool], dist: &[u64], first: u16, bound: u64) -> Op
     let mut best = None;
     let mut least = bound;
     for column in first as usize..dist.len() {
-        if !done[column] && dist[column] < least {
+        if dist[column] < least && !done[column] {
             best = Some(column as u16);
             least = dist[column];
         }

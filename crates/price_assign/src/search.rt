@@ -1,6 +1,6 @@
 ghost use Rattle.std.specs.Prelude.{◌≡◌, ℕ, ◌+◌, ◌*◌, ◌≤◌, Bool, length, Option, None, vec_len, vec_capacity, replicate};
 ghost use Rattle.deadhead_matrix.specs.Paths.{AreNextTrips, IsPath};
-ghost use Rattle.trip_model.specs.declared.limits.TheConstants.{MOST_SLOTS};
+ghost use Rattle.trip_model.specs.declared.limits.TheConstants.{MOST_PLACES, MOST_SLOTS};
 ghost use Rattle.trip_model.specs.Links.{next_of, before_of};
 ghost use Rattle.price_assign.specs.Assignment.{AreWeights, IsMatched, Covers, MayBegin};
 ghost use Rattle.price_assign.specs.Turned.{MayBeginTurned, IsFoundTurned};
@@ -27,6 +27,7 @@ fn search<L: Ledger>(
     leave: &mut [u64],
     enter: &mut [u64],
     before: &mut [Option<u16>],
+    known: &mut [Option<u64>],
     dist: &mut [u64],
     parent: &mut [u16],
     done: &mut [bool],
@@ -54,9 +55,11 @@ fn search<L: Ledger>(
     ensures counted { steps.new ≤ steps.old + side_slots side.now * side_slots side.now + side_slots side.now }
 {
     invert(next, before);
-    begin(side, a, leave, enter, dist, parent, done, rows, far, steps);
+    begin(
+        side, a, leave, enter, known, dist, parent, done, rows, far, steps,
+    );
     let end = grow(
-        side, before, leave, enter, dist, parent, done, rows, far, steps,
+        side, before, leave, enter, known, dist, parent, done, rows, far, steps,
     );
     shift(a, end.fall, next, dist, leave, enter);
     relink(end, parent, rows, next);
@@ -72,6 +75,7 @@ fn search_within<L: Ledger>(
     placed: &mut Vec<Option<u16>>,
     entering: &mut Vec<u64>,
     before: &mut Vec<Option<u16>>,
+    known: &mut Vec<Option<u64>>,
     dist: &mut Vec<u64>,
     parent: &mut Vec<u16>,
     done: &mut Vec<bool>,
@@ -87,6 +91,7 @@ fn search_within<L: Ledger>(
     requires placed { vec_len placed.old ≡ MOST_SLOTS }
     requires entering { vec_len entering.old ≡ MOST_SLOTS }
     requires before { vec_len before.old ≡ MOST_SLOTS }
+    requires known { vec_len known.old ≡ MOST_PLACES }
     requires dist { vec_len dist.old ≡ MOST_SLOTS }
     requires parent { vec_len parent.old ≡ MOST_SLOTS }
     requires done { vec_len done.old ≡ MOST_SLOTS }
@@ -96,6 +101,7 @@ fn search_within<L: Ledger>(
     ensures placed { vec_len placed.new ≡ vec_len placed.old }
     ensures entering { vec_len entering.new ≡ vec_len entering.old }
     ensures before { vec_len before.new ≡ vec_len before.old }
+    ensures known { vec_len known.new ≡ vec_len known.old }
     ensures dist { vec_len dist.new ≡ vec_len dist.old }
     ensures parent { vec_len parent.new ≡ vec_len parent.old }
     ensures done { vec_len done.new ≡ vec_len done.old }
@@ -120,6 +126,7 @@ fn search_within<L: Ledger>(
         leave,
         entering,
         &mut before[..slots],
+        known.as_mut_slice(),
         &mut dist[..slots],
         &mut parent[..slots],
         &mut done[..slots],
@@ -165,6 +172,7 @@ fn search_with<L: Ledger>(
         &mut lists.placed,
         &mut lists.entering,
         &mut lists.before,
+        &mut lists.known,
         &mut lists.dist,
         &mut lists.parent,
         &mut lists.done,

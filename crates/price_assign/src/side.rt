@@ -1,7 +1,7 @@
 ghost use Rattle.std.specs.Prelude.{◌≡◌, ℕ, ◌+◌, ◌<◌, ◌≤◌, length, true, false, Some, IfSome};
 ghost use Rattle.price_assign.specs.Assignment.{AreWeights};
 ghost use Rattle.price_assign.specs.Order.{IsOrder, IsRenaming};
-ghost use Rattle.price_assign.specs.Side.{side_slots, side_slot, side_place, side_weight, place_weight, pairs_minute};
+ghost use Rattle.price_assign.specs.Side.{side_slots, side_slot, side_place, side_weight, place_weight, side_post, pairs_minute, pairs_post};
 ghost use Rattle.trip_model.specs.Links.{leads_to};
 ghost use Rattle.trip_model.specs.declared.limits.TheConstants.{MOST_SLOTS};
 
@@ -26,13 +26,13 @@ pub(crate) struct Side<'a> {
 impl<'a> Model for Side<'a> {
     ghost use Rattle.std.specs.Prelude.{length};
     ghost use Rattle.price_assign.specs.Order.{IsOrder};
-    ghost use Rattle.price_assign.specs.Side.{SideView, pairs_minute};
+    ghost use Rattle.price_assign.specs.Side.{SideView, pairs_minute, pairs_post};
 
     ghost Value = { SideView };
 
     ghost view = { λ s. record { pairs = s.pairs.now; turned = s.turned; without = s.without; columns = s.columns.now; places = s.places.now } };
 
-    ghost invariant = { λ s. IsOrder (length s.pairs.now.moves) (pairs_minute s.pairs.now s.turned) s.columns.now s.places.now };
+    ghost invariant = { λ s. IsOrder (length s.pairs.now.moves) (pairs_minute s.pairs.now s.turned) (pairs_post s.pairs.now s.turned) s.columns.now s.places.now };
 }
 
 impl<'a> Side<'a> {
@@ -43,7 +43,7 @@ impl<'a> Side<'a> {
         columns: &'a [Column],
         places: &'a [u16],
     ) -> Side<'a>
-        requires { IsOrder (length pairs.now.moves) (pairs_minute pairs.now false) columns.now places.now }
+        requires { IsOrder (length pairs.now.moves) (pairs_minute pairs.now false) (pairs_post pairs.now false) columns.now places.now }
         ensures { result ≡ record { pairs = pairs.now; turned = false; without = without; columns = columns.now; places = places.now } }
     {
         Side {
@@ -62,7 +62,7 @@ impl<'a> Side<'a> {
         columns: &'a [Column],
         places: &'a [u16],
     ) -> Side<'a>
-        requires { IsOrder (length pairs.now.moves) (pairs_minute pairs.now true) columns.now places.now }
+        requires { IsOrder (length pairs.now.moves) (pairs_minute pairs.now true) (pairs_post pairs.now true) columns.now places.now }
         ensures { result ≡ record { pairs = pairs.now; turned = true; without = without; columns = columns.now; places = places.now } }
     {
         Side {
@@ -91,6 +91,23 @@ impl<'a> Side<'a> {
         ensures within { result < side_slots self.now }
     {
         self.columns[place as usize].slot
+    }
+
+    /// Where the column at a place stands, unless it is left out. A row weighs as much with each later one that stands there
+    /// as with one that it fits.
+    pub(crate) fn post(&self, place: u16) -> Option<u16>
+        requires { place < side_slots self.now }
+        ensures post { result ≡ side_post self.now place }
+        ensures likewise { (row k p weight : ℕ) → place ≤ k → k < side_slots self.now → result ≡ Some p → side_post self.now k ≡ Some p
+            → place_weight self.now row place ≡ Some weight → place_weight self.now row k ≡ Some weight }
+    {
+        // Its clauses say that moves are of one day.
+        let _slots = self.pairs.slots();
+        let column = self.columns[place as usize];
+        if self.leaves_out(column.slot) {
+            return None;
+        }
+        column.post
     }
 
     /// The place of a column.

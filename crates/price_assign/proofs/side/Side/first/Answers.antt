@@ -1,7 +1,7 @@
 use Rattle.std.proofs.Common.{◌≡◌, ◌<◌, ◌≤◌, length, Some, sym, ap, subst, ◌∙◌, ⊎_elim, arith}
 use Rattle.std.proofs.lemmas.Bool.{cases_lt}
 use Rattle.trip_model.specs.Plain.{move_at}
-use Rattle.price_assign.specs.Order.{row_minute}
+use Rattle.price_assign.specs.Order.{no_column, row_minute}
 use Rattle.price_assign.specs.Side.{SideView, side_slot, place_weight}
 use Rattle.price_assign.proofs.OrderLemmas.{ready}
 use Rattle.price_assign.proofs.side.Side.first.Goals as goal
@@ -17,6 +17,6 @@ returns-clause-first c = λ k weight e.
     ⊎_elim
     (λ (before : k < c.columns_before.result).
     let inside : k < length side.pairs.moves = omega (arith, before, c.columns_before.ensures.within, c.self.invariant.count) in
-    absurd (omega (arith, c.columns_before.ensures.before k (record { minute = 0; slot = length side.pairs.moves }) before, c.self.invariant.minutes k inside, ready side c.args.row (side_slot side k) weight fits, minute)))
+    absurd (omega (arith, c.columns_before.ensures.before k (no_column (length side.pairs.moves)) before, c.self.invariant.minutes k inside, ready side c.args.row (side_slot side k) weight fits, minute)))
     (λ (after : c.columns_before.result ≤ k). after)
     (cases_lt k c.columns_before.result)
