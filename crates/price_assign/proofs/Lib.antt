@@ -3,7 +3,9 @@ pub mod InverseLemmas
 pub mod LentLemmas
 pub mod LookLemmas
 pub mod LooseLemmas
+pub mod OrderLemmas
 pub mod RelinkLemmas
+pub mod RenameLemmas
 pub mod RightLemmas
 pub mod ShiftLemmas
 pub mod SideLemmas

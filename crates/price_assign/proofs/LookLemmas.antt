@@ -3,16 +3,16 @@ use Rattle.std.proofs.Common.{◌≡◌, ◌≢◌, ℕ, ◌+◌, ◌<◌, Bool,
 use Rattle.std.proofs.lemmas.Bool.{cases_eq}
 use Rattle.std.proofs.lemmas.List.{get_or-set_same, get_or-set_other}
 use Rattle.std.proofs.lemmas.Option.{same_Some}
-use Rattle.price_assign.specs.Search.{at, is_done, weight_at, AreLooked}
+use Rattle.price_assign.specs.Search.{at, is_done, AreLooked}
 
-pub AreLooked-set : (weights : List (Option ℕ)) (column from start k d : ℕ) (enter : List ℕ) (done : List Bool) (dist0 parent0 dist parent : List ℕ)
-    → column < length dist → column < length parent → is_done done column ≡ false → weight_at weights column ≡ Some k → d + k ≡ start + at enter column → d < at dist column
-    → AreLooked weights column from start enter done dist0 parent0 dist parent
-    → AreLooked weights (column + 1) from start enter done dist0 parent0 (set dist column d) (set parent column from)
-AreLooked-set weights column from start k d enter done dist0 parent0 dist parent inside inside' undone fits exact less l = record {
+pub AreLooked-set : (w : ℕ → Option ℕ) (column from start k d : ℕ) (enter : List ℕ) (done : List Bool) (dist0 parent0 dist parent : List ℕ)
+    → column < length dist → column < length parent → is_done done column ≡ false → w column ≡ Some k → d + k ≡ start + at enter column → d < at dist column
+    → AreLooked w column from start enter done dist0 parent0 dist parent
+    → AreLooked w (column + 1) from start enter done dist0 parent0 (set dist column d) (set parent column from)
+AreLooked-set w column from start k d enter done dist0 parent0 dist parent inside inside' undone fits exact less l = record {
   covered = λ j m lt undone fit. ⊎_elim
       (λ (e : j ≡ column).
-      let same : m ≡ k = same_Some m k (sym fit ∙ ap (weight_at weights) e ∙ fits) in
+      let same : m ≡ k = same_Some m k (sym fit ∙ ap w e ∙ fits) in
       let d' = here j e in
       let entering : at enter j ≡ at enter column = ap (at enter) e in
       omega (arith, same, d', entering, exact))
@@ -31,7 +31,7 @@ AreLooked-set weights column from start k d enter done dist0 parent0 dist parent
         undone = ap (is_done done) e ∙ undone;
         by = ap (at (set parent column from)) e ∙ get_or-set_same parent column from 0 inside';
         weight = k;
-        fits = ap (weight_at weights) e ∙ fits;
+        fits = ap w e ∙ fits;
         exact = let entering : at enter j ≡ at enter column = ap (at enter) e in omega (arith, here j e, entering, exact);
       })
       (λ (ne : j ≡ column → ⊥).
@@ -44,7 +44,6 @@ AreLooked-set weights column from start k d enter done dist0 parent0 dist parent
         exact = omega (arith, dist-other j ne, old.exact);
       })
       (cases_eq j column);
-  later = λ j le. let ne : j ≢ column = (λ e. absurd (omega (arith, le, e))) in dist-other j ne ∙ l.later j (omega (arith, le));
 }
   where
     here : (j : ℕ) → j ≡ column → at (set dist column d) j ≡ d

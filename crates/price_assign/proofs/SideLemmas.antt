@@ -1,5 +1,5 @@
 -- What the weights of a side are.
-use Rattle.std.proofs.Common.{◌≡◌, ◌≢◌, ℕ, nat_le, Bool, true, false, cond, length, Option, None, Some, refl, sym, ap, subst, ◌∙◌, ⊎_elim, inl, inr, ◌⊎◌, arith}
+use Rattle.std.proofs.Common.{◌≡◌, ◌≢◌, ℕ, ◌+◌, Bool, true, false, cond, List, length, Option, None, Some, refl, sym, ap, subst, ◌∙◌, ⊎_elim, inl, inr, ◌⊎◌, arith}
 use Rattle.std.specs.Prelude.{if◌then◌else◌}
 use Rattle.std.proofs.lemmas.Bool.{cases_eq, eq-eqb, ne_eqb, lt-leb}
 use Rattle.std.proofs.lemmas.Option.{none-some, same_Some}
@@ -9,7 +9,8 @@ use Rattle.deadhead_matrix.specs.Prices.{weight, Plan, IsCertified, IsDay, IsLoo
 use Rattle.deadhead_matrix.proofs.Looseness.{IsCertified-loose}
 use Rattle.pair_graph.specs.Pairs.{PairsView, pairs_network}
 use Rattle.price_assign.specs.Assignment.{AreWeights, IsMatched, Covers, MayBegin}
-use Rattle.price_assign.specs.Side.{SideView, side_slots, side_weight}
+use Rattle.price_assign.specs.declared.order.Column.{Column}
+use Rattle.price_assign.specs.Side.{SideView, side_slots, side_place, side_weight, stands_before}
 use Rattle.price_assign.specs.Turned.{MayBeginTurned, IsFoundTurned}
 use Rattle.price_assign.proofs.RightLemmas.{MayBegin-right, IsLoose-right}
 use Rattle.price_assign.proofs.LooseLemmas.{IsWithout, AreWeights-turned, AreWeights-without, MayBegin-left, IsLoose-matched, lives-after}
@@ -26,7 +27,7 @@ leads (Some s) j = ⊎_elim
     (λ (ne : s ≡ j → ⊥). inr (λ e. ne (same_Some s j e), ne_eqb s j ne))
     (cases_eq s j)
 
-masked : (side : SideView) (i j : ℕ) (left : Bool) → leads_to j side.without ≡ left → side_weight side i j ≡ cond left None (all_weights side.pairs side.turned i j)
+pub masked : (side : SideView) (i j : ℕ) (left : Bool) → leads_to j side.without ≡ left → side_weight side i j ≡ cond left None (all_weights side.pairs side.turned i j)
 unfolding side_weight
 masked side i j left e = ap (λ t. cond t None (all_weights side.pairs side.turned i j)) e
 
@@ -56,55 +57,55 @@ AreWeights-side side n weights =
     by false = weights
 
 -- the leaving side
-abbrev pub leaving : PairsView → Option ℕ → SideView
-leaving pairs without = record { pairs = pairs; turned = false; without = without }
+abbrev pub leaving : PairsView → Option ℕ → List Column → List ℕ → SideView
+leaving pairs without columns places = record { pairs = pairs; turned = false; without = without; columns = columns; places = places }
 
 -- a search from a leaving side of a loose plan may begin
-pub MayBegin-leaving : (pairs : PairsView) (side : SideView) (plan : Plan) (a : ℕ) (b : Option ℕ) → side ≡ leaving pairs b → IsDay (pairs_network pairs) (length pairs.moves)
+pub MayBegin-leaving : (pairs : PairsView) (columns : List Column) (places : List ℕ) (side : SideView) (plan : Plan) (a : ℕ) (b : Option ℕ) → side ≡ leaving pairs b columns places → IsDay (pairs_network pairs) (length pairs.moves)
     → IsLoose (pairs_network pairs) plan (Some a) b → MayBegin (side_weight side) (side_slots side) (λ _. false) a b plan.next plan.leave plan.enter
-MayBegin-leaving pairs side plan a b is day loose =
+MayBegin-leaving pairs columns places side plan a b is day loose =
     subst (λ (s : SideView). MayBegin (side_weight s) (side_slots s) (λ _. false) a b plan.next plan.leave plan.enter) (sym is)
-    (MayBegin-left (pairs_network pairs) (length pairs.moves) plan a b (side_weight (leaving pairs b)) day (IsWithout-side (leaving pairs b)) loose)
+    (MayBegin-left (pairs_network pairs) (length pairs.moves) plan a b (side_weight (leaving pairs b columns places)) day (IsWithout-side (leaving pairs b columns places)) loose)
 
 -- and leaves the plan loose
-pub IsLoose-leaving : (pairs : PairsView) (departs : ℕ → ℕ) (side : SideView) (plan new : Plan) (a : ℕ) (b : Option ℕ) → side ≡ leaving pairs b → AreDepartures (pairs_network pairs) departs
+pub IsLoose-leaving : (pairs : PairsView) (columns : List Column) (places : List ℕ) (departs : ℕ → ℕ) (side : SideView) (plan new : Plan) (a : ℕ) (b : Option ℕ) → side ≡ leaving pairs b columns places → AreDepartures (pairs_network pairs) departs
     → IsLoose (pairs_network pairs) plan (Some a) b → length new.leave ≡ length new.next → length new.enter ≡ length new.next
     → IsMatched (side_weight side) (λ _. false) None b new.next new.leave new.enter → Covers (side_weight side) (λ _. false) None new.leave new.enter → IsLoose (pairs_network pairs) new None b
-IsLoose-leaving pairs departs side plan new a b is clock loose leaves enters matched covers =
-    IsLoose-matched (pairs_network pairs) departs new (λ _. false) b (side_weight (leaving pairs b)) clock (IsWithout-side (leaving pairs b)) (λ i _. refl)
+IsLoose-leaving pairs columns places departs side plan new a b is clock loose leaves enters matched covers =
+    IsLoose-matched (pairs_network pairs) departs new (λ _. false) b (side_weight (leaving pairs b columns places)) clock (IsWithout-side (leaving pairs b columns places)) (λ i _. refl)
     (lives-after (pairs_network pairs) plan (Some a) b loose) leaves enters
     (subst (λ (s : SideView). IsMatched (side_weight s) (λ _. false) None b new.next new.leave new.enter) is matched)
     (subst (λ (s : SideView). Covers (side_weight s) (λ _. false) None new.leave new.enter) is covers)
 
 -- where all leaving sides are added, the plan is certified
-pub IsCertified-leaving : (pairs : PairsView) (departs : ℕ → ℕ) (side : SideView) (plan : Plan) → side ≡ leaving pairs None → IsDay (pairs_network pairs) (length pairs.moves)
+pub IsCertified-leaving : (pairs : PairsView) (columns : List Column) (places : List ℕ) (departs : ℕ → ℕ) (side : SideView) (plan : Plan) → side ≡ leaving pairs None columns places → IsDay (pairs_network pairs) (length pairs.moves)
     → AreDepartures (pairs_network pairs) departs → length plan.next ≡ side_slots side → length plan.leave ≡ length plan.next → length plan.enter ≡ length plan.next
-    → IsMatched (side_weight side) (nat_le (side_slots side)) None None plan.next plan.leave plan.enter → Covers (side_weight side) (nat_le (side_slots side)) None plan.leave plan.enter
+    → IsMatched (side_weight side) (stands_before side 0) None None plan.next plan.leave plan.enter → Covers (side_weight side) (stands_before side 0) None plan.leave plan.enter
     → IsCertified (pairs_network pairs) plan
-IsCertified-leaving pairs departs side plan is day clock slots leaves enters matched covers =
+IsCertified-leaving pairs columns places departs side plan is day clock slots leaves enters matched covers =
     let n = length pairs.moves in
     let count : length plan.next ≡ n = slots ∙ ap side_slots is in
     IsCertified-loose (pairs_network pairs) departs plan clock (λ s live. omega (arith, day.within s live, count))
-    (IsLoose-matched (pairs_network pairs) departs plan (nat_le n) None (side_weight (leaving pairs None)) clock (IsWithout-side (leaving pairs None)) (λ i live. lt-leb n i (day.within i live))
+    (IsLoose-matched (pairs_network pairs) departs plan (stands_before (leaving pairs None columns places) 0) None (side_weight (leaving pairs None columns places)) clock (IsWithout-side (leaving pairs None columns places)) (λ i _. lt-leb (side_place (leaving pairs None columns places) i + 1) 0 (omega arith))
     (λ s e. absurd (none-some s e)) leaves enters
-    (subst (λ (s : SideView). IsMatched (side_weight s) (nat_le (side_slots s)) None None plan.next plan.leave plan.enter) is matched)
-    (subst (λ (s : SideView). Covers (side_weight s) (nat_le (side_slots s)) None plan.leave plan.enter) is covers))
+    (subst (λ (s : SideView). IsMatched (side_weight s) (stands_before s 0) None None plan.next plan.leave plan.enter) is matched)
+    (subst (λ (s : SideView). Covers (side_weight s) (stands_before s 0) None plan.leave plan.enter) is covers))
 
 -- the entering side
-abbrev pub entering : PairsView → Option ℕ → SideView
-entering pairs without = record { pairs = pairs; turned = true; without = without }
+abbrev pub entering : PairsView → Option ℕ → List Column → List ℕ → SideView
+entering pairs without columns places = record { pairs = pairs; turned = true; without = without; columns = columns; places = places }
 
 -- a search from an entering side of a loose plan may begin
-pub MayBegin-entering : (pairs : PairsView) (side : SideView) (plan : Plan) (a : Option ℕ) (b : ℕ) → side ≡ entering pairs a → IsDay (pairs_network pairs) (length pairs.moves)
+pub MayBegin-entering : (pairs : PairsView) (columns : List Column) (places : List ℕ) (side : SideView) (plan : Plan) (a : Option ℕ) (b : ℕ) → side ≡ entering pairs a columns places → IsDay (pairs_network pairs) (length pairs.moves)
     → IsLoose (pairs_network pairs) plan a (Some b) → MayBeginTurned (side_weight side) (side_slots side) b a plan.next plan.leave plan.enter
-MayBegin-entering pairs side plan a b is day loose =
+MayBegin-entering pairs columns places side plan a b is day loose =
     subst (λ (s : SideView). MayBeginTurned (side_weight s) (side_slots s) b a plan.next plan.leave plan.enter) (sym is)
-    (MayBegin-right (pairs_network pairs) (length pairs.moves) plan a b (side_weight (entering pairs a)) day (IsWithout-side (entering pairs a)) loose)
+    (MayBegin-right (pairs_network pairs) (length pairs.moves) plan a b (side_weight (entering pairs a columns places)) day (IsWithout-side (entering pairs a columns places)) loose)
 
 -- and leaves the plan loose
-pub IsLoose-entering : (pairs : PairsView) (departs : ℕ → ℕ) (side : SideView) (plan new : Plan) (a : Option ℕ) (b : ℕ) → side ≡ entering pairs a → AreDepartures (pairs_network pairs) departs
+pub IsLoose-entering : (pairs : PairsView) (columns : List Column) (places : List ℕ) (departs : ℕ → ℕ) (side : SideView) (plan new : Plan) (a : Option ℕ) (b : ℕ) → side ≡ entering pairs a columns places → AreDepartures (pairs_network pairs) departs
     → IsLoose (pairs_network pairs) plan a (Some b) → length new.leave ≡ length new.next → length new.enter ≡ length new.next
     → IsFoundTurned (side_weight side) b a plan.next new.next new.leave new.enter → IsLoose (pairs_network pairs) new a None
-IsLoose-entering pairs departs side plan new a b is clock loose leaves enters found =
-    IsLoose-right (pairs_network pairs) departs plan new a b (side_weight (entering pairs a)) clock (IsWithout-side (entering pairs a)) loose leaves enters
+IsLoose-entering pairs columns places departs side plan new a b is clock loose leaves enters found =
+    IsLoose-right (pairs_network pairs) departs plan new a b (side_weight (entering pairs a columns places)) clock (IsWithout-side (entering pairs a columns places)) loose leaves enters
     (subst (λ (s : SideView). IsFoundTurned (side_weight s) b a plan.next new.next new.leave new.enter) is found)

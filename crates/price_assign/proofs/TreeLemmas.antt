@@ -7,7 +7,7 @@ use Rattle.std.proofs.lemmas.List.Sums.{sum_by-set}
 use Rattle.std.proofs.Math.Nat.{le_antisymm}
 use Rattle.trip_model.specs.Links.{next_of}
 use Rattle.price_assign.specs.declared.grow.End.{End}
-use Rattle.price_assign.specs.Search.{at, is_done, AreRead, AreLooked, Problem, IsInside, IsGiven, Tree, tree_of, IsVia, IsIn, IsFrom, IsTree, IsNext, IsBest}
+use Rattle.price_assign.specs.Search.{at, is_done, AreLooked, Problem, IsInside, IsGiven, Tree, tree_of, IsVia, IsIn, IsFrom, IsTree, IsNext, IsBest}
 
 -- one column more is done
 count-done : (done : List Bool) (column : ℕ) → column < length done → is_done done column ≡ false → count_by not (set done column true) + 1 ≡ count_by not done
@@ -16,14 +16,12 @@ count-done done column inside undone =
     omega (arith, sum_by-set (λ b. cond (not b) 1 0) done column true false inside, was)
 
 -- the columns were looked at from a row that comes in
-pub record IsVisit (p : Problem) (s : Tree) (row column : ℕ) (weights : List (Option ℕ)) (dist parent : List ℕ) : Type 0 where
+pub record IsVisit (p : Problem) (s : Tree) (row column : ℕ) (dist parent : List ℕ) : Type 0 where
   pub next : IsNext p s row column
   pub done : length s.done ≡ p.n
   pub rows : length s.rows ≡ p.n + 1
   pub far : length s.far ≡ p.n + 1
-  pub columns : length weights ≡ p.n
-  pub read : AreRead (p.w row) weights
-  pub looked : AreLooked weights p.n s.size (at s.dist column + at p.leave row) p.enter (set s.done column true) s.dist s.parent dist parent
+  pub looked : AreLooked (p.w row) p.n s.size (at s.dist column + at p.leave row) p.enter (set s.done column true) s.dist s.parent dist parent
 
 -- the tree with the row
 abbrev visited : Tree → ℕ → ℕ → List ℕ → List ℕ → Tree
@@ -34,25 +32,25 @@ visited s row column dist parent =
 pub tree-room : (p : Problem) (s : Tree) (column : ℕ) → IsTree p s → column < length s.done → is_done s.done column ≡ false → s.size ≤ p.n
 tree-room p s column tree inside undone = omega (arith, tree.count, count-done s.done column inside undone)
 
-room : (p : Problem) (s : Tree) (row column : ℕ) (weights : List (Option ℕ)) (dist parent : List ℕ) → IsTree p s → IsVisit p s row column weights dist parent → s.size < p.n + 1
-room p s row column weights dist parent tree v = omega (arith, tree-room p s column tree (omega (arith, v.next.within, v.done)) v.next.undone)
+room : (p : Problem) (s : Tree) (row column : ℕ) (dist parent : List ℕ) → IsTree p s → IsVisit p s row column dist parent → s.size < p.n + 1
+room p s row column dist parent tree v = omega (arith, tree-room p s column tree (omega (arith, v.next.within, v.done)) v.next.undone)
 
-rows-new : (p : Problem) (s : Tree) (row column : ℕ) (weights : List (Option ℕ)) (dist parent : List ℕ) → IsTree p s → IsVisit p s row column weights dist parent
+rows-new : (p : Problem) (s : Tree) (row column : ℕ) (dist parent : List ℕ) → IsTree p s → IsVisit p s row column dist parent
     → (t : ℕ) → t ≡ s.size → at (set s.rows s.size row) t ≡ row
-rows-new p s row column weights dist parent tree v t e =
-    ap (at (set s.rows s.size row)) e ∙ get_or-set_same s.rows s.size row 0 (omega (arith, room p s row column weights dist parent tree v, v.rows))
+rows-new p s row column dist parent tree v t e =
+    ap (at (set s.rows s.size row)) e ∙ get_or-set_same s.rows s.size row 0 (omega (arith, room p s row column dist parent tree v, v.rows))
 
-far-new : (p : Problem) (s : Tree) (row column : ℕ) (weights : List (Option ℕ)) (dist parent : List ℕ) → IsTree p s → IsVisit p s row column weights dist parent
+far-new : (p : Problem) (s : Tree) (row column : ℕ) (dist parent : List ℕ) → IsTree p s → IsVisit p s row column dist parent
     → (t : ℕ) → t ≡ s.size → at (set s.far s.size (at s.dist column)) t ≡ at s.dist column
-far-new p s row column weights dist parent tree v t e =
-    ap (at (set s.far s.size (at s.dist column))) e ∙ get_or-set_same s.far s.size (at s.dist column) 0 (omega (arith, room p s row column weights dist parent tree v, v.far))
+far-new p s row column dist parent tree v t e =
+    ap (at (set s.far s.size (at s.dist column))) e ∙ get_or-set_same s.far s.size (at s.dist column) 0 (omega (arith, room p s row column dist parent tree v, v.far))
 
 at-old : (xs : List ℕ) (size x t : ℕ) → t < size → at (set xs size x) t ≡ at xs t
 at-old xs size x t lt = get_or-set_other xs size t x 0 (λ e. absurd (omega (arith, lt, e)))
 
-done-new : (p : Problem) (s : Tree) (row column : ℕ) (weights : List (Option ℕ)) (dist parent : List ℕ) → IsVisit p s row column weights dist parent
+done-new : (p : Problem) (s : Tree) (row column : ℕ) (dist parent : List ℕ) → IsVisit p s row column dist parent
     → (j : ℕ) → j ≡ column → is_done (set s.done column true) j ≡ true
-done-new p s row column weights dist parent v j e =
+done-new p s row column dist parent v j e =
     ap (is_done (set s.done column true)) e ∙ get_or-set_same s.done column true false (omega (arith, v.next.within, v.done))
 
 done-old : (s : Tree) (column j : ℕ) → j ≢ column → is_done (set s.done column true) j ≡ is_done s.done j
@@ -63,9 +61,9 @@ apart-done : (p : Problem) (s : Tree) (row column : ℕ) → IsNext p s row colu
 apart-done p s row column next j done = λ e. both_ways (is_done s.done column) next.undone (ap (is_done s.done) (sym e) ∙ done)
 
 -- columns that are done are as far as before, and reached as before
-keeps : (p : Problem) (s : Tree) (row column : ℕ) (weights : List (Option ℕ)) (dist parent : List ℕ) → IsVisit p s row column weights dist parent
+keeps : (p : Problem) (s : Tree) (row column : ℕ) (dist parent : List ℕ) → IsVisit p s row column dist parent
     → (j : ℕ) → is_done (set s.done column true) j ≡ true → (at dist j ≡ at s.dist j) × (at parent j ≡ at s.parent j)
-keeps p s row column weights dist parent v j done = ⊎_elim
+keeps p s row column dist parent v j done = ⊎_elim
     (λ (lt : at dist j < at s.dist j). absurd (both_ways (is_done (set s.done column true) j) (v.looked.reached j lt).undone done))
     (λ (le : at s.dist j ≤ at dist j). (le_antisymm (v.looked.nearer j) le, v.looked.same j le))
     (cases_lt (at dist j) (at s.dist j))
@@ -75,23 +73,23 @@ inside-row : (p : Problem) (s : Tree) (row column : ℕ) → IsNext p s row colu
 inside-row p s row column next = inr (column, next.linked)
 
 -- none that was done is farther than the row that comes in
-done-near : (p : Problem) (s : Tree) (row column : ℕ) (weights : List (Option ℕ)) (dist parent : List ℕ) → IsTree p s → IsVisit p s row column weights dist parent
+done-near : (p : Problem) (s : Tree) (row column : ℕ) (dist parent : List ℕ) → IsTree p s → IsVisit p s row column dist parent
     → (j : ℕ) → j < p.n → is_done (set s.done column true) j ≡ true → at s.dist j ≤ at s.dist column
-done-near p s row column weights dist parent tree v j lt done = ⊎_elim
+done-near p s row column dist parent tree v j lt done = ⊎_elim
     (λ (e : j ≡ column). let same : at s.dist j ≡ at s.dist column = ap (at s.dist) e in omega (arith, same))
     (λ (ne : j ≡ column → ⊥).
     let old = tree.done j lt (sym (done-old s column j ne) ∙ done) in
     omega (arith, old.far, tree.within old.place old.within.1, tree.later column v.next.within v.next.undone))
     (cases_eq j column)
 
-visit-via : (p : Problem) (s : Tree) (row column : ℕ) (weights : List (Option ℕ)) (dist parent : List ℕ) → IsTree p s → IsVisit p s row column weights dist parent
+visit-via : (p : Problem) (s : Tree) (row column : ℕ) (dist parent : List ℕ) → IsTree p s → IsVisit p s row column dist parent
     → (t : ℕ) → 0 < t → t < s.size + 1 → IsVia p (visited s row column dist parent) t
-visit-via p s row column weights dist parent tree v t positive lt = ⊎_elim
+visit-via p s row column dist parent tree v t positive lt = ⊎_elim
     (λ (old : t < s.size).
     let via = tree.via t positive old in
     let ne = apart-done p s row column v.next via.column via.done in
     let done : is_done (set s.done column true) via.column ≡ true = done-old s column via.column ne ∙ via.done in
-    let kept = keeps p s row column weights dist parent v via.column done in
+    let kept = keeps p s row column dist parent v via.column done in
     record {
       column = via.column;
       linked = via.linked ∙ ap Some (sym (at-old s.rows s.size row t old));
@@ -101,24 +99,24 @@ visit-via p s row column weights dist parent tree v t positive lt = ⊎_elim
     })
     (λ (new : s.size ≤ t).
     let e : t ≡ s.size = omega (arith, new, lt) in
-    let done = done-new p s row column weights dist parent v column refl in
-    let kept = keeps p s row column weights dist parent v column done in
+    let done = done-new p s row column dist parent v column refl in
+    let kept = keeps p s row column dist parent v column done in
     record {
       column = column;
-      linked = v.next.linked ∙ ap Some (sym (rows-new p s row column weights dist parent tree v t e));
+      linked = v.next.linked ∙ ap Some (sym (rows-new p s row column dist parent tree v t e));
       done = done;
-      far = kept.0 ∙ sym (far-new p s row column weights dist parent tree v t e);
+      far = kept.0 ∙ sym (far-new p s row column dist parent tree v t e);
       parent = omega (arith, kept.1, (tree.reached column v.next.within v.next.near).within, e);
     })
     (cases_lt t s.size)
 
-visit-apart : (p : Problem) (s : Tree) (row column : ℕ) (weights : List (Option ℕ)) (dist parent : List ℕ) → IsGiven p → IsTree p s → IsVisit p s row column weights dist parent
+visit-apart : (p : Problem) (s : Tree) (row column : ℕ) (dist parent : List ℕ) → IsGiven p → IsTree p s → IsVisit p s row column dist parent
     → (r t : ℕ) → r < t → t < s.size + 1 → at (set s.rows s.size row) r ≢ at (set s.rows s.size row) t
-visit-apart p s row column weights dist parent given tree v r t less lt = ⊎_elim
+visit-apart p s row column dist parent given tree v r t less lt = ⊎_elim
     (λ (old : t < s.size). λ same. tree.apart r t less old (sym (at-old s.rows s.size row r (omega arith)) ∙ same ∙ at-old s.rows s.size row t old))
     (λ (new : s.size ≤ t). λ same.
     let e : t ≡ s.size = omega (arith, new, lt) in
-    let row-at : at s.rows r ≡ row = sym (at-old s.rows s.size row r (omega arith)) ∙ same ∙ rows-new p s row column weights dist parent tree v t e in
+    let row-at : at s.rows r ≡ row = sym (at-old s.rows s.size row r (omega arith)) ∙ same ∙ rows-new p s row column dist parent tree v t e in
     ⊎_elim
     (λ (first : r ≡ 0).
     let start : row ≡ p.a = sym row-at ∙ ap (at s.rows) first ∙ tree.root.1 in
@@ -129,51 +127,51 @@ visit-apart p s row column weights dist parent given tree v r t less lt = ⊎_el
     (cases_eq r 0))
     (cases_lt t s.size)
 
-visit-covered : (p : Problem) (s : Tree) (row column : ℕ) (weights : List (Option ℕ)) (dist parent : List ℕ) → IsGiven p → IsTree p s → IsVisit p s row column weights dist parent
+visit-covered : (p : Problem) (s : Tree) (row column : ℕ) (dist parent : List ℕ) → IsGiven p → IsTree p s → IsVisit p s row column dist parent
     → (t j k : ℕ) → t < s.size + 1 → p.w (at (set s.rows s.size row) t) j ≡ Some k
     → at dist j + k ≤ at (set s.far s.size (at s.dist column)) t + at p.leave (at (set s.rows s.size row) t) + at p.enter j
-visit-covered p s row column weights dist parent given tree v t j k lt fits = ⊎_elim
+visit-covered p s row column dist parent given tree v t j k lt fits = ⊎_elim
     (λ (old : t < s.size).
     let r = at-old s.rows s.size row t old in
     let leaves : at p.leave (at (set s.rows s.size row) t) ≡ at p.leave (at s.rows t) = ap (at p.leave) r in
     omega (arith, tree.covered t j k old (ap (λ i. p.w i j) (sym r) ∙ fits), v.looked.nearer j, at-old s.far s.size (at s.dist column) t old, leaves))
     (λ (new : s.size ≤ t).
     let e : t ≡ s.size = omega (arith, new, lt) in
-    let r = rows-new p s row column weights dist parent tree v t e in
+    let r = rows-new p s row column dist parent tree v t e in
     let leaves : at p.leave (at (set s.rows s.size row) t) ≡ at p.leave row = ap (at p.leave) r in
-    let far = far-new p s row column weights dist parent tree v t e in
+    let far = far-new p s row column dist parent tree v t e in
     let fit : p.w row j ≡ Some k = ap (λ i. p.w i j) (sym r) ∙ fits in
     let inside = (given.weights.within row j k fit).1 in
     ⊎_elim
     (λ (done : is_done (set s.done column true) j ≡ true).
-    let kept = keeps p s row column weights dist parent v j done in
-    omega (arith, kept.0, done-near p s row column weights dist parent tree v j inside done, given.covers row j k (inside-row p s row column v.next) fit, leaves, far))
+    let kept = keeps p s row column dist parent v j done in
+    omega (arith, kept.0, done-near p s row column dist parent tree v j inside done, given.covers row j k (inside-row p s row column v.next) fit, leaves, far))
     (λ (undone : is_done (set s.done column true) j ≡ false).
-    omega (arith, v.looked.covered j k inside undone (v.read.all j k (omega (arith, inside, v.columns)) fit), leaves, far))
+    omega (arith, v.looked.covered j k inside undone fit, leaves, far))
     (cases_Bool (is_done (set s.done column true) j)))
     (cases_lt t s.size)
 
-visit-later : (p : Problem) (s : Tree) (row column : ℕ) (weights : List (Option ℕ)) (dist parent : List ℕ) → IsGiven p → IsVisit p s row column weights dist parent
+visit-later : (p : Problem) (s : Tree) (row column : ℕ) (dist parent : List ℕ) → IsGiven p → IsVisit p s row column dist parent
     → (j : ℕ) → j < p.n → is_done (set s.done column true) j ≡ false → at s.dist column ≤ at dist j
-visit-later p s row column weights dist parent given v j lt undone =
-    let ne : j ≢ column = λ e. both_ways (is_done (set s.done column true) j) undone (done-new p s row column weights dist parent v j e) in
+visit-later p s row column dist parent given v j lt undone =
+    let ne : j ≢ column = λ e. both_ways (is_done (set s.done column true) j) undone (done-new p s row column dist parent v j e) in
     ⊎_elim
     (λ (less : at dist j < at s.dist j).
     let reached = v.looked.reached j less in
-    omega (arith, reached.exact, given.covers row j reached.weight (inside-row p s row column v.next) (v.read.told j reached.weight reached.fits)))
+    omega (arith, reached.exact, given.covers row j reached.weight (inside-row p s row column v.next) reached.fits))
     (λ (le : at s.dist j ≤ at dist j). omega (arith, le, v.next.least j lt (sym (done-old s column j ne) ∙ undone)))
     (cases_lt (at dist j) (at s.dist j))
 
-visit-done : (p : Problem) (s : Tree) (row column : ℕ) (weights : List (Option ℕ)) (dist parent : List ℕ) → IsTree p s → IsVisit p s row column weights dist parent
+visit-done : (p : Problem) (s : Tree) (row column : ℕ) (dist parent : List ℕ) → IsTree p s → IsVisit p s row column dist parent
     → (j : ℕ) → j < p.n → is_done (set s.done column true) j ≡ true → IsIn p (visited s row column dist parent) j
-visit-done p s row column weights dist parent tree v j lt done =
-    let kept = keeps p s row column weights dist parent v j done in
+visit-done p s row column dist parent tree v j lt done =
+    let kept = keeps p s row column dist parent v j done in
     ⊎_elim
     (λ (e : j ≡ column). record {
       place = s.size;
       within = (tree.root.0, omega arith);
-      linked = ap (next_of p.before) e ∙ v.next.linked ∙ ap Some (sym (rows-new p s row column weights dist parent tree v s.size refl));
-      far = kept.0 ∙ ap (at s.dist) e ∙ sym (far-new p s row column weights dist parent tree v s.size refl);
+      linked = ap (next_of p.before) e ∙ v.next.linked ∙ ap Some (sym (rows-new p s row column dist parent tree v s.size refl));
+      far = kept.0 ∙ ap (at s.dist) e ∙ sym (far-new p s row column dist parent tree v s.size refl);
     })
     (λ (ne : j ≡ column → ⊥).
     let old = tree.done j lt (sym (done-old s column j ne) ∙ done) in
@@ -185,18 +183,18 @@ visit-done p s row column weights dist parent tree v j lt done =
     })
     (cases_eq j column)
 
-visit-reached : (p : Problem) (s : Tree) (row column : ℕ) (weights : List (Option ℕ)) (dist parent : List ℕ) → IsTree p s → IsVisit p s row column weights dist parent
+visit-reached : (p : Problem) (s : Tree) (row column : ℕ) (dist parent : List ℕ) → IsTree p s → IsVisit p s row column dist parent
     → (j : ℕ) → j < p.n → at dist j < 67111745 → IsFrom p (visited s row column dist parent) j
-visit-reached p s row column weights dist parent tree v j lt near = ⊎_elim
+visit-reached p s row column dist parent tree v j lt near = ⊎_elim
     (λ (less : at dist j < at s.dist j).
     let reached = v.looked.reached j less in
-    let r = rows-new p s row column weights dist parent tree v (at parent j) reached.by in
+    let r = rows-new p s row column dist parent tree v (at parent j) reached.by in
     let leaves : at p.leave (at (set s.rows s.size row) (at parent j)) ≡ at p.leave row = ap (at p.leave) r in
     record {
       within = omega (arith, reached.by);
       weight = reached.weight;
-      fits = ap (λ i. p.w i j) r ∙ v.read.told j reached.weight reached.fits;
-      exact = omega (arith, reached.exact, leaves, far-new p s row column weights dist parent tree v (at parent j) reached.by);
+      fits = ap (λ i. p.w i j) r ∙ reached.fits;
+      exact = omega (arith, reached.exact, leaves, far-new p s row column dist parent tree v (at parent j) reached.by);
     })
     (λ (le : at s.dist j ≤ at dist j).
     let far = le_antisymm (v.looked.nearer j) le in
@@ -214,20 +212,20 @@ visit-reached p s row column weights dist parent tree v j lt near = ⊎_elim
     (cases_lt (at dist j) (at s.dist j))
 
 -- the tree with a row more
-pub IsTree-visit : (p : Problem) (s : Tree) (row column : ℕ) (weights : List (Option ℕ)) (dist parent : List ℕ) → IsGiven p → IsTree p s → IsVisit p s row column weights dist parent
+pub IsTree-visit : (p : Problem) (s : Tree) (row column : ℕ) (dist parent : List ℕ) → IsGiven p → IsTree p s → IsVisit p s row column dist parent
     → IsTree p (tree_of dist parent (set s.done column true) (set s.rows s.size row) (set s.far s.size (at s.dist column)) (s.size + 1) (at s.dist column))
-IsTree-visit p s row column weights dist parent given tree v = record {
+IsTree-visit p s row column dist parent given tree v = record {
   root = (omega arith, at-old s.rows s.size row 0 tree.root.0 ∙ tree.root.1, at-old s.far s.size (at s.dist column) 0 tree.root.0 ∙ tree.root.2);
   within = λ t lt. ⊎_elim
       (λ (old : t < s.size). omega (arith, at-old s.far s.size (at s.dist column) t old, tree.within t old, tree.later column v.next.within v.next.undone))
-      (λ (new : s.size ≤ t). omega (arith, far-new p s row column weights dist parent tree v t (omega (arith, new, lt))))
+      (λ (new : s.size ≤ t). omega (arith, far-new p s row column dist parent tree v t (omega (arith, new, lt))))
       (cases_lt t s.size);
-  via = visit-via p s row column weights dist parent tree v;
-  apart = visit-apart p s row column weights dist parent given tree v;
-  covered = visit-covered p s row column weights dist parent given tree v;
-  later = visit-later p s row column weights dist parent given v;
-  done = visit-done p s row column weights dist parent tree v;
-  reached = visit-reached p s row column weights dist parent tree v;
+  via = visit-via p s row column dist parent tree v;
+  apart = visit-apart p s row column dist parent given tree v;
+  covered = visit-covered p s row column dist parent given tree v;
+  later = visit-later p s row column dist parent given v;
+  done = visit-done p s row column dist parent tree v;
+  reached = visit-reached p s row column dist parent tree v;
   count = omega (arith, tree.count, count-done s.done column (omega (arith, v.next.within, v.done)) v.next.undone);
 }
 
@@ -275,10 +273,10 @@ IsBest-more p s s' row far best end is in-rows in-far rows fars size reach near 
     leave-here t e = ap (at p.leave) (ap (at s'.rows) e ∙ ap (λ xs. at xs s.size) rows ∙ get_or-set_same s.rows s.size row 0 in-rows)
 
 -- the tree of the first row alone
-pub IsTree-begun : (p : Problem) (weights : List (Option ℕ)) (dist0 parent0 dist parent : List ℕ) (done : List Bool) (rows far : List ℕ) → IsGiven p → at p.leave p.a ≡ 67111744
-    → length weights ≡ p.n → AreRead (p.w p.a) weights → dist0 ≡ replicate p.n 67111745 → done ≡ replicate p.n false → at rows 0 ≡ p.a → at far 0 ≡ 0
-    → AreLooked weights p.n 0 67111744 p.enter done dist0 parent0 dist parent → IsTree p (tree_of dist parent done rows far 1 0)
-IsTree-begun p weights dist0 parent0 dist parent done rows far given price len read dists dones row near looked = record {
+pub IsTree-begun : (p : Problem) (dist0 parent0 dist parent : List ℕ) (done : List Bool) (rows far : List ℕ) → IsGiven p → at p.leave p.a ≡ 67111744
+    → dist0 ≡ replicate p.n 67111745 → done ≡ replicate p.n false → at rows 0 ≡ p.a → at far 0 ≡ 0
+    → AreLooked (p.w p.a) p.n 0 67111744 p.enter done dist0 parent0 dist parent → IsTree p (tree_of dist parent done rows far 1 0)
+IsTree-begun p dist0 parent0 dist parent done rows far given price dists dones row near looked = record {
   root = (omega arith, row, near);
   within = λ t lt. let e : t ≡ 0 = omega arith in let f : at far t ≡ 0 = ap (at far) e ∙ near in omega (arith, f);
   via = λ t positive lt. absurd (omega arith);
@@ -289,7 +287,7 @@ IsTree-begun p weights dist0 parent0 dist parent done rows far given price len r
       let fit : p.w p.a j ≡ Some k = ap (λ r. p.w r j) (sym first) ∙ fits in
       let inside = (given.weights.within p.a j k fit).1 in
       let leaves : at p.leave (at rows t) ≡ at p.leave p.a = ap (at p.leave) first in
-      omega (arith, looked.covered j k inside (undone j inside) (read.all j k (omega (arith, inside, len)) fit), leaves, price);
+      omega (arith, looked.covered j k inside (undone j inside) fit, leaves, price);
   later = λ j lt _. omega arith;
   done = λ j lt is. absurd (both_ways (is_done done j) (undone j lt) is);
   reached = λ j lt close.
@@ -301,7 +299,7 @@ IsTree-begun p weights dist0 parent0 dist parent done rows far given price len r
       record {
         within = omega (arith, from.by);
         weight = from.weight;
-        fits = ap (λ r. p.w r j) first ∙ read.told j from.weight from.fits;
+        fits = ap (λ r. p.w r j) first ∙ from.fits;
         exact = omega (arith, from.exact, leaves, price, f);
       };
   count = let undone-columns : count_by not done ≡ p.n = ap (λ (bs : List Bool). count_by not bs) dones ∙ all-open p.n in omega (arith, undone-columns);
@@ -312,3 +310,35 @@ IsTree-begun p weights dist0 parent0 dist parent done rows far given price len r
 
     all-open : (n : ℕ) → count_by not (replicate n false) ≡ n
     all-open n = omega (arith, sum_by-replicate (λ b. cond (not b) 1 0) n false)
+
+-- a column before the first that fits a row of the tree was not reached
+pub far-before : (p : Problem) (s : Tree) (first : ℕ) → IsTree p s → ((t j k : ℕ) → t < s.size → p.w (at s.rows t) j ≡ Some k → first ≤ j)
+    → (j : ℕ) → j < p.n → j < first → 67111745 ≤ at s.dist j
+far-before p s first tree fits j inside before = ⊎_elim
+    (λ (near : at s.dist j < 67111745).
+    let from = tree.reached j inside near in
+    absurd (omega (arith, before, fits (at s.parent j) j from.weight from.within from.fits)))
+    (λ (far : 67111745 ≤ at s.dist j). far)
+    (cases_lt (at s.dist j) 67111745)
+
+-- what is said of columns from there on is said of all
+pub near-all : (p : Problem) (s : Tree) (first bound : ℕ) → IsTree p s → bound ≤ 67111744 → ((t j k : ℕ) → t < s.size → p.w (at s.rows t) j ≡ Some k → first ≤ j)
+    → ((j : ℕ) → first ≤ j → j < p.n → is_done s.done j ≡ false → bound ≤ at s.dist j) → (j : ℕ) → j < p.n → is_done s.done j ≡ false → bound ≤ at s.dist j
+near-all p s first bound tree low fits later j inside undone = ⊎_elim
+    (λ (before : j < first). omega (arith, low, far-before p s first tree fits j inside before))
+    (λ (after : first ≤ j). later j after inside undone)
+    (cases_lt j first)
+
+-- no row of the tree fits a column before the first, where the row that came in does not either
+pub fits-more : (w : ℕ → ℕ → Option ℕ) (rows rows' : List ℕ) (size row first row-first first' : ℕ) → size < length rows → rows' ≡ set rows size row → first' ≤ first → first' ≤ row-first
+    → ((j k : ℕ) → w row j ≡ Some k → row-first ≤ j) → ((t j k : ℕ) → t < size → w (at rows t) j ≡ Some k → first ≤ j)
+    → (t j k : ℕ) → t < size + 1 → w (at rows' t) j ≡ Some k → first' ≤ j
+fits-more w rows rows' size row first row-first first' room is le le' new old t j k lt e = ⊎_elim
+    (λ (before : t < size).
+    let same : at rows' t ≡ at rows t = ap (λ xs. at xs t) is ∙ at-old rows size row t before in
+    omega (arith, le, old t j k before (ap (λ i. w i j) (sym same) ∙ e)))
+    (λ (after : size ≤ t).
+    let here : t ≡ size = omega (arith, lt, after) in
+    let same : at rows' t ≡ row = ap (λ xs. at xs t) is ∙ ap (at (set rows size row)) here ∙ get_or-set_same rows size row 0 room in
+    omega (arith, le', new j k (ap (λ i. w i j) (sym same) ∙ e)))
+    (cases_lt t size)

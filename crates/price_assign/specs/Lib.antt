@@ -1,8 +1,10 @@
 pub mod Assignment
 pub mod Inverse
 pub mod Lists
+pub mod Order
 pub mod Plans
 pub mod Relinking
+pub mod Renamed
 pub mod Search
 pub mod Side
 pub mod Turned

@@ -1,12 +1,14 @@
 -- The lists of a search.
 use Rattle.std.specs.Prelude.{◌≡◌, ◌+◌, vec_len}
-use Rattle.trip_model.specs.declared.limits.TheConstants.{MOST_SLOTS}
+use Rattle.trip_model.specs.declared.limits.TheConstants.{MOST_PLACES, MOST_SLOTS}
 use Rattle.price_assign.specs.declared.lists.Lists.{Lists}
 
--- lists for as many slots as there may be; a tree has one row more than there are columns
+-- lists for as many slots and places as there may be; a tree has one row more than there are columns
 pub record AreLists (lists : Lists) : Type 0 where
+  pub placed : vec_len lists.placed ≡ MOST_SLOTS
+  pub entering : vec_len lists.entering ≡ MOST_SLOTS
   pub before : vec_len lists.before ≡ MOST_SLOTS
-  pub weights : vec_len lists.weights ≡ MOST_SLOTS
+  pub known : vec_len lists.known ≡ MOST_PLACES
   pub dist : vec_len lists.dist ≡ MOST_SLOTS
   pub parent : vec_len lists.parent ≡ MOST_SLOTS
   pub done : vec_len lists.done ≡ MOST_SLOTS

@@ -15,38 +15,28 @@ at xs i = slice_index_or xs i 0
 abbrev pub is_done : List Bool → ℕ → Bool
 is_done done j = slice_index_or done j false
 
--- the weights of a row with each column
-abbrev pub weight_at : List (Option ℕ) → ℕ → Option ℕ
-weight_at weights j = slice_index_or weights j None
-
--- a list of weights was read of a row
-pub record AreRead (w : ℕ → Option ℕ) (weights : List (Option ℕ)) : Type 0 where
-  pub told : (j k : ℕ) → weight_at weights j ≡ Some k → w j ≡ Some k
-  pub all : (j k : ℕ) → j < length weights → w j ≡ Some k → weight_at weights j ≡ Some k
-
 -- the column was reached from a place of the tree: it is as far as that, with the row's price and its own, less the weight
-pub record IsReached (weights : List (Option ℕ)) (from start : ℕ) (enter : List ℕ) (done : List Bool) (dist parent : List ℕ) (j : ℕ) : Type 0 where
+pub record IsReached (w : ℕ → Option ℕ) (from start : ℕ) (enter : List ℕ) (done : List Bool) (dist parent : List ℕ) (j : ℕ) : Type 0 where
   pub undone : is_done done j ≡ false
   pub by : at parent j ≡ from
   pub weight : ℕ
-  pub fits : weight_at weights j ≡ Some weight
+  pub fits : w j ≡ Some weight
   pub exact : at dist j + weight ≡ start + at enter j
 
 -- the columns below a number were looked at from a place of the tree: each that is not done is no farther than before and
--- than by the row there, and if it is nearer than before, it was reached from there; the others are as they were
-pub record AreLooked (weights : List (Option ℕ)) (upto from start : ℕ) (enter : List ℕ) (done : List Bool) (dist parent dist' parent' : List ℕ) : Type 0 where
-  pub covered : (j k : ℕ) → j < upto → is_done done j ≡ false → weight_at weights j ≡ Some k → at dist' j + k ≤ start + at enter j
+-- than by the row there, and if it is nearer than before, it was reached from there
+pub record AreLooked (w : ℕ → Option ℕ) (upto from start : ℕ) (enter : List ℕ) (done : List Bool) (dist parent dist' parent' : List ℕ) : Type 0 where
+  pub covered : (j k : ℕ) → j < upto → is_done done j ≡ false → w j ≡ Some k → at dist' j + k ≤ start + at enter j
   pub nearer : (j : ℕ) → at dist' j ≤ at dist j
   pub same : (j : ℕ) → at dist j ≤ at dist' j → at parent' j ≡ at parent j
-  pub reached : (j : ℕ) → at dist' j < at dist j → IsReached weights from start enter done dist' parent' j
-  pub later : (j : ℕ) → upto ≤ j → at dist' j ≡ at dist j
+  pub reached : (j : ℕ) → at dist' j < at dist j → IsReached w from start enter done dist' parent' j
 
--- of the columns that are not done none is nearer than this one, and it is nearer than a bound
-pub record IsNearest (done : List Bool) (dist : List ℕ) (bound upto j : ℕ) : Type 0 where
+-- of the columns from one on that are not done none is nearer than this one, and it is nearer than a bound
+pub record IsNearest (done : List Bool) (dist : List ℕ) (bound from upto j : ℕ) : Type 0 where
   pub within : j < length dist
   pub undone : is_done done j ≡ false
   pub below : at dist j < bound
-  pub least : (h : ℕ) → h < upto → is_done done h ≡ false → at dist j ≤ at dist h
+  pub least : (h : ℕ) → from ≤ h → h < upto → is_done done h ≡ false → at dist j ≤ at dist h
 
 -- what a search is given: weights, how many rows and columns, the row from which it goes out, for each column the row that
 -- is linked to it, and the prices

@@ -1,6 +1,7 @@
 ghost use Rattle.std.specs.Prelude.{◌≡◌, ℕ, ◌+◌, ◌*◌, ◌<◌, ◌≤◌, ◌⊎◌, List, length, slice_set, Option, None, Some};
-ghost use Rattle.price_assign.specs.Search.{at, problem, tree_of, AreRead, IsGiven, IsTree, IsNext, IsGrown};
-ghost use Rattle.price_assign.specs.Side.{side_slots, side_weight};
+ghost use Rattle.trip_model.specs.declared.limits.TheConstants.{MOST_SLOTS};
+ghost use Rattle.price_assign.specs.Search.{at, problem, tree_of, IsGiven, IsTree, IsNext, IsGrown};
+ghost use Rattle.price_assign.specs.Side.{side_slots, place_weight};
 
 use crate::limits::{FAR, GREATEST_PRICE};
 use crate::scan::{look_from, nearest};
@@ -16,25 +17,13 @@ pub(crate) struct End {
     pub fall: u64,
 }
 
-// The weights of a row with each column, each of which is read once.
-fn read_row<L: Ledger>(side: &Side<'_>, row: u16, weights: &mut [Option<u64>], steps: &mut Steps<L>)
-    requires row { row < side_slots side.now }
-    requires slots { length weights.old ≡ side_slots side.now }
-    ensures read { AreRead (side_weight side.now row) weights.new }
-    ensures counted { steps.new ≤ steps.old + side_slots side.now }
-{
-    for column in 0..side.slots() {
-        weights[column as usize] = side.weight(row, column, steps);
-    }
-}
-
 /// Begins the tree of a search with its first row, to which it gives the greatest price: so it covers every pair.
 pub(crate) fn begin<L: Ledger>(
     side: &Side<'_>,
     a: u16,
     leave: &mut [u64],
     enter: &[u64],
-    weights: &mut [Option<u64>],
+    known: &mut [Option<u64>],
     dist: &mut [u64],
     parent: &mut [u16],
     done: &mut [bool],
@@ -42,22 +31,22 @@ pub(crate) fn begin<L: Ledger>(
     far: &mut [u64],
     steps: &mut Steps<L>,
 )
+    requires few { side_slots side.now ≤ MOST_SLOTS }
     requires start { a < side_slots side.now }
     requires leave { length leave.old ≡ side_slots side.now }
     requires enter { length enter.now ≡ side_slots side.now }
-    requires weights { length weights.old ≡ side_slots side.now }
     requires dist { length dist.old ≡ side_slots side.now }
     requires parent { length parent.old ≡ side_slots side.now }
     requires done { length done.old ≡ side_slots side.now }
     requires rows { length rows.old ≡ side_slots side.now + 1 }
     requires far { length far.old ≡ side_slots side.now + 1 }
-    requires enter_low { (j k : ℕ) → side_weight side.now a j ≡ Some k → at enter.now j ≤ GREATEST_PRICE }
-    requires most { (j k : ℕ) → side_weight side.now a j ≡ Some k → k ≤ GREATEST_PRICE }
+    requires enter_low { (j k : ℕ) → place_weight side.now a j ≡ Some k → at enter.now j ≤ GREATEST_PRICE }
+    requires most { (j k : ℕ) → place_weight side.now a j ≡ Some k → k ≤ GREATEST_PRICE }
     ensures leave { leave.new ≡ slice_set leave.old a GREATEST_PRICE }
     ensures rows { at rows.new 0 ≡ a }
     ensures tree { (before : List (Option ℕ))
-        → IsGiven (problem (side_weight side.now) (side_slots side.now) a before leave.new enter.now)
-        → IsTree (problem (side_weight side.now) (side_slots side.now) a before leave.new enter.now)
+        → IsGiven (problem (place_weight side.now) (side_slots side.now) a before leave.new enter.now)
+        → IsTree (problem (place_weight side.now) (side_slots side.now) a before leave.new enter.now)
         (tree_of dist.new parent.new done.new rows.new far.new 1 0) }
     ensures counted { steps.new ≤ steps.old + side_slots side.now }
 {
@@ -66,19 +55,31 @@ pub(crate) fn begin<L: Ledger>(
     done.fill(false);
     rows[0] = a;
     far[0] = 0;
-    read_row(side, a, weights, steps);
-    look_from(weights, 0, GREATEST_PRICE, enter, done, dist, parent);
+    let line = side.line(a);
+    look_from(
+        &line,
+        side.first(a),
+        0,
+        GREATEST_PRICE,
+        enter,
+        done,
+        known,
+        dist,
+        parent,
+        steps,
+    );
 }
 
 // A row comes into the tree by a column, and all columns are looked at from it.
 fn visit<L: Ledger>(
     side: &Side<'_>,
     row: u16,
+    first: u16,
     column: u16,
     place: u16,
     leave: &[u64],
     enter: &[u64],
-    weights: &mut [Option<u64>],
+    known: &mut [Option<u64>],
     dist: &mut [u64],
     parent: &mut [u16],
     done: &mut [bool],
@@ -86,12 +87,14 @@ fn visit<L: Ledger>(
     far: &mut [u64],
     steps: &mut Steps<L>,
 )
+    requires few { side_slots side.now ≤ MOST_SLOTS }
     requires row { row < side_slots side.now }
+    requires first { (j k : ℕ) → place_weight side.now row j ≡ Some k → first ≤ j }
+    requires first_within { first ≤ side_slots side.now }
     requires column { column < side_slots side.now }
     requires place { place ≤ side_slots side.now }
     requires leave { length leave.now ≡ side_slots side.now }
     requires enter { length enter.now ≡ side_slots side.now }
-    requires weights { length weights.old ≡ side_slots side.now }
     requires dist { length dist.old ≡ side_slots side.now }
     requires parent { length parent.old ≡ side_slots side.now }
     requires done { length done.old ≡ side_slots side.now }
@@ -99,15 +102,15 @@ fn visit<L: Ledger>(
     requires far { length far.old ≡ side_slots side.now + 1 }
     requires near { at dist.old column ≤ GREATEST_PRICE }
     requires leave_low { at leave.now row ≤ GREATEST_PRICE }
-    requires enter_low { (j k : ℕ) → side_weight side.now row j ≡ Some k → at enter.now j ≤ GREATEST_PRICE }
-    requires covers { (j k : ℕ) → side_weight side.now row j ≡ Some k → k ≤ at leave.now row + at enter.now j }
+    requires enter_low { (j k : ℕ) → place_weight side.now row j ≡ Some k → at enter.now j ≤ GREATEST_PRICE }
+    requires covers { (j k : ℕ) → place_weight side.now row j ≡ Some k → k ≤ at leave.now row + at enter.now j }
     ensures tree { (a reach : ℕ) (before : List (Option ℕ))
-        → IsGiven (problem (side_weight side.now) (side_slots side.now) a before leave.now enter.now)
-        → IsTree (problem (side_weight side.now) (side_slots side.now) a before leave.now enter.now)
+        → IsGiven (problem (place_weight side.now) (side_slots side.now) a before leave.now enter.now)
+        → IsTree (problem (place_weight side.now) (side_slots side.now) a before leave.now enter.now)
         (tree_of dist.old parent.old done.old rows.old far.old place reach)
-        → IsNext (problem (side_weight side.now) (side_slots side.now) a before leave.now enter.now)
+        → IsNext (problem (place_weight side.now) (side_slots side.now) a before leave.now enter.now)
         (tree_of dist.old parent.old done.old rows.old far.old place reach) row column
-        → IsTree (problem (side_weight side.now) (side_slots side.now) a before leave.now enter.now)
+        → IsTree (problem (place_weight side.now) (side_slots side.now) a before leave.now enter.now)
         (tree_of dist.new parent.new done.new rows.new far.new (place + 1) (at dist.old column)) }
     ensures rows { rows.new ≡ slice_set rows.old place row }
     ensures far { far.new ≡ slice_set far.old place (at dist.old column) }
@@ -117,15 +120,18 @@ fn visit<L: Ledger>(
     done[column as usize] = true;
     rows[place as usize] = row;
     far[place as usize] = distance;
-    read_row(side, row, weights, steps);
+    let line = side.line(row);
     look_from(
-        weights,
+        &line,
+        first,
         place,
         distance + leave[row as usize],
         enter,
         done,
+        known,
         dist,
         parent,
+        steps,
     );
 }
 
@@ -145,13 +151,24 @@ fn sooner(best: End, from: u16, fall: u64) -> End
     best
 }
 
+// The place that stands first.
+fn sooner_place(one: u16, other: u16) -> u16
+    ensures one { result ≤ one }
+    ensures other { result ≤ other }
+{
+    if other < one {
+        return other;
+    }
+    one
+}
+
 /// Grows the tree of a search from its first row, row by row by the nearest column, until it ends.
 pub(crate) fn grow<L: Ledger>(
     side: &Side<'_>,
     before: &[Option<u16>],
     leave: &[u64],
     enter: &[u64],
-    weights: &mut [Option<u64>],
+    known: &mut [Option<u64>],
     dist: &mut [u64],
     parent: &mut [u16],
     done: &mut [bool],
@@ -162,16 +179,15 @@ pub(crate) fn grow<L: Ledger>(
     requires before { length before.now ≡ side_slots side.now }
     requires leave { length leave.now ≡ side_slots side.now }
     requires enter { length enter.now ≡ side_slots side.now }
-    requires weights { length weights.old ≡ side_slots side.now }
     requires dist { length dist.old ≡ side_slots side.now }
     requires parent { length parent.old ≡ side_slots side.now }
     requires done { length done.old ≡ side_slots side.now }
     requires rows { length rows.old ≡ side_slots side.now + 1 }
     requires far { length far.old ≡ side_slots side.now + 1 }
-    requires given { IsGiven (problem (side_weight side.now) (side_slots side.now) (at rows.old 0) before.now leave.now enter.now) }
-    requires begun { IsTree (problem (side_weight side.now) (side_slots side.now) (at rows.old 0) before.now leave.now enter.now)
+    requires given { IsGiven (problem (place_weight side.now) (side_slots side.now) (at rows.old 0) before.now leave.now enter.now) }
+    requires begun { IsTree (problem (place_weight side.now) (side_slots side.now) (at rows.old 0) before.now leave.now enter.now)
         (tree_of dist.old parent.old done.old rows.old far.old 1 0) }
-    ensures grown { IsGrown (problem (side_weight side.now) (side_slots side.now) (at rows.old 0) before.now leave.now enter.now)
+    ensures grown { IsGrown (problem (place_weight side.now) (side_slots side.now) (at rows.old 0) before.now leave.now enter.now)
         dist.new parent.new done.new rows.new far.new result }
     ensures counted { steps.new ≤ steps.old + side_slots side.now * side_slots side.now }
 {
@@ -181,7 +197,8 @@ pub(crate) fn grow<L: Ledger>(
         to: None,
         fall: leave[rows[0] as usize],
     };
-    while let Some(column) = nearest(done, dist, best.fall) {
+    let mut first = side.first(rows[0]);
+    while let Some(column) = nearest(done, dist, first, best.fall) {
         let distance = dist[column as usize];
         let Some(row) = before[column as usize] else {
             return End {
@@ -190,9 +207,12 @@ pub(crate) fn grow<L: Ledger>(
                 fall: distance,
             };
         };
+        let row_first = side.first(row);
         visit(
-            side, row, column, size, leave, enter, weights, dist, parent, done, rows, far, steps,
+            side, row, row_first, column, size, leave, enter, known, dist, parent, done, rows, far,
+            steps,
         );
+        first = sooner_place(first, row_first);
         best = sooner(best, size, distance + leave[row as usize]);
         size += 1;
     }

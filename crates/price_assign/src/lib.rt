@@ -21,10 +21,13 @@
 mod grow;
 mod invert;
 mod limits;
+mod line;
 mod links;
 mod lists;
+mod order;
 mod plan;
 mod relink;
+mod rename;
 mod scan;
 mod search;
 mod shift;

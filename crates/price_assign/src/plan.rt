@@ -7,6 +7,7 @@ ghost use Rattle.price_assign.specs.Plans.{with_slots, with_entry};
 ghost use Rattle.trip_model.specs.declared.limits.TheConstants.{MOST_SLOTS};
 
 use crate::lists::Lists;
+use crate::order::{Column, arrange};
 use crate::search::{link_all, search_befores, search_links};
 use crate::side::Side;
 use desk_io::{Memory, Steps};
@@ -99,22 +100,31 @@ impl Plan {
         a: u16,
         b: Option<u16>,
         next: &mut Vec<Option<u16>>,
+        columns: &mut Vec<Column>,
+        places: &mut Vec<u16>,
         lists: &mut Lists,
         steps: &mut Steps<L>,
     )
         requires slots { length self.old.next ≡ length pairs.now.moves }
         requires loose { IsLoose (pairs_network pairs.now) self.old (Some a) b }
         requires next { vec_len next.old ≡ MOST_SLOTS }
+        requires columns { vec_len columns.old ≡ MOST_SLOTS }
+        requires places { vec_len places.old ≡ MOST_SLOTS }
         requires lists { AreLists lists.old }
         ensures next { vec_len next.new ≡ MOST_SLOTS }
+        ensures columns { vec_len columns.new ≡ MOST_SLOTS }
+        ensures places { vec_len places.new ≡ MOST_SLOTS }
         ensures lists { AreLists lists.new }
         ensures loose { IsLoose (pairs_network pairs.now) self.new None b }
         ensures path { IsLeftPath self.old.next self.new.next a }
         ensures counted { steps.new ≤ steps.old + length pairs.now.moves * length pairs.now.moves + length pairs.now.moves }
     {
         // Its clauses say that the network is one of one day, along which departures rise.
-        let _slots = pairs.slots();
-        let side = Side::leaving(pairs, b);
+        let slots = pairs.slots() as usize;
+        let columns = &mut columns[..slots];
+        let places = &mut places[..slots];
+        arrange(pairs, false, columns, places);
+        let side = Side::leaving(pairs, b, columns, places);
         search_links(
             &side,
             a,
@@ -135,6 +145,8 @@ impl Plan {
         a: Option<u16>,
         next: &mut Vec<Option<u16>>,
         turned: &mut Vec<Option<u16>>,
+        columns: &mut Vec<Column>,
+        places: &mut Vec<u16>,
         lists: &mut Lists,
         steps: &mut Steps<L>,
     )
@@ -142,17 +154,24 @@ impl Plan {
         requires loose { IsLoose (pairs_network pairs.now) self.old a (Some b) }
         requires next { vec_len next.old ≡ MOST_SLOTS }
         requires turned { vec_len turned.old ≡ MOST_SLOTS }
+        requires columns { vec_len columns.old ≡ MOST_SLOTS }
+        requires places { vec_len places.old ≡ MOST_SLOTS }
         requires lists { AreLists lists.old }
         ensures next { vec_len next.new ≡ MOST_SLOTS }
         ensures turned { vec_len turned.new ≡ MOST_SLOTS }
+        ensures columns { vec_len columns.new ≡ MOST_SLOTS }
+        ensures places { vec_len places.new ≡ MOST_SLOTS }
         ensures lists { AreLists lists.new }
         ensures loose { IsLoose (pairs_network pairs.now) self.new a None }
         ensures path { IsRightPath self.old.next self.new.next b }
         ensures counted { steps.new ≤ steps.old + length pairs.now.moves * length pairs.now.moves + length pairs.now.moves }
     {
         // Its clauses say that the network is one of one day, along which departures rise.
-        let _slots = pairs.slots();
-        let side = Side::entering(pairs, a);
+        let slots = pairs.slots() as usize;
+        let columns = &mut columns[..slots];
+        let places = &mut places[..slots];
+        arrange(pairs, true, columns, places);
+        let side = Side::entering(pairs, a, columns, places);
         search_befores(
             &side,
             b,
@@ -171,12 +190,18 @@ impl Plan {
         &mut self,
         pairs: &Pairs<'_>,
         next: &mut Vec<Option<u16>>,
+        columns: &mut Vec<Column>,
+        places: &mut Vec<u16>,
         lists: &mut Lists,
         steps: &mut Steps<L>,
     )
         requires next { vec_len next.old ≡ MOST_SLOTS }
+        requires columns { vec_len columns.old ≡ MOST_SLOTS }
+        requires places { vec_len places.old ≡ MOST_SLOTS }
         requires lists { AreLists lists.old }
         ensures next { vec_len next.new ≡ MOST_SLOTS }
+        ensures columns { vec_len columns.new ≡ MOST_SLOTS }
+        ensures places { vec_len places.new ≡ MOST_SLOTS }
         ensures lists { AreLists lists.new }
         ensures slots { length self.new.next ≡ length pairs.now.moves }
         ensures certified { IsCertified (pairs_network pairs.now) self.new }
@@ -186,8 +211,12 @@ impl Plan {
         let slots = pairs.slots();
         self.set_slots(0);
         self.set_slots(slots);
+        let columns = &mut columns[..slots as usize];
+        let places = &mut places[..slots as usize];
+        arrange(pairs, false, columns, places);
+        let side = Side::leaving(pairs, None, columns, places);
         link_all(
-            &Side::leaving(pairs, None),
+            &side,
             &mut self.links,
             &mut self.leave,
             &mut self.enter,

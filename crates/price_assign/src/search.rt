@@ -1,17 +1,18 @@
-ghost use Rattle.std.specs.Prelude.{◌≡◌, ℕ, ◌+◌, ◌*◌, ◌≤◌, Bool, length, Option, None, vec_len, vec_capacity, nat_le, replicate};
+ghost use Rattle.std.specs.Prelude.{◌≡◌, ℕ, ◌+◌, ◌*◌, ◌≤◌, Bool, length, Option, None, vec_len, vec_capacity, replicate};
 ghost use Rattle.deadhead_matrix.specs.Paths.{AreNextTrips, IsPath};
-ghost use Rattle.trip_model.specs.declared.limits.TheConstants.{MOST_SLOTS};
+ghost use Rattle.trip_model.specs.declared.limits.TheConstants.{MOST_PLACES, MOST_SLOTS};
 ghost use Rattle.trip_model.specs.Links.{next_of, before_of};
 ghost use Rattle.price_assign.specs.Assignment.{AreWeights, IsMatched, Covers, MayBegin};
 ghost use Rattle.price_assign.specs.Turned.{MayBeginTurned, IsFoundTurned};
 ghost use Rattle.price_assign.specs.Lists.{AreLists};
-ghost use Rattle.price_assign.specs.Side.{side_slots, side_weight};
+ghost use Rattle.price_assign.specs.Side.{side_slots, side_weight, place_weight, stands_before};
 
 use crate::grow::{begin, grow};
 use crate::invert::invert;
 use crate::links::{read_links, write_links};
 use crate::lists::Lists;
 use crate::relink::relink;
+use crate::rename::{link_columns, link_places, price_columns, price_places};
 use crate::shift::shift;
 use crate::side::Side;
 use desk_io::Steps;
@@ -26,7 +27,7 @@ fn search<L: Ledger>(
     leave: &mut [u64],
     enter: &mut [u64],
     before: &mut [Option<u16>],
-    weights: &mut [Option<u64>],
+    known: &mut [Option<u64>],
     dist: &mut [u64],
     parent: &mut [u16],
     done: &mut [bool],
@@ -35,45 +36,46 @@ fn search<L: Ledger>(
     steps: &mut Steps<L>,
 )
     requires few { side_slots side.now ≤ MOST_SLOTS }
-    requires sound { AreWeights (side_weight side.now) (side_slots side.now) }
+    requires sound { AreWeights (place_weight side.now) (side_slots side.now) }
     requires next { length next.old ≡ side_slots side.now }
     requires leave { length leave.old ≡ side_slots side.now }
     requires enter { length enter.old ≡ side_slots side.now }
     requires before { length before.old ≡ side_slots side.now }
-    requires weights { length weights.old ≡ side_slots side.now }
     requires dist { length dist.old ≡ side_slots side.now }
     requires parent { length parent.old ≡ side_slots side.now }
     requires done { length done.old ≡ side_slots side.now }
     requires rows { length rows.old ≡ side_slots side.now + 1 }
     requires far { length far.old ≡ side_slots side.now + 1 }
-    requires begins { (out : ℕ → Bool) × (b : Option ℕ) × MayBegin (side_weight side.now) (side_slots side.now) out a b next.old leave.old enter.old }
+    requires begins { (out : ℕ → Bool) × (b : Option ℕ) × MayBegin (place_weight side.now) (side_slots side.now) out a b next.old leave.old enter.old }
     ensures path { IsPath (next_of next.old) (before_of next.old) (next_of next.new) a }
-    ensures matched { (out : ℕ → Bool) (b : Option ℕ) → MayBegin (side_weight side.now) (side_slots side.now) out a b next.old leave.old enter.old
-        → IsMatched (side_weight side.now) out None b next.new leave.new enter.new }
-    ensures covers { (out : ℕ → Bool) (b : Option ℕ) → MayBegin (side_weight side.now) (side_slots side.now) out a b next.old leave.old enter.old
-        → Covers (side_weight side.now) out None leave.new enter.new }
+    ensures matched { (out : ℕ → Bool) (b : Option ℕ) → MayBegin (place_weight side.now) (side_slots side.now) out a b next.old leave.old enter.old
+        → IsMatched (place_weight side.now) out None b next.new leave.new enter.new }
+    ensures covers { (out : ℕ → Bool) (b : Option ℕ) → MayBegin (place_weight side.now) (side_slots side.now) out a b next.old leave.old enter.old
+        → Covers (place_weight side.now) out None leave.new enter.new }
     ensures counted { steps.new ≤ steps.old + side_slots side.now * side_slots side.now + side_slots side.now }
 {
     invert(next, before);
     begin(
-        side, a, leave, enter, weights, dist, parent, done, rows, far, steps,
+        side, a, leave, enter, known, dist, parent, done, rows, far, steps,
     );
     let end = grow(
-        side, before, leave, enter, weights, dist, parent, done, rows, far, steps,
+        side, before, leave, enter, known, dist, parent, done, rows, far, steps,
     );
     shift(a, end.fall, next, dist, leave, enter);
     relink(end, parent, rows, next);
 }
 
-// The same with lists for as many slots as there may be.
+// The same over the slots of columns, with lists for as many as there may be.
 fn search_within<L: Ledger>(
     side: &Side<'_>,
     a: u16,
     next: &mut [Option<u16>],
     leave: &mut [u64],
     enter: &mut [u64],
+    placed: &mut Vec<Option<u16>>,
+    entering: &mut Vec<u64>,
     before: &mut Vec<Option<u16>>,
-    weights: &mut Vec<Option<u64>>,
+    known: &mut Vec<Option<u64>>,
     dist: &mut Vec<u64>,
     parent: &mut Vec<u16>,
     done: &mut Vec<bool>,
@@ -86,16 +88,20 @@ fn search_within<L: Ledger>(
     requires next { length next.old ≡ side_slots side.now }
     requires leave { length leave.old ≡ side_slots side.now }
     requires enter { length enter.old ≡ side_slots side.now }
+    requires placed { vec_len placed.old ≡ MOST_SLOTS }
+    requires entering { vec_len entering.old ≡ MOST_SLOTS }
     requires before { vec_len before.old ≡ MOST_SLOTS }
-    requires weights { vec_len weights.old ≡ MOST_SLOTS }
+    requires known { vec_len known.old ≡ MOST_PLACES }
     requires dist { vec_len dist.old ≡ MOST_SLOTS }
     requires parent { vec_len parent.old ≡ MOST_SLOTS }
     requires done { vec_len done.old ≡ MOST_SLOTS }
     requires rows { vec_len rows.old ≡ MOST_SLOTS + 1 }
     requires far { vec_len far.old ≡ MOST_SLOTS + 1 }
     requires begins { (out : ℕ → Bool) × (b : Option ℕ) × MayBegin (side_weight side.now) (side_slots side.now) out a b next.old leave.old enter.old }
+    ensures placed { vec_len placed.new ≡ vec_len placed.old }
+    ensures entering { vec_len entering.new ≡ vec_len entering.old }
     ensures before { vec_len before.new ≡ vec_len before.old }
-    ensures weights { vec_len weights.new ≡ vec_len weights.old }
+    ensures known { vec_len known.new ≡ vec_len known.old }
     ensures dist { vec_len dist.new ≡ vec_len dist.old }
     ensures parent { vec_len parent.new ≡ vec_len parent.old }
     ensures done { vec_len done.new ≡ vec_len done.old }
@@ -108,15 +114,19 @@ fn search_within<L: Ledger>(
         → Covers (side_weight side.now) out None leave.new enter.new }
     ensures counted { steps.new ≤ steps.old + side_slots side.now * side_slots side.now + side_slots side.now }
 {
-    let slots = next.len();
+    let slots = side.slots() as usize;
+    let placed = &mut placed[..slots];
+    let entering = &mut entering[..slots];
+    link_places(side, next, placed);
+    price_places(side, enter, entering);
     search(
         side,
         a,
-        next,
+        placed,
         leave,
-        enter,
+        entering,
         &mut before[..slots],
-        &mut weights[..slots],
+        known.as_mut_slice(),
         &mut dist[..slots],
         &mut parent[..slots],
         &mut done[..slots],
@@ -124,6 +134,8 @@ fn search_within<L: Ledger>(
         &mut far[..slots + 1],
         steps,
     );
+    link_columns(side, placed, next);
+    price_columns(side, entering, enter);
 }
 
 // The same with the lists that a search needs.
@@ -157,8 +169,10 @@ fn search_with<L: Ledger>(
         next,
         leave,
         enter,
+        &mut lists.placed,
+        &mut lists.entering,
         &mut lists.before,
-        &mut lists.weights,
+        &mut lists.known,
         &mut lists.dist,
         &mut lists.parent,
         &mut lists.done,
@@ -244,7 +258,8 @@ pub(crate) fn search_befores<L: Ledger>(
     write_links(turned, links);
 }
 
-/// Adds one row after the other to links that link none, each by a search over the rows added so far.
+/// Adds one row after the other to links that link none, each by a search over the rows added so far: the one that stands
+/// last as a column first.
 pub(crate) fn link_all<L: Ledger>(
     side: &Side<'_>,
     links: &mut Links,
@@ -265,11 +280,13 @@ pub(crate) fn link_all<L: Ledger>(
     ensures enter { (vec_len enter.new ≡ side_slots side.now) × (vec_capacity enter.new ≡ vec_capacity enter.old) }
     ensures next { vec_len next.new ≡ vec_len next.old }
     ensures lists { AreLists lists.new }
-    ensures matched { IsMatched (side_weight side.now) (nat_le (side_slots side.now)) None None links.new leave.new.items enter.new.items }
-    ensures covers { Covers (side_weight side.now) (nat_le (side_slots side.now)) None leave.new.items enter.new.items }
+    ensures matched { IsMatched (side_weight side.now) (stands_before side.now 0) None None links.new leave.new.items enter.new.items }
+    ensures covers { Covers (side_weight side.now) (stands_before side.now 0) None leave.new.items enter.new.items }
     ensures counted { steps.new ≤ steps.old + side_slots side.now * (side_slots side.now * side_slots side.now + side_slots side.now) }
 {
-    for a in 0..side.slots() {
+    let slots = side.slots();
+    for added in 0..slots {
+        let a = side.slot(slots - 1 - added);
         search_links(side, a, links, leave, enter, next, lists, steps);
     }
 }

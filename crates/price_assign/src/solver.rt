@@ -6,7 +6,7 @@ ghost use Rattle.price_assign.specs.Plans.{with_slots, with_entry};
 ghost use Rattle.trip_model.specs.declared.limits.TheConstants.{MOST_SLOTS};
 
 use crate::Plan;
-use crate::lists::Lists;
+use crate::lists::{Lists, Order};
 use desk_io::{Memory, Steps};
 use pair_graph::Pairs;
 use std::alloc::Global;
@@ -20,6 +20,7 @@ pub struct Solver {
     plan: Plan,
     next: Vec<Option<u16>>,
     turned: Vec<Option<u16>>,
+    order: Order,
     lists: Lists,
 }
 
@@ -34,7 +35,8 @@ impl Model for Solver {
 
     ghost view = { λ s. s.plan };
 
-    ghost invariant = { λ s. (vec_len s.next ≡ MOST_SLOTS) × (vec_len s.turned ≡ MOST_SLOTS) × AreLists s.lists };
+    ghost invariant = { λ s. (vec_len s.next ≡ MOST_SLOTS) × (vec_len s.turned ≡ MOST_SLOTS) × (vec_len s.order.columns ≡ MOST_SLOTS)
+        × (vec_len s.order.places ≡ MOST_SLOTS) × AreLists s.lists };
 }
 
 impl Solver {
@@ -46,6 +48,7 @@ impl Solver {
             plan: Plan::open(alloc)?,
             next: vec![in alloc; None; usize::from(MOST_SLOTS)]?,
             turned: vec![in alloc; None; usize::from(MOST_SLOTS)]?,
+            order: Order::open(alloc)?,
             lists: Lists::open(alloc)?,
         })
     }
@@ -74,15 +77,21 @@ impl Solver {
         self.plan.put(slot, next, leave, enter);
     }
 
-    /// Makes a certified plan for the pairs, whatever the plan was: it adds the leaving side of one trip after the other, in
-    /// the order of the slots. At most n^3 + n^2 steps for n slots.
+    /// Makes a certified plan for the pairs, whatever the plan was: it adds the leaving side of one trip after the other, the
+    /// last to depart first. At most n^3 + n^2 steps for n slots.
     pub fn solve<L: Ledger>(&mut self, pairs: &Pairs<'_>, steps: &mut Steps<L>)
         ensures slots { length self.new.next ≡ length pairs.now.moves }
         ensures certified { IsCertified (pairs_network pairs.now) self.new }
         ensures counted { let n = length pairs.now.moves in steps.new ≤ steps.old + n * n * n + n * n }
     {
-        self.plan
-            .solve(pairs, &mut self.next, &mut self.lists, steps);
+        self.plan.solve(
+            pairs,
+            &mut self.next,
+            &mut self.order.columns,
+            &mut self.order.places,
+            &mut self.lists,
+            steps,
+        );
     }
 
     /// Adds the leaving side of `a` to a plan from which it is left out, as is the entering side of `b` where there is one: a
@@ -100,8 +109,16 @@ impl Solver {
         ensures path { IsLeftPath self.old.next self.new.next a }
         ensures counted { let n = length pairs.now.moves in steps.new ≤ steps.old + n * n + n }
     {
-        self.plan
-            .search_left(pairs, a, b, &mut self.next, &mut self.lists, steps);
+        self.plan.search_left(
+            pairs,
+            a,
+            b,
+            &mut self.next,
+            &mut self.order.columns,
+            &mut self.order.places,
+            &mut self.lists,
+            steps,
+        );
     }
 
     /// Adds the entering side of `b`, as [`Solver::search_left`] adds a leaving one: a search goes out from it over the pairs
@@ -125,6 +142,8 @@ impl Solver {
             a,
             &mut self.next,
             &mut self.turned,
+            &mut self.order.columns,
+            &mut self.order.places,
             &mut self.lists,
             steps,
         );

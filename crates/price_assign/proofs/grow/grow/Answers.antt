@@ -1,15 +1,15 @@
 use Rattle.std.proofs.Common.{◌≤◌, ◌+◌, refl, arith}
 use Rattle.std.proofs.Math.Nat.{mul-le-mul_left}
 use Rattle.price_assign.specs.Search.{at, problem, Problem, Tree, tree_of, IsNext}
-use Rattle.price_assign.specs.Side.{side_slots, side_weight}
-use Rattle.price_assign.proofs.TreeLemmas.{tree-room, IsBest-more}
+use Rattle.price_assign.specs.Side.{side_slots, place_weight}
+use Rattle.price_assign.proofs.TreeLemmas.{tree-room, IsBest-more, near-all, fits-more}
 use Rattle.price_assign.proofs.grow.grow.Goals as goal
 
 pub loop-column-preserved : goal.loop-column-preserved
 loop-column-preserved g c =
     let side = c.args.side.now in
     let loop = c.loop-column in
-    let p : Problem = problem (side_weight side) (side_slots side) (at c.args.rows.now 0) c.args.before.now c.args.leave.now c.args.enter.now in
+    let p : Problem = problem (place_weight side) (side_slots side) (at c.args.rows.now 0) c.args.before.now c.args.leave.now c.args.enter.now in
     let s : Tree = tree_of loop.dist loop.parent loop.done loop.rows loop.far loop.size loop.invariant.reach in
     let column = c.in-Some.column in
     let nearest = c.in-Some.ensures.some in
@@ -18,7 +18,9 @@ loop-column-preserved g c =
       within = omega (arith, nearest.within, c.requires.dist);
       undone = nearest.undone;
       near = omega (arith, nearest.below, loop.invariant.best.low);
-      least = λ j lt undone. nearest.least j (omega (arith, lt, c.requires.dist)) undone;
+      least =
+          near-all p s loop.first (at loop.dist column) loop.invariant.tree (omega (arith, nearest.below, loop.invariant.best.low)) loop.invariant.fits
+          (λ j after lt undone. nearest.least j after (omega (arith, lt, c.requires.dist)) undone);
       linked = c.in-Some-before.is;
     } in
     record {
@@ -29,6 +31,9 @@ loop-column-preserved g c =
           c.in-Some-before.row (at loop.dist column) loop.best c.sooner-best.result loop.invariant.best
           (omega (arith, room, c.requires.rows)) (omega (arith, room, c.requires.far)) c.visit.ensures.rows c.visit.ensures.far refl refl nearest.below
           c.sooner-best.ensures.one c.sooner-best.ensures.best c.sooner-best.ensures.other;
+      fits = fits-more (place_weight side) loop.rows c.visit.new.rows loop.size c.in-Some-before.row loop.first c.first-row_first.result c.sooner_place-first.result (omega (arith, room, c.requires.rows))
+          c.visit.ensures.rows c.sooner_place-first.ensures.one c.sooner_place-first.ensures.other c.first-row_first.ensures.first loop.invariant.fits;
+      within = omega (arith, c.sooner_place-first.ensures.one, loop.invariant.within);
       counted = omega (arith, loop.invariant.counted, c.visit.ensures.counted);
     }
 

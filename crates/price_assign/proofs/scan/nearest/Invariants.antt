@@ -5,7 +5,7 @@ use Rattle.price_assign.proofs.scan.nearest.Given as goal
 
 abbrev pub invariant-loop-column : goal.invariant-loop-column
 invariant-loop-column l = record {
-  least : (j : ℕ) → j < l.column → is_done l.done j ≡ false → l.least ≤ at l.dist j;
+  least : (j : ℕ) → l.first ≤ j → j < l.column → is_done l.done j ≡ false → l.least ≤ at l.dist j;
   some : IfSome l.best (λ j. (j < length l.dist) × (is_done l.done j ≡ false) × (at l.dist j ≡ l.least) × (l.least < l.bound));
   none : IfNone l.best (l.least ≡ l.bound);
 }

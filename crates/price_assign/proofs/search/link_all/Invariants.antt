@@ -1,11 +1,11 @@
-use Rattle.std.proofs.Common.{◌≡◌, ◌+◌, ◌*◌, ◌≤◌, nat_le, length, None, vec_len, vec_capacity}
+use Rattle.std.proofs.Common.{◌≡◌, ◌+◌, ◌-◌, ◌*◌, ◌≤◌, length, None, vec_len, vec_capacity}
 use Rattle.price_assign.specs.Assignment.{IsMatched, Covers}
 use Rattle.price_assign.specs.Lists.{AreLists}
-use Rattle.price_assign.specs.Side.{side_slots, side_weight}
+use Rattle.price_assign.specs.Side.{side_slots, side_weight, stands_before}
 use Rattle.price_assign.proofs.search.link_all.Given as goal
 
-abbrev pub invariant-loop-a : goal.invariant-loop-a
-invariant-loop-a g l = record {
+abbrev pub invariant-loop-added : goal.invariant-loop-added
+invariant-loop-added g l = record {
   links : length l.links ≡ side_slots l.side;
   leave : vec_len l.leave ≡ side_slots l.side;
   enter : vec_len l.enter ≡ side_slots l.side;
@@ -13,7 +13,7 @@ invariant-loop-a g l = record {
   enter_room : vec_capacity l.enter ≡ vec_capacity l.initial.enter;
   next : vec_len l.next ≡ vec_len l.initial.next;
   lists : AreLists l.lists;
-  matched : IsMatched (side_weight l.side) (nat_le l.a) None None l.links l.leave.items l.enter.items;
-  covers : Covers (side_weight l.side) (nat_le l.a) None l.leave.items l.enter.items;
-  counted : l.steps ≤ l.initial.steps + l.a * (side_slots l.side * side_slots l.side + side_slots l.side);
+  matched : IsMatched (side_weight l.side) (stands_before l.side (side_slots l.side - l.added)) None None l.links l.leave.items l.enter.items;
+  covers : Covers (side_weight l.side) (stands_before l.side (side_slots l.side - l.added)) None l.leave.items l.enter.items;
+  counted : l.steps ≤ l.initial.steps + l.added * (side_slots l.side * side_slots l.side + side_slots l.side);
 }

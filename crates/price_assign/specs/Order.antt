@@ -1,0 +1,53 @@
+-- The columns of a search in the order of the minutes from which rows can be linked to them.
+use Rattle.std.specs.Prelude.{◌≡◌, ℕ, ◌-◌, ◌<◌, ◌≤◌, Bool, List, length, slice_index_or, Option, None, Some, if◌then◌else◌}
+use Rattle.std.specs.List.Sorted.{IsNonDecreasingBy}
+use Rattle.trip_model.specs.declared.limits.TheConstants.{LAST_MINUTE}
+use Rattle.trip_model.specs.declared.trip.Move.{Move}
+use Rattle.price_assign.specs.declared.order.Column.{Column}
+
+-- the minute by which a row that is linked to the column must be ready: when its trip departs; seen from the entering side,
+-- how long before the last minute its trip ends
+abbrev pub column_minute : Bool → Option Move → ℕ
+column_minute turned None = 0
+column_minute turned (Some m) = if turned then LAST_MINUTE - m.arrives else m.leaves
+
+-- the minute at which a row is ready: when its trip ends; seen from the entering side, how long before the last minute its
+-- trip departs
+abbrev pub row_minute : Bool → Option Move → ℕ
+row_minute turned None = 0
+row_minute turned (Some m) = if turned then LAST_MINUTE - m.leaves else m.arrives
+
+-- where the column stands: the place at which its trip begins; seen from the entering side, at which it ends
+abbrev pub column_post : Bool → Option Move → Option ℕ
+column_post turned None = None
+column_post turned (Some m) = Some (if turned then m.to else m.from)
+
+-- stands past the last of so many columns
+abbrev pub no_column : ℕ → Column
+no_column n = record { minute = 0; slot = n; post = None }
+
+-- the slot of the column at a place of so many; none past the last
+abbrev pub slot_at : ℕ → List Column → ℕ → ℕ
+slot_at n columns k = (slice_index_or columns k (no_column n)).slot
+
+-- the place of the column of a slot
+abbrev pub place_of : ℕ → List ℕ → ℕ → ℕ
+place_of n places j = slice_index_or places j n
+
+-- slots and places are numbers of the same columns, of which there are so many
+pub record IsRenaming (n : ℕ) (slot place : ℕ → ℕ) : Type 0 where
+  pub slot_within : (k : ℕ) → k < n → slot k < n
+  pub place_within : (j : ℕ) → j < n → place j < n
+  pub there : (j : ℕ) → j < n → slot (place j) ≡ j
+  pub back : (k : ℕ) → k < n → place (slot k) ≡ k
+  pub no_slot : (k : ℕ) → n ≤ k → n ≤ slot k
+  pub no_place : (j : ℕ) → n ≤ j → n ≤ place j
+
+-- each column stands once, with its minute and where it stands, and minutes rise
+pub record IsOrder (n : ℕ) (minute : ℕ → ℕ) (post : ℕ → Option ℕ) (columns : List Column) (places : List ℕ) : Type 0 where
+  pub count : length columns ≡ n
+  pub slots : length places ≡ n
+  pub renaming : IsRenaming n (slot_at n columns) (place_of n places)
+  pub minutes : (k : ℕ) → k < n → (slice_index_or columns k (no_column n)).minute ≡ minute (slot_at n columns k)
+  pub posts : (k : ℕ) → k < n → (slice_index_or columns k (no_column n)).post ≡ post (slot_at n columns k)
+  pub rise : IsNonDecreasingBy (λ (c : Column). c.minute) columns
