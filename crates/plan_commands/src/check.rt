@@ -26,8 +26,8 @@ use std::sync::ledger::Ledger;
 use trip_model::Timetable;
 use trip_model::laws::plain_law;
 
-/// The papers of a feed, and then the two files of a claim.
-pub const CLAIM_PAPERS: [Paper; 10] = [
+// The papers of a feed, and then the two files of a claim.
+const CLAIM_PAPERS: [Paper; 10] = [
     Paper::Settings,
     Paper::Terminals,
     Paper::Tolerances,
