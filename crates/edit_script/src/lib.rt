@@ -30,3 +30,6 @@ pub use edit::{Edit, Line, MOST_MINUTE, MOST_SHIFT};
 pub use fault::{EditFault, Side, fault_text};
 pub use reading::{read_edit, read_script};
 pub use writing::edit_line;
+
+#[cfg(test)]
+mod tests;
