@@ -1,0 +1,6 @@
+mod Digits
+mod EditBack
+mod FieldsRead
+mod LinesWritten
+mod MinuteText
+mod ShiftBack

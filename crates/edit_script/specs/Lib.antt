@@ -1,0 +1,4 @@
+pub mod Edits
+pub mod Forms
+pub mod Laws
+pub mod Lines
