@@ -2,8 +2,9 @@
 //!
 //! [`Pairs`] only borrows a timetable and a matrix of least walks. [`Pairs::weight`] answers for two slots whether the
 //! second trip can follow on the first, by a few look-ups and without memory. [`Pairs::without`] takes one slot as not
-//! live. [`Pairs::row`] is for a caller that looks at many pairs of one slot, and [`Pairs::move_at`] for one that lays out
-//! what it needs of the trips.
+//! live. [`Pairs::row`] and [`Pairs::column`] are for a caller that looks at many pairs of one slot: at one place a vehicle
+//! gains as much by each trip in time, so one look is enough for all that begin there, or that end there. [`Pairs::move_at`]
+//! is for one that lays out what it needs of the trips.
 //!
 //! The contract that the crates above use: a weight exactly where the pair fits, and then it is the weight of the network
 //! of deadheads; that network is one of one day, in which departures rise, as [`Pairs::slots`] says, so the laws of
@@ -13,7 +14,7 @@
 //! let pairs = Pairs::of(&timetable, &matrix);
 //! let saved = pairs.weight(0, 1, &mut steps);
 //! if let Some(row) = pairs.row(0) {
-//!     let saved = row.weight(1, &mut steps);
+//!     let reach = row.reach(2, &mut steps);
 //! }
 //! ```
 //!
@@ -21,11 +22,12 @@
 //! `Prices`, and of `trip_model` `Plain` and `Network`.
 #![tactic(auto)]
 
+mod column;
 mod pairs;
+mod reach;
 mod row;
 
+pub use column::Column;
 pub use pairs::Pairs;
+pub use reach::Reach;
 pub use row::Row;
-
-#[cfg(test)]
-mod tests;

@@ -6,7 +6,7 @@ ghost use Rattle.trip_model.specs.Order.{minute_left};
 ghost use Rattle.trip_model.specs.Plain.{move_at, AreMoves, IsMove};
 ghost use Rattle.pair_graph.specs.Pairs.{pairs_of, pairs_network};
 
-use crate::row::Row;
+use crate::{Column, Row};
 use deadhead_matrix::{Matrix, VEHICLE_WEIGHT};
 use desk_io::Steps;
 use std::marker::Model;
@@ -102,6 +102,21 @@ impl<'a> Pairs<'a> {
             before,
             walks: self.matrix.walks_from(before.to),
             saved: VEHICLE_WEIGHT + u64::from(self.matrix.pull_in(before.to)),
+        })
+    }
+
+    /// The pairs of each slot with one, for a caller that looks at many of them; None where its trip does not run.
+    pub fn column(&self, slot: u16) -> Option<Column<'_>>
+        requires { slot < length self.now.moves }
+        ensures column { IfSome result (λ column. column ≡ record { pairs = self.now; slot = slot }) }
+        ensures live { is_some result ≡ (pairs_network self.now).live slot }
+    {
+        let after = self.move_at(slot)?;
+        Some(Column {
+            pairs: self,
+            slot,
+            after,
+            saved: VEHICLE_WEIGHT + u64::from(self.matrix.pull_out(after.from)),
         })
     }
 

@@ -1,13 +1,16 @@
-ghost use Rattle.std.specs.Prelude.{◌≡◌, ◌+◌, ◌<◌, length};
+ghost use Rattle.std.specs.Prelude.{◌≡◌, ℕ, ◌+◌, ◌<◌, length, Some};
 ghost use Rattle.deadhead_matrix.specs.Prices.{weight};
 ghost use Rattle.pair_graph.specs.Pairs.{pairs_network};
+ghost use Rattle.pair_graph.specs.Reach.{saved_from};
+ghost use Rattle.trip_model.specs.Plain.{move_at};
+ghost use Rattle.trip_model.specs.declared.trip.Move.{Move};
 
-use crate::Pairs;
+use crate::{Pairs, Reach};
 use deadhead_matrix::Walks;
 use desk_io::Steps;
 use std::marker::Model;
 use std::sync::ledger::Ledger;
-use trip_model::Move;
+use trip_model::{LAST_MINUTE, Move};
 
 /// The pairs of one slot, whose trip runs, with each: what they share is fetched once.
 #[derive(Drop)]
@@ -46,5 +49,28 @@ impl<'a> Row<'a> {
         }
         let out = pairs.matrix.pull_out(after.from);
         Some(self.saved + u64::from(out) - u64::from(minutes))
+    }
+    /// What it saves to make any trip that begins at a place next after that of the row's slot, and from when on that must
+    /// leave; None where none can be made. One step.
+    pub fn reach<L: Ledger>(&self, place: u16, steps: &mut Steps<L>) -> Option<Reach>
+        requires { place < length self.now.pairs.matrix.walks }
+        ensures reach { (j : ℕ) (m : Move) → move_at self.now.pairs.moves j ≡ Some m → m.from ≡ place
+            → weight (pairs_network self.now.pairs) self.now.slot j ≡ saved_from result m.leaves }
+        ensures counted { steps.new ≡ steps.old + 1 }
+    {
+        steps.tick();
+        let pairs = self.pairs;
+        // Its clause says that moves are of one day.
+        let _slots = pairs.slots();
+        let minutes = self.walks.to(place)?;
+        let minute = u32::from(self.before.arrives) + minutes;
+        if minute > u32::from(LAST_MINUTE) {
+            return None;
+        }
+        let out = pairs.matrix.pull_out(place);
+        Some(Reach {
+            minute: minute as u16,
+            saved: self.saved + u64::from(out) - u64::from(minutes),
+        })
     }
 }

@@ -1,0 +1,54 @@
+ghost use Rattle.std.specs.Prelude.{◌≡◌, ℕ, ◌+◌, ◌<◌, length, Some};
+ghost use Rattle.deadhead_matrix.specs.Prices.{weight};
+ghost use Rattle.pair_graph.specs.Pairs.{pairs_network};
+ghost use Rattle.pair_graph.specs.Reach.{saved_until};
+ghost use Rattle.trip_model.specs.Plain.{move_at};
+ghost use Rattle.trip_model.specs.declared.trip.Move.{Move};
+
+use crate::{Pairs, Reach};
+use desk_io::Steps;
+use std::marker::Model;
+use std::sync::ledger::Ledger;
+use trip_model::Move;
+
+/// The pairs of each slot with one, whose trip runs: what they share is fetched once.
+#[derive(Drop)]
+pub struct Column<'a> {
+    pub(crate) pairs: &'a Pairs<'a>,
+    pub(crate) slot: u16,
+    pub(crate) after: Move,
+    pub(crate) saved: u64,
+}
+
+impl<'a> Model for Column<'a> {
+    ghost use Rattle.pair_graph.specs.Pairs.{RowView};
+    ghost use Rattle.pair_graph.specs.Reach.{IsColumn};
+
+    ghost Value = { RowView };
+
+    ghost view = { λ c. record { pairs = c.pairs.now; slot = c.slot } };
+
+    ghost invariant = { λ c. IsColumn c.pairs.now c.slot c.after c.saved };
+}
+
+impl<'a> Column<'a> {
+    /// What it saves to make the trip of the column's slot next after any one that ends at a place, and until when that must
+    /// end; None where it cannot be made. One step.
+    pub fn reach<L: Ledger>(&self, place: u16, steps: &mut Steps<L>) -> Option<Reach>
+        requires { place < length self.now.pairs.matrix.walks }
+        ensures reach { (i : ℕ) (m : Move) → move_at self.now.pairs.moves i ≡ Some m → m.to ≡ place
+            → weight (pairs_network self.now.pairs) i self.now.slot ≡ saved_until result m.arrives }
+        ensures counted { steps.new ≡ steps.old + 1 }
+    {
+        steps.tick();
+        let pairs = self.pairs;
+        let matrix = pairs.matrix;
+        let minutes = matrix.minutes(place, self.after.from)?;
+        let minute = u32::from(self.after.leaves).checked_sub(minutes)?;
+        let home = matrix.pull_in(place);
+        Some(Reach {
+            minute: minute as u16,
+            saved: self.saved + u64::from(home) - u64::from(minutes),
+        })
+    }
+}
