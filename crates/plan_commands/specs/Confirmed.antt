@@ -7,10 +7,13 @@ use Rattle.gtfs_tables.specs.Papers.{file_name_of}
 use Rattle.gtfs_tables.specs.declared.paper.Paper.{Paper}
 use Rattle.gtfs_tables.specs.declared.paper.Paper.TheVariants as paper
 use Rattle.gtfs_tables.specs.declared.paper.TheConstants.{MOST_BYTES}
+use Rattle.desk_run.specs.Causes.{HasCause, IsComplete}
+use Rattle.desk_run.specs.Commands.{IsCounted}
+use Rattle.desk_run.specs.Runs.{RunsAs}
 use Rattle.desk_run.specs.World.{World}
 use Rattle.desk_run.specs.declared.status.TheConstants.{DONE, NO}
-use Rattle.plan_commands.specs.Blocks.{summary}
-use Rattle.plan_commands.specs.Check.{yes_line}
+use Rattle.plan_commands.specs.Blocks.{blocks_asked, summary}
+use Rattle.plan_commands.specs.Check.{check_asked, yes_line}
 
 -- the file of a paper is not longer than a file may be
 abbrev pub IsShort : Files → Paper → Type 0
@@ -29,3 +32,17 @@ pub record IsConfirmed (before after : World) (second : ℕ) : Type 0 where
 abbrev pub Confirms : World → World → ℕ → ℕ → Type 0
 Confirms before after first second =
     first ≡ DONE → second ≤ NO → IfSome after.shelf.files (λ files. IsShort files paper.Blocks → IsShort files paper.Prices → IsConfirmed before after second)
+
+-- The first run is one of `blocks`, and the second one of `check` that begins where the first has left the world: each of the
+-- two is all that the command promises when it runs alone.
+pub record RunsInTurn (before after : World) (first second old new : ℕ) : Type 0 where
+  pub between : World
+  pub steps : ℕ
+  pub blocks_runs : RunsAs blocks_asked before between first
+  pub blocks_cause : HasCause blocks_asked before between first
+  pub blocks_complete : IsComplete blocks_asked before between first
+  pub blocks_counted : IsCounted blocks_asked before old steps
+  pub check_runs : RunsAs check_asked between after second
+  pub check_cause : HasCause check_asked between after second
+  pub check_complete : IsComplete check_asked between after second
+  pub check_counted : IsCounted check_asked between steps new

@@ -1,5 +1,5 @@
 ghost use Rattle.desk_run.specs.World.{world};
-ghost use Rattle.plan_commands.specs.Confirmed.{Confirms};
+ghost use Rattle.plan_commands.specs.Confirmed.{Confirms, RunsInTurn};
 
 use crate::blocks::run_blocks;
 use crate::check::run_check;
@@ -19,7 +19,9 @@ pub fn run_blocks_and_check<S: Shelf, O: Sink, K: Keeper, L: Ledger>(
     keeper: &mut K,
     steps: &mut Steps<L>,
 ) -> (u8, u8)
-    ensures { let at = world S.state O.state K.state in
+    ensures runs { let at = world S.state O.state K.state in
+        RunsInTurn (at shelf.old out.old keeper.old) (at shelf.new out.new keeper.new) result.0 result.1 steps.old steps.new }
+    ensures confirmed { let at = world S.state O.state K.state in
         Confirms (at shelf.old out.old keeper.old) (at shelf.new out.new keeper.new) result.0 result.1 }
 {
     accepted_law();
