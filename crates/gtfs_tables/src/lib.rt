@@ -46,4 +46,3 @@ pub use row::Row;
 pub use table::{Table, TableFault};
 pub use times::{minute_down, minute_text, minute_up, read_minute, read_time};
 pub use writing::RecordWriter;
-
