@@ -1,5 +1,5 @@
 -- Rows are added one after the other: from those before a number to all.
-use Rattle.std.proofs.Common.{◌≡◌, ◌≢◌, ℕ, ◌+◌, ◌-◌, ◌<◌, ◌≤◌, nat_le, Bool, false, List, replicate, Option, None, Some, sym, ap, subst, ◌∙◌, ⊎_elim, arith}
+use Rattle.std.proofs.Common.{◌≡◌, ◌≢◌, ℕ, ◌+◌, ◌-◌, ◌<◌, ◌≤◌, nat_le, Bool, true, false, List, replicate, Option, None, Some, refl, sym, ap, subst, ◌∙◌, ⊎_elim, arith}
 use Rattle.std.proofs.lemmas.Bool.{both_ways, cases_lt, leb-true, le-leb, lt-leb}
 use Rattle.std.proofs.lemmas.List.{get_or-replicate, get_or_past, length-replicate}
 use Rattle.std.proofs.lemmas.Option.{none-some, same_Some}
@@ -77,3 +77,19 @@ MayBegin-added w n slot place added last a links leave enter renaming start sum 
         (λ (lt : i < n). sym (renaming.there i lt) ∙ ap slot e ∙ sym is)
         (λ (past : n ≤ i). absurd (omega (arith, renaming.no_place i past, e, inside)))
         (cases_lt i n)
+
+-- no row stands before the first place: all are added
+pub IsMatched-all : (w : ℕ → ℕ → Option ℕ) (place : ℕ → ℕ) (links : List (Option ℕ)) (leave enter : List ℕ) → IsMatched w (λ i. nat_le (place i + 1) 0) None None links leave enter
+    → IsMatched w (λ _. false) None None links leave enter
+IsMatched-all w place links leave enter matched = record {
+  once = matched.once;
+  tight = matched.tight;
+  left = λ i e. absurd (both_ways true (sym e) refl);
+  first = matched.first;
+  last = matched.last;
+  leave_zero = matched.leave_zero;
+  enter_zero = matched.enter_zero;
+}
+
+pub Covers-all : (w : ℕ → ℕ → Option ℕ) (place : ℕ → ℕ) (leave enter : List ℕ) → Covers w (λ i. nat_le (place i + 1) 0) None leave enter → Covers w (λ _. false) None leave enter
+Covers-all w place leave enter covers i j k _ other e = covers i j k (lt-leb (place i + 1) 0 (omega arith)) other e

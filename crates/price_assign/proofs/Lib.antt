@@ -1,4 +1,6 @@
 pub mod AddLemmas
+pub mod FitLemmas
+pub mod GroupLemmas
 pub mod InverseLemmas
 pub mod LentLemmas
 pub mod LookLemmas

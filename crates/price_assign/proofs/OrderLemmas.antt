@@ -1,70 +1,13 @@
--- Columns that were sorted are in order, and a row fits none that needs one sooner than it is ready.
-use Rattle.std.proofs.Common.{◌≡◌, ◌≢◌, ℕ, ◌+◌, ◌-◌, ◌<◌, ◌≤◌, ◌==◌, nat_le, Bool, true, false, cond, List, length, get_or, set, Option, None, Some, refl, sym, ap, subst, ◌∙◌, ⊎_elim, arith}
+-- Columns that were sorted and numbered are in order.
+use Rattle.std.proofs.Common.{◌≡◌, ◌≢◌, ℕ, ◌<◌, ◌==◌, cond, List, length, get_or, Option, refl, sym, ap, ◌∙◌, ⊎_elim, arith}
 use Rattle.std.specs.List.{swap}
-use Rattle.std.specs.List.Sorted.{IsPermutation, IsSortedBy, IsNonDecreasingBy}
-use Rattle.std.specs.Ordering.{is_lt, nat_cmp, ordering_then}
-use Rattle.std.specs.declared.cmp.Ordering.{Ordering}
-use Rattle.std.specs.declared.cmp.Ordering.TheVariants.{Less, Equal, Greater}
-use Rattle.std.specs.Option.{option_cmp, option_map}
-use Rattle.std.specs.Prelude.{IsSome, IfSome}
-use Rattle.std.proofs.lemmas.Bool.{both_ways, cases_eq, cases_lt, eq-eqb, le-leb, leb-true, lt-ltb, ne_eqb}
-use Rattle.std.proofs.lemmas.List.{get_or_past, get_or-set_same, get_or-set_other}
+use Rattle.std.specs.List.Sorted.{IsPermutation}
+use Rattle.std.proofs.lemmas.Bool.{cases_eq, eq-eqb, ne_eqb}
+use Rattle.std.proofs.lemmas.List.{get_or_past, get_or_default}
 use Rattle.std.proofs.lemmas.List.Edits.{swapped_from_swap}
-use Rattle.std.proofs.lemmas.List.Sorted.{IsNonDecreasingBy-from_all_adjacent, IsPermutation-keeps, IsPermutation-swap, length_permutation}
-use Rattle.std.proofs.lemmas.Option.{none-some, same_Some}
-use Rattle.trip_model.specs.Links.{leads_to}
-use Rattle.trip_model.specs.Plain.{move_at, AreMoves}
-use Rattle.trip_model.specs.declared.trip.Move.{Move}
-use Rattle.deadhead_matrix.specs.Fitting.{in_time, empty_between, home_after, out_before}
-use Rattle.deadhead_matrix.specs.Matrix.{MatrixView, walk}
-use Rattle.deadhead_matrix.specs.Pulls.{pull_at}
-use Rattle.deadhead_matrix.specs.Prices.{weight}
-use Rattle.pair_graph.specs.Pairs.{PairsView, pairs_network}
-use Rattle.price_assign.specs.Order.{row_minute, column_minute, column_post, no_column, slot_at, place_of, IsOrder}
+use Rattle.std.proofs.lemmas.List.Sorted.{IsPermutation-keeps, IsPermutation-swap, length_permutation}
+use Rattle.price_assign.specs.Order.{no_column, slot_at, place_of, IsOrder}
 use Rattle.price_assign.specs.declared.order.Column.{Column}
-use Rattle.price_assign.specs.Side.{SideView, LineView, side_slots, side_slot, side_weight, side_post, place_weight, line_weight, pairs_minute, pairs_post, AreKnown}
-use Rattle.price_assign.proofs.LooseLemmas.{weight-fits}
-use Rattle.price_assign.proofs.SideLemmas.{all_weights, masked, IsWithout-side}
-
--- two moves of which the second leaves no sooner than the first arrives
-pub record AreTimely (first second : Option Move) : Type 0 where
-  pub before : Move
-  pub after : Move
-  pub is_before : first ≡ Some before
-  pub is_after : second ≡ Some after
-  pub timely : before.arrives ≤ after.leaves
-
-in-time : (a b : Move) (minutes : Option ℕ) → IsSome (in_time a b minutes) → a.arrives ≤ b.leaves
-in-time a b None h = cc h
-in-time a b (Some m) h = by (nat_le (a.arrives + m) b.leaves) refl h
-  where
-    by : (t : Bool) → nat_le (a.arrives + m) b.leaves ≡ t → IsSome (cond t (Some m) None) → a.arrives ≤ b.leaves
-    by true e h = let le = leb-true (a.arrives + m) b.leaves e in omega (arith, le)
-    by false e h = cc h
-
-timely-moves : (walk : ℕ → ℕ → Option ℕ) (first second : Option Move) → IsSome (empty_between walk first second) → AreTimely first second
-timely-moves walk None second h = cc h
-timely-moves walk (Some a) None h = cc h
-timely-moves walk (Some a) (Some b) h = record { before = a; after = b; is_before = refl; is_after = refl; timely = in-time a b (walk a.to b.from) h }
-
-weight-timely : (pairs : PairsView) (i j k : ℕ) → weight (pairs_network pairs) i j ≡ Some k → AreTimely (move_at pairs.moves i) (move_at pairs.moves j)
-weight-timely pairs i j k e = timely-moves (walk pairs.matrix) (move_at pairs.moves i) (move_at pairs.moves j) (weight-fits (pairs_network pairs) i j k e)
-
--- a row is ready for each column that it fits
-pub ready : (side : SideView) (i j k : ℕ) → side_weight side i j ≡ Some k → row_minute side.turned (move_at side.pairs.moves i) ≤ column_minute side.turned (move_at side.pairs.moves j)
-ready side i j k e = by side.turned ((IsWithout-side side).some i j k e)
-  where
-    by : (turned : Bool) → all_weights side.pairs turned i j ≡ Some k → row_minute turned (move_at side.pairs.moves i) ≤ column_minute turned (move_at side.pairs.moves j)
-    by false fits =
-        let t = weight-timely side.pairs i j k fits in
-        let row : row_minute false (move_at side.pairs.moves i) ≡ t.before.arrives = ap (row_minute false) t.is_before in
-        let column : column_minute false (move_at side.pairs.moves j) ≡ t.after.leaves = ap (column_minute false) t.is_after in
-        omega (arith, row, column, t.timely)
-    by true fits =
-        let t = weight-timely side.pairs j i k fits in
-        let row : row_minute true (move_at side.pairs.moves i) ≡ 8191 - t.after.leaves = ap (row_minute true) t.is_after in
-        let column : column_minute true (move_at side.pairs.moves j) ≡ 8191 - t.before.arrives = ap (column_minute true) t.is_before in
-        omega (arith, row, column, t.timely)
 
 -- the element that stands at a place after two were swapped stood here
 swapped : ℕ → ℕ → ℕ → ℕ
@@ -163,32 +106,21 @@ AreColumns-listed n minute post columns count slots minutes posts = record {
     here : (k : ℕ) → k < n → slot_at n columns k ≡ k
     here k lt = slots k (no_column n) lt
 
+-- columns that stand by their slots, with what they are
+pub AreColumns-own : (columns : List Column) → ((j : ℕ) (d : Column) → j < length columns → (get_or columns j d).slot ≡ j)
+    → AreColumns (length columns) (λ j. (get_or columns j (no_column (length columns))).minute) (λ j. (get_or columns j (no_column (length columns))).post) columns
+AreColumns-own columns slots = AreColumns-listed (length columns) (λ j. (get_or columns j (no_column (length columns))).minute) (λ j. (get_or columns j (no_column (length columns))).post) columns refl slots
+    (λ j d lt. ap (λ (c : Column). c.minute) (get_or_default columns j d (no_column (length columns)) lt))
+    (λ j d lt. ap (λ (c : Column). c.post) (get_or_default columns j d (no_column (length columns)) lt))
+
 -- and in another order
 pub AreColumns-sorted : (n : ℕ) (minute : ℕ → ℕ) (post : ℕ → Option ℕ) (xs ys : List Column) → IsPermutation xs ys → AreColumns n minute post xs → AreColumns n minute post ys
 AreColumns-sorted n minute post xs ys permutation are = IsPermutation-keeps xs (AreColumns n minute post) are (AreColumns-swap n minute post) ys permutation
 
--- columns in the order of their fields
-abbrev column_cmp : Column → Column → Ordering
-column_cmp x y = ordering_then (nat_cmp x.minute y.minute) (ordering_then (nat_cmp x.slot y.slot) (option_cmp nat_cmp x.post y.post))
-
--- columns that are sorted rise by their minutes
-pub rise : (columns : List Column) → IsSortedBy (λ x y. is_lt (column_cmp x y)) columns → IsNonDecreasingBy (λ (c : Column). c.minute) columns
-rise columns sorted = IsNonDecreasingBy-from_all_adjacent (λ (c : Column). c.minute) columns (λ k d lt. up (get_or columns k d) (get_or columns (k + 1) d) (sorted k d (omega arith) lt))
-  where
-    up : (x y : Column) → is_lt (column_cmp y x) ≡ false → x.minute ≤ y.minute
-    up x y e = ⊎_elim
-        (λ (less : y.minute < x.minute).
-        let before : is_lt (column_cmp y x) ≡ true =
-        ap (λ t. is_lt (ordering_then (cond t Less (cond (y.minute == x.minute) Equal Greater)) (ordering_then (nat_cmp y.slot x.slot) (option_cmp nat_cmp y.post x.post)))) (lt-ltb y.minute x.minute less) in
-        absurd (both_ways (is_lt (column_cmp y x)) e before))
-        (λ (le : x.minute ≤ y.minute). le)
-        (cases_lt y.minute x.minute)
-
 -- columns that were sorted and numbered are in order
-pub IsOrder-sorted : (n : ℕ) (minute : ℕ → ℕ) (post : ℕ → Option ℕ) (columns : List Column) (places : List ℕ) → AreColumns n minute post columns → IsNonDecreasingBy (λ (c : Column). c.minute) columns
-    → length places ≡ n
+pub IsOrder-sorted : (n : ℕ) (minute : ℕ → ℕ) (post : ℕ → Option ℕ) (columns : List Column) (places : List ℕ) → AreColumns n minute post columns → length places ≡ n
     → ((k : ℕ) → k < n → place_of n places (slot_at n columns k) ≡ k) → IsOrder n minute post columns places
-IsOrder-sorted n minute post columns places are sorted len numbered = record {
+IsOrder-sorted n minute post columns places are len numbered = record {
   count = are.count;
   slots = len;
   renaming = record {
@@ -201,96 +133,7 @@ IsOrder-sorted n minute post columns places are sorted len numbered = record {
   };
   minutes = are.minutes;
   posts = are.posts;
-  rise = sorted;
 }
   where
     at-place : (j k : ℕ) → k < n → slot_at n columns k ≡ j → place_of n places j ≡ k
     at-place j k lt e = ap (place_of n places) (sym e) ∙ numbered k lt
-
--- what a walk of so many minutes between two places saves
-abbrev saves : MatrixView → ℕ → ℕ → ℕ → ℕ
-saves matrix to from m = 67108864 + (pull_at matrix.pulls to).pull_in + (pull_at matrix.pulls from).pull_out - m
-
--- two moves leave time for each walk that two others leave time for
-in-time-too : (a a' b b' : Move) → ((m : ℕ) → a.arrives + m ≤ b.leaves → a'.arrives + m ≤ b'.leaves) → (f : ℕ → ℕ) (k : ℕ) (o : Option ℕ)
-    → option_map f (in_time a b o) ≡ Some k → option_map f (in_time a' b' o) ≡ Some k
-in-time-too a a' b b' too f k None e = absurd (none-some k e)
-in-time-too a a' b b' too f k (Some m) e = by (nat_le (a.arrives + m) b.leaves) refl e
-  where
-    by : (t : Bool) → nat_le (a.arrives + m) b.leaves ≡ t → option_map f (cond t (Some m) None) ≡ Some k → option_map f (in_time a' b' (Some m)) ≡ Some k
-    by true le e = ap (λ t. option_map f (cond t (Some m) None)) (le-leb (a'.arrives + m) b'.leaves (too m (leb-true (a.arrives + m) b.leaves le))) ∙ e
-    by false le e = absurd (none-some k e)
-
-weigh-too : (matrix : MatrixView) (a a' b b' : Move) → a.to ≡ a'.to → b.from ≡ b'.from → ((m : ℕ) → a.arrives + m ≤ b.leaves → a'.arrives + m ≤ b'.leaves) → (k : ℕ)
-    → option_map (saves matrix a.to b.from) (in_time a b (walk matrix a.to b.from)) ≡ Some k → option_map (saves matrix a'.to b'.from) (in_time a' b' (walk matrix a'.to b'.from)) ≡ Some k
-weigh-too matrix a a' b b' to from too k e =
-    subst (λ t. option_map (saves matrix t b'.from) (in_time a' b' (walk matrix t b'.from)) ≡ Some k) to
-    (subst (λ f. option_map (saves matrix a.to f) (in_time a' b' (walk matrix a.to f)) ≡ Some k) from
-    (in-time-too a a' b b' too (saves matrix a.to b.from) k (walk matrix a.to b.from) e))
-
--- what two moves weigh, where they are made
-abbrev weigh : MatrixView → Option Move → Option Move → Option ℕ
-weigh matrix first second = option_map (λ m. 67108864 + home_after matrix.pulls first + out_before matrix.pulls second - m) (empty_between (walk matrix) first second)
-
-later-leaving : (matrix : MatrixView) (row column later : Option Move) (p k : ℕ) → column_post false column ≡ Some p → column_post false later ≡ Some p
-    → column_minute false column ≤ column_minute false later → weigh matrix row column ≡ Some k → weigh matrix row later ≡ Some k
-later-leaving matrix row None later p k at at' le e = absurd (none-some p at)
-later-leaving matrix row (Some b) None p k at at' le e = absurd (none-some p at')
-later-leaving matrix None (Some b) (Some c) p k at at' le e = absurd (none-some k e)
-later-leaving matrix (Some a) (Some b) (Some c) p k at at' le e =
-    weigh-too matrix a a b c refl (same_Some b.from p at ∙ sym (same_Some c.from p at')) (λ m h. omega (arith, le, h)) k e
-
-later-entering : (matrix : MatrixView) (row column later : Option Move) (p k : ℕ) → IfSome column (λ m. m.arrives ≤ 8191) → IfSome later (λ m. m.arrives ≤ 8191) → column_post true column ≡ Some p
-    → column_post true later ≡ Some p → column_minute true column ≤ column_minute true later → weigh matrix column row ≡ Some k → weigh matrix later row ≡ Some k
-later-entering matrix row None later p k day day' at at' le e = absurd (none-some p at)
-later-entering matrix row (Some b) None p k day day' at at' le e = absurd (none-some p at')
-later-entering matrix None (Some b) (Some c) p k day day' at at' le e = absurd (none-some k e)
-later-entering matrix (Some a) (Some b) (Some c) p k day day' at at' le e =
-    weigh-too matrix b c a a (same_Some b.to p at ∙ sym (same_Some c.to p at')) refl (λ m h. omega (arith, le, h, day, day')) k e
-
--- the column at a place that stands somewhere is not left out
-standing : (side : SideView) (k p : ℕ) → side_post side k ≡ Some p → (leads_to (side_slot side k) side.without ≡ false) × ((get_or side.columns k (no_column (side_slots side))).post ≡ Some p)
-standing side k p e = by (leads_to (side_slot side k) side.without) refl e
-  where
-    by : (t : Bool) → leads_to (side_slot side k) side.without ≡ t → cond t None (get_or side.columns k (no_column (side_slots side))).post ≡ Some p
-        → (leads_to (side_slot side k) side.without ≡ false) × ((get_or side.columns k (no_column (side_slots side))).post ≡ Some p)
-    by false is e = (is, e)
-    by true is e = absurd (none-some p e)
-
--- a row weighs as much with each later column that stands where one does that it fits
-pub likewise : (places : ℕ) (side : SideView) → IsOrder (side_slots side) (pairs_minute side.pairs side.turned) (pairs_post side.pairs side.turned) side.columns side.places
-    → AreMoves places side.pairs.moves → (place row k p weight : ℕ) → place ≤ k → k < side_slots side → side_post side place ≡ Some p → side_post side k ≡ Some p
-    → place_weight side row place ≡ Some weight → place_weight side row k ≡ Some weight
-likewise places side order moves place row k p weight le lt at at' e =
-    masked side row (side_slot side k) false (standing side k p at').0
-    ∙ by side.turned (sym (order.posts place inside) ∙ (standing side place p at).1) (sym (order.posts k lt) ∙ (standing side k p at').1) minutes ((IsWithout-side side).some row (side_slot side place) weight e)
-  where
-    inside : place < side_slots side
-    inside = omega (arith, le, lt)
-
-    minutes : pairs_minute side.pairs side.turned (side_slot side place) ≤ pairs_minute side.pairs side.turned (side_slot side k)
-    minutes = omega (arith, order.rise place k (no_column (side_slots side)) le (omega (arith, lt, order.count)), order.minutes place inside, order.minutes k lt)
-
-    day : (m : Option Move) (s : ℕ) → move_at side.pairs.moves s ≡ m → IfSome m (λ m. m.arrives ≤ 8191)
-    day None s is = tt
-    day (Some m) s is = (moves.each s m is).in_day
-
-    by : (turned : Bool) → pairs_post side.pairs turned (side_slot side place) ≡ Some p → pairs_post side.pairs turned (side_slot side k) ≡ Some p
-        → pairs_minute side.pairs turned (side_slot side place) ≤ pairs_minute side.pairs turned (side_slot side k)
-        → all_weights side.pairs turned row (side_slot side place) ≡ Some weight → all_weights side.pairs turned row (side_slot side k) ≡ Some weight
-    by false at at' le e =
-        later-leaving side.pairs.matrix (move_at side.pairs.moves row) (move_at side.pairs.moves (side_slot side place)) (move_at side.pairs.moves (side_slot side k)) p weight at at' le e
-    by true at at' le e =
-        later-entering side.pairs.matrix (move_at side.pairs.moves row) (move_at side.pairs.moves (side_slot side place)) (move_at side.pairs.moves (side_slot side k)) p weight
-        (day (move_at side.pairs.moves (side_slot side place)) (side_slot side place) refl) (day (move_at side.pairs.moves (side_slot side k)) (side_slot side k) refl) at at' le e
-
--- what is known of posts, where one comes to be known
-pub AreKnown-set : (line : LineView) (place p weight : ℕ) (known : List (Option ℕ)) → p < length known
-    → ((k : ℕ) → place ≤ k → k < side_slots line.side → side_post line.side k ≡ Some p → line_weight line k ≡ Some weight)
-    → AreKnown line place known → AreKnown line (place + 1) (set known p (Some weight))
-AreKnown-set line place p weight known inside same are k q v le lt at is = ⊎_elim
-    (λ (e : q ≡ p).
-    let value : Some weight ≡ Some v = sym (get_or-set_same known p (Some weight) None inside) ∙ ap (λ r. get_or (set known p (Some weight)) r None) (sym e) ∙ is in
-    same k (omega (arith, le)) lt (at ∙ ap Some e) ∙ value)
-    (λ (ne : q ≡ p → ⊥). are k q v (omega (arith, le)) lt at (sym (get_or-set_other known p q (Some weight) None ne) ∙ is))
-    (cases_eq q p)

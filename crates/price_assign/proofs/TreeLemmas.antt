@@ -1,5 +1,5 @@
 -- The tree of a search keeps its invariant as a row comes in.
-use Rattle.std.proofs.Common.{◌≡◌, ◌≢◌, ℕ, ◌+◌, ◌<◌, ◌≤◌, Bool, true, false, not, cond, List, length, set, replicate, count_by, Option, None, Some, refl, sym, ap, ◌∙◌, ⊎_elim, inr, ◌⊎◌, arith}
+use Rattle.std.proofs.Common.{◌≡◌, ◌≢◌, ℕ, ◌+◌, ◌<◌, ◌≤◌, Bool, true, false, not, cond, List, length, set, replicate, count_by, None, Some, refl, sym, ap, ◌∙◌, ⊎_elim, inr, ◌⊎◌, arith}
 use Rattle.std.proofs.lemmas.Bool.{both_ways, cases_Bool, cases_eq, cases_lt}
 use Rattle.std.proofs.lemmas.List.{get_or-set_same, get_or-set_other, get_or-replicate}
 use Rattle.std.proofs.lemmas.List.Folds.{sum_by-replicate}
@@ -310,35 +310,3 @@ IsTree-begun p dist0 parent0 dist parent done rows far given price dists dones r
 
     all-open : (n : ℕ) → count_by not (replicate n false) ≡ n
     all-open n = omega (arith, sum_by-replicate (λ b. cond (not b) 1 0) n false)
-
--- a column before the first that fits a row of the tree was not reached
-pub far-before : (p : Problem) (s : Tree) (first : ℕ) → IsTree p s → ((t j k : ℕ) → t < s.size → p.w (at s.rows t) j ≡ Some k → first ≤ j)
-    → (j : ℕ) → j < p.n → j < first → 67111745 ≤ at s.dist j
-far-before p s first tree fits j inside before = ⊎_elim
-    (λ (near : at s.dist j < 67111745).
-    let from = tree.reached j inside near in
-    absurd (omega (arith, before, fits (at s.parent j) j from.weight from.within from.fits)))
-    (λ (far : 67111745 ≤ at s.dist j). far)
-    (cases_lt (at s.dist j) 67111745)
-
--- what is said of columns from there on is said of all
-pub near-all : (p : Problem) (s : Tree) (first bound : ℕ) → IsTree p s → bound ≤ 67111744 → ((t j k : ℕ) → t < s.size → p.w (at s.rows t) j ≡ Some k → first ≤ j)
-    → ((j : ℕ) → first ≤ j → j < p.n → is_done s.done j ≡ false → bound ≤ at s.dist j) → (j : ℕ) → j < p.n → is_done s.done j ≡ false → bound ≤ at s.dist j
-near-all p s first bound tree low fits later j inside undone = ⊎_elim
-    (λ (before : j < first). omega (arith, low, far-before p s first tree fits j inside before))
-    (λ (after : first ≤ j). later j after inside undone)
-    (cases_lt j first)
-
--- no row of the tree fits a column before the first, where the row that came in does not either
-pub fits-more : (w : ℕ → ℕ → Option ℕ) (rows rows' : List ℕ) (size row first row-first first' : ℕ) → size < length rows → rows' ≡ set rows size row → first' ≤ first → first' ≤ row-first
-    → ((j k : ℕ) → w row j ≡ Some k → row-first ≤ j) → ((t j k : ℕ) → t < size → w (at rows t) j ≡ Some k → first ≤ j)
-    → (t j k : ℕ) → t < size + 1 → w (at rows' t) j ≡ Some k → first' ≤ j
-fits-more w rows rows' size row first row-first first' room is le le' new old t j k lt e = ⊎_elim
-    (λ (before : t < size).
-    let same : at rows' t ≡ at rows t = ap (λ xs. at xs t) is ∙ at-old rows size row t before in
-    omega (arith, le, old t j k before (ap (λ i. w i j) (sym same) ∙ e)))
-    (λ (after : size ≤ t).
-    let here : t ≡ size = omega (arith, lt, after) in
-    let same : at rows' t ≡ row = ap (λ xs. at xs t) is ∙ ap (at (set rows size row)) here ∙ get_or-set_same rows size row 0 room in
-    omega (arith, le', new j k (ap (λ i. w i j) (sym same) ∙ e)))
-    (cases_lt t size)

@@ -1,4 +1,5 @@
 pub mod Assignment
+pub mod Groups
 pub mod Inverse
 pub mod Lists
 pub mod Order

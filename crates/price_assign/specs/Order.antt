@@ -1,6 +1,6 @@
--- The columns of a search in the order of the minutes from which rows can be linked to them.
-use Rattle.std.specs.Prelude.{◌≡◌, ℕ, ◌-◌, ◌<◌, ◌≤◌, Bool, List, length, slice_index_or, Option, None, Some, if◌then◌else◌}
-use Rattle.std.specs.List.Sorted.{IsNonDecreasingBy}
+-- The columns of a search in an order.
+use Rattle.std.specs.Prelude.{◌≡◌, ℕ, ◌+◌, ◌-◌, ◌<◌, ◌≤◌, nat_le, Bool, List, length, slice_index_or, Option, None, Some, if◌then◌else◌}
+use Rattle.trip_model.specs.Links.{leads_to}
 use Rattle.trip_model.specs.declared.limits.TheConstants.{LAST_MINUTE}
 use Rattle.trip_model.specs.declared.trip.Move.{Move}
 use Rattle.price_assign.specs.declared.order.Column.{Column}
@@ -11,20 +11,15 @@ abbrev pub column_minute : Bool → Option Move → ℕ
 column_minute turned None = 0
 column_minute turned (Some m) = if turned then LAST_MINUTE - m.arrives else m.leaves
 
--- the minute at which a row is ready: when its trip ends; seen from the entering side, how long before the last minute its
--- trip departs
-abbrev pub row_minute : Bool → Option Move → ℕ
-row_minute turned None = 0
-row_minute turned (Some m) = if turned then LAST_MINUTE - m.leaves else m.arrives
-
--- where the column stands: the place at which its trip begins; seen from the entering side, at which it ends
-abbrev pub column_post : Bool → Option Move → Option ℕ
-column_post turned None = None
-column_post turned (Some m) = Some (if turned then m.to else m.from)
+-- where the column of a slot stands: the place at which its trip begins; seen from the entering side, at which it ends; nowhere
+-- where no trip runs, and where the slot is left out
+abbrev pub column_post : Bool → Option ℕ → ℕ → Option Move → Option ℕ
+column_post turned without slot None = None
+column_post turned without slot (Some m) = if leads_to slot without then None else Some (if turned then m.to else m.from)
 
 -- stands past the last of so many columns
 abbrev pub no_column : ℕ → Column
-no_column n = record { minute = 0; slot = n; post = None }
+no_column n = record { post = None; minute = 0; slot = n }
 
 -- the slot of the column at a place of so many; none past the last
 abbrev pub slot_at : ℕ → List Column → ℕ → ℕ
@@ -43,11 +38,14 @@ pub record IsRenaming (n : ℕ) (slot place : ℕ → ℕ) : Type 0 where
   pub no_slot : (k : ℕ) → n ≤ k → n ≤ slot k
   pub no_place : (j : ℕ) → n ≤ j → n ≤ place j
 
--- each column stands once, with its minute and where it stands, and minutes rise
+-- each column stands once, with its minute and where it stands
 pub record IsOrder (n : ℕ) (minute : ℕ → ℕ) (post : ℕ → Option ℕ) (columns : List Column) (places : List ℕ) : Type 0 where
   pub count : length columns ≡ n
   pub slots : length places ≡ n
   pub renaming : IsRenaming n (slot_at n columns) (place_of n places)
   pub minutes : (k : ℕ) → k < n → (slice_index_or columns k (no_column n)).minute ≡ minute (slot_at n columns k)
   pub posts : (k : ℕ) → k < n → (slice_index_or columns k (no_column n)).post ≡ post (slot_at n columns k)
-  pub rise : IsNonDecreasingBy (λ (c : Column). c.minute) columns
+
+-- the column of a row stands before a place
+abbrev pub stands_before : (ℕ → ℕ) → ℕ → ℕ → Bool
+stands_before place k i = nat_le (place i + 1) k

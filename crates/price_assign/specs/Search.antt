@@ -31,12 +31,12 @@ pub record AreLooked (w : ℕ → Option ℕ) (upto from start : ℕ) (enter : L
   pub same : (j : ℕ) → at dist j ≤ at dist' j → at parent' j ≡ at parent j
   pub reached : (j : ℕ) → at dist' j < at dist j → IsReached w from start enter done dist' parent' j
 
--- of the columns from one on that are not done none is nearer than this one, and it is nearer than a bound
-pub record IsNearest (done : List Bool) (dist : List ℕ) (bound from upto j : ℕ) : Type 0 where
+-- of the columns that are not done none is nearer than this one, and it is nearer than a bound
+pub record IsNearest (done : List Bool) (dist : List ℕ) (bound j : ℕ) : Type 0 where
   pub within : j < length dist
   pub undone : is_done done j ≡ false
   pub below : at dist j < bound
-  pub least : (h : ℕ) → from ≤ h → h < upto → is_done done h ≡ false → at dist j ≤ at dist h
+  pub least : (h : ℕ) → h < length dist → is_done done h ≡ false → at dist j ≤ at dist h
 
 -- what a search is given: weights, how many rows and columns, the row from which it goes out, for each column the row that
 -- is linked to it, and the prices

@@ -1,20 +1,24 @@
 -- The pairs of trips, seen from the side that they leave or from the side that they enter.
-use Rattle.std.specs.Prelude.{◌≡◌, ℕ, ◌+◌, ◌<◌, ◌≤◌, nat_le, Bool, List, length, slice_index_or, Option, None, Some, if◌then◌else◌}
+use Rattle.std.specs.Prelude.{◌≡◌, ℕ, ◌<◌, ◌≤◌, Bool, true, false, List, length, Option, None, Some, IfNone, IfSome, if◌then◌else◌}
 use Rattle.deadhead_matrix.specs.Prices.{weight}
 use Rattle.trip_model.specs.Links.{leads_to}
 use Rattle.trip_model.specs.Plain.{move_at}
-use Rattle.pair_graph.specs.Pairs.{PairsView, pairs_network}
+use Rattle.pair_graph.specs.Pairs.{PairsView, RowView, pairs_network}
 use Rattle.price_assign.specs.declared.order.Column.{Column}
-use Rattle.price_assign.specs.Order.{column_minute, column_post, no_column, slot_at, place_of}
+use Rattle.price_assign.specs.declared.groups.Group.{Group}
+use Rattle.price_assign.specs.declared.line.Fit.{Fit}
+use Rattle.price_assign.specs.Order.{column_minute, column_post, slot_at, place_of}
 
--- pairs; whether entering sides are the rows; the column that is left out, if one is; and the columns in an order, with the
--- place of each
+-- pairs; whether entering sides are the rows; the column that is left out, if one is; the columns in an order, with the place
+-- of each; and their groups, with how many there are
 pub record SideView : Type 0 where
   pub pairs : PairsView
   pub turned : Bool
   pub without : Option ℕ
   pub columns : List Column
   pub places : List ℕ
+  pub groups : List Group
+  pub count : ℕ
 
 -- how many rows there are, and as many columns
 abbrev pub side_slots : SideView → ℕ
@@ -38,20 +42,12 @@ abbrev pub pairs_minute : PairsView → Bool → ℕ → ℕ
 pairs_minute pairs turned j = column_minute turned (move_at pairs.moves j)
 
 -- where columns stand
-abbrev pub pairs_post : PairsView → Bool → ℕ → Option ℕ
-pairs_post pairs turned j = column_post turned (move_at pairs.moves j)
-
--- where the column at a place stands, unless it is left out
-abbrev pub side_post : SideView → ℕ → Option ℕ
-side_post side k = if leads_to (side_slot side k) side.without then None else (slice_index_or side.columns k (no_column (side_slots side))).post
+abbrev pub pairs_post : PairsView → Bool → Option ℕ → ℕ → Option ℕ
+pairs_post pairs turned without j = column_post turned without j (move_at pairs.moves j)
 
 -- what a row and the column at a place weigh, where they fit
 abbrev pub place_weight : SideView → ℕ → ℕ → Option ℕ
 place_weight side i k = side_weight side i (side_slot side k)
-
--- the column of a row stands before a place
-abbrev pub stands_before : SideView → ℕ → ℕ → Bool
-stands_before side k i = nat_le (side_place side i + 1) k
 
 -- one row of a side
 pub record LineView : Type 0 where
@@ -62,8 +58,19 @@ pub record LineView : Type 0 where
 abbrev pub line_weight : LineView → ℕ → Option ℕ
 line_weight line = place_weight line.side line.row
 
--- A weight is known of some posts: it is what the row weighs with each column there, from a place on. A row weighs the same
--- with all columns of one post that it fits, and fits each that stands after one that it fits.
-abbrev pub AreKnown : LineView → ℕ → List (Option ℕ) → Type 0
-AreKnown line upto known = (k p weight : ℕ) → upto ≤ k → k < side_slots line.side → side_post line.side k ≡ Some p
-    → slice_index_or known p None ≡ Some weight → line_weight line k ≡ Some weight
+-- Of a group of columns those from a place on weigh the same with a row, and those before it do not fit.
+pub record IsFit (line : LineView) (group : Group) (fit : Fit) : Type 0 where
+  pub after : group.from ≤ fit.from
+  pub within : fit.from < group.to
+  pub early : (k : ℕ) → group.from ≤ k → k < fit.from → line_weight line k ≡ None
+  pub fits : (k : ℕ) → fit.from ≤ k → k < group.to → line_weight line k ≡ Some fit.weight
+
+-- no column of a group fits a row
+abbrev pub FitsNone : LineView → Group → Type 0
+FitsNone line group = (k : ℕ) → group.from ≤ k → k < group.to → line_weight line k ≡ None
+
+-- what the pairs of a row share is held from the side that is its own, and where nothing is, its trip does not run
+pub record IsHeld (side : SideView) (row : ℕ) (leaving entering : Option RowView) : Type 0 where
+  pub leaves : IfSome leaving (λ held. (held ≡ record { pairs = side.pairs; slot = row }) × (side.turned ≡ false))
+  pub enters : IfSome entering (λ held. (held ≡ record { pairs = side.pairs; slot = row }) × (side.turned ≡ true))
+  pub idle : IfNone leaving (IfNone entering ((pairs_network side.pairs).live row ≡ false))

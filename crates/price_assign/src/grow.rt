@@ -1,10 +1,11 @@
 ghost use Rattle.std.specs.Prelude.{◌≡◌, ℕ, ◌+◌, ◌*◌, ◌<◌, ◌≤◌, ◌⊎◌, List, length, slice_set, Option, None, Some};
 ghost use Rattle.trip_model.specs.declared.limits.TheConstants.{MOST_SLOTS};
+ghost use Rattle.price_assign.specs.Groups.{AreNear, AreReached};
 ghost use Rattle.price_assign.specs.Search.{at, problem, tree_of, IsGiven, IsTree, IsNext, IsGrown};
 ghost use Rattle.price_assign.specs.Side.{side_slots, place_weight};
 
 use crate::limits::{FAR, GREATEST_PRICE};
-use crate::scan::{look_from, nearest};
+use crate::scan::{Seen, UNSEEN, look_from, nearest};
 use crate::side::Side;
 use desk_io::Steps;
 use std::sync::ledger::Ledger;
@@ -23,7 +24,7 @@ pub(crate) fn begin<L: Ledger>(
     a: u16,
     leave: &mut [u64],
     enter: &[u64],
-    known: &mut [Option<u64>],
+    seen: &mut [Seen],
     dist: &mut [u64],
     parent: &mut [u16],
     done: &mut [bool],
@@ -40,30 +41,35 @@ pub(crate) fn begin<L: Ledger>(
     requires done { length done.old ≡ side_slots side.now }
     requires rows { length rows.old ≡ side_slots side.now + 1 }
     requires far { length far.old ≡ side_slots side.now + 1 }
+    requires room { length seen.old ≡ side_slots side.now }
     requires enter_low { (j k : ℕ) → place_weight side.now a j ≡ Some k → at enter.now j ≤ GREATEST_PRICE }
     requires most { (j k : ℕ) → place_weight side.now a j ≡ Some k → k ≤ GREATEST_PRICE }
     ensures leave { leave.new ≡ slice_set leave.old a GREATEST_PRICE }
     ensures rows { at rows.new 0 ≡ a }
+    ensures near { AreNear side.now.count side.now.groups done.new dist.new seen.new }
+    ensures reached { AreReached side.now.count side.now.groups enter.now done.new dist.new seen.new }
     ensures tree { (before : List (Option ℕ))
         → IsGiven (problem (place_weight side.now) (side_slots side.now) a before leave.new enter.now)
         → IsTree (problem (place_weight side.now) (side_slots side.now) a before leave.new enter.now)
         (tree_of dist.new parent.new done.new rows.new far.new 1 0) }
     ensures counted { steps.new ≤ steps.old + side_slots side.now }
 {
+    // Its clause says how the columns stand in groups.
+    let _groups = side.groups();
     leave[a as usize] = GREATEST_PRICE;
     dist.fill(FAR);
     done.fill(false);
+    seen.fill(UNSEEN);
     rows[0] = a;
     far[0] = 0;
     let line = side.line(a);
     look_from(
         &line,
-        side.first(a),
         0,
         GREATEST_PRICE,
         enter,
         done,
-        known,
+        seen,
         dist,
         parent,
         steps,
@@ -74,12 +80,11 @@ pub(crate) fn begin<L: Ledger>(
 fn visit<L: Ledger>(
     side: &Side<'_>,
     row: u16,
-    first: u16,
     column: u16,
     place: u16,
     leave: &[u64],
     enter: &[u64],
-    known: &mut [Option<u64>],
+    seen: &mut [Seen],
     dist: &mut [u64],
     parent: &mut [u16],
     done: &mut [bool],
@@ -89,8 +94,6 @@ fn visit<L: Ledger>(
 )
     requires few { side_slots side.now ≤ MOST_SLOTS }
     requires row { row < side_slots side.now }
-    requires first { (j k : ℕ) → place_weight side.now row j ≡ Some k → first ≤ j }
-    requires first_within { first ≤ side_slots side.now }
     requires column { column < side_slots side.now }
     requires place { place ≤ side_slots side.now }
     requires leave { length leave.now ≡ side_slots side.now }
@@ -100,7 +103,10 @@ fn visit<L: Ledger>(
     requires done { length done.old ≡ side_slots side.now }
     requires rows { length rows.old ≡ side_slots side.now + 1 }
     requires far { length far.old ≡ side_slots side.now + 1 }
-    requires near { at dist.old column ≤ GREATEST_PRICE }
+    requires room { length seen.old ≡ side_slots side.now }
+    requires close { at dist.old column ≤ GREATEST_PRICE }
+    requires near { AreNear side.now.count side.now.groups done.old dist.old seen.old }
+    requires reached { AreReached side.now.count side.now.groups enter.now done.old dist.old seen.old }
     requires leave_low { at leave.now row ≤ GREATEST_PRICE }
     requires enter_low { (j k : ℕ) → place_weight side.now row j ≡ Some k → at enter.now j ≤ GREATEST_PRICE }
     requires covers { (j k : ℕ) → place_weight side.now row j ≡ Some k → k ≤ at leave.now row + at enter.now j }
@@ -112,6 +118,8 @@ fn visit<L: Ledger>(
         (tree_of dist.old parent.old done.old rows.old far.old place reach) row column
         → IsTree (problem (place_weight side.now) (side_slots side.now) a before leave.now enter.now)
         (tree_of dist.new parent.new done.new rows.new far.new (place + 1) (at dist.old column)) }
+    ensures near { AreNear side.now.count side.now.groups done.new dist.new seen.new }
+    ensures reached { AreReached side.now.count side.now.groups enter.now done.new dist.new seen.new }
     ensures rows { rows.new ≡ slice_set rows.old place row }
     ensures far { far.new ≡ slice_set far.old place (at dist.old column) }
     ensures counted { steps.new ≤ steps.old + side_slots side.now }
@@ -123,12 +131,11 @@ fn visit<L: Ledger>(
     let line = side.line(row);
     look_from(
         &line,
-        first,
         place,
         distance + leave[row as usize],
         enter,
         done,
-        known,
+        seen,
         dist,
         parent,
         steps,
@@ -151,24 +158,13 @@ fn sooner(best: End, from: u16, fall: u64) -> End
     best
 }
 
-// The place that stands first.
-fn sooner_place(one: u16, other: u16) -> u16
-    ensures one { result ≤ one }
-    ensures other { result ≤ other }
-{
-    if other < one {
-        return other;
-    }
-    one
-}
-
 /// Grows the tree of a search from its first row, row by row by the nearest column, until it ends.
 pub(crate) fn grow<L: Ledger>(
     side: &Side<'_>,
     before: &[Option<u16>],
     leave: &[u64],
     enter: &[u64],
-    known: &mut [Option<u64>],
+    seen: &mut [Seen],
     dist: &mut [u64],
     parent: &mut [u16],
     done: &mut [bool],
@@ -184,6 +180,9 @@ pub(crate) fn grow<L: Ledger>(
     requires done { length done.old ≡ side_slots side.now }
     requires rows { length rows.old ≡ side_slots side.now + 1 }
     requires far { length far.old ≡ side_slots side.now + 1 }
+    requires room { length seen.old ≡ side_slots side.now }
+    requires near { AreNear side.now.count side.now.groups done.old dist.old seen.old }
+    requires reached { AreReached side.now.count side.now.groups enter.now done.old dist.old seen.old }
     requires given { IsGiven (problem (place_weight side.now) (side_slots side.now) (at rows.old 0) before.now leave.now enter.now) }
     requires begun { IsTree (problem (place_weight side.now) (side_slots side.now) (at rows.old 0) before.now leave.now enter.now)
         (tree_of dist.old parent.old done.old rows.old far.old 1 0) }
@@ -197,8 +196,7 @@ pub(crate) fn grow<L: Ledger>(
         to: None,
         fall: leave[rows[0] as usize],
     };
-    let mut first = side.first(rows[0]);
-    while let Some(column) = nearest(done, dist, first, best.fall) {
+    while let Some(column) = nearest(side, done, dist, seen, best.fall) {
         let distance = dist[column as usize];
         let Some(row) = before[column as usize] else {
             return End {
@@ -207,12 +205,9 @@ pub(crate) fn grow<L: Ledger>(
                 fall: distance,
             };
         };
-        let row_first = side.first(row);
         visit(
-            side, row, row_first, column, size, leave, enter, known, dist, parent, done, rows, far,
-            steps,
+            side, row, column, size, leave, enter, seen, dist, parent, done, rows, far, steps,
         );
-        first = sooner_place(first, row_first);
         best = sooner(best, size, distance + leave[row as usize]);
         size += 1;
     }

@@ -15,10 +15,11 @@
 //! ```
 //!
 //! The contracts cite `Plans` (plans with other slots, or another entry), and of `deadhead_matrix` `Prices` and `Paths`.
-//! `Side`, `Order`, `Renamed`, `Assignment`, `Search`, `Relinking`, `Inverse`, `Turned` and `Lists` have the terms of the search
-//! for proofs alone.
+//! `Side`, `Order`, `Groups`, `Renamed`, `Assignment`, `Search`, `Relinking`, `Inverse`, `Turned` and `Lists` have the terms of the
+//! search for proofs alone.
 #![tactic(auto)]
 
+mod groups;
 mod grow;
 mod invert;
 mod limits;
@@ -37,6 +38,3 @@ mod solver;
 
 pub use plan::Plan;
 pub use solver::Solver;
-
-#[cfg(test)]
-mod tests;

@@ -1,76 +1,89 @@
-ghost use Rattle.std.specs.Prelude.{◌≡◌, ◌+◌, ◌<◌, ◌≤◌};
-ghost use Rattle.price_assign.specs.Side.{side_slots, line_weight, AreKnown};
+ghost use Rattle.std.specs.Prelude.{◌≡◌, ℕ, ◌+◌, ◌<◌, ◌≤◌, Some, length, slice_index_or, IfNone, IfSome};
+ghost use Rattle.pair_graph.specs.Reach.{saved_from};
+ghost use Rattle.price_assign.specs.Groups.{group_at};
+ghost use Rattle.price_assign.specs.Side.{side_slots, line_weight, IsFit, FitsNone};
+ghost use Rattle.price_assign.specs.Order.{no_column};
 
+use crate::order::columns_before;
 use crate::side::Side;
 use desk_io::Steps;
-use pair_graph::Row;
+use pair_graph::{Column, Reach, Row};
 use std::marker::Model;
 use std::sync::ledger::Ledger;
+use trip_model::LAST_MINUTE;
 
-/// One row of a side with each column: what they share is fetched once, where leaving sides are rows.
+/// One row of a side with each column: what its pairs share, where its trip runs.
 #[derive(Drop)]
 pub(crate) struct Line<'a> {
     pub(crate) side: &'a Side<'a>,
     pub(crate) row: u16,
-    pub(crate) held: Option<Row<'a>>,
+    pub(crate) leaving: Option<Row<'a>>,
+    pub(crate) entering: Option<Column<'a>>,
+}
+
+/// The columns of a group that a row fits: those from a place on. They weigh the same.
+#[derive(Clone, Copy, Debug, PartialEq, Eq)]
+pub(crate) struct Fit {
+    pub from: u16,
+    pub weight: u64,
 }
 
 impl<'a> Model for Line<'a> {
-    ghost use Rattle.std.specs.Prelude.{◌≡◌, ◌<◌, false, IfSome};
-    ghost use Rattle.price_assign.specs.Side.{LineView, side_slots};
+    ghost use Rattle.std.specs.Prelude.{◌<◌};
+    ghost use Rattle.price_assign.specs.Side.{LineView, IsHeld, side_slots};
 
     ghost Value = { LineView };
 
     ghost view = { λ l. record { side = l.side.now; row = l.row } };
 
-    ghost invariant = { λ l. (l.row < side_slots l.side.now) × IfSome l.held (λ row. (row ≡ record { pairs = l.side.now.pairs; slot = l.row })
-        × (l.side.now.turned ≡ false)) };
+    ghost invariant = { λ l. (l.row < side_slots l.side.now) × IsHeld l.side.now l.row l.leaving l.entering };
 }
 
 impl<'a> Line<'a> {
-    /// What the row and the column at a place weigh, where they fit. One step.
-    #[tactic(auto, unfolding(crate::specs::Side::side_weight))]
-    pub(crate) fn weight<L: Ledger>(&self, place: u16, steps: &mut Steps<L>) -> Option<u64>
-        requires { place < side_slots self.now.side }
-        ensures weight { result ≡ line_weight self.now place }
+    // What the row weighs with each column at a post that it is in time for, and the minute from which on such a column may need
+    // it. One step.
+    fn reach<L: Ledger>(&self, post: u16, steps: &mut Steps<L>) -> Option<Reach>
+        requires { post < length self.now.side.pairs.matrix.walks }
+        ensures reach { (k : ℕ) → k < side_slots self.now.side → (slice_index_or self.now.side.columns k (no_column (side_slots self.now.side))).post ≡ Some post
+            → line_weight self.now k ≡ saved_from result (slice_index_or self.now.side.columns k (no_column (side_slots self.now.side))).minute }
         ensures counted { steps.new ≤ steps.old + 1 }
     {
         let side = self.side;
-        let column = side.slot(place);
-        let Some(row) = &self.held else {
-            return side.weight(self.row, column, steps);
-        };
-        if side.leaves_out(column) {
-            return None;
+        // Its clauses say that moves are of one day.
+        let _slots = side.pairs.slots();
+        if let Some(row) = &self.leaving {
+            return row.reach(post, steps);
         }
-        row.weight(column, steps)
+        let Some(column) = &self.entering else {
+            return None;
+        };
+        let reach = column.reach(post, steps)?;
+        Some(Reach {
+            minute: LAST_MINUTE.saturating_sub(reach.minute),
+            saved: reach.saved,
+        })
     }
 
-    /// The same, where the weights of some posts are known: only the first column of a post that the row fits is read.
-    pub(crate) fn weigh<L: Ledger>(
-        &self,
-        place: u16,
-        known: &mut [Option<u64>],
-        steps: &mut Steps<L>,
-    ) -> Option<u64>
-        requires place { place < side_slots self.now.side }
-        requires known { AreKnown self.now place known.old }
-        ensures weight { result ≡ line_weight self.now place }
-        ensures known { AreKnown self.now (place + 1) known.new }
+    /// The columns of a group that the row fits, if it can fit any. One step.
+    pub(crate) fn fit<L: Ledger>(&self, group: usize, steps: &mut Steps<L>) -> Option<Fit>
+        requires { group < self.now.side.count }
+        ensures some { IfSome result (IsFit self.now (group_at self.now.side.groups group)) }
+        ensures none { IfNone result (FitsNone self.now (group_at self.now.side.groups group)) }
         ensures counted { steps.new ≤ steps.old + 1 }
     {
-        let Some(post) = self.side.post(place) else {
-            return self.weight(place, steps);
-        };
-        let post = usize::from(post);
-        if post >= known.len() {
-            return self.weight(place, steps);
+        let side = self.side;
+        // Its clauses say that moves are of one day.
+        let _slots = side.pairs.slots();
+        let group = side.group(group);
+        let reach = self.reach(group.post?, steps)?;
+        let columns = &side.columns[group.from as usize..group.to as usize];
+        let early = columns_before(columns, reach.minute);
+        if early == columns.len() {
+            return None;
         }
-        if let Some(weight) = known[post] {
-            return Some(weight);
-        }
-        let weight = self.weight(place, steps)?;
-        known[post] = Some(weight);
-        Some(weight)
+        Some(Fit {
+            from: group.from + early as u16,
+            weight: reach.saved,
+        })
     }
 }

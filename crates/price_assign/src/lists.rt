@@ -1,12 +1,13 @@
-ghost use Rattle.std.specs.Prelude.{◌≡◌, vec_len, IfOk};
-ghost use Rattle.price_assign.specs.Lists.{AreLists};
-ghost use Rattle.trip_model.specs.declared.limits.TheConstants.{MOST_SLOTS};
+ghost use Rattle.std.specs.Prelude.{IfOk};
+ghost use Rattle.price_assign.specs.Lists.{AreLists, AreOrders};
 
+use crate::groups::Group;
 use crate::limits::FAR;
 use crate::order::Column;
+use crate::scan::{Seen, UNSEEN};
 use desk_io::Memory;
 use std::alloc::Global;
-use trip_model::{MOST_PLACES, MOST_SLOTS};
+use trip_model::MOST_SLOTS;
 
 /// The lists of a search, each for as many slots as there may be.
 #[derive(Drop)]
@@ -14,7 +15,7 @@ pub(crate) struct Lists {
     pub placed: Vec<Option<u16>>,
     pub entering: Vec<u64>,
     pub before: Vec<Option<u16>>,
-    pub known: Vec<Option<u64>>,
+    pub seen: Vec<Seen>,
     pub dist: Vec<u64>,
     pub parent: Vec<u16>,
     pub done: Vec<bool>,
@@ -32,7 +33,7 @@ impl Lists {
             placed: vec![in alloc; None; slots]?,
             entering: vec![in alloc; 0; slots]?,
             before: vec![in alloc; None; slots]?,
-            known: vec![in alloc; None; usize::from(MOST_PLACES)]?,
+            seen: vec![in alloc; UNSEEN; slots]?,
             dist: vec![in alloc; FAR; slots]?,
             parent: vec![in alloc; 0; slots]?,
             done: vec![in alloc; false; slots]?,
@@ -42,26 +43,38 @@ impl Lists {
     }
 }
 
-/// The order of the columns of a search, for as many slots as there may be.
+/// Orders of the columns of a search, for as many slots as there may be: one in groups, and one by departure.
 #[derive(Drop)]
 pub(crate) struct Order {
     pub columns: Vec<Column>,
     pub places: Vec<u16>,
+    pub groups: Vec<Group>,
+    pub departures: Vec<Column>,
+    pub turns: Vec<u16>,
 }
 
 impl Order {
-    /// Takes the memory of both lists.
+    /// Takes the memory of all lists.
     pub(crate) fn open(alloc: Global) -> Result<Order, Memory>
-        ensures { IfOk result (λ order. (vec_len order.columns ≡ MOST_SLOTS) × (vec_len order.places ≡ MOST_SLOTS)) }
+        ensures { IfOk result AreOrders }
     {
         let slots = usize::from(MOST_SLOTS);
+        let column = Column {
+            post: None,
+            minute: 0,
+            slot: 0,
+        };
+        let group = Group {
+            post: None,
+            from: 0,
+            to: 0,
+        };
         Ok(Order {
-            columns: vec![in alloc; Column {
-                minute: 0,
-                slot: 0,
-                post: None
-            }; slots]?,
+            columns: vec![in alloc; column; slots]?,
             places: vec![in alloc; 0; slots]?,
+            groups: vec![in alloc; group; slots]?,
+            departures: vec![in alloc; column; slots]?,
+            turns: vec![in alloc; 0; slots]?,
         })
     }
 }

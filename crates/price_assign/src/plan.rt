@@ -6,8 +6,9 @@ ghost use Rattle.price_assign.specs.Lists.{AreLists};
 ghost use Rattle.price_assign.specs.Plans.{with_slots, with_entry};
 ghost use Rattle.trip_model.specs.declared.limits.TheConstants.{MOST_SLOTS};
 
+use crate::groups::{Group, find_groups};
 use crate::lists::Lists;
-use crate::order::{Column, arrange};
+use crate::order::{Column, arrange, arrange_departures};
 use crate::search::{link_all, search_befores, search_links};
 use crate::side::Side;
 use desk_io::{Memory, Steps};
@@ -102,6 +103,7 @@ impl Plan {
         next: &mut Vec<Option<u16>>,
         columns: &mut Vec<Column>,
         places: &mut Vec<u16>,
+        groups: &mut Vec<Group>,
         lists: &mut Lists,
         steps: &mut Steps<L>,
     )
@@ -110,10 +112,12 @@ impl Plan {
         requires next { vec_len next.old ≡ MOST_SLOTS }
         requires columns { vec_len columns.old ≡ MOST_SLOTS }
         requires places { vec_len places.old ≡ MOST_SLOTS }
+        requires groups { vec_len groups.old ≡ MOST_SLOTS }
         requires lists { AreLists lists.old }
         ensures next { vec_len next.new ≡ MOST_SLOTS }
         ensures columns { vec_len columns.new ≡ MOST_SLOTS }
         ensures places { vec_len places.new ≡ MOST_SLOTS }
+        ensures groups { vec_len groups.new ≡ MOST_SLOTS }
         ensures lists { AreLists lists.new }
         ensures loose { IsLoose (pairs_network pairs.now) self.new None b }
         ensures path { IsLeftPath self.old.next self.new.next a }
@@ -123,8 +127,10 @@ impl Plan {
         let slots = pairs.slots() as usize;
         let columns = &mut columns[..slots];
         let places = &mut places[..slots];
-        arrange(pairs, false, columns, places);
-        let side = Side::leaving(pairs, b, columns, places);
+        let groups = &mut groups[..slots];
+        arrange(pairs, false, b, columns, places);
+        let count = find_groups(columns, groups);
+        let side = Side::of(pairs, false, b, columns, places, groups, count);
         search_links(
             &side,
             a,
@@ -147,6 +153,7 @@ impl Plan {
         turned: &mut Vec<Option<u16>>,
         columns: &mut Vec<Column>,
         places: &mut Vec<u16>,
+        groups: &mut Vec<Group>,
         lists: &mut Lists,
         steps: &mut Steps<L>,
     )
@@ -156,11 +163,13 @@ impl Plan {
         requires turned { vec_len turned.old ≡ MOST_SLOTS }
         requires columns { vec_len columns.old ≡ MOST_SLOTS }
         requires places { vec_len places.old ≡ MOST_SLOTS }
+        requires groups { vec_len groups.old ≡ MOST_SLOTS }
         requires lists { AreLists lists.old }
         ensures next { vec_len next.new ≡ MOST_SLOTS }
         ensures turned { vec_len turned.new ≡ MOST_SLOTS }
         ensures columns { vec_len columns.new ≡ MOST_SLOTS }
         ensures places { vec_len places.new ≡ MOST_SLOTS }
+        ensures groups { vec_len groups.new ≡ MOST_SLOTS }
         ensures lists { AreLists lists.new }
         ensures loose { IsLoose (pairs_network pairs.now) self.new a None }
         ensures path { IsRightPath self.old.next self.new.next b }
@@ -170,8 +179,10 @@ impl Plan {
         let slots = pairs.slots() as usize;
         let columns = &mut columns[..slots];
         let places = &mut places[..slots];
-        arrange(pairs, true, columns, places);
-        let side = Side::entering(pairs, a, columns, places);
+        let groups = &mut groups[..slots];
+        arrange(pairs, true, a, columns, places);
+        let count = find_groups(columns, groups);
+        let side = Side::of(pairs, true, a, columns, places, groups, count);
         search_befores(
             &side,
             b,
@@ -192,16 +203,25 @@ impl Plan {
         next: &mut Vec<Option<u16>>,
         columns: &mut Vec<Column>,
         places: &mut Vec<u16>,
+        groups: &mut Vec<Group>,
+        departures: &mut Vec<Column>,
+        turns: &mut Vec<u16>,
         lists: &mut Lists,
         steps: &mut Steps<L>,
     )
         requires next { vec_len next.old ≡ MOST_SLOTS }
         requires columns { vec_len columns.old ≡ MOST_SLOTS }
         requires places { vec_len places.old ≡ MOST_SLOTS }
+        requires groups { vec_len groups.old ≡ MOST_SLOTS }
+        requires departures { vec_len departures.old ≡ MOST_SLOTS }
+        requires turns { vec_len turns.old ≡ MOST_SLOTS }
         requires lists { AreLists lists.old }
         ensures next { vec_len next.new ≡ MOST_SLOTS }
         ensures columns { vec_len columns.new ≡ MOST_SLOTS }
         ensures places { vec_len places.new ≡ MOST_SLOTS }
+        ensures groups { vec_len groups.new ≡ MOST_SLOTS }
+        ensures departures { vec_len departures.new ≡ MOST_SLOTS }
+        ensures turns { vec_len turns.new ≡ MOST_SLOTS }
         ensures lists { AreLists lists.new }
         ensures slots { length self.new.next ≡ length pairs.now.moves }
         ensures certified { IsCertified (pairs_network pairs.now) self.new }
@@ -211,12 +231,19 @@ impl Plan {
         let slots = pairs.slots();
         self.set_slots(0);
         self.set_slots(slots);
-        let columns = &mut columns[..slots as usize];
-        let places = &mut places[..slots as usize];
-        arrange(pairs, false, columns, places);
-        let side = Side::leaving(pairs, None, columns, places);
+        let slots = usize::from(slots);
+        let departures = &mut departures[..slots];
+        let turns = &mut turns[..slots];
+        arrange_departures(pairs, departures, turns);
+        let columns = &mut columns[..slots];
+        let places = &mut places[..slots];
+        let groups = &mut groups[..slots];
+        arrange(pairs, false, None, columns, places);
+        let count = find_groups(columns, groups);
+        let side = Side::of(pairs, false, None, columns, places, groups, count);
         link_all(
             &side,
+            departures,
             &mut self.links,
             &mut self.leave,
             &mut self.enter,

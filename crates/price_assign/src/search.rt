@@ -1,18 +1,21 @@
-ghost use Rattle.std.specs.Prelude.{◌≡◌, ℕ, ◌+◌, ◌*◌, ◌≤◌, Bool, length, Option, None, vec_len, vec_capacity, replicate};
+ghost use Rattle.std.specs.Prelude.{◌≡◌, ℕ, ◌+◌, ◌*◌, ◌≤◌, Bool, false, length, Option, None, vec_len, vec_capacity, replicate};
 ghost use Rattle.deadhead_matrix.specs.Paths.{AreNextTrips, IsPath};
-ghost use Rattle.trip_model.specs.declared.limits.TheConstants.{MOST_PLACES, MOST_SLOTS};
+ghost use Rattle.trip_model.specs.declared.limits.TheConstants.{MOST_SLOTS};
 ghost use Rattle.trip_model.specs.Links.{next_of, before_of};
 ghost use Rattle.price_assign.specs.Assignment.{AreWeights, IsMatched, Covers, MayBegin};
 ghost use Rattle.price_assign.specs.Turned.{MayBeginTurned, IsFoundTurned};
 ghost use Rattle.price_assign.specs.Lists.{AreLists};
-ghost use Rattle.price_assign.specs.Side.{side_slots, side_weight, place_weight, stands_before};
+ghost use Rattle.price_assign.specs.Side.{side_slots, side_weight, place_weight};
+ghost use Rattle.price_assign.specs.Order.{slot_at, IsRenaming};
 
 use crate::grow::{begin, grow};
 use crate::invert::invert;
 use crate::links::{read_links, write_links};
 use crate::lists::Lists;
+use crate::order::Column;
 use crate::relink::relink;
 use crate::rename::{link_columns, link_places, price_columns, price_places};
+use crate::scan::Seen;
 use crate::shift::shift;
 use crate::side::Side;
 use desk_io::Steps;
@@ -27,7 +30,7 @@ fn search<L: Ledger>(
     leave: &mut [u64],
     enter: &mut [u64],
     before: &mut [Option<u16>],
-    known: &mut [Option<u64>],
+    seen: &mut [Seen],
     dist: &mut [u64],
     parent: &mut [u16],
     done: &mut [bool],
@@ -46,6 +49,7 @@ fn search<L: Ledger>(
     requires done { length done.old ≡ side_slots side.now }
     requires rows { length rows.old ≡ side_slots side.now + 1 }
     requires far { length far.old ≡ side_slots side.now + 1 }
+    requires seen { length seen.old ≡ side_slots side.now }
     requires begins { (out : ℕ → Bool) × (b : Option ℕ) × MayBegin (place_weight side.now) (side_slots side.now) out a b next.old leave.old enter.old }
     ensures path { IsPath (next_of next.old) (before_of next.old) (next_of next.new) a }
     ensures matched { (out : ℕ → Bool) (b : Option ℕ) → MayBegin (place_weight side.now) (side_slots side.now) out a b next.old leave.old enter.old
@@ -56,10 +60,10 @@ fn search<L: Ledger>(
 {
     invert(next, before);
     begin(
-        side, a, leave, enter, known, dist, parent, done, rows, far, steps,
+        side, a, leave, enter, seen, dist, parent, done, rows, far, steps,
     );
     let end = grow(
-        side, before, leave, enter, known, dist, parent, done, rows, far, steps,
+        side, before, leave, enter, seen, dist, parent, done, rows, far, steps,
     );
     shift(a, end.fall, next, dist, leave, enter);
     relink(end, parent, rows, next);
@@ -75,7 +79,7 @@ fn search_within<L: Ledger>(
     placed: &mut Vec<Option<u16>>,
     entering: &mut Vec<u64>,
     before: &mut Vec<Option<u16>>,
-    known: &mut Vec<Option<u64>>,
+    seen: &mut Vec<Seen>,
     dist: &mut Vec<u64>,
     parent: &mut Vec<u16>,
     done: &mut Vec<bool>,
@@ -91,7 +95,7 @@ fn search_within<L: Ledger>(
     requires placed { vec_len placed.old ≡ MOST_SLOTS }
     requires entering { vec_len entering.old ≡ MOST_SLOTS }
     requires before { vec_len before.old ≡ MOST_SLOTS }
-    requires known { vec_len known.old ≡ MOST_PLACES }
+    requires seen { vec_len seen.old ≡ MOST_SLOTS }
     requires dist { vec_len dist.old ≡ MOST_SLOTS }
     requires parent { vec_len parent.old ≡ MOST_SLOTS }
     requires done { vec_len done.old ≡ MOST_SLOTS }
@@ -101,7 +105,7 @@ fn search_within<L: Ledger>(
     ensures placed { vec_len placed.new ≡ vec_len placed.old }
     ensures entering { vec_len entering.new ≡ vec_len entering.old }
     ensures before { vec_len before.new ≡ vec_len before.old }
-    ensures known { vec_len known.new ≡ vec_len known.old }
+    ensures seen { vec_len seen.new ≡ vec_len seen.old }
     ensures dist { vec_len dist.new ≡ vec_len dist.old }
     ensures parent { vec_len parent.new ≡ vec_len parent.old }
     ensures done { vec_len done.new ≡ vec_len done.old }
@@ -126,7 +130,7 @@ fn search_within<L: Ledger>(
         leave,
         entering,
         &mut before[..slots],
-        known.as_mut_slice(),
+        &mut seen[..slots],
         &mut dist[..slots],
         &mut parent[..slots],
         &mut done[..slots],
@@ -172,7 +176,7 @@ fn search_with<L: Ledger>(
         &mut lists.placed,
         &mut lists.entering,
         &mut lists.before,
-        &mut lists.known,
+        &mut lists.seen,
         &mut lists.dist,
         &mut lists.parent,
         &mut lists.done,
@@ -259,9 +263,10 @@ pub(crate) fn search_befores<L: Ledger>(
 }
 
 /// Adds one row after the other to links that link none, each by a search over the rows added so far: the one that stands
-/// last as a column first.
+/// last in an order first.
 pub(crate) fn link_all<L: Ledger>(
     side: &Side<'_>,
+    departures: &[Column],
     links: &mut Links,
     leave: &mut Vec<u64>,
     enter: &mut Vec<u64>,
@@ -272,7 +277,8 @@ pub(crate) fn link_all<L: Ledger>(
     requires links { links.old ≡ replicate (side_slots side.now) None }
     requires leave { leave.old.items ≡ replicate (side_slots side.now) 0 }
     requires enter { enter.old.items ≡ replicate (side_slots side.now) 0 }
-    requires all { side.now.without ≡ None }
+    requires renaming { (turn : ℕ → ℕ) × IsRenaming (side_slots side.now) (slot_at (side_slots side.now) departures.now) turn }
+    requires all { length departures.now ≡ side_slots side.now }
     requires next { vec_len next.old ≡ MOST_SLOTS }
     requires lists { AreLists lists.old }
     ensures links { length links.new ≡ side_slots side.now }
@@ -280,13 +286,14 @@ pub(crate) fn link_all<L: Ledger>(
     ensures enter { (vec_len enter.new ≡ side_slots side.now) × (vec_capacity enter.new ≡ vec_capacity enter.old) }
     ensures next { vec_len next.new ≡ vec_len next.old }
     ensures lists { AreLists lists.new }
-    ensures matched { IsMatched (side_weight side.now) (stands_before side.now 0) None None links.new leave.new.items enter.new.items }
-    ensures covers { Covers (side_weight side.now) (stands_before side.now 0) None leave.new.items enter.new.items }
+    ensures matched { IsMatched (side_weight side.now) (λ _. false) None None links.new leave.new.items enter.new.items }
+    ensures covers { Covers (side_weight side.now) (λ _. false) None leave.new.items enter.new.items }
     ensures counted { steps.new ≤ steps.old + side_slots side.now * (side_slots side.now * side_slots side.now + side_slots side.now) }
 {
     let slots = side.slots();
     for added in 0..slots {
-        let a = side.slot(slots - 1 - added);
+        let last = slots - 1 - added;
+        let a = departures[last as usize].slot;
         search_links(side, a, links, leave, enter, next, lists, steps);
     }
 }

@@ -1,76 +1,66 @@
-ghost use Rattle.std.specs.Prelude.{◌≡◌, ℕ, ◌+◌, ◌<◌, ◌≤◌, length, true, false, Some, IfSome};
+ghost use Rattle.std.specs.Prelude.{◌≡◌, ◌<◌, ◌≤◌, length};
 ghost use Rattle.price_assign.specs.Assignment.{AreWeights};
+ghost use Rattle.price_assign.specs.Groups.{group_at, AreGroups};
 ghost use Rattle.price_assign.specs.Order.{IsOrder, IsRenaming};
-ghost use Rattle.price_assign.specs.Side.{side_slots, side_slot, side_place, side_weight, place_weight, side_post, pairs_minute, pairs_post};
-ghost use Rattle.trip_model.specs.Links.{leads_to};
+ghost use Rattle.price_assign.specs.Side.{side_slots, side_slot, side_place, side_weight, pairs_minute, pairs_post};
 ghost use Rattle.trip_model.specs.declared.limits.TheConstants.{MOST_SLOTS};
 
+use crate::groups::Group;
 use crate::line::Line;
-use crate::order::{Column, columns_before, row_minute};
-use desk_io::Steps;
+use crate::order::Column;
 use pair_graph::Pairs;
 use std::marker::Model;
-use std::sync::ledger::Ledger;
 
 /// What rows and columns of a search weigh: leaving sides as rows and entering sides as columns, or the other way round.
-/// One column may be left out. Columns stand in an order, by which a row need not look at those that it is too late for.
+/// One column may be left out. Columns stand in groups, of which each weighs the same with a row as far as they fit.
 #[derive(Drop)]
 pub(crate) struct Side<'a> {
-    pairs: &'a Pairs<'a>,
-    turned: bool,
-    without: Option<u16>,
-    columns: &'a [Column],
-    places: &'a [u16],
+    pub(crate) pairs: &'a Pairs<'a>,
+    pub(crate) turned: bool,
+    pub(crate) without: Option<u16>,
+    pub(crate) columns: &'a [Column],
+    pub(crate) places: &'a [u16],
+    pub(crate) groups: &'a [Group],
+    pub(crate) count: usize,
 }
 
 impl<'a> Model for Side<'a> {
     ghost use Rattle.std.specs.Prelude.{length};
+    ghost use Rattle.price_assign.specs.Groups.{AreGroups};
     ghost use Rattle.price_assign.specs.Order.{IsOrder};
     ghost use Rattle.price_assign.specs.Side.{SideView, pairs_minute, pairs_post};
 
     ghost Value = { SideView };
 
-    ghost view = { λ s. record { pairs = s.pairs.now; turned = s.turned; without = s.without; columns = s.columns.now; places = s.places.now } };
+    ghost view = { λ s. record { pairs = s.pairs.now; turned = s.turned; without = s.without; columns = s.columns.now; places = s.places.now; groups = s.groups.now; count = s.count } };
 
-    ghost invariant = { λ s. IsOrder (length s.pairs.now.moves) (pairs_minute s.pairs.now s.turned) (pairs_post s.pairs.now s.turned) s.columns.now s.places.now };
+    ghost invariant = { λ s. (IsOrder (length s.pairs.now.moves) (pairs_minute s.pairs.now s.turned) (pairs_post s.pairs.now s.turned s.without) s.columns.now s.places.now)
+        × (AreGroups (length s.pairs.now.moves) s.columns.now s.count s.groups.now) };
 }
 
 impl<'a> Side<'a> {
-    /// Leaving sides are rows; no row is linked to the one column.
-    pub(crate) fn leaving(
+    /// The pairs from one side, with their columns in order and in groups.
+    pub(crate) fn of(
         pairs: &'a Pairs<'a>,
+        turned: bool,
         without: Option<u16>,
         columns: &'a [Column],
         places: &'a [u16],
+        groups: &'a [Group],
+        count: usize,
     ) -> Side<'a>
-        requires { IsOrder (length pairs.now.moves) (pairs_minute pairs.now false) (pairs_post pairs.now false) columns.now places.now }
-        ensures { result ≡ record { pairs = pairs.now; turned = false; without = without; columns = columns.now; places = places.now } }
+        requires order { IsOrder (length pairs.now.moves) (pairs_minute pairs.now turned) (pairs_post pairs.now turned without) columns.now places.now }
+        requires groups { AreGroups (length pairs.now.moves) columns.now count groups.now }
+        ensures { result ≡ record { pairs = pairs.now; turned = turned; without = without; columns = columns.now; places = places.now; groups = groups.now; count = count } }
     {
         Side {
             pairs,
-            turned: false,
+            turned,
             without,
             columns,
             places,
-        }
-    }
-
-    /// Entering sides are rows; no row is linked to the one column.
-    pub(crate) fn entering(
-        pairs: &'a Pairs<'a>,
-        without: Option<u16>,
-        columns: &'a [Column],
-        places: &'a [u16],
-    ) -> Side<'a>
-        requires { IsOrder (length pairs.now.moves) (pairs_minute pairs.now true) (pairs_post pairs.now true) columns.now places.now }
-        ensures { result ≡ record { pairs = pairs.now; turned = true; without = without; columns = columns.now; places = places.now } }
-    {
-        Side {
-            pairs,
-            turned: true,
-            without,
-            columns,
-            places,
+            groups,
+            count,
         }
     }
 
@@ -84,6 +74,26 @@ impl<'a> Side<'a> {
         self.pairs.slots()
     }
 
+    /// How many groups of columns there are.
+    pub(crate) fn groups(&self) -> usize
+        ensures count { result ≡ self.now.count }
+        ensures groups { AreGroups (side_slots self.now) self.now.columns self.now.count self.now.groups }
+    {
+        self.count
+    }
+
+    /// A group of columns.
+    pub(crate) fn group(&self, group: usize) -> Group
+        requires { group < self.now.count }
+        ensures group { result ≡ group_at self.now.groups group }
+        ensures within { (result.from ≤ result.to) × (result.to ≤ side_slots self.now) }
+        ensures few { (group < side_slots self.now) × (group < MOST_SLOTS) }
+        ensures groups { AreGroups (side_slots self.now) self.now.columns self.now.count self.now.groups }
+    {
+        let groups = self.groups;
+        groups[group]
+    }
+
     /// The slot of the column at a place.
     pub(crate) fn slot(&self, place: u16) -> u16
         requires { place < side_slots self.now }
@@ -91,23 +101,6 @@ impl<'a> Side<'a> {
         ensures within { result < side_slots self.now }
     {
         self.columns[place as usize].slot
-    }
-
-    /// Where the column at a place stands, unless it is left out. A row weighs as much with each later one that stands there
-    /// as with one that it fits.
-    pub(crate) fn post(&self, place: u16) -> Option<u16>
-        requires { place < side_slots self.now }
-        ensures post { result ≡ side_post self.now place }
-        ensures likewise { (row k p weight : ℕ) → place ≤ k → k < side_slots self.now → result ≡ Some p → side_post self.now k ≡ Some p
-            → place_weight self.now row place ≡ Some weight → place_weight self.now row k ≡ Some weight }
-    {
-        // Its clauses say that moves are of one day.
-        let _slots = self.pairs.slots();
-        let column = self.columns[place as usize];
-        if self.leaves_out(column.slot) {
-            return None;
-        }
-        column.post
     }
 
     /// The place of a column.
@@ -119,62 +112,22 @@ impl<'a> Side<'a> {
         self.places[slot as usize]
     }
 
-    /// Whether no row is linked to a column.
-    pub(crate) fn leaves_out(&self, column: u16) -> bool
-        ensures { result ≡ leads_to column self.now.without }
-    {
-        self.without == Some(column)
-    }
-
-    /// The first place whose column a row may fit.
-    pub(crate) fn first(&self, row: u16) -> u16
-        requires { row < side_slots self.now }
-        ensures within { result ≤ side_slots self.now }
-        ensures first { (k weight : ℕ) → place_weight self.now row k ≡ Some weight → result ≤ k }
-    {
-        // Its clause says how many there may be.
-        let _slots = self.pairs.slots();
-        let made = self.pairs.move_at(row);
-        columns_before(self.columns, row_minute(self.turned, made)) as u16
-    }
-
     /// A row with each column.
     pub(crate) fn line(&self, row: u16) -> Line<'_>
         requires { row < side_slots self.now }
         ensures { result ≡ record { side = self.now; row = row } }
     {
-        let held = if self.turned {
-            None
+        let pairs = self.pairs;
+        let (leaving, entering) = if self.turned {
+            (None, pairs.column(row))
         } else {
-            self.pairs.row(row)
+            (pairs.row(row), None)
         };
         Line {
             side: self,
             row,
-            held,
-        }
-    }
-
-    #[tactic(auto, unfolding(crate::specs::Side::side_weight))]
-    /// What a row and a column weigh, where they fit. One step.
-    pub(crate) fn weight<L: Ledger>(
-        &self,
-        row: u16,
-        column: u16,
-        steps: &mut Steps<L>,
-    ) -> Option<u64>
-        requires row { row < side_slots self.now }
-        requires column { column < side_slots self.now }
-        ensures weight { result ≡ side_weight self.now row column }
-        ensures counted { steps.new ≤ steps.old + 1 }
-    {
-        if self.leaves_out(column) {
-            return None;
-        }
-        if self.turned {
-            self.pairs.weight(column, row, steps)
-        } else {
-            self.pairs.weight(row, column, steps)
+            leaving,
+            entering,
         }
     }
 }

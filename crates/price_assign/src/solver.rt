@@ -31,12 +31,11 @@ impl Model for Solver {
 
     ghost Value = { prices.Plan };
 
-    ghost use Rattle.price_assign.specs.Lists.{AreLists};
+    ghost use Rattle.price_assign.specs.Lists.{AreLists, AreOrders};
 
     ghost view = { λ s. s.plan };
 
-    ghost invariant = { λ s. (vec_len s.next ≡ MOST_SLOTS) × (vec_len s.turned ≡ MOST_SLOTS) × (vec_len s.order.columns ≡ MOST_SLOTS)
-        × (vec_len s.order.places ≡ MOST_SLOTS) × AreLists s.lists };
+    ghost invariant = { λ s. (vec_len s.next ≡ MOST_SLOTS) × (vec_len s.turned ≡ MOST_SLOTS) × AreOrders s.order × AreLists s.lists };
 }
 
 impl Solver {
@@ -89,6 +88,9 @@ impl Solver {
             &mut self.next,
             &mut self.order.columns,
             &mut self.order.places,
+            &mut self.order.groups,
+            &mut self.order.departures,
+            &mut self.order.turns,
             &mut self.lists,
             steps,
         );
@@ -116,6 +118,7 @@ impl Solver {
             &mut self.next,
             &mut self.order.columns,
             &mut self.order.places,
+            &mut self.order.groups,
             &mut self.lists,
             steps,
         );
@@ -144,6 +147,7 @@ impl Solver {
             &mut self.turned,
             &mut self.order.columns,
             &mut self.order.places,
+            &mut self.order.groups,
             &mut self.lists,
             steps,
         );

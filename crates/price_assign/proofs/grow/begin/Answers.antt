@@ -1,7 +1,10 @@
-use Rattle.std.proofs.Common.{◌∙◌, set, replicate, false, ap, subst, arith}
-use Rattle.std.proofs.lemmas.List.{get_or-set_same}
+use Rattle.std.proofs.Common.{◌≡◌, ◌∙◌, ℕ, ◌<◌, ◌≤◌, List, length, set, replicate, false, sym, ap, subst, arith}
+use Rattle.std.proofs.lemmas.List.{get_or-replicate, get_or-set_same}
+use Rattle.price_assign.specs.declared.scan.Seen.{Seen}
+use Rattle.price_assign.specs.Groups.{seen_at, AreNear, AreReached}
 use Rattle.price_assign.specs.Search.{problem, AreLooked}
-use Rattle.price_assign.specs.Side.{LineView, line_weight, side_slots, place_weight}
+use Rattle.price_assign.specs.Side.{SideView, LineView, line_weight, side_slots, place_weight}
+use Rattle.price_assign.proofs.GroupLemmas.{AreNear-none, AreReached-none}
 use Rattle.price_assign.proofs.TreeLemmas.{IsTree-begun}
 use Rattle.price_assign.proofs.grow.begin.Goals as goal
 
@@ -16,3 +19,31 @@ returns-clause-tree g c = λ before given.
     (get_or-set_same c.args.rows.now 0 c.args.a 0 (omega (arith, c.requires.rows))) (get_or-set_same c.args.far.now 0 0 0 (omega (arith, c.requires.far)))
     (subst (λ (line : LineView). AreLooked (line_weight line) n 0 67111744 c.args.enter.now c.fill-2.new.self c.fill.new.self c.args.parent.now c.look_from.new.dist c.look_from.new.parent) c.line-line.ensures
     (rw (c.fill.ensures.len ∙ c.requires.dist) at c.look_from.ensures.looked))
+
+-- nothing is seen of any group yet
+unseen : (r : ℕ) (n : ℕ) (seen : List Seen) → seen ≡ replicate n (record { near = 67111745; cost = 18446744073709551615; from = 65535 }) → r < n
+    → seen_at seen r ≡ record { near = 67111745; cost = 18446744073709551615; from = 65535 }
+unseen r n seen is lt =
+    ap (λ xs. seen_at xs r) is
+    ∙ get_or-replicate {A = Seen} n r (record { near = 67111745; cost = 18446744073709551615; from = 65535 }) (record { near = 0; cost = 0; from = 0 }) lt
+
+pub look_from-requires-clause-near : goal.look_from-requires-clause-near
+look_from-requires-clause-near g c =
+    let side : SideView = c.args.side.now in
+    let n = side_slots side in
+    let are = c.groups-groups.ensures.groups in
+    let near : (r : ℕ) → r < side.count → (seen_at c.fill-3.new.self r).near ≤ 67111745 =
+    λ r lt. omega (arith, ap (λ (s : Seen). s.near) (unseen r (length c.args.seen.now) c.fill-3.new.self (c.fill-3.ensures.after (λ y e. e)) (omega (arith, lt, are.few, c.requires.room)))) in
+    subst (λ (line : LineView). AreNear line.side.count line.side.groups c.fill-2.new.self c.fill.new.self c.fill-3.new.self) (sym c.line-line.ensures)
+    (AreNear-none n side.count side.groups c.fill-2.new.self c.fill.new.self c.fill-3.new.self are.few (c.fill.ensures.after (λ y e. e) ∙ ap (λ m. replicate m 67111745) c.requires.dist) are.within near)
+
+pub look_from-requires-clause-reached : goal.look_from-requires-clause-reached
+look_from-requires-clause-reached g c =
+    let side : SideView = c.args.side.now in
+    let n = side_slots side in
+    let are = c.groups-groups.ensures.groups in
+    let from : (r : ℕ) → r < side.count → 65535 ≤ (seen_at c.fill-3.new.self r).from =
+    λ r lt. omega (arith, ap (λ (s : Seen). s.from) (unseen r (length c.args.seen.now) c.fill-3.new.self (c.fill-3.ensures.after (λ y e. e)) (omega (arith, lt, are.few, c.requires.room)))) in
+    subst (λ (line : LineView). AreReached line.side.count line.side.groups c.args.enter.now c.fill-2.new.self c.fill.new.self c.fill-3.new.self) (sym c.line-line.ensures)
+    (AreReached-none n side.count side.groups c.fill-2.new.self c.fill.new.self c.fill-3.new.self are.few (c.fill.ensures.after (λ y e. e) ∙ ap (λ m. replicate m 67111745) c.requires.dist) are.within c.args.enter.now
+    (omega (arith, c.requires.few)) from)

@@ -2,7 +2,7 @@ use Rattle.std.proofs.Common.{◌≤◌, ◌+◌, refl, arith}
 use Rattle.std.proofs.Math.Nat.{mul-le-mul_left}
 use Rattle.price_assign.specs.Search.{at, problem, Problem, Tree, tree_of, IsNext}
 use Rattle.price_assign.specs.Side.{side_slots, place_weight}
-use Rattle.price_assign.proofs.TreeLemmas.{tree-room, IsBest-more, near-all, fits-more}
+use Rattle.price_assign.proofs.TreeLemmas.{tree-room, IsBest-more}
 use Rattle.price_assign.proofs.grow.grow.Goals as goal
 
 pub loop-column-preserved : goal.loop-column-preserved
@@ -18,9 +18,7 @@ loop-column-preserved g c =
       within = omega (arith, nearest.within, c.requires.dist);
       undone = nearest.undone;
       near = omega (arith, nearest.below, loop.invariant.best.low);
-      least =
-          near-all p s loop.first (at loop.dist column) loop.invariant.tree (omega (arith, nearest.below, loop.invariant.best.low)) loop.invariant.fits
-          (λ j after lt undone. nearest.least j after (omega (arith, lt, c.requires.dist)) undone);
+      least = λ j lt undone. nearest.least j (omega (arith, lt, c.requires.dist)) undone;
       linked = c.in-Some-before.is;
     } in
     record {
@@ -31,9 +29,8 @@ loop-column-preserved g c =
           c.in-Some-before.row (at loop.dist column) loop.best c.sooner-best.result loop.invariant.best
           (omega (arith, room, c.requires.rows)) (omega (arith, room, c.requires.far)) c.visit.ensures.rows c.visit.ensures.far refl refl nearest.below
           c.sooner-best.ensures.one c.sooner-best.ensures.best c.sooner-best.ensures.other;
-      fits = fits-more (place_weight side) loop.rows c.visit.new.rows loop.size c.in-Some-before.row loop.first c.first-row_first.result c.sooner_place-first.result (omega (arith, room, c.requires.rows))
-          c.visit.ensures.rows c.sooner_place-first.ensures.one c.sooner_place-first.ensures.other c.first-row_first.ensures.first loop.invariant.fits;
-      within = omega (arith, c.sooner_place-first.ensures.one, loop.invariant.within);
+      near = c.visit.ensures.near;
+      reached = c.visit.ensures.reached;
       counted = omega (arith, loop.invariant.counted, c.visit.ensures.counted);
     }
 

@@ -1,4 +1,5 @@
-use Rattle.std.proofs.Common.{◌≡◌, ℕ, ◌+◌, ◌*◌, ◌-◌, ◌<◌, ◌≤◌, Some}
+use Rattle.std.proofs.Common.{ℕ, ◌+◌, ◌*◌, ◌-◌, ◌≤◌}
+use Rattle.price_assign.specs.Groups.{AreNear, AreReached}
 use Rattle.price_assign.specs.Search.{at, problem, tree_of, IsTree, IsBest}
 use Rattle.price_assign.specs.Side.{side_slots, place_weight}
 use Rattle.price_assign.proofs.grow.grow.Given as goal
@@ -8,8 +9,8 @@ invariant-loop-column g l = record {
   reach : ℕ;
   tree : IsTree (problem (place_weight l.side) (side_slots l.side) (at l.initial.rows 0) l.before l.leave l.enter) (tree_of l.dist l.parent l.done l.rows l.far l.size reach);
   best : IsBest (problem (place_weight l.side) (side_slots l.side) (at l.initial.rows 0) l.before l.leave l.enter) (tree_of l.dist l.parent l.done l.rows l.far l.size reach) l.best;
-  fits : (t j k : ℕ) → t < l.size → place_weight l.side (at l.rows t) j ≡ Some k → l.first ≤ j;
-  within : l.first ≤ side_slots l.side;
+  near : AreNear l.side.count l.side.groups l.done l.dist l.seen;
+  reached : AreReached l.side.count l.side.groups l.enter l.done l.dist l.seen;
   counted : l.steps + side_slots l.side ≤ l.initial.steps + side_slots l.side * l.size;
 }
 

@@ -7,5 +7,5 @@ abbrev pub invariant-loop-slot : goal.invariant-loop-slot
 invariant-loop-slot l = record {
   slots : (j : ℕ) (d : Column) → j < l.slot → (get_or l.columns j d).slot ≡ j;
   minutes : (j : ℕ) (d : Column) → j < l.slot → (get_or l.columns j d).minute ≡ pairs_minute l.pairs l.turned j;
-  posts : (j : ℕ) (d : Column) → j < l.slot → (get_or l.columns j d).post ≡ pairs_post l.pairs l.turned j;
+  posts : (j : ℕ) (d : Column) → j < l.slot → (get_or l.columns j d).post ≡ pairs_post l.pairs l.turned l.without j;
 }

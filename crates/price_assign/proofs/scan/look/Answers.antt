@@ -1,10 +1,72 @@
-use Rattle.std.proofs.Common.{sym, ◌∙◌, arith}
-use Rattle.price_assign.specs.Side.{line_weight}
-use Rattle.price_assign.proofs.LookLemmas.{AreLooked-set}
+use Rattle.std.proofs.Common.{◌≡◌, ◌+◌, ◌-◌, ap, subst, ◌∙◌, ⊎_elim, arith}
+use Rattle.price_assign.specs.declared.groups.Group.{Group}
+use Rattle.price_assign.specs.Groups.{group_at, AreGroups}
+use Rattle.price_assign.specs.Side.{LineView, side_slots, line_weight}
+use Rattle.price_assign.proofs.LookLemmas.{AreApproached-none, AreLooked-group}
+use Rattle.price_assign.proofs.GroupLemmas.{AreNear-look, AreReached-look}
 use Rattle.price_assign.proofs.scan.look.Goals as goal
 
-pub returns-then-along-dist-clause-looked : goal.returns-then-along-dist-clause-looked
-returns-then-along-dist-clause-looked g c = λ dist0 parent0 l.
-    AreLooked-set (line_weight c.args.line.now) c.args.column c.args.from c.args.start c.in-Some.weight _ c.args.enter.now c.args.done.now dist0 parent0 c.args.dist.now c.args.parent.now
-    (omega (arith, c.requires.column)) (omega (arith, c.requires.column, c.requires.parent)) c.if-done-place.false (sym c.weigh.ensures.weight ∙ c.in-Some.is)
-    (omega (arith, c.requires.covers c.args.column c.in-Some.weight (sym c.weigh.ensures.weight ∙ c.in-Some.is))) c.if-along-dist.true l
+pub approach-near-requires-clause-low : goal.approach-near-requires-clause-low
+approach-near-requires-clause-low g c = λ j from lt.
+    let end : c.group-to.result.to ≡ (group_at c.args.line.now.side.groups c.args.group).to = ap (λ (x : Group). x.to) c.group-to.ensures.group ∙ ap (λ (l : LineView). (group_at l.side.groups c.args.group).to) c.line.view_is in
+    c.requires.low j c.in-Some.fit.weight (c.in-Some.ensures.some.fits j from (omega (arith, lt, c.cut-upto.ensures.within, end)))
+
+pub approach-near-requires-clause-enough : goal.approach-near-requires-clause-enough
+approach-near-requires-clause-enough g c = λ j from lt.
+    let end : c.group-to.result.to ≡ (group_at c.args.line.now.side.groups c.args.group).to = ap (λ (x : Group). x.to) c.group-to.ensures.group ∙ ap (λ (l : LineView). (group_at l.side.groups c.args.group).to) c.line.view_is in
+    omega (arith, c.requires.covers j c.in-Some.fit.weight (c.in-Some.ensures.some.fits j from (omega (arith, lt, c.cut-upto.ensures.within, end))))
+
+pub returns-clause-looked : goal.returns-clause-looked
+returns-clause-looked g c = λ dist0 parent0 l.
+    let line : LineView = c.args.line.now in
+    let group : Group = group_at line.side.groups c.args.group in
+    let end : c.group-to.result.to ≡ group.to = ap (λ (x : Group). x.to) c.group-to.ensures.group ∙ ap (λ (l : LineView). (group_at l.side.groups c.args.group).to) c.line.view_is in
+    let fit = c.in-Some.ensures.some in
+    AreLooked-group (line_weight line) group.from c.in-Some.fit.from c.cut-upto.result group.to c.args.from c.args.start c.in-Some.fit.weight (c.args.start + 67111744 - c.in-Some.fit.weight) c.approach-near.result
+    c.args.enter.now c.args.done.now dist0 parent0 c.args.dist.now c.args.parent.now c.approach-near.new.dist c.approach-near.new.parent fit.after (omega (arith, c.cut-upto.ensures.within, end))
+    (omega (arith, c.requires.covers c.in-Some.fit.from c.in-Some.fit.weight (fit.fits c.in-Some.fit.from (omega arith) fit.within), c.requires.low c.in-Some.fit.from c.in-Some.fit.weight (fit.fits c.in-Some.fit.from (omega arith) fit.within)))
+    fit.early fit.fits
+    (λ j from past before undone.
+    let rest = c.cut-upto.ensures.rest j past (omega (arith, before, end)) in
+    omega (arith, rest.0, c.requires.reached c.args.group j c.requires.group rest.1 (omega (arith, from, fit.after)) before undone))
+    c.approach-near.ensures l
+
+pub returns-clause-near : goal.returns-clause-near
+returns-clause-near g c =
+    let line : LineView = c.args.line.now in
+    let group : Group = group_at line.side.groups c.args.group in
+    let end : c.group-to.result.to ≡ group.to = ap (λ (x : Group). x.to) c.group-to.ensures.group ∙ ap (λ (l : LineView). (group_at l.side.groups c.args.group).to) c.line.view_is in
+    let are = subst (λ (l : LineView). AreGroups (side_slots l.side) l.side.columns l.side.count l.side.groups) c.line.view_is c.group-to.ensures.groups in
+    AreNear-look (side_slots line.side) line.side.columns line.side.count line.side.groups are c.args.group c.in-Some.fit.from c.cut-upto.result c.args.from (c.args.start + 67111744 - c.in-Some.fit.weight) c.approach-near.result
+    c.args.enter.now c.args.done.now c.args.dist.now c.args.parent.now c.approach-near.new.dist c.approach-near.new.parent c.approach-near.ensures c.args.seen.now c.renewed.result c.requires.group
+    (omega (arith, c.requires.room, c.requires.slots, c.requires.group, are.few)) c.in-Some.ensures.some.after (omega (arith, c.cut-upto.ensures.within, end)) c.renewed.ensures.near.0 c.renewed.ensures.near.1 c.requires.near
+
+pub returns-then-fit-upto-clause-looked : goal.returns-then-fit-upto-clause-looked
+returns-then-fit-upto-clause-looked g c = λ dist0 parent0 l.
+    let line : LineView = c.args.line.now in
+    let group : Group = group_at line.side.groups c.args.group in
+    let end : c.group-to.result.to ≡ group.to = ap (λ (x : Group). x.to) c.group-to.ensures.group ∙ ap (λ (l : LineView). (group_at l.side.groups c.args.group).to) c.line.view_is in
+    let fit = c.in-Some.ensures.some in
+    AreLooked-group (line_weight line) group.from c.in-Some.fit.from c.in-Some.fit.from group.to c.args.from c.args.start c.in-Some.fit.weight (c.args.start + 67111744 - c.in-Some.fit.weight) 0
+    c.args.enter.now c.args.done.now dist0 parent0 c.args.dist.now c.args.parent.now c.args.dist.now c.args.parent.now fit.after (omega (arith, fit.within))
+    (omega (arith, c.requires.covers c.in-Some.fit.from c.in-Some.fit.weight (fit.fits c.in-Some.fit.from (omega arith) fit.within), c.requires.low c.in-Some.fit.from c.in-Some.fit.weight (fit.fits c.in-Some.fit.from (omega arith) fit.within)))
+    fit.early fit.fits
+    (λ j from past before undone.
+    let rest = c.cut-upto.ensures.rest j (omega (arith, from, c.if-fit-upto.true)) (omega (arith, before, end)) in
+    omega (arith, rest.0, c.requires.reached c.args.group j c.requires.group rest.1 (omega (arith, from, fit.after)) before undone))
+    (AreApproached-none c.in-Some.fit.from c.args.from (c.args.start + 67111744 - c.in-Some.fit.weight) 0 c.args.enter.now c.args.done.now c.args.dist.now c.args.parent.now) l
+
+pub returns-clause-reached : goal.returns-clause-reached
+returns-clause-reached g c =
+    let line : LineView = c.args.line.now in
+    let group : Group = group_at line.side.groups c.args.group in
+    let end : c.group-to.result.to ≡ group.to = ap (λ (x : Group). x.to) c.group-to.ensures.group ∙ ap (λ (l : LineView). (group_at l.side.groups c.args.group).to) c.line.view_is in
+    let are = subst (λ (l : LineView). AreGroups (side_slots l.side) l.side.columns l.side.count l.side.groups) c.line.view_is c.group-to.ensures.groups in
+    AreReached-look (side_slots line.side) line.side.columns line.side.count line.side.groups are c.args.group c.in-Some.fit.from c.cut-upto.result c.args.from (c.args.start + 67111744 - c.in-Some.fit.weight) c.approach-near.result
+    c.args.enter.now c.args.done.now c.args.dist.now c.args.parent.now c.approach-near.new.dist c.approach-near.new.parent c.approach-near.ensures c.args.seen.now c.renewed.result c.requires.group
+    (omega (arith, c.requires.room, c.requires.slots, c.requires.group, are.few)) c.in-Some.ensures.some.after (omega (arith, c.cut-upto.ensures.within, end))
+    (λ j past from before undone. ⊎_elim
+    (λ same. omega (arith, same.0, c.approach-near.ensures.nearer j, c.requires.reached c.args.group j c.requires.group (omega (arith, past, same.1)) from before undone))
+    (λ cheaper. omega (arith, cheaper.1, c.approach-near.ensures.covered j (omega (arith, past, cheaper.2)) (omega (arith, before, end, c.cut-upto.ensures.cheaper cheaper.0)) undone))
+    c.renewed.ensures.reached)
+    c.requires.reached

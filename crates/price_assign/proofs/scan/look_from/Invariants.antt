@@ -1,11 +1,13 @@
 use Rattle.std.proofs.Common.{◌+◌, ◌≤◌}
+use Rattle.price_assign.specs.Groups.{begins, AreNear, AreReached}
 use Rattle.price_assign.specs.Search.{AreLooked}
-use Rattle.price_assign.specs.Side.{line_weight, AreKnown}
+use Rattle.price_assign.specs.Side.{side_slots, line_weight}
 use Rattle.price_assign.proofs.scan.look_from.Given as goal
 
-abbrev pub invariant-loop-column : goal.invariant-loop-column
-invariant-loop-column g l = record {
-  looked : AreLooked (line_weight l.line) l.column l.from l.start l.enter l.done l.initial.dist l.initial.parent l.dist l.parent;
-  known : AreKnown l.line l.column l.known;
-  counted : l.steps ≤ l.initial.steps + l.column;
+abbrev pub invariant-loop-group : goal.invariant-loop-group
+invariant-loop-group g l = record {
+  looked : AreLooked (line_weight l.line) (begins (side_slots l.line.side) l.line.side.count l.line.side.groups l.group) l.from l.start l.enter l.done l.initial.dist l.initial.parent l.dist l.parent;
+  near : AreNear l.line.side.count l.line.side.groups l.done l.dist l.seen;
+  reached : AreReached l.line.side.count l.line.side.groups l.enter l.done l.dist l.seen;
+  counted : l.steps ≤ l.initial.steps + l.group;
 }

@@ -1,11 +1,16 @@
-use Rattle.std.proofs.Common.{◌≡◌, ℕ, ◌<◌, ◌≤◌, false, length}
+use Rattle.std.proofs.Common.{◌≡◌, ℕ, ◌<◌, ◌≤◌, false, List, length}
 use Rattle.std.specs.Prelude.{IfSome, IfNone}
+use Rattle.price_assign.specs.Groups.{begins, AreNear, AreReached}
 use Rattle.price_assign.specs.Search.{at, is_done}
+use Rattle.price_assign.specs.Side.{side_slots}
 use Rattle.price_assign.proofs.scan.nearest.Given as goal
 
-abbrev pub invariant-loop-column : goal.invariant-loop-column
-invariant-loop-column l = record {
-  least : (j : ℕ) → l.first ≤ j → j < l.column → is_done l.done j ≡ false → l.least ≤ at l.dist j;
-  some : IfSome l.best (λ j. (j < length l.dist) × (is_done l.done j ≡ false) × (at l.dist j ≡ l.least) × (l.least < l.bound));
-  none : IfNone l.best (l.least ≡ l.bound);
+abbrev pub invariant-loop-group : goal.invariant-loop-group
+invariant-loop-group l = record {
+  near : AreNear l.side.count l.side.groups l.done l.dist l.seen;
+  reached : (enter : List ℕ) → AreReached l.side.count l.side.groups enter l.done l.dist l.initial.seen → AreReached l.side.count l.side.groups enter l.done l.dist l.seen;
+  low : l.best.distance ≤ l.bound;
+  least : (j : ℕ) → j < begins (side_slots l.side) l.side.count l.side.groups l.group → is_done l.done j ≡ false → l.best.distance ≤ at l.dist j;
+  some : IfSome l.best.column (λ j. (j < length l.dist) × (is_done l.done j ≡ false) × (at l.dist j ≡ l.best.distance) × (l.best.distance < l.bound));
+  none : IfNone l.best.column (l.best.distance ≡ l.bound);
 }

@@ -1,7 +1,8 @@
-use Rattle.std.proofs.Common.{◌≡◌, ◌+◌, ◌-◌, ◌*◌, ◌≤◌, length, None, vec_len, vec_capacity}
+use Rattle.std.proofs.Common.{◌≡◌, ℕ, ◌+◌, ◌-◌, ◌*◌, ◌≤◌, length, None, vec_len, vec_capacity}
 use Rattle.price_assign.specs.Assignment.{IsMatched, Covers}
 use Rattle.price_assign.specs.Lists.{AreLists}
-use Rattle.price_assign.specs.Side.{side_slots, side_weight, stands_before}
+use Rattle.price_assign.specs.Order.{slot_at, stands_before, IsRenaming}
+use Rattle.price_assign.specs.Side.{side_slots, side_weight}
 use Rattle.price_assign.proofs.search.link_all.Given as goal
 
 abbrev pub invariant-loop-added : goal.invariant-loop-added
@@ -13,7 +14,9 @@ invariant-loop-added g l = record {
   enter_room : vec_capacity l.enter ≡ vec_capacity l.initial.enter;
   next : vec_len l.next ≡ vec_len l.initial.next;
   lists : AreLists l.lists;
-  matched : IsMatched (side_weight l.side) (stands_before l.side (side_slots l.side - l.added)) None None l.links l.leave.items l.enter.items;
-  covers : Covers (side_weight l.side) (stands_before l.side (side_slots l.side - l.added)) None l.leave.items l.enter.items;
+  turn : ℕ → ℕ;
+  renaming : IsRenaming (side_slots l.side) (slot_at (side_slots l.side) l.departures) turn;
+  matched : IsMatched (side_weight l.side) (stands_before turn (side_slots l.side - l.added)) None None l.links l.leave.items l.enter.items;
+  covers : Covers (side_weight l.side) (stands_before turn (side_slots l.side - l.added)) None l.leave.items l.enter.items;
   counted : l.steps ≤ l.initial.steps + l.added * (side_slots l.side * side_slots l.side + side_slots l.side);
 }

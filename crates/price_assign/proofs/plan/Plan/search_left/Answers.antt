@@ -14,7 +14,7 @@ search_links-requires-clause-begins g c =
     let was : Plan = record { next = c.self.inside.links; leave = c.self.inside.leave.items; enter = c.self.inside.enter.items } in (
       λ _. false,
       c.args.b,
-      MayBegin-leaving pairs c.arrange.new.columns c.arrange.new.places c.leaving-side.result was c.args.a c.args.b c.leaving-side.ensures
+      MayBegin-leaving pairs c.arrange.new.columns c.arrange.new.places c.find_groups-count.new.groups c.find_groups-count.result c.of-side.result was c.args.a c.args.b c.of-side.ensures
           (subst (IsDay (pairs_network pairs)) c.slots-slots.ensures.count c.slots-slots.ensures.day)
           (subst (λ (p : Plan). IsLoose (pairs_network pairs) p (Some c.args.a) c.args.b) (sym c.self.view_is) c.requires.loose),
     )
@@ -26,8 +26,8 @@ returns-clause-loose g c =
     let was : Plan = record { next = c.self.inside.links; leave = c.self.inside.leave.items; enter = c.self.inside.enter.items } in
     let new : Plan = record { next = c.search_links.new.links; leave = c.search_links.new.leave.items; enter = c.search_links.new.enter.items } in
     let loose : IsLoose (pairs_network pairs) was (Some c.args.a) c.args.b = subst (λ (p : Plan). IsLoose (pairs_network pairs) p (Some c.args.a) c.args.b) (sym c.self.view_is) c.requires.loose in
-    let begins = MayBegin-leaving pairs c.arrange.new.columns c.arrange.new.places c.leaving-side.result was c.args.a c.args.b c.leaving-side.ensures (subst (IsDay (pairs_network pairs)) c.slots-slots.ensures.count c.slots-slots.ensures.day) loose in
-    IsLoose-leaving pairs c.arrange.new.columns c.arrange.new.places departs c.leaving-side.result was new c.args.a c.args.b c.leaving-side.ensures c.slots-slots.ensures.departures loose
+    let begins = MayBegin-leaving pairs c.arrange.new.columns c.arrange.new.places c.find_groups-count.new.groups c.find_groups-count.result c.of-side.result was c.args.a c.args.b c.of-side.ensures (subst (IsDay (pairs_network pairs)) c.slots-slots.ensures.count c.slots-slots.ensures.day) loose in
+    IsLoose-leaving pairs c.arrange.new.columns c.arrange.new.places c.find_groups-count.new.groups c.find_groups-count.result departs c.of-side.result was new c.args.a c.args.b c.of-side.ensures c.slots-slots.ensures.departures loose
     (omega (arith, c.search_links.ensures.leave.0, c.search_links.ensures.links, c.self.invariant.1, c.search_links.new.leave.ok.0))
     (omega (arith, c.search_links.ensures.enter.0, c.search_links.ensures.links, c.self.invariant.2, c.search_links.new.enter.ok.0))
     (c.search_links.ensures.matched (λ _. false) c.args.b begins) (c.search_links.ensures.covers (λ _. false) c.args.b begins)

@@ -24,7 +24,7 @@ search_befores-requires-clause-begins g c =
     let pairs = c.args.pairs.now in
     let was : Plan = record { next = c.self.inside.links; leave = c.self.inside.leave.items; enter = c.self.inside.enter.items } in (
       c.args.a,
-      MayBegin-entering pairs c.arrange.new.columns c.arrange.new.places c.entering-side.result was c.args.a c.args.b c.entering-side.ensures
+      MayBegin-entering pairs c.arrange.new.columns c.arrange.new.places c.find_groups-count.new.groups c.find_groups-count.result c.of-side.result was c.args.a c.args.b c.of-side.ensures
           (subst (IsDay (pairs_network pairs)) c.slots-slots.ensures.count c.slots-slots.ensures.day)
           (subst (λ (p : Plan). IsLoose (pairs_network pairs) p c.args.a (Some c.args.b)) (sym c.self.view_is) c.requires.loose),
     )
@@ -36,8 +36,8 @@ returns-clause-loose g c =
     let was : Plan = record { next = c.self.inside.links; leave = c.self.inside.leave.items; enter = c.self.inside.enter.items } in
     let new : Plan = record { next = c.search_befores.new.links; leave = c.search_befores.new.leave.items; enter = c.search_befores.new.enter.items } in
     let loose : IsLoose (pairs_network pairs) was c.args.a (Some c.args.b) = subst (λ (p : Plan). IsLoose (pairs_network pairs) p c.args.a (Some c.args.b)) (sym c.self.view_is) c.requires.loose in
-    let begins = MayBegin-entering pairs c.arrange.new.columns c.arrange.new.places c.entering-side.result was c.args.a c.args.b c.entering-side.ensures (subst (IsDay (pairs_network pairs)) c.slots-slots.ensures.count c.slots-slots.ensures.day) loose in
-    IsLoose-entering pairs c.arrange.new.columns c.arrange.new.places departs c.entering-side.result was new c.args.a c.args.b c.entering-side.ensures c.slots-slots.ensures.departures loose
+    let begins = MayBegin-entering pairs c.arrange.new.columns c.arrange.new.places c.find_groups-count.new.groups c.find_groups-count.result c.of-side.result was c.args.a c.args.b c.of-side.ensures (subst (IsDay (pairs_network pairs)) c.slots-slots.ensures.count c.slots-slots.ensures.day) loose in
+    IsLoose-entering pairs c.arrange.new.columns c.arrange.new.places c.find_groups-count.new.groups c.find_groups-count.result departs c.of-side.result was new c.args.a c.args.b c.of-side.ensures c.slots-slots.ensures.departures loose
     (omega (arith, c.search_befores.ensures.leave.0, c.search_befores.ensures.links, c.self.invariant.1, c.search_befores.new.leave.ok.0))
     (omega (arith, c.search_befores.ensures.enter.0, c.search_befores.ensures.links, c.self.invariant.2, c.search_befores.new.enter.ok.0))
     (c.search_befores.ensures.found c.args.a begins)
@@ -51,7 +51,7 @@ returns-clause-path g c =
     let loose : IsLoose (pairs_network pairs) was c.args.a (Some c.args.b) = subst (λ (p : Plan). IsLoose (pairs_network pairs) p c.args.a (Some c.args.b)) (sym c.self.view_is) c.requires.loose in
     let slots : length was.next ≡ length pairs.moves = subst (λ (p : Plan). length p.next ≡ length pairs.moves) (sym c.self.view_is) c.requires.slots in
     let day = subst (IsDay (pairs_network pairs)) c.slots-slots.ensures.count c.slots-slots.ensures.day in
-    let begins = MayBegin-entering pairs c.arrange.new.columns c.arrange.new.places c.entering-side.result was c.args.a c.args.b c.entering-side.ensures day loose in
+    let begins = MayBegin-entering pairs c.arrange.new.columns c.arrange.new.places c.find_groups-count.new.groups c.find_groups-count.result c.of-side.result was c.args.a c.args.b c.of-side.ensures day loose in
     subst (λ (p : Plan). IsRightPath p.next c.search_befores.new.links c.args.b) c.self.view_is
-    (IsRightPath-loose (pairs_network pairs) (length pairs.moves) departs was new c.args.a c.args.b (side_weight c.entering-side.result) day c.slots-slots.ensures.departures
+    (IsRightPath-loose (pairs_network pairs) (length pairs.moves) departs was new c.args.a c.args.b (side_weight c.of-side.result) day c.slots-slots.ensures.departures
     slots c.search_befores.ensures.links loose (returns-clause-loose g c) (c.search_befores.ensures.found c.args.a begins))

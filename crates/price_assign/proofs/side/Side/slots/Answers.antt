@@ -11,11 +11,11 @@ use Rattle.price_assign.proofs.side.Side.slots.Goals as goal
 
 pub returns-clause-sound : goal.returns-clause-sound
 returns-clause-sound c =
-    let side : SideView = record { pairs = c.self.inside.pairs.now; turned = c.self.inside.turned; without = c.self.inside.without; columns = c.self.inside.columns.now; places = c.self.inside.places.now } in
+    let side : SideView = record { pairs = c.self.inside.pairs.now; turned = c.self.inside.turned; without = c.self.inside.without; columns = c.self.inside.columns.now; places = c.self.inside.places.now; groups = c.self.inside.groups.now; count = c.self.inside.count } in
     let departs : ℕ → ℕ = λ s. minute_left (move_at side.pairs.moves s) in
     subst (λ (s : SideView). AreWeights (side_weight s) c.slots.result) c.self.view_is
     (AreWeights-side side c.slots.result (AreWeights-network (pairs_network side.pairs) c.slots.result departs c.slots.ensures.day c.slots.ensures.departures))
 
 pub returns-clause-renaming : goal.returns-clause-renaming
 returns-clause-renaming c =
-    subst (λ (s : SideView). IsRenaming (side_slots s) (side_slot s) (side_place s)) c.self.view_is c.self.invariant.renaming
+    subst (λ (s : SideView). IsRenaming (side_slots s) (side_slot s) (side_place s)) c.self.view_is c.self.invariant.0.renaming

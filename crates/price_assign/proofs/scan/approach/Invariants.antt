@@ -1,0 +1,9 @@
+use Rattle.std.proofs.Common.{◌≤◌}
+use Rattle.price_assign.specs.Groups.{AreApproached}
+use Rattle.price_assign.proofs.scan.approach.Given as goal
+
+abbrev pub invariant-loop-column : goal.invariant-loop-column
+invariant-loop-column l = record {
+  after : l.first ≤ l.column;
+  approached : AreApproached l.first l.column l.from l.cost l.enter l.done l.initial.dist l.initial.parent l.dist l.parent l.near;
+}
