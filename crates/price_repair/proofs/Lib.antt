@@ -1,0 +1,4 @@
+pub mod AddLemmas
+pub mod BeforeLemmas
+pub mod CutLemmas
+pub mod WithoutLemmas

@@ -1,0 +1,88 @@
+-- Pairs without the trip of a slot, and what is known of their network.
+use Rattle.std.proofs.Common.{◌≡◌, ◌≢◌, ℕ, ◌+◌, ◌-◌, ◌<◌, ◌≤◌, true, false, List, length, get_or, set, Option, None, Some, refl, sym, ap, subst, ◌∙◌, ⊎_elim, inl, inr, ◌⊎◌, arith}
+use Rattle.std.specs.Option.{is_some, option_map}
+use Rattle.std.proofs.lemmas.Bool.{both_ways, cases_eq, cases_lt}
+use Rattle.std.proofs.lemmas.List.{get_or-set_same, get_or-set_other, get_or_past, length-set}
+use Rattle.trip_model.specs.declared.trip.Move.{Move}
+use Rattle.trip_model.specs.Links.{AreLinks}
+use Rattle.trip_model.specs.Network.{Network, Fits, AreDepartures}
+use Rattle.trip_model.specs.Order.{minute_left}
+use Rattle.trip_model.specs.Plain.{move_at, AreMoves}
+use Rattle.trip_model.proofs.Counting.{runs-within}
+use Rattle.deadhead_matrix.specs.Fitting.{deadhead_network, empty_between, out_before, home_after}
+use Rattle.deadhead_matrix.specs.Matrix.{MatrixView, walk}
+use Rattle.deadhead_matrix.specs.Paths.{AreNextTrips}
+use Rattle.deadhead_matrix.specs.Prices.{weight}
+use Rattle.pair_graph.specs.Pairs.{PairsView, pairs_network}
+use Rattle.price_repair.specs.Without.{pairs_without}
+
+-- a network without the trip of s: that does not run, and all else is as in the whole
+pub record LacksTrip (whole rest : Network) (s : ℕ) : Type 0 where
+  pub dead : rest.live s ≡ false
+  pub live : (i : ℕ) → i ≢ s → rest.live i ≡ whole.live i
+  pub empty : (i j : ℕ) → i ≢ s → j ≢ s → rest.empty i j ≡ whole.empty i j
+  pub weights : (i j : ℕ) → i ≢ s → j ≢ s → weight rest i j ≡ weight whole i j
+
+-- what is written over a slot of a list, where that is what stands past its end, is there
+pub get_or-set_default : {X : Type 0} → (xs : List X) (s : ℕ) (x : X) → get_or (set xs s x) s x ≡ x
+get_or-set_default xs s x = ⊎_elim
+    (λ (h : s < length xs). get_or-set_same xs s x x h)
+    (λ (h : length xs ≤ s). get_or_past (set xs s x) s x (omega (arith, h, length-set xs s x)))
+    (cases_lt s (length xs))
+
+-- the minutes between two moves
+between : MatrixView → Option Move → Option Move → Option ℕ
+between matrix a b = empty_between (walk matrix) a b
+
+-- and the weight of the one and the other
+weighed : MatrixView → Option Move → Option Move → Option ℕ
+weighed matrix a b = option_map (λ minutes. 67108864 + home_after matrix.pulls a + out_before matrix.pulls b - minutes) (empty_between (walk matrix) a b)
+
+pub LacksTrip-without : (pairs : PairsView) (s : ℕ) → LacksTrip (pairs_network pairs) (pairs_network (pairs_without pairs s)) s
+unfolding between weighed
+LacksTrip-without pairs s =
+    let rest = set pairs.moves s None in
+    let other : (i : ℕ) → i ≢ s → move_at rest i ≡ move_at pairs.moves i = λ i ne. get_or-set_other pairs.moves s i None None ne in
+    record {
+      dead = ap is_some (get_or-set_default pairs.moves s None);
+      live = λ i ne. ap is_some (other i ne);
+      empty = λ i j p q. ap (λ a. between pairs.matrix a (move_at rest j)) (other i p) ∙ ap (between pairs.matrix (move_at pairs.moves i)) (other j q);
+      weights = λ i j p q. ap (λ a. weighed pairs.matrix a (move_at rest j)) (other i p) ∙ ap (weighed pairs.matrix (move_at pairs.moves i)) (other j q);
+    }
+
+-- pairs that fit without the trip are not of its slot
+pub fits-other : (whole rest : Network) (departs : ℕ → ℕ) (s i j : ℕ) → LacksTrip whole rest s → AreDepartures rest departs → Fits rest i j → (i ≢ s) × (j ≢ s)
+fits-other whole rest departs s i j lacks clock fits =
+    let runs = clock.runs i j fits in (
+      λ same. both_ways (rest.live s) lacks.dead (sym (ap rest.live same) ∙ runs.0),
+      λ same. both_ways (rest.live s) lacks.dead (sym (ap rest.live same) ∙ runs.1),
+    )
+
+-- links of slots of the list are next trips
+pub AreNextTrips-links : (network : Network) (departs : ℕ → ℕ) (links : List (Option ℕ)) → AreDepartures network departs → ((s : ℕ) → network.live s ≡ true → s < length links) → AreLinks network links
+    → AreNextTrips links
+AreNextTrips-links network departs links clock within are = record {
+  within = λ i j e. within j (clock.runs i j (are.fits i j e)).1;
+  once = are.once;
+}
+
+-- the network of moves as a function of the move of each slot
+network_by : MatrixView → (ℕ → Option Move) → Network
+network_by matrix move = record {
+  live = λ s. is_some (move s);
+  empty = λ i j. empty_between (walk matrix) (move i) (move j);
+  out = λ s. out_before matrix.pulls (move s);
+  home = λ s. home_after matrix.pulls (move s);
+}
+
+-- pairs that agree but in one slot, in which the others have no trip, make one network without it
+pub network-without : (pairs rest : PairsView) (s : ℕ) → rest.matrix ≡ pairs.matrix → move_at rest.moves s ≡ None → ((i : ℕ) → i ≢ s → move_at rest.moves i ≡ move_at pairs.moves i)
+    → pairs_network (pairs_without pairs s) ≡ pairs_network rest
+unfolding network_by
+network-without pairs rest s matrix none others =
+    let moves : move_at (set pairs.moves s None) ≡ move_at rest.moves = λ j i. each i (cases_eq i s) j in
+    ap (network_by pairs.matrix) moves ∙ ap (λ m. network_by m (move_at rest.moves)) (sym matrix)
+  where
+    each : (i : ℕ) → (i ≡ s) ⊎ (i ≢ s) → move_at (set pairs.moves s None) i ≡ move_at rest.moves i
+    each i (inl same) = ap (move_at (set pairs.moves s None)) same ∙ get_or-set_default pairs.moves s None ∙ sym none ∙ sym (ap (move_at rest.moves) same)
+    each i (inr other) = get_or-set_other pairs.moves s i None None other ∙ sym (others i other)

@@ -1,0 +1,16 @@
+-- Pairs of trips with a trip more or less, for which a plan is certified before it is repaired.
+use Rattle.std.specs.Prelude.{◌≡◌, ℕ, length, Some}
+use Rattle.deadhead_matrix.specs.Prices.{Plan, IsCertified}
+use Rattle.pair_graph.specs.Pairs.{PairsView, moves_without, pairs_network}
+use Rattle.trip_model.specs.Plain.{AreMoves}
+
+-- the same pairs but that the trip of a slot does not run
+abbrev pub pairs_without : PairsView → ℕ → PairsView
+pairs_without pairs s = record { moves = moves_without pairs.moves (Some s); matrix = pairs.matrix }
+
+-- a plan that is certified for pairs of valid moves, which are the given pairs but that the trip of a slot may run
+pub record IsCertifiedWith (pairs : PairsView) (s : ℕ) (plan : Plan) : Type 0 where
+  pub whole : PairsView
+  pub valid : AreMoves (length whole.matrix.walks) whole.moves
+  pub others : pairs_without whole s ≡ pairs
+  pub certified : IsCertified (pairs_network whole) plan
