@@ -1,23 +1,22 @@
 -- A trip is added to a certified plan: that is loose for the pairs with it, from its slot and to its slot.
-use Rattle.std.proofs.Common.{◌≡◌, ◌≢◌, ℕ, ◌+◌, ◌-◌, ◌<◌, ◌≤◌, ◌==◌, Bool, true, false, cond, List, [], ◌∷◌, ◌++◌, length, get_or, take, replicate, Option, None, Some, refl, sym, ap, subst, ◌∙◌, ⊎_elim, arith}
-use Rattle.std.specs.Prelude.{IsSome, IfSome, unwrap_or}
+use Rattle.std.proofs.Common.{◌≡◌, ◌≢◌, ℕ, ◌-◌, ◌<◌, ◌≤◌, ◌==◌, Bool, true, false, cond, List, [], ◌∷◌, ◌++◌, length, get_or, take, replicate, Option, None, Some, refl, sym, ap, subst, ◌∙◌, ⊎_elim, arith}
+use Rattle.std.specs.Prelude.{IsSome, unwrap_or}
 use Rattle.std.proofs.lemmas.Bool.{both_ways, cases_lt, eqb-true}
 use Rattle.std.proofs.lemmas.List.{append-nil, get_or_append_left, get_or-append_right, get_or-replicate, get_or_past, length-append, length-replicate, take_all}
 use Rattle.std.proofs.lemmas.Option.{none-some}
 use Rattle.trip_model.specs.Links.{next_of, before_of}
-use Rattle.trip_model.specs.Network.{Network, Fits, AreDepartures}
+use Rattle.trip_model.specs.Network.{Network, AreDepartures}
 use Rattle.trip_model.specs.Order.{minute_left}
 use Rattle.trip_model.specs.Plain.{move_at, AreMoves}
 use Rattle.trip_model.proofs.BeforeLemmas.{next-before}
 use Rattle.trip_model.proofs.Counting.{runs-within}
 use Rattle.deadhead_matrix.specs.Paths.{IsLeftPath, IsRightPath, IsAlone, with_slot, IsAdded}
-use Rattle.deadhead_matrix.specs.Prices.{weight, Plan, price, weight_to, IsCertified, IsLoose}
+use Rattle.deadhead_matrix.specs.Prices.{Plan, price, weight_to, IsCertified, IsLoose}
 use Rattle.deadhead_matrix.proofs.Days.{AreDepartures-deadhead}
 use Rattle.deadhead_matrix.proofs.Looseness.{IsLoose-certified}
 use Rattle.pair_graph.specs.Pairs.{PairsView, pairs_network}
 use Rattle.pair_graph.proofs.PairsLemmas.{AreMoves-without}
 use Rattle.price_assign.specs.Plans.{resized, with_slots}
-use Rattle.price_assign.proofs.LooseLemmas.{weight-fits}
 use Rattle.price_repair.specs.Without.{pairs_without}
 use Rattle.price_repair.proofs.WithoutLemmas.{LacksTrip, LacksTrip-without, fits-other}
 
@@ -139,9 +138,9 @@ IsLoose-added pairs departs s old new clock valid live slots proved is =
     let after : ℕ → ℕ = λ t. minute_left (move_at (pairs_without pairs s).moves t) in
     let clock' : AreDepartures rest after = rest-clock pairs s valid live in
     let within : (t : ℕ) → rest.live t ≡ true → t < length old.next = λ t runs.
-        (let other : t ≢ s = λ here. both_ways (rest.live s) lacks.dead (sym (ap rest.live here) ∙ runs) in
-        let inside = runs-within pairs.moves t (sym (lacks.live t other) ∙ runs) in
-        slots-before old.next s t other (omega (arith, inside, slots))) in
+    (let other : t ≢ s = λ here. both_ways (rest.live s) lacks.dead (sym (ap rest.live here) ∙ runs) in
+    let inside = runs-within pairs.moves t (sym (lacks.live t other) ∙ runs) in
+    slots-before old.next s t other (omega (arith, inside, slots))) in
     let extended = IsExtended-slots old (length pairs.moves) (omega (arith, slots, length-with_slot-le old.next s)) proved.leaves proved.enters in
     subst (λ (p : Plan). IsLoose whole p (Some s) (Some s)) (sym is)
     (IsLoose-more whole rest departs after old (with_slots old (length pairs.moves)) s (length pairs.moves) clock clock' lacks live (IsLoose-certified rest after old clock' within proved) extended)

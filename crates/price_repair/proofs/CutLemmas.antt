@@ -1,17 +1,17 @@
 -- A trip is cut out of a certified plan: it is loose for the pairs without it, from the trip before it and to its next one.
-use Rattle.std.proofs.Common.{◌≡◌, ◌≢◌, ℕ, ◌+◌, ◌<◌, ◌≤◌, true, false, List, length, set, Option, None, Some, refl, sym, ap, subst, ◌∙◌, ⊎_elim, inl, inr, ◌⊎◌, arith}
+use Rattle.std.proofs.Common.{◌≡◌, ◌≢◌, ℕ, ◌<◌, true, false, List, length, set, Option, None, Some, refl, sym, ap, subst, ◌∙◌, ⊎_elim, inl, inr, ◌⊎◌, arith}
 use Rattle.std.specs.Prelude.{IsSome, IfSome, unwrap_or}
 use Rattle.std.proofs.lemmas.Bool.{cases_eq}
-use Rattle.std.proofs.lemmas.List.{get_or-set_same, get_or-set_other, length-set}
+use Rattle.std.proofs.lemmas.List.{get_or-set_other, length-set}
 use Rattle.std.proofs.lemmas.Option.{none-some, same_Some}
 use Rattle.trip_model.specs.Links.{next_of, before_of, AreApart}
-use Rattle.trip_model.specs.Network.{Network, Fits, AreDepartures}
+use Rattle.trip_model.specs.Network.{Network, AreDepartures}
 use Rattle.trip_model.specs.Order.{minute_left}
 use Rattle.trip_model.specs.Plain.{move_at}
 use Rattle.trip_model.proofs.BeforeLemmas.{next-before, before-next}
 use Rattle.trip_model.proofs.Counting.{runs-within}
 use Rattle.deadhead_matrix.specs.Paths.{without_link, cut_at, AreAlike, IsLeftFrom, IsRightFrom, IsTaken}
-use Rattle.deadhead_matrix.specs.Prices.{weight, Plan, price, weight_to, IsCertified, IsLoose}
+use Rattle.deadhead_matrix.specs.Prices.{Plan, price, weight_to, IsCertified, IsLoose}
 use Rattle.deadhead_matrix.proofs.Days.{AreDepartures-deadhead}
 use Rattle.deadhead_matrix.proofs.Looseness.{IsLoose-certified}
 use Rattle.pair_graph.specs.Pairs.{PairsView, pairs_network}
@@ -84,8 +84,12 @@ IsLoose-cut whole rest departs after plan s clock clock' lacks loose = record {
   after = after_at (next_of plan.next s) refl;
   covers = λ i j k _ _ e.
       (let other = fits-other whole rest after s i j lacks clock' (weight-fits rest i j k e) in
-      omega (arith, get_or-set_other plan.leave s i 0 0 other.0, get_or-set_other plan.enter s j 0 0 other.1,
-        loose.covers i j k (none-some i) (none-some j) (sym (lacks.weights i j other.0 other.1) ∙ e)));
+      omega (
+        arith,
+        get_or-set_other plan.leave s i 0 0 other.0,
+        get_or-set_other plan.enter s j 0 0 other.1,
+        loose.covers i j k (none-some i) (none-some j) (sym (lacks.weights i j other.0 other.1) ∙ e),
+      ));
   tight = λ i j e.
       (let left = cut-left plan.next s i j once e in
       let weighs : weight_to rest i (Some j) ≡ weight_to whole i (Some j) = ap (λ w. unwrap_or w 0) (lacks.weights i j left.from left.to) in
@@ -158,7 +162,7 @@ IsLoose-taken pairs after s plan cut a b clock slots w is before next =
     let loose = IsLoose-certified network departs plan whole (within-whole pairs s plan w slots) w.certified in
     let rest = subst (λ p. AreDepartures (pairs_network p) after) (sym w.others) clock in
     let done = subst (λ p. IsLoose (pairs_network p) (plan_without plan s) (before_of plan.next s) (next_of plan.next s)) w.others
-        (IsLoose-cut network (pairs_network (pairs_without w.whole s)) departs after plan s whole rest (LacksTrip-without w.whole s) loose) in
+    (IsLoose-cut network (pairs_network (pairs_without w.whole s)) departs after plan s whole rest (LacksTrip-without w.whole s) loose) in
     subst (λ p. IsLoose (pairs_network pairs) p a b) (sym is)
     (subst (λ i. IsLoose (pairs_network pairs) (plan_without plan s) i b) (sym before) (subst (IsLoose (pairs_network pairs) (plan_without plan s) (before_of plan.next s)) (sym next) done))
 

@@ -1,4 +1,5 @@
 pub mod AddLemmas
 pub mod BeforeLemmas
 pub mod CutLemmas
+pub mod EditLemmas
 pub mod WithoutLemmas

@@ -1,18 +1,18 @@
 -- Pairs without the trip of a slot, and what is known of their network.
-use Rattle.std.proofs.Common.{◌≡◌, ◌≢◌, ℕ, ◌+◌, ◌-◌, ◌<◌, ◌≤◌, true, false, List, length, get_or, set, Option, None, Some, refl, sym, ap, subst, ◌∙◌, ⊎_elim, inl, inr, ◌⊎◌, arith}
+use Rattle.std.proofs.Common.{◌≡◌, ◌≢◌, ℕ, ◌+◌, ◌-◌, ◌<◌, ◌≤◌, true, false, List, length, get_or, set, Option, None, sym, ap, ◌∙◌, ⊎_elim, inl, inr, ◌⊎◌, arith}
 use Rattle.std.specs.Option.{is_some, option_map}
 use Rattle.std.proofs.lemmas.Bool.{both_ways, cases_eq, cases_lt}
 use Rattle.std.proofs.lemmas.List.{get_or-set_same, get_or-set_other, get_or_past, length-set}
 use Rattle.trip_model.specs.declared.trip.Move.{Move}
 use Rattle.trip_model.specs.Links.{AreLinks}
 use Rattle.trip_model.specs.Network.{Network, Fits, AreDepartures}
-use Rattle.trip_model.specs.Order.{minute_left}
-use Rattle.trip_model.specs.Plain.{move_at, AreMoves}
+use Rattle.trip_model.specs.Plain.{move_at}
 use Rattle.trip_model.proofs.Counting.{runs-within}
-use Rattle.deadhead_matrix.specs.Fitting.{deadhead_network, empty_between, out_before, home_after}
+use Rattle.deadhead_matrix.specs.Fitting.{empty_between, out_before, home_after}
 use Rattle.deadhead_matrix.specs.Matrix.{MatrixView, walk}
 use Rattle.deadhead_matrix.specs.Paths.{AreNextTrips}
-use Rattle.deadhead_matrix.specs.Prices.{weight}
+use Rattle.deadhead_matrix.specs.Prices.{weight, Plan, IsCertified, IsLoose}
+use Rattle.deadhead_matrix.proofs.Looseness.{IsCertified-loose}
 use Rattle.pair_graph.specs.Pairs.{PairsView, pairs_network}
 use Rattle.price_repair.specs.Without.{pairs_without}
 
@@ -65,6 +65,12 @@ AreNextTrips-links network departs links clock within are = record {
   within = λ i j e. within j (clock.runs i j (are.fits i j e)).1;
   once = are.once;
 }
+
+-- a plan from which no side is left out is certified for the pairs
+pub IsCertified-pairs : (pairs : PairsView) (departs : ℕ → ℕ) (plan : Plan) → AreDepartures (pairs_network pairs) departs → length plan.next ≡ length pairs.moves → IsLoose (pairs_network pairs) plan None None
+    → IsCertified (pairs_network pairs) plan
+IsCertified-pairs pairs departs plan clock slots loose =
+    IsCertified-loose (pairs_network pairs) departs plan clock (λ s live. omega (arith, runs-within pairs.moves s live, slots)) loose
 
 -- the network of moves as a function of the move of each slot
 network_by : MatrixView → (ℕ → Option Move) → Network

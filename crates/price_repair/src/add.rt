@@ -4,6 +4,7 @@ ghost use Rattle.deadhead_matrix.specs.Prices.{IsCertified};
 ghost use Rattle.pair_graph.specs.Pairs.{pairs_network};
 ghost use Rattle.price_repair.specs.Without.{pairs_without};
 
+use crate::sides::{add_entering, add_leaving};
 use desk_io::Steps;
 use pair_graph::Pairs;
 use price_assign::Solver;
@@ -12,21 +13,17 @@ use std::sync::ledger::Ledger;
 /// Repairs a plan after a trip was added in a slot: it was certified for the pairs without that trip, and is then certified
 /// for those with it, which are given. Where the slot is the last one, the plan may lack it before. At most 2n^2 + 2n steps
 /// for n slots, and no memory.
-pub fn after_add<L: Ledger>(
-    solver: &mut Solver,
-    pairs: &Pairs<'_>,
-    slot: u16,
-    steps: &mut Steps<L>,
-)
+pub fn after_add<L: Ledger>(solver: &mut Solver, pairs: &Pairs<'_>, slot: u16, steps: &mut Steps<L>)
     requires live { (pairs_network pairs.now).live slot ≡ true }
     requires slots { length (with_slot solver.old.next slot) ≡ length pairs.now.moves }
     requires certified { IsCertified (pairs_network (pairs_without pairs.now slot)) solver.old }
     ensures slots { length solver.new.next ≡ length pairs.now.moves }
     ensures certified { IsCertified (pairs_network pairs.now) solver.new }
     ensures added { IsAdded solver.old.next solver.new.next slot }
-    ensures counted { let n = length pairs.now.moves in steps.new ≤ steps.old + 2 * (n * n) + 2 * n }
+    ensures counted { let n = length pairs.now.moves in steps.new ≤ steps.old + 2 * n * n + 2 * n }
 {
-    solver.set_slots(pairs.slots());
-    solver.search_left(pairs, slot, Some(slot), steps);
-    solver.search_right(pairs, slot, None, steps);
+    let slots = pairs.slots();
+    solver.set_slots(slots);
+    add_leaving(solver, pairs, Some(slot), Some(slot), steps);
+    add_entering(solver, pairs, Some(slot), steps);
 }

@@ -25,6 +25,3 @@ mod take;
 
 pub use add::after_add;
 pub use take::after_take;
-
-#[cfg(test)]
-mod tests;

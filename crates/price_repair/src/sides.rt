@@ -1,6 +1,6 @@
 ghost use Rattle.std.specs.Prelude.{◌≡◌, ◌+◌, ◌*◌, ◌≤◌, length, None};
 ghost use Rattle.deadhead_matrix.specs.Paths.{IsLeftFrom, IsRightFrom};
-ghost use Rattle.deadhead_matrix.specs.Prices.{IsLoose};
+ghost use Rattle.deadhead_matrix.specs.Prices.{IsCertified, IsLoose};
 ghost use Rattle.pair_graph.specs.Pairs.{pairs_network};
 
 use desk_io::Steps;
@@ -28,7 +28,7 @@ pub(crate) fn add_leaving<L: Ledger>(
     }
 }
 
-/// Adds the entering side of `b`, where there is one, to a plan from which it alone is left out.
+/// Adds the entering side of `b`, where there is one, to a plan from which it alone is left out: then the plan is certified.
 pub(crate) fn add_entering<L: Ledger>(
     solver: &mut Solver,
     pairs: &Pairs<'_>,
@@ -38,10 +38,12 @@ pub(crate) fn add_entering<L: Ledger>(
     requires slots { length solver.old.next ≡ length pairs.now.moves }
     requires loose { IsLoose (pairs_network pairs.now) solver.old None b }
     ensures slots { length solver.new.next ≡ length pairs.now.moves }
-    ensures loose { IsLoose (pairs_network pairs.now) solver.new None None }
+    ensures certified { IsCertified (pairs_network pairs.now) solver.new }
     ensures path { IsRightFrom solver.old.next solver.new.next b }
     ensures counted { let n = length pairs.now.moves in steps.new ≤ steps.old + n * n + n }
 {
+    // Its clauses say that the network is one of one day, along which departures rise.
+    let _slots = pairs.slots();
     if let Some(b) = b {
         solver.search_right(pairs, b, None, steps);
     }

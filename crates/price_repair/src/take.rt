@@ -27,7 +27,7 @@ pub fn after_take<L: Ledger>(
     ensures slots { length solver.new.next ≡ length pairs.now.moves }
     ensures certified { IsCertified (pairs_network pairs.now) solver.new }
     ensures taken { IsTaken solver.old.next solver.new.next slot }
-    ensures counted { let n = length pairs.now.moves in steps.new ≤ steps.old + 2 * (n * n) + 2 * n }
+    ensures counted { let n = length pairs.now.moves in steps.new ≤ steps.old + 2 * n * n + 2 * n }
 {
     // Its clauses say that the network is one of one day, along which departures rise.
     let _slots = pairs.slots();

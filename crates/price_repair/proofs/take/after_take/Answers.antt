@@ -1,9 +1,6 @@
-use Rattle.std.proofs.Common.{length, ap, ◌∙◌, arith}
+use Rattle.std.proofs.Common.{ap, ◌∙◌}
 use Rattle.trip_model.specs.Links.{next_of, before_of}
-use Rattle.trip_model.proofs.Counting.{runs-within}
 use Rattle.deadhead_matrix.specs.Prices.{Plan}
-use Rattle.deadhead_matrix.proofs.Looseness.{IsCertified-loose}
-use Rattle.pair_graph.specs.Pairs.{pairs_network}
 use Rattle.price_repair.proofs.CutLemmas.{IsLoose-taken, AreAlike-taken, IsTaken-searched}
 use Rattle.price_repair.proofs.take.after_take.Goals as goal
 
@@ -14,16 +11,11 @@ add_leaving-requires-clause-loose g c =
     (c.trip_before-before.ensures ∙ ap (λ links. before_of links c.args.slot) links)
     (c.next-next.ensures ∙ ap (λ links. next_of links c.args.slot) links)
 
-pub returns-clause-certified : goal.returns-clause-certified
-returns-clause-certified g c =
-    IsCertified-loose (pairs_network c.args.pairs.now) _ c.add_entering.new.solver c.slots-slots.ensures.departures
-    (λ s live. omega (arith, runs-within c.args.pairs.now.moves s live, c.add_entering.ensures.slots)) c.add_entering.ensures.loose
-
 pub returns-clause-taken : goal.returns-clause-taken
 returns-clause-taken g c =
     let links = c.links-links.ensures ∙ ap (λ (p : Plan). p.next) c.plan.ensures in
     IsTaken-searched c.args.solver.now c.cut.new.solver c.add_leaving.new.solver c.add_entering.new.solver c.args.slot _ _
-    (AreAlike-taken c.args.pairs.now _ c.args.slot c.args.solver.now c.add_entering.new.solver c.slots-slots.ensures.departures c.requires.slots c.requires.certified c.add_entering.ensures.slots (returns-clause-certified g c))
+    (AreAlike-taken c.args.pairs.now _ c.args.slot c.args.solver.now c.add_entering.new.solver c.slots-slots.ensures.departures c.requires.slots c.requires.certified c.add_entering.ensures.slots c.add_entering.ensures.certified)
     c.cut.ensures
     (c.trip_before-before.ensures ∙ ap (λ links. before_of links c.args.slot) links)
     (c.next-next.ensures ∙ ap (λ links. next_of links c.args.slot) links)

@@ -1,0 +1,89 @@
+-- What the pairs of a timetable are, without a trip, after an edit.
+use Rattle.std.proofs.Common.{◌≡◌, ◌≢◌, ℕ, ◌<◌, ◌≤◌, false, cond, List, [], ◌∷◌, ◌++◌, length, set, Option, None, Some, refl, sym, ap, subst, ◌∙◌, ⊎_elim, arith}
+use Rattle.std.proofs.Math.ListN.{get_or-map}
+use Rattle.std.proofs.lemmas.Bool.{cases_lt}
+use Rattle.std.proofs.lemmas.List.{get_or_append_left, get_or_past, length-append, length-map, map-append, map-set, set-get_or, set-set}
+use Rattle.trip_model.specs.declared.trip.Move.{Move}
+use Rattle.trip_model.specs.declared.trip.Trip.{Trip}
+use Rattle.trip_model.specs.Plain.{move_at, move_of_slot, trip_moves}
+use Rattle.trip_model.specs.Timetable.{Slot, TimetableView, slot_at, with_trip, IsTimetable}
+use Rattle.trip_model.specs.Trip.{move_of}
+use Rattle.deadhead_matrix.specs.Matrix.{MatrixView}
+use Rattle.deadhead_matrix.specs.Prices.{Plan, IsCertified}
+use Rattle.pair_graph.specs.Pairs.{PairsView, pairs_of, pairs_network}
+use Rattle.pair_graph.proofs.PairsLemmas.{AreMoves-pairs}
+use Rattle.price_repair.specs.Without.{pairs_without, IsCertifiedWith}
+use Rattle.price_repair.proofs.WithoutLemmas.{network-without}
+
+pub IsCertifiedWith-left_out : (t : TimetableView) (matrix : MatrixView) (plan : Plan) (s : ℕ) → IsTimetable t → length t.places ≡ length matrix.walks → IsCertified (pairs_network (pairs_of t matrix None)) plan
+    → IsCertifiedWith (pairs_of t matrix (Some s)) s plan
+IsCertifiedWith-left_out t matrix plan s valid places proved = record {
+  whole = pairs_of t matrix None;
+  valid = AreMoves-pairs t matrix None valid places tt;
+  others = refl;
+  certified = proved;
+}
+
+-- a slot whose trip does not run makes no move
+no-move : (slot : Slot) → slot.trip.live ≡ false → move_of_slot slot ≡ None
+no-move slot dead = ap (λ runs. cond runs (Some (move_of slot.trip)) None) dead
+
+-- the moves but for a slot are the same with another trip in it
+moves-replaced : (t : TimetableView) (s : ℕ) (trip : Trip) → set (trip_moves (with_trip t s trip).slots) s None ≡ set (trip_moves t.slots) s None
+moves-replaced t s trip =
+    let slot : Slot = record (slot_at t s) { trip = trip } in
+    ap (λ moves. set moves s None) (map-set move_of_slot t.slots s slot) ∙ set-set (trip_moves t.slots) s (move_of_slot slot) None
+
+-- and they are all moves with a trip in it that does not run
+moves-cancelled : (t : TimetableView) (s : ℕ) (trip : Trip) → trip.live ≡ false → set (trip_moves t.slots) s None ≡ trip_moves (with_trip t s trip).slots
+moves-cancelled t s trip dead =
+    let slot : Slot = record (slot_at t s) { trip = trip } in
+    sym (map-set move_of_slot t.slots s slot ∙ ap (set (trip_moves t.slots) s) (no-move slot dead))
+
+-- or where its own does not run
+moves-idle : (t : TimetableView) (s : ℕ) → (slot_at t s).trip.live ≡ false → set (trip_moves t.slots) s None ≡ trip_moves t.slots
+moves-idle t s dead =
+    let none : move_at (trip_moves t.slots) s ≡ None = get_or-map move_of_slot t.slots s (slot_at (record t { slots = [] }) 0) ∙ no-move (slot_at t s) dead in
+    sym (ap (set (trip_moves t.slots) s) none) ∙ set-get_or (trip_moves t.slots) s None
+
+with_moves : MatrixView → List (Option Move) → PairsView
+with_moves matrix moves = record { moves = moves; matrix = matrix }
+
+pub IsCertifiedWith-cancelled : (t : TimetableView) (matrix : MatrixView) (plan : Plan) (s : ℕ) (trip : Trip) → IsTimetable t → length t.places ≡ length matrix.walks → trip.live ≡ false
+    → IsCertified (pairs_network (pairs_of t matrix None)) plan → IsCertifiedWith (pairs_of (with_trip t s trip) matrix None) s plan
+unfolding with_moves
+IsCertifiedWith-cancelled t matrix plan s trip valid places dead proved = record {
+  whole = pairs_of t matrix None;
+  valid = AreMoves-pairs t matrix None valid places tt;
+  others = ap (with_moves matrix) (moves-cancelled t s trip dead);
+  certified = proved;
+}
+
+pub IsCertified-replaced : (t : TimetableView) (matrix : MatrixView) (plan : Plan) (s : ℕ) (trip : Trip) → IsCertified (pairs_network (pairs_of t matrix (Some s))) plan
+    → IsCertified (pairs_network (pairs_without (pairs_of (with_trip t s trip) matrix None) s)) plan
+unfolding with_moves
+IsCertified-replaced t matrix plan s trip proved =
+    subst (λ p. IsCertified (pairs_network p) plan) (sym (ap (with_moves matrix) (moves-replaced t s trip))) proved
+
+pub IsCertified-restored : (t : TimetableView) (matrix : MatrixView) (plan : Plan) (s : ℕ) (trip : Trip) → (slot_at t s).trip.live ≡ false → IsCertified (pairs_network (pairs_of t matrix None)) plan
+    → IsCertified (pairs_network (pairs_without (pairs_of (with_trip t s trip) matrix None) s)) plan
+unfolding with_moves
+IsCertified-restored t matrix plan s trip dead proved =
+    IsCertified-replaced t matrix plan s trip (subst (λ p. IsCertified (pairs_network p) plan) (sym (ap (with_moves matrix) (moves-idle t s dead))) proved)
+
+pub IsCertified-appended : (t : TimetableView) (matrix : MatrixView) (plan : Plan) (slot : Slot) → IsCertified (pairs_network (pairs_of t matrix None)) plan
+    → IsCertified (pairs_network (pairs_without (pairs_of (record t { slots = t.slots ++ slot ∷ [] }) matrix None) (length t.slots))) plan
+IsCertified-appended t matrix plan slot proved =
+    let longer = pairs_of (record t { slots = t.slots ++ slot ∷ [] }) matrix None in
+    subst (λ network. IsCertified network plan)
+    (sym (network-without longer (pairs_of t matrix None) (length t.slots) refl (get_or_past (trip_moves t.slots) (length t.slots) None (omega (arith, length-map t.slots move_of_slot))) others)) proved
+  where
+    others : (i : ℕ) → i ≢ length t.slots → move_at (trip_moves t.slots) i ≡ move_at (trip_moves (t.slots ++ slot ∷ [])) i
+    others i other =
+        ⊎_elim
+        (λ (h : i < length t.slots). sym (get_or_append_left (trip_moves t.slots) (move_of_slot slot ∷ []) None i (omega (arith, h, length-map t.slots move_of_slot))))
+        (λ (h : length t.slots ≤ i).
+        get_or_past (trip_moves t.slots) i None (omega (arith, h, length-map t.slots move_of_slot))
+        ∙ sym (get_or_past (trip_moves t.slots ++ move_of_slot slot ∷ []) i None (omega (arith, h, other, length-append (trip_moves t.slots) (move_of_slot slot ∷ []), length-map t.slots move_of_slot))))
+        (cases_lt i (length t.slots))
+        ∙ ap (λ moves. move_at moves i) (sym (map-append move_of_slot t.slots (slot ∷ [])))
