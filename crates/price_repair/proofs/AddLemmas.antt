@@ -11,13 +11,13 @@ use Rattle.trip_model.specs.Plain.{move_at, AreMoves}
 use Rattle.trip_model.proofs.BeforeLemmas.{next-before}
 use Rattle.trip_model.proofs.Counting.{runs-within}
 use Rattle.deadhead_matrix.specs.Paths.{IsLeftPath, IsRightPath, IsAlone, with_slot, IsAdded}
-use Rattle.deadhead_matrix.specs.Prices.{Plan, price, weight_to, IsCertified, IsLoose}
+use Rattle.deadhead_matrix.specs.Prices.{Plan, price, weight_to, IsLoose}
 use Rattle.deadhead_matrix.proofs.Days.{AreDepartures-deadhead}
 use Rattle.deadhead_matrix.proofs.Looseness.{IsLoose-certified}
 use Rattle.pair_graph.specs.Pairs.{PairsView, pairs_network}
 use Rattle.pair_graph.proofs.PairsLemmas.{AreMoves-without}
 use Rattle.price_assign.specs.Plans.{resized, with_slots}
-use Rattle.price_repair.specs.Without.{pairs_without}
+use Rattle.price_repair.specs.Without.{pairs_without, IsCertifiedWithout}
 use Rattle.price_repair.proofs.WithoutLemmas.{LacksTrip, LacksTrip-without, fits-other}
 
 -- a list to which nothing but what stands past its end was added says the same of each slot
@@ -128,22 +128,22 @@ slots-before links s t other = by (length links == s) refl
     by false e h = h
 
 -- the plan without a trip is, once its slot is there, loose with it
-pub IsLoose-added : (pairs : PairsView) (departs : ℕ → ℕ) (s : ℕ) (old new : Plan) → AreDepartures (pairs_network pairs) departs → AreMoves (length pairs.matrix.walks) pairs.moves → (pairs_network pairs).live s ≡ true
-    → length (with_slot old.next s) ≡ length pairs.moves → IsCertified (pairs_network (pairs_without pairs s)) old → new ≡ with_slots old (length pairs.moves)
+pub IsLoose-added : (pairs : PairsView) (departs : ℕ → ℕ) (s : ℕ) (old new : Plan) → AreDepartures (pairs_network pairs) departs → AreMoves (length pairs.matrix.walks) pairs.moves
+    → length (with_slot old.next s) ≡ length pairs.moves → IsCertifiedWithout pairs s old → new ≡ with_slots old (length pairs.moves)
     → IsLoose (pairs_network pairs) new (Some s) (Some s)
-IsLoose-added pairs departs s old new clock valid live slots proved is =
+IsLoose-added pairs departs s old new clock valid slots w is =
     let whole = pairs_network pairs in
     let rest = pairs_network (pairs_without pairs s) in
     let lacks = LacksTrip-without pairs s in
     let after : ℕ → ℕ = λ t. minute_left (move_at (pairs_without pairs s).moves t) in
-    let clock' : AreDepartures rest after = rest-clock pairs s valid live in
+    let clock' : AreDepartures rest after = rest-clock pairs s valid w.runs in
     let within : (t : ℕ) → rest.live t ≡ true → t < length old.next = λ t runs.
     (let other : t ≢ s = λ here. both_ways (rest.live s) lacks.dead (sym (ap rest.live here) ∙ runs) in
     let inside = runs-within pairs.moves t (sym (lacks.live t other) ∙ runs) in
     slots-before old.next s t other (omega (arith, inside, slots))) in
-    let extended = IsExtended-slots old (length pairs.moves) (omega (arith, slots, length-with_slot-le old.next s)) proved.leaves proved.enters in
+    let extended = IsExtended-slots old (length pairs.moves) (omega (arith, slots, length-with_slot-le old.next s)) w.certified.leaves w.certified.enters in
     subst (λ (p : Plan). IsLoose whole p (Some s) (Some s)) (sym is)
-    (IsLoose-more whole rest departs after old (with_slots old (length pairs.moves)) s (length pairs.moves) clock clock' lacks live (IsLoose-certified rest after old clock' within proved) extended)
+    (IsLoose-more whole rest departs after old (with_slots old (length pairs.moves)) s (length pairs.moves) clock clock' lacks w.runs (IsLoose-certified rest after old clock' within w.certified) extended)
 
 -- the links then are those with the slot
 pub next-added : (pairs : PairsView) (s : ℕ) (old new : Plan) → length (with_slot old.next s) ≡ length pairs.moves → new ≡ with_slots old (length pairs.moves) → new.next ≡ with_slot old.next s

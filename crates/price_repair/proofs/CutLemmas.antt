@@ -149,7 +149,7 @@ IsLoose-cut whole rest departs after plan s clock clock' lacks loose = record {
 pub within-whole : (pairs : PairsView) (s : ℕ) (plan : Plan) → (w : IsCertifiedWith pairs s plan) → length plan.next ≡ length pairs.moves
     → (t : ℕ) → (pairs_network w.whole).live t ≡ true → t < length plan.next
 within-whole pairs s plan w slots t live =
-    let size : length (set w.whole.moves s None) ≡ length pairs.moves = ap (λ (p : PairsView). length p.moves) w.others in
+    let size : length (set w.whole.moves s None) ≡ length pairs.moves = ap (λ (p : PairsView). length p.moves) w.rest in
     omega (arith, runs-within w.whole.moves t live, size, length-set w.whole.moves s None, slots)
 
 -- the plan with a trip is, once that is cut, loose without it
@@ -160,8 +160,8 @@ IsLoose-taken pairs after s plan cut a b clock slots w is before next =
     let departs : ℕ → ℕ = λ t. minute_left (move_at w.whole.moves t) in
     let whole = AreDepartures-deadhead (length w.whole.matrix.walks) w.whole.moves w.whole.matrix w.valid in
     let loose = IsLoose-certified network departs plan whole (within-whole pairs s plan w slots) w.certified in
-    let rest = subst (λ p. AreDepartures (pairs_network p) after) (sym w.others) clock in
-    let done = subst (λ p. IsLoose (pairs_network p) (plan_without plan s) (before_of plan.next s) (next_of plan.next s)) w.others
+    let rest = subst (λ p. AreDepartures (pairs_network p) after) (sym w.rest) clock in
+    let done = subst (λ p. IsLoose (pairs_network p) (plan_without plan s) (before_of plan.next s) (next_of plan.next s)) w.rest
     (IsLoose-cut network (pairs_network (pairs_without w.whole s)) departs after plan s whole rest (LacksTrip-without w.whole s) loose) in
     subst (λ p. IsLoose (pairs_network pairs) p a b) (sym is)
     (subst (λ i. IsLoose (pairs_network pairs) (plan_without plan s) i b) (sym before) (subst (IsLoose (pairs_network pairs) (plan_without plan s) (before_of plan.next s)) (sym next) done))

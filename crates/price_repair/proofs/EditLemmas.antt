@@ -1,8 +1,9 @@
 -- What the pairs of a timetable are, without a trip, after an edit.
-use Rattle.std.proofs.Common.{◌≡◌, ◌≢◌, ℕ, ◌<◌, ◌≤◌, false, cond, List, [], ◌∷◌, ◌++◌, length, set, Option, None, Some, refl, sym, ap, subst, ◌∙◌, ⊎_elim, arith}
+use Rattle.std.proofs.Common.{◌≡◌, ◌≢◌, ℕ, ◌-◌, ◌<◌, ◌≤◌, true, false, cond, List, [], ◌∷◌, ◌++◌, length, set, Option, None, Some, refl, sym, ap, subst, ◌∙◌, ⊎_elim, arith}
 use Rattle.std.proofs.Math.ListN.{get_or-map}
+use Rattle.std.specs.Option.{is_some}
 use Rattle.std.proofs.lemmas.Bool.{cases_lt}
-use Rattle.std.proofs.lemmas.List.{get_or_append_left, get_or_past, length-append, length-map, map-append, map-set, set-get_or, set-set}
+use Rattle.std.proofs.lemmas.List.{get_or_append_left, get_or-append_right, get_or_past, get_or-set_same, length-append, length-map, map-append, map-set, set-get_or, set-set}
 use Rattle.trip_model.specs.declared.trip.Move.{Move}
 use Rattle.trip_model.specs.declared.trip.Trip.{Trip}
 use Rattle.trip_model.specs.Plain.{move_at, move_of_slot, trip_moves}
@@ -12,7 +13,7 @@ use Rattle.deadhead_matrix.specs.Matrix.{MatrixView}
 use Rattle.deadhead_matrix.specs.Prices.{Plan, IsCertified}
 use Rattle.pair_graph.specs.Pairs.{PairsView, pairs_of, pairs_network}
 use Rattle.pair_graph.proofs.PairsLemmas.{AreMoves-pairs}
-use Rattle.price_repair.specs.Without.{pairs_without, IsCertifiedWith}
+use Rattle.price_repair.specs.Without.{IsCertifiedWith, IsCertifiedWithout}
 use Rattle.price_repair.proofs.WithoutLemmas.{network-without}
 
 pub IsCertifiedWith-left_out : (t : TimetableView) (matrix : MatrixView) (plan : Plan) (s : ℕ) → IsTimetable t → length t.places ≡ length matrix.walks → IsCertified (pairs_network (pairs_of t matrix None)) plan
@@ -20,7 +21,7 @@ pub IsCertifiedWith-left_out : (t : TimetableView) (matrix : MatrixView) (plan :
 IsCertifiedWith-left_out t matrix plan s valid places proved = record {
   whole = pairs_of t matrix None;
   valid = AreMoves-pairs t matrix None valid places tt;
-  others = refl;
+  rest = refl;
   certified = proved;
 }
 
@@ -55,29 +56,50 @@ unfolding with_moves
 IsCertifiedWith-cancelled t matrix plan s trip valid places dead proved = record {
   whole = pairs_of t matrix None;
   valid = AreMoves-pairs t matrix None valid places tt;
-  others = ap (with_moves matrix) (moves-cancelled t s trip dead);
+  rest = ap (with_moves matrix) (moves-cancelled t s trip dead);
   certified = proved;
 }
 
-pub IsCertified-replaced : (t : TimetableView) (matrix : MatrixView) (plan : Plan) (s : ℕ) (trip : Trip) → IsCertified (pairs_network (pairs_of t matrix (Some s))) plan
-    → IsCertified (pairs_network (pairs_without (pairs_of (with_trip t s trip) matrix None) s)) plan
-unfolding with_moves
-IsCertified-replaced t matrix plan s trip proved =
-    subst (λ p. IsCertified (pairs_network p) plan) (sym (ap (with_moves matrix) (moves-replaced t s trip))) proved
+-- a trip that runs is live in its slot
+live-replaced : (t : TimetableView) (matrix : MatrixView) (s : ℕ) (trip : Trip) → s < length t.slots → trip.live ≡ true → (pairs_network (pairs_of (with_trip t s trip) matrix None)).live s ≡ true
+live-replaced t matrix s trip within runs =
+    let slot : Slot = record (slot_at t s) { trip = trip } in
+    ap (λ moves. is_some (move_at moves s)) (map-set move_of_slot t.slots s slot)
+    ∙ ap is_some (get_or-set_same (trip_moves t.slots) s (move_of_slot slot) None (omega (arith, within, length-map t.slots move_of_slot)))
+    ∙ ap (λ live. is_some (cond live (Some (move_of trip)) None)) runs
 
-pub IsCertified-restored : (t : TimetableView) (matrix : MatrixView) (plan : Plan) (s : ℕ) (trip : Trip) → (slot_at t s).trip.live ≡ false → IsCertified (pairs_network (pairs_of t matrix None)) plan
-    → IsCertified (pairs_network (pairs_without (pairs_of (with_trip t s trip) matrix None) s)) plan
+pub IsCertifiedWithout-replaced : (t : TimetableView) (matrix : MatrixView) (plan : Plan) (s : ℕ) (trip : Trip) → s < length t.slots → trip.live ≡ true
+    → IsCertified (pairs_network (pairs_of t matrix (Some s))) plan → IsCertifiedWithout (pairs_of (with_trip t s trip) matrix None) s plan
 unfolding with_moves
-IsCertified-restored t matrix plan s trip dead proved =
-    IsCertified-replaced t matrix plan s trip (subst (λ p. IsCertified (pairs_network p) plan) (sym (ap (with_moves matrix) (moves-idle t s dead))) proved)
+IsCertifiedWithout-replaced t matrix plan s trip within runs proved = record {
+  runs = live-replaced t matrix s trip within runs;
+  certified = subst (λ p. IsCertified (pairs_network p) plan) (sym (ap (with_moves matrix) (moves-replaced t s trip))) proved;
+}
 
-pub IsCertified-appended : (t : TimetableView) (matrix : MatrixView) (plan : Plan) (slot : Slot) → IsCertified (pairs_network (pairs_of t matrix None)) plan
-    → IsCertified (pairs_network (pairs_without (pairs_of (record t { slots = t.slots ++ slot ∷ [] }) matrix None) (length t.slots))) plan
-IsCertified-appended t matrix plan slot proved =
+pub IsCertifiedWithout-restored : (t : TimetableView) (matrix : MatrixView) (plan : Plan) (s : ℕ) (trip : Trip) → s < length t.slots → (slot_at t s).trip.live ≡ false → trip.live ≡ true
+    → IsCertified (pairs_network (pairs_of t matrix None)) plan → IsCertifiedWithout (pairs_of (with_trip t s trip) matrix None) s plan
+unfolding with_moves
+IsCertifiedWithout-restored t matrix plan s trip within dead runs proved =
+    IsCertifiedWithout-replaced t matrix plan s trip within runs (subst (λ p. IsCertified (pairs_network p) plan) (sym (ap (with_moves matrix) (moves-idle t s dead))) proved)
+
+pub IsCertifiedWithout-appended : (t : TimetableView) (matrix : MatrixView) (plan : Plan) (slot : Slot) → slot.trip.live ≡ true → IsCertified (pairs_network (pairs_of t matrix None)) plan
+    → IsCertifiedWithout (pairs_of (record t { slots = t.slots ++ slot ∷ [] }) matrix None) (length t.slots) plan
+IsCertifiedWithout-appended t matrix plan slot runs proved =
     let longer = pairs_of (record t { slots = t.slots ++ slot ∷ [] }) matrix None in
-    subst (λ network. IsCertified network plan)
-    (sym (network-without longer (pairs_of t matrix None) (length t.slots) refl (get_or_past (trip_moves t.slots) (length t.slots) None (omega (arith, length-map t.slots move_of_slot))) others)) proved
+    record {
+      runs = ap (λ moves. is_some (move_at moves (length t.slots))) split ∙ ap is_some last ∙ ap (λ live. is_some (cond live (Some (move_of slot.trip)) None)) runs;
+      certified = subst (λ network. IsCertified network plan)
+          (sym (network-without longer (pairs_of t matrix None) (length t.slots) refl (get_or_past (trip_moves t.slots) (length t.slots) None (omega (arith, length-map t.slots move_of_slot))) others)) proved;
+    }
   where
+    split : trip_moves (t.slots ++ slot ∷ []) ≡ trip_moves t.slots ++ move_of_slot slot ∷ []
+    split = map-append move_of_slot t.slots (slot ∷ [])
+
+    last : move_at (trip_moves t.slots ++ move_of_slot slot ∷ []) (length t.slots) ≡ move_of_slot slot
+    last =
+        get_or-append_right (trip_moves t.slots) (move_of_slot slot ∷ []) (length t.slots) (length t.slots) None (length-map t.slots move_of_slot) (omega arith)
+        ∙ ap (move_at (move_of_slot slot ∷ [])) (let none : length t.slots - length t.slots ≡ 0 = omega arith in none)
+
     others : (i : ℕ) → i ≢ length t.slots → move_at (trip_moves t.slots) i ≡ move_at (trip_moves (t.slots ++ slot ∷ [])) i
     others i other =
         ⊎_elim
@@ -86,4 +108,4 @@ IsCertified-appended t matrix plan slot proved =
         get_or_past (trip_moves t.slots) i None (omega (arith, h, length-map t.slots move_of_slot))
         ∙ sym (get_or_past (trip_moves t.slots ++ move_of_slot slot ∷ []) i None (omega (arith, h, other, length-append (trip_moves t.slots) (move_of_slot slot ∷ []), length-map t.slots move_of_slot))))
         (cases_lt i (length t.slots))
-        ∙ ap (λ moves. move_at moves i) (sym (map-append move_of_slot t.slots (slot ∷ [])))
+        ∙ ap (λ moves. move_at moves i) (sym split)

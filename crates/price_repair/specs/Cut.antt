@@ -1,8 +1,8 @@
--- A plan from which a trip is cut.
+-- A plan out of which a trip is cut.
 use Rattle.std.specs.Prelude.{ℕ, slice_set}
 use Rattle.deadhead_matrix.specs.Paths.{cut_at}
 use Rattle.deadhead_matrix.specs.Prices.{Plan}
 
--- the plan without the links of a slot and without its prices; the trips before it and after it keep theirs
+-- the plan without the links out of a slot and into it, and without its prices; every other price stays
 abbrev pub plan_without : Plan → ℕ → Plan
 plan_without plan s = record { next = cut_at plan.next s; leave = slice_set plan.leave s 0; enter = slice_set plan.enter s 0 }

@@ -1,8 +1,8 @@
-ghost use Rattle.std.specs.Prelude.{◌≡◌, ◌+◌, ◌*◌, ◌≤◌, true, length};
+ghost use Rattle.std.specs.Prelude.{◌≡◌, ◌+◌, ◌*◌, ◌≤◌, length};
 ghost use Rattle.deadhead_matrix.specs.Paths.{with_slot, IsAdded};
 ghost use Rattle.deadhead_matrix.specs.Prices.{IsCertified};
 ghost use Rattle.pair_graph.specs.Pairs.{pairs_network};
-ghost use Rattle.price_repair.specs.Without.{pairs_without};
+ghost use Rattle.price_repair.specs.Without.{IsCertifiedWithout};
 
 use crate::sides::{add_entering, add_leaving};
 use desk_io::Steps;
@@ -14,9 +14,8 @@ use std::sync::ledger::Ledger;
 /// for those with it, which are given. Where the slot is the last one, the plan may lack it before. At most 2n^2 + 2n steps
 /// for n slots, and no memory.
 pub fn after_add<L: Ledger>(solver: &mut Solver, pairs: &Pairs<'_>, slot: u16, steps: &mut Steps<L>)
-    requires live { (pairs_network pairs.now).live slot ≡ true }
     requires slots { length (with_slot solver.old.next slot) ≡ length pairs.now.moves }
-    requires certified { IsCertified (pairs_network (pairs_without pairs.now slot)) solver.old }
+    requires certified { IsCertifiedWithout pairs.now slot solver.old }
     ensures slots { length solver.new.next ≡ length pairs.now.moves }
     ensures certified { IsCertified (pairs_network pairs.now) solver.new }
     ensures added { IsAdded solver.old.next solver.new.next slot }

@@ -1,12 +1,12 @@
 //! A plan repaired after the trip of one slot was taken or added.
 //!
-//! A repair keeps every link and every price that it can. [`after_take`] cuts the trip out of the plan and lets the trip
-//! that was before it, and then its next one, find their place again: both may still have a price, so each is given a search
-//! of its side. [`after_add`] does the same for the two sides of the new trip. A trip that moves is taken and then added.
+//! Nothing is scheduled anew. [`after_take`] cuts the trip out of the plan; the trip that was before it and its next one may
+//! both still have a price, so a search goes out from each. [`after_add`] goes out from the leaving side of the new trip, and
+//! then from its entering side. A trip that moves is taken and then added. Neither takes memory.
 //!
 //! The contract that the crates above use: a plan that was certified for the pairs with the trip, or without it, is certified
-//! again for the pairs as they are; its links changed along the paths of `Paths` alone; and no more than 2n^2 + 2n pairs were
-//! read.
+//! again for the pairs as they are; its links change along the two paths of a trip that is taken, or added, alone; and no
+//! more than 2n^2 + 2n steps are counted. After each edit of a timetable its plan meets what is required ([`laws::edit_law`]).
 //!
 //! ```text
 //! after_take(&mut solver, &Pairs::without(&timetable, &matrix, slot), slot, &mut steps);
@@ -14,8 +14,8 @@
 //! after_add(&mut solver, &Pairs::of(&timetable, &matrix), slot, &mut steps);
 //! ```
 //!
-//! The contracts cite `Without` (pairs with a trip more or less), of `deadhead_matrix` `Prices` and `Paths`, and of
-//! `pair_graph` `Pairs`. `Cut` is what stands between a take and its searches.
+//! The contracts cite `Without` (plans for pairs with a trip more or less), of `deadhead_matrix` `Prices` and `Paths`, and of
+//! `pair_graph` `Pairs`. `Cut` (the plan between a take and its searches) is for proofs alone.
 #![tactic(auto)]
 
 mod add;

@@ -6,13 +6,13 @@ use Rattle.price_repair.proofs.add.after_add.Goals as goal
 
 pub add_leaving-requires-clause-loose : goal.add_leaving-requires-clause-loose
 add_leaving-requires-clause-loose g c =
-    IsLoose-added c.args.pairs.now _ c.args.slot c.args.solver.now c.set_slots.new.self c.slots-slots.ensures.departures c.slots-slots.ensures.valid c.requires.live c.requires.slots c.requires.certified
+    IsLoose-added c.args.pairs.now _ c.args.slot c.args.solver.now c.set_slots.new.self c.slots-slots.ensures.departures c.slots-slots.ensures.valid c.requires.slots c.requires.certified
     (c.set_slots.ensures ∙ ap (with_slots c.args.solver.now) c.slots-slots.ensures.count)
 
 pub returns-clause-added : goal.returns-clause-added
 returns-clause-added g c =
     let is = c.set_slots.ensures ∙ ap (with_slots c.args.solver.now) c.slots-slots.ensures.count in
     IsAdded-searched (pairs_network c.args.pairs.now) c.args.solver.now c.set_slots.new.self c.add_leaving.new.solver c.add_entering.new.solver c.args.slot
-    (IsLoose-added c.args.pairs.now _ c.args.slot c.args.solver.now c.set_slots.new.self c.slots-slots.ensures.departures c.slots-slots.ensures.valid c.requires.live c.requires.slots c.requires.certified is)
+    (IsLoose-added c.args.pairs.now _ c.args.slot c.args.solver.now c.set_slots.new.self c.slots-slots.ensures.departures c.slots-slots.ensures.valid c.requires.slots c.requires.certified is)
     (next-added c.args.pairs.now c.args.slot c.args.solver.now c.set_slots.new.self c.requires.slots is)
     c.add_leaving.ensures.path c.add_entering.ensures.path
