@@ -1,6 +1,12 @@
 mod Digits
 mod EditBack
 mod FieldsRead
+mod KeptLemmas
 mod LinesWritten
+mod MachineLemmas
+mod MadeLemmas
 mod MinuteText
 mod ShiftBack
+mod ShiftLemmas
+mod TouchLemmas
+mod TimetablesLemmas

@@ -1,4 +1,10 @@
+pub mod Changes
 pub mod Edits
 pub mod Forms
+pub mod Kept
 pub mod Laws
 pub mod Lines
+pub mod Machine
+pub mod Made
+pub mod Script
+pub mod Timetables

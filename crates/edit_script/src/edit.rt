@@ -6,6 +6,9 @@ pub const MOST_SHIFT: u16 = 120;
 /// The most minutes that an extra trip may depart or arrive at, 99:59.
 pub const MOST_MINUTE: u16 = 5999;
 
+/// The most shows that a script has.
+pub const MOST_SHOWS: u32 = 64;
+
 /// An edit of a timetable. Trips and places are known by their names.
 #[derive(Debug, Drop)]
 pub enum Edit {

@@ -1,34 +1,51 @@
-//! Edits of a timetable: the records of a script, their canonical lines, and the texts of refused edits.
+//! Edits of a timetable: the records of a script, their canonical lines, a timetable under edits, and the texts of
+//! refused ones.
 //!
 //! [`read_edit`] reads a record as an [`Edit`], [`read_script`] the records of a file, and [`edit_line`] writes an edit as
-//! its canonical line. [`EditFault`] is why an edit is refused, and [`fault_text`] what is printed of it.
+//! its canonical line. A [`Script`] is a timetable under edits, of which the last 256 can be undone: [`Script::step`] does
+//! an edit and answers what it [`Touched`], or refuses it and changes nothing. [`EditFault`] is why an edit is refused, and
+//! [`fault_text`] what is printed of it.
 //!
 //! The contract that the crates above use: a record is the edit of its form, or of none; a script has one line for each
 //! record. Every edit that is read is in form, and the canonical line of an edit in form reads back as the same edit
-//! ([`laws::read_back_law`]).
+//! ([`laws::read_back_law`]). A script makes the step of its definition, or gives the first refusal in order and is as it
+//! was; stepped over records it stays at the state of the edit machine, whose timetable is the fold of the edits that stand
+//! ([`laws::machine_law`]).
 //!
 //! ```text
+//! let mut script = Script::open(alloc, timetable)?;
 //! for line in read_script(alloc, Paper::Edits, bytes)? {
+//!     number += 1;
 //!     if let Line::Edit(edit) = line {
-//!         journal.append(edit_line(alloc, &edit)?)?;
+//!         match script.step(number, &edit) {
+//!             Ok(_) => journal.append(edit_line(alloc, &edit)?)?,
+//!             Err(fault) => answers.push(fault_text(alloc, &fault)?)?,
+//!         }
 //!     }
 //! }
 //! ```
 //!
 //! The contracts cite `Edits` (which edits are in form), `Forms` (the forms of records, and the lines of a script), `Lines`
-//! (canonical lines and the texts of faults), and the law `Laws`.
+//! (canonical lines and the texts of faults), `Changes` (what an edit of a trip does to a timetable), `Script` (what a
+//! script is seen as, and a step), `Machine` (the edit machine, with `Timetables`), and the law `Laws`. What a script keeps
+//! of its edits is said by `Made` and `Kept`.
 #![tactic(auto)]
 
+mod changes;
 mod edit;
 mod fault;
 mod fields;
 pub mod laws;
 mod reading;
+mod script;
+mod touched;
 mod writing;
 
-pub use edit::{Edit, Line, MOST_MINUTE, MOST_SHIFT};
+pub use edit::{Edit, Line, MOST_MINUTE, MOST_SHIFT, MOST_SHOWS};
 pub use fault::{EditFault, Side, fault_text};
 pub use reading::{read_edit, read_script};
+pub use script::Script;
+pub use touched::Touched;
 pub use writing::edit_line;
 
 #[cfg(test)]

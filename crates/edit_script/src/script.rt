@@ -1,0 +1,250 @@
+ghost use Rattle.std.specs.Prelude.{◌≡◌, ◌≤◌, ◌<◌, IfOk, IfErr, OnErr, length, unsigned_abs};
+
+use crate::changes::{Change, Made, cancel_slot, extra, make, restore_slot, shift_slot, unmake};
+use crate::{Edit, EditFault, MOST_SHOWS, Touched};
+use desk_io::{Memory, Text};
+use std::alloc::Global;
+use std::marker::Model;
+use trip_model::Timetable;
+use undo_log::Log;
+
+/// A timetable under edits, of which the last 256 can be undone.
+#[derive(Drop)]
+pub struct Script {
+    alloc: Global,
+    timetable: Timetable,
+    log: Log<Change>,
+    standing: Vec<u32>,
+    last: u32,
+    shows: u32,
+}
+
+impl Model for Script {
+    ghost use Rattle.edit_script.specs.Kept.{IsKept, script_seen};
+    ghost use Rattle.edit_script.specs.Script.{ScriptView};
+
+    ghost Value = { ScriptView };
+
+    ghost view = { λ s. script_seen s.timetable s.log s.standing.items s.last s.shows };
+
+    ghost invariant = { λ s. IsKept s.timetable s.log s.standing.items s.last };
+}
+
+impl Script {
+    ghost use Rattle.edit_script.specs.declared.edit.TheConstants.{MOST_MINUTE, MOST_SHIFT};
+    ghost use Rattle.edit_script.specs.Edits.{InForm};
+    ghost use Rattle.edit_script.specs.Made.{CanMake, with_made};
+    ghost use Rattle.edit_script.specs.Script.{IsNext, IsRefusal, IsRising, IsTouched, if_redone, if_shown, if_undone, numbers_along, opened, stepped, with_edit};
+    ghost use Rattle.undo_log.specs.Log.{last_item};
+
+    /// A script over a timetable, to which nothing was done.
+    pub fn open(alloc: Global, timetable: Timetable) -> Result<Script, Memory>
+        ensures { IfOk result (λ script. script ≡ opened timetable) }
+    {
+        Ok(Script {
+            alloc,
+            timetable,
+            log: Log::open(alloc)?,
+            standing: Vec::new(alloc),
+            last: 0,
+            shows: 0,
+        })
+    }
+
+    /// The timetable that stands.
+    pub fn timetable(&self) -> &Timetable
+        ensures { result.now ≡ self.now.timetable }
+    {
+        &self.timetable
+    }
+
+    /// The numbers of the edits that stand.
+    pub fn standing(&self) -> &[u32]
+        ensures { result.now ≡ self.now.standing }
+    {
+        &self.standing
+    }
+
+    /// How many edits can be undone.
+    pub fn kept(&self) -> usize
+        ensures { result ≡ length self.now.earlier }
+    {
+        self.log.kept()
+    }
+
+    /// How many edits can be redone.
+    pub fn undone(&self) -> usize
+        ensures { result ≡ length self.now.undone }
+    {
+        self.log.undone()
+    }
+
+    /// How many shows were accepted.
+    pub fn shows(&self) -> u32
+        ensures { result ≡ self.now.shows }
+    {
+        self.shows
+    }
+
+    /// The greatest number that ever stood. Those that stand rise, and so do those that were undone, the newest first.
+    pub fn last(&self) -> u32
+        ensures value { result ≡ self.now.last }
+        ensures rising { IsRising result (numbers_along self.now.standing self.now.undone) }
+    {
+        self.last
+    }
+
+    // Does an edit of a trip that was judged, and keeps its change.
+    fn change(&mut self, number: u32, slot: u16, made: Made) -> Result<Touched, Memory>
+        requires next { self.old.last < number }
+        requires can { CanMake self.old.timetable slot made }
+        ensures done { IfOk result (λ _. self.new ≡ with_edit self.old number (with_made self.old.timetable slot made)) }
+        ensures touched { IfOk result (λ touched. IsTouched touched self.old.timetable self.new.timetable) }
+        ensures unchanged { OnErr result (self.new ≡ self.old) }
+    {
+        let change = Change { number, slot, made };
+        let touched = make(&mut self.timetable, &mut self.standing, &change)?;
+        self.last = number;
+        let _forgotten = self.log.push(change);
+        Ok(touched)
+    }
+
+    fn shift(&mut self, number: u32, trip: &Text, by: i16) -> Result<Touched, EditFault>
+        requires next { self.old.last < number }
+        requires moves { 0 < unsigned_abs by }
+        requires most { unsigned_abs by ≤ MOST_SHIFT }
+        ensures accepted { IfOk result (λ _. stepped self.old number (Edit.Shift trip.now by) ≡ Ok self.new) }
+        ensures touched { IfOk result (λ touched. IsTouched touched self.old.timetable self.new.timetable) }
+        ensures refused { IfErr result (λ refused. IsRefusal refused (Edit.Shift trip.now by) (stepped self.old number (Edit.Shift trip.now by))) }
+        ensures unchanged { OnErr result (self.new ≡ self.old) }
+    {
+        let slot = shift_slot(&self.timetable, trip, by)?;
+        Ok(self.change(number, slot, Made::Moved(by))?)
+    }
+
+    fn cancel(&mut self, number: u32, trip: &Text) -> Result<Touched, EditFault>
+        requires next { self.old.last < number }
+        ensures accepted { IfOk result (λ _. stepped self.old number (Edit.Cancel trip.now) ≡ Ok self.new) }
+        ensures touched { IfOk result (λ touched. IsTouched touched self.old.timetable self.new.timetable) }
+        ensures refused { IfErr result (λ refused. IsRefusal refused (Edit.Cancel trip.now) (stepped self.old number (Edit.Cancel trip.now))) }
+        ensures unchanged { OnErr result (self.new ≡ self.old) }
+    {
+        let slot = cancel_slot(&self.timetable, trip)?;
+        Ok(self.change(number, slot, Made::Cancelled)?)
+    }
+
+    fn restore(&mut self, number: u32, trip: &Text) -> Result<Touched, EditFault>
+        requires next { self.old.last < number }
+        ensures accepted { IfOk result (λ _. stepped self.old number (Edit.Restore trip.now) ≡ Ok self.new) }
+        ensures touched { IfOk result (λ touched. IsTouched touched self.old.timetable self.new.timetable) }
+        ensures refused { IfErr result (λ refused. IsRefusal refused (Edit.Restore trip.now) (stepped self.old number (Edit.Restore trip.now))) }
+        ensures unchanged { OnErr result (self.new ≡ self.old) }
+    {
+        let slot = restore_slot(&self.timetable, trip)?;
+        Ok(self.change(number, slot, Made::Restored)?)
+    }
+
+    fn extra(
+        &mut self,
+        number: u32,
+        trip: &Text,
+        from: &Text,
+        to: &Text,
+        departs: u16,
+        arrives: u16,
+    ) -> Result<Touched, EditFault>
+        requires next { self.old.last < number }
+        requires departs { departs ≤ MOST_MINUTE }
+        requires arrives { arrives ≤ MOST_MINUTE }
+        ensures accepted { IfOk result (λ _. stepped self.old number (Edit.Extra trip.now from.now to.now departs arrives) ≡ Ok self.new) }
+        ensures touched { IfOk result (λ touched. IsTouched touched self.old.timetable self.new.timetable) }
+        ensures refused { IfErr result (λ refused. IsRefusal refused (Edit.Extra trip.now from.now to.now departs arrives) (stepped self.old number (Edit.Extra trip.now from.now to.now departs arrives))) }
+        ensures unchanged { OnErr result (self.new ≡ self.old) }
+    {
+        let added = extra(&self.timetable, trip, from, to, departs, arrives)?;
+        let name = Text::of(self.alloc, trip.as_str())?;
+        let slot = self.timetable.slots();
+        Ok(self.change(number, slot, Made::Added { name, trip: added })?)
+    }
+
+    // Takes the last edit back.
+    fn undo(&mut self) -> Result<Touched, EditFault>
+        ensures accepted { IfOk result (λ _. if_undone self.old (last_item self.old.earlier) ≡ Ok self.new) }
+        ensures touched { IfOk result (λ touched. IsTouched touched self.old.timetable self.new.timetable) }
+        ensures refused { IfErr result (λ refused. IsRefusal refused Edit.Undo (if_undone self.old (last_item self.old.earlier))) }
+        ensures unchanged { OnErr result (self.new ≡ self.old) }
+    {
+        let Some(change) = self.log.take_back() else {
+            return Err(EditFault::NothingToUndo);
+        };
+        let touched = unmake(&mut self.timetable, &mut self.standing, &change);
+        self.log.put_undone(change);
+        Ok(touched)
+    }
+
+    // Does the edit again that was taken back last.
+    fn redo(&mut self) -> Result<Touched, EditFault>
+        ensures accepted { IfOk result (λ _. if_redone self.old (last_item self.old.later) ≡ Ok self.new) }
+        ensures touched { IfOk result (λ touched. IsTouched touched self.old.timetable self.new.timetable) }
+        ensures refused { IfErr result (λ refused. IsRefusal refused Edit.Redo (if_redone self.old (last_item self.old.later))) }
+        ensures unchanged { OnErr result (self.new ≡ self.old) }
+    {
+        let Some(change) = self.log.take_forth() else {
+            return Err(EditFault::NothingToRedo);
+        };
+        match make(&mut self.timetable, &mut self.standing, &change) {
+            Ok(touched) => {
+                self.log.put_kept(change);
+                Ok(touched)
+            }
+            Err(_) => {
+                self.log.put_undone(change);
+                Err(EditFault::Memory)
+            }
+        }
+    }
+
+    // Counts a show.
+    fn show(&mut self) -> Result<Touched, EditFault>
+        ensures accepted { IfOk result (λ _. if_shown self.old ≡ Ok self.new) }
+        ensures touched { IfOk result (λ touched. IsTouched touched self.old.timetable self.new.timetable) }
+        ensures refused { IfErr result (λ refused. IsRefusal refused Edit.Show (if_shown self.old)) }
+        ensures unchanged { OnErr result (self.new ≡ self.old) }
+    {
+        if self.shows >= MOST_SHOWS {
+            return Err(EditFault::TooManyShows);
+        }
+        self.shows += 1;
+        Ok(Touched {
+            slot: None,
+            before: None,
+            after: None,
+        })
+    }
+
+    /// Does the edit of a record of that number, or refuses it and changes nothing. An undo and a show take no memory.
+    pub fn step(&mut self, number: u32, edit: &Edit) -> Result<Touched, EditFault>
+        requires form { InForm edit.now }
+        requires next { IsNext self.old number edit.now }
+        ensures accepted { IfOk result (λ _. stepped self.old number edit.now ≡ Ok self.new) }
+        ensures touched { IfOk result (λ touched. IsTouched touched self.old.timetable self.new.timetable) }
+        ensures refused { IfErr result (λ refused. IsRefusal refused edit.now (stepped self.old number edit.now)) }
+        ensures unchanged { OnErr result (self.new ≡ self.old) }
+    {
+        match edit {
+            Edit::Shift { trip, by } => self.shift(number, trip, *by),
+            Edit::Cancel { trip } => self.cancel(number, trip),
+            Edit::Restore { trip } => self.restore(number, trip),
+            Edit::Extra {
+                trip,
+                from,
+                to,
+                departs,
+                arrives,
+            } => self.extra(number, trip, from, to, *departs, *arrives),
+            Edit::Undo => self.undo(),
+            Edit::Redo => self.redo(),
+            Edit::Show => self.show(),
+        }
+    }
+}
