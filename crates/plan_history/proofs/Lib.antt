@@ -1,0 +1,4 @@
+pub mod HistoryLemmas
+pub mod ItemLemmas
+pub mod LedLemmas
+pub mod WriteLemmas

@@ -1,0 +1,31 @@
+//! A plan under edits of its timetable, with the plans before it and after it.
+//!
+//! A [`PlanHistory`] holds one plan. Each edit repairs it, and notes the slots whose next trip or prices changed, with what
+//! stood there before and after: an item. An undo writes what stood before over the plan, and a redo writes what stood after;
+//! no plan is kept whole. The last 256 edits can be undone.
+//!
+//! The contract that the crates above use: after an edit the plan is certified for the pairs that are given, along the paths
+//! of a repair, and the plan before it is the last that an undo leads back to; an undo and a redo restore a plan as it was,
+//! prices included; and the last change lists exactly the slots that the last kept edit changed. [`PlanHistory::reserve`]
+//! takes the memory that one edit needs; nothing else takes any.
+//!
+//! ```text
+//! history.solve(&pairs, &mut steps);
+//! history.reserve()?;
+//! history.take(&pairs, slot, &mut steps);
+//! history.undo();
+//! ```
+//!
+//! The contracts cite `Stands` (what a plan has for a slot, and the slots that differ), `History` (what a history is seen as),
+//! of `undo_log` `Log`, and of `price_repair` and `deadhead_matrix` what a repair asks and gives. `Items` (what an item writes,
+//! and to which plans items lead) has the terms of the proofs.
+#![tactic(auto)]
+
+mod history;
+mod item;
+mod keep;
+pub mod laws;
+mod stand;
+
+pub use history::PlanHistory;
+pub use stand::{Changed, Stand};
