@@ -87,5 +87,5 @@ pub record IsNoted (old new : LogView Item) (was : List Stand) (plan : Plan) : T
   pub before : item.before ≡ length was
   pub after : item.after ≡ length plan.next
   pub changes : item.changes.items ≡ changes_upto was plan (length plan.next)
-  pub kept : new.kept ≡ latest_items (old.kept ++ item ∷ [])
   pub undone : new.undone ≡ []
+  pub kept : new.kept ≡ latest_items (old.kept ++ item ∷ [])

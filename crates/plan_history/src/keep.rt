@@ -25,5 +25,6 @@ pub(crate) fn keep(
     ensures noted { IsNoted log.old log.new was.now plan.now }
 {
     let changes = mem::replace(spare, Vec::new(alloc));
-    let _forgotten = log.push(item_of(was, plan, changes));
+    let item = item_of(was, plan, changes);
+    let _forgotten = log.push(item);
 }
