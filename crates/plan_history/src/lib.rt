@@ -7,7 +7,8 @@
 //! The contract that the crates above use: after an edit the plan is certified for the pairs that are given, along the paths
 //! of a repair, and the plan before it is the last that an undo leads back to; an undo and a redo restore a plan as it was,
 //! prices included; and the last change lists exactly the slots that the last kept edit changed. [`PlanHistory::reserve`]
-//! takes the memory that one edit needs; nothing else takes any.
+//! takes the memory that the next edit needs, so that an edit, an undo or a redo takes none and cannot fail. After each edit of
+//! a timetable its plan meets what is required, by `edit_law` of `price_repair` and [`laws::replace_law`].
 //!
 //! ```text
 //! history.solve(&pairs, &mut steps);
@@ -16,9 +17,9 @@
 //! history.undo();
 //! ```
 //!
-//! The contracts cite `Stands` (what a plan has for a slot, and the slots that differ), `History` (what a history is seen as),
-//! of `undo_log` `Log`, and of `price_repair` and `deadhead_matrix` what a repair asks and gives. `Items` (what an item writes,
-//! and to which plans items lead) has the terms of the proofs.
+//! The contracts cite `History` (what a history is seen as), `Stands` (what a plan has for a slot, and the slots for which two
+//! plans differ), of `undo_log` `Log`, and of `price_repair` and `deadhead_matrix` what a repair asks and gives. `Items` (what
+//! an item writes over a plan, and to which plans items lead) says how the two lists of plans are computed, and is for proofs.
 #![tactic(auto)]
 
 mod history;
