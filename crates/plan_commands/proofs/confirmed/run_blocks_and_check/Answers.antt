@@ -2,8 +2,8 @@ use Rattle.std.proofs.Common.{arith}
 use Rattle.plan_commands.proofs.ConfirmedLemmas.{confirms}
 use Rattle.plan_commands.proofs.confirmed.run_blocks_and_check.Goals as goal
 
-pub runs : goal.runs
-runs g c = record {
+pub returns-clause-runs : goal.returns-clause-runs
+returns-clause-runs g c = record {
   between = _;
   steps = _;
   blocks_runs = c.run_blocks-first.ensures.run;
@@ -16,6 +16,6 @@ runs g c = record {
   check_counted = c.run_check-second.ensures.counted;
 }
 
-pub confirmed : goal.confirmed
-confirmed g c = λ all low.
+pub returns-clause-confirmed : goal.returns-clause-confirmed
+returns-clause-confirmed g c = λ all low.
     confirms c.accepted_law.ensures.accepted c.plain_law.ensures.moves _ _ _ _ _ (c.run_blocks-first.ensures.run.ended (omega (arith, all))) (c.run_check-second.ensures.run.ended low) all
