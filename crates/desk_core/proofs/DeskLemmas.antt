@@ -1,0 +1,357 @@
+-- A desk after an edit.
+use Rattle.std.proofs.Common.{◌≡◌, ℕ, zero, suc, ◌-◌, ◌<◌, Bool, true, false, List, [], ◌∷◌, ◌++◌, length, drop, set, Option, None, Some, ℤ, pos, refl, sym, ap, subst, ◌∙◌}
+use Rattle.std.specs.Prelude.{Result, Ok, Err, int_le, nat_lt, not, ◌+ℤ◌, IfErr, OnOk}
+use Rattle.std.specs.Str.{bytes_eq}
+use Rattle.std.proofs.Math.ListN.{length-set}
+use Rattle.std.proofs.lemmas.List.{length-map, map-set, set-set}
+use Rattle.deadhead_matrix.specs.Matrix.{MatrixView}
+use Rattle.deadhead_matrix.specs.Prices.{Plan, IsCertified, IsPlanFor}
+use Rattle.deficit_steps.specs.Holds.{Holds}
+use Rattle.edit_script.specs.Changes.{provided, is_within, with_shift, with_live, with_extra, extra_trip, shifted_at, cancelled_at, restored_at, extra_to, extra_from, extra_new}
+use Rattle.edit_script.specs.Script.{ScriptView, all_but_last, last_alone, if_edited, if_redone, if_undone, stepped, with_edit}
+use Rattle.edit_script.specs.declared.edit.Edit.{Edit}
+use Rattle.edit_script.specs.declared.edit.Edit.TheVariants.{Shift, Cancel, Restore, Extra, Undo, Redo, Show}
+use Rattle.edit_script.specs.declared.fault.EditFault.{EditFault}
+use Rattle.edit_script.specs.declared.fault.EditFault.TheVariants as fault
+use Rattle.pair_graph.specs.Pairs.{PairsView, pairs_of, pairs_network}
+use Rattle.plan_history.specs.History.{HistoryView}
+use Rattle.price_repair.specs.Without.{IsCertifiedWith, IsCertifiedWithout}
+use Rattle.price_repair.proofs.EditLemmas.{IsCertifiedWith-left_out, IsCertifiedWith-cancelled, IsCertifiedWithout-replaced, IsCertifiedWithout-restored, IsCertifiedWithout-appended}
+use Rattle.trip_model.specs.Deficit.{live_moves}
+use Rattle.trip_model.specs.Place.{class_of}
+use Rattle.trip_model.specs.Plain.{move_of_slot, trip_moves}
+use Rattle.trip_model.specs.Timetable.{Slot, TimetableView, IsTimetable, number_of, place_names, slot_at, slot_names, with_trip}
+use Rattle.trip_model.specs.Trip.{shifted}
+use Rattle.trip_model.specs.declared.trip.Trip.{Trip}
+use Rattle.undo_log.specs.Log.{latest_items, last_item}
+use Rattle.undo_log.proofs.LastItem.{take_last_item}
+use Rattle.desk_core.specs.Desk.{DeskView, desk_seen, ArePlansFor, IsDesk, IsDone, IsExtra, IsRefused}
+
+-- plans beside timetables: as one more stands at the end, as the oldest go, and the last of each
+pub plans-length : (m : MatrixView) (ts : List TimetableView) (ps : List Plan) → ArePlansFor m ts ps → length ts ≡ length ps
+plans-length m [] [] are = refl
+plans-length m [] (p ∷ ps) are = absurd are
+plans-length m (t ∷ ts) [] are = absurd are
+plans-length m (t ∷ ts) (p ∷ ps) are = ap suc (plans-length m ts ps are.1)
+
+pub plans-push : (m : MatrixView) (ts : List TimetableView) (ps : List Plan) (t : TimetableView) (p : Plan) → ArePlansFor m ts ps → IsPlanFor t m p → ArePlansFor m (ts ++ t ∷ []) (ps ++ p ∷ [])
+plans-push m [] [] t p are is = (is, tt)
+plans-push m [] (q ∷ ps) t p are is = absurd are
+plans-push m (u ∷ ts) [] t p are is = absurd are
+plans-push m (u ∷ ts) (q ∷ ps) t p are is = (are.0, plans-push m ts ps t p are.1 is)
+
+plans-drop : (m : MatrixView) (n : ℕ) (ts : List TimetableView) (ps : List Plan) → ArePlansFor m ts ps → ArePlansFor m (drop n ts) (drop n ps)
+plans-drop m zero ts ps are = are
+plans-drop m (suc n) [] [] are = tt
+plans-drop m (suc n) [] (p ∷ ps) are = absurd are
+plans-drop m (suc n) (t ∷ ts) [] are = absurd are
+plans-drop m (suc n) (t ∷ ts) (p ∷ ps) are = plans-drop m n ts ps are.1
+
+pub plans-latest : (m : MatrixView) (ts : List TimetableView) (ps : List Plan) (t : TimetableView) (p : Plan) → ArePlansFor m ts ps → IsPlanFor t m p
+    → ArePlansFor m (latest_items (ts ++ t ∷ [])) (latest_items (ps ++ p ∷ []))
+plans-latest m ts ps t p are is =
+    let longer : ArePlansFor m (ts ++ t ∷ []) (ps ++ p ∷ []) = plans-push m ts ps t p are is in
+    subst (λ n. ArePlansFor m (drop (length (ts ++ t ∷ []) - 256) (ts ++ t ∷ [])) (drop (n - 256) (ps ++ p ∷ []))) (plans-length m (ts ++ t ∷ []) (ps ++ p ∷ []) longer)
+    (plans-drop m (length (ts ++ t ∷ []) - 256) (ts ++ t ∷ []) (ps ++ p ∷ []) longer)
+
+-- the last of each are one beside the other
+plans-split : (m : MatrixView) (ts : List TimetableView) (ps : List Plan) (t : TimetableView) (p : Plan) → ArePlansFor m (ts ++ t ∷ []) (ps ++ p ∷ []) → IsPlanFor t m p × ArePlansFor m ts ps
+plans-split m [] [] t p are = (are.0, tt)
+plans-split m [] (q ∷ ps) t p are = absurd (none ps p are.1)
+  where
+    none : (ps : List Plan) (p : Plan) → ArePlansFor m [] (ps ++ p ∷ []) → ⊥
+    none [] p are = are
+    none (q ∷ ps) p are = are
+plans-split m (u ∷ ts) [] t p are = absurd (none ts t are.1)
+  where
+    none : (ts : List TimetableView) (t : TimetableView) → ArePlansFor m (ts ++ t ∷ []) [] → ⊥
+    none [] t are = are
+    none (u ∷ ts) t are = are
+plans-split m (u ∷ ts) (q ∷ ps) t p are =
+    let rest = plans-split m ts ps t p are.1 in (rest.0, (are.0, rest.1))
+
+pub plans-last : (m : MatrixView) (ts : List TimetableView) (ps qs : List Plan) (t : TimetableView) (p : Plan) → ArePlansFor m ts ps → last_item ts ≡ Some t → ps ≡ qs ++ p ∷ []
+    → IsPlanFor t m p × ArePlansFor m (all_but_last ts) qs
+plans-last m ts ps qs t p are last split =
+    plans-split m (all_but_last ts) qs t p
+    (subst (λ us. ArePlansFor m us (qs ++ p ∷ [])) (sym (take_last_item ts t last)) (subst (λ rs. ArePlansFor m ts rs) split are))
+
+-- where there is a last timetable, there are plans
+pub plans-some : (m : MatrixView) (ts : List TimetableView) (ps : List Plan) (t : TimetableView) → ArePlansFor m ts ps → last_item ts ≡ Some t → ps ≡ [] → ⊥
+plans-some m [] ps t are last none = cc
+plans-some m (u ∷ ts) [] t are last none = are
+plans-some m (u ∷ ts) (p ∷ ps) t are last none = cc
+
+-- an edit of a trip that is accepted
+edited-ok : (s next : ScriptView) (number : ℕ) (t : TimetableView) → if_edited s number (Ok t) ≡ Ok next → next ≡ with_edit s number t
+edited-ok s next number t e = cc
+
+edited-provided : (s next : ScriptView) (number : ℕ) (holds : Bool) (refused : EditFault) (rest : Result TimetableView EditFault) → if_edited s number (provided holds refused rest) ≡ Ok next
+    → (holds ≡ true) × (if_edited s number rest ≡ Ok next)
+edited-provided s next number true refused rest e = (refl, e)
+edited-provided s next number false refused rest e = absurd (cc)
+
+pub stepped-cancel : (s next : ScriptView) (number : ℕ) (trip : List ℕ) (slot : ℕ) → number_of (slot_names s.timetable) trip ≡ Some slot → stepped s number (Cancel trip) ≡ Ok next
+    → next ≡ with_edit s number (with_live s.timetable slot false)
+stepped-cancel s next number trip slot found e =
+    let one = edited-provided s next number (slot_at s.timetable slot).trip.live fault.NotLive (Ok (with_live s.timetable slot false)) (sym (ap (λ o. if_edited s number (cancelled_at s.timetable o)) found) ∙ e) in
+    edited-ok s next number (with_live s.timetable slot false) one.1
+
+pub stepped-restore : (s next : ScriptView) (number : ℕ) (trip : List ℕ) (slot : ℕ) → number_of (slot_names s.timetable) trip ≡ Some slot → stepped s number (Restore trip) ≡ Ok next
+    → ((slot_at s.timetable slot).trip.live ≡ false) × (next ≡ with_edit s number (with_live s.timetable slot true))
+stepped-restore s next number trip slot found e = by (slot_at s.timetable slot).trip.live (sym (ap (λ o. if_edited s number (restored_at s.timetable o)) found) ∙ e)
+  where
+    by : (live : Bool) → if_edited s number (provided (not live) fault.NotCancelled (Ok (with_live s.timetable slot true))) ≡ Ok next
+        → (live ≡ false) × (next ≡ with_edit s number (with_live s.timetable slot true))
+    by true e = absurd (cc)
+    by false e = (refl, edited-ok s next number (with_live s.timetable slot true) e)
+
+pub stepped-shift : (s next : ScriptView) (number : ℕ) (trip : List ℕ) (by : ℤ) (slot : ℕ) → number_of (slot_names s.timetable) trip ≡ Some slot → stepped s number (Shift trip by) ≡ Ok next
+    → ((slot_at s.timetable slot).trip.live ≡ true) × (next ≡ with_edit s number (with_shift s.timetable slot by))
+stepped-shift s next number trip by slot found e =
+    let was : Trip = (slot_at s.timetable slot).trip in
+    let late : Result TimetableView EditFault = provided (int_le (pos 0) (pos was.departs +ℤ by)) fault.BeforeMidnight (Ok (with_shift s.timetable slot by)) in
+    let within : Result TimetableView EditFault = provided (is_within was (was.offset +ℤ by)) (fault.OutsideTolerance (was.offset +ℤ by)) late in
+    let one = edited-provided s next number (slot_at s.timetable slot).trip.live fault.NotLive within (sym (ap (λ o. if_edited s number (shifted_at s.timetable by o)) found) ∙ e) in
+    let two = edited-provided s next number (is_within was (was.offset +ℤ by)) (fault.OutsideTolerance (was.offset +ℤ by)) late one.1 in
+    let three = edited-provided s next number (int_le (pos 0) (pos was.departs +ℤ by)) fault.BeforeMidnight (Ok (with_shift s.timetable slot by)) two.1 in
+    (one.0, edited-ok s next number (with_shift s.timetable slot by) three.1)
+
+-- an extra trip that is accepted is live in a new last slot
+pub record IsAddedTo (s next : ScriptView) (number : ℕ) (trip : List ℕ) : Type 0 where
+  pub added : Trip
+  pub live : added.live ≡ true
+  pub is : next ≡ with_edit s number (with_extra s.timetable trip added)
+
+extra-to : (s next : ScriptView) (number : ℕ) (trip : List ℕ) (departs arrives a : ℕ) (o : Option ℕ) → if_edited s number (extra_to s.timetable trip departs arrives a o) ≡ Ok next → IsAddedTo s next number trip
+extra-to s next number trip departs arrives a None e = absurd (cc)
+extra-to s next number trip departs arrives a (Some b) e =
+    let added : Trip = extra_trip s.timetable a b departs arrives in
+    let last : Result TimetableView EditFault = Ok (with_extra s.timetable trip added) in
+    let room : Result TimetableView EditFault = provided (nat_lt (length s.timetable.slots) 4096) fault.TooManyTrips last in
+    let forward : Result TimetableView EditFault = provided (nat_lt departs arrives) fault.NotForward room in
+    let one = edited-provided s next number (bytes_eq (class_of s.timetable.places a) (class_of s.timetable.places b)) fault.ClassesDiffer forward e in
+    let two = edited-provided s next number (nat_lt departs arrives) fault.NotForward room one.1 in
+    let three = edited-provided s next number (nat_lt (length s.timetable.slots) 4096) fault.TooManyTrips last two.1 in
+    record { added = added; live = refl; is = edited-ok s next number (with_extra s.timetable trip added) three.1 }
+
+extra-from : (s next : ScriptView) (number : ℕ) (trip to : List ℕ) (departs arrives : ℕ) (o : Option ℕ) → if_edited s number (extra_from s.timetable trip to departs arrives o) ≡ Ok next → IsAddedTo s next number trip
+extra-from s next number trip to departs arrives None e = absurd (cc)
+extra-from s next number trip to departs arrives (Some a) e = extra-to s next number trip departs arrives a (number_of (place_names s.timetable) to) e
+
+extra-new : (s next : ScriptView) (number : ℕ) (trip from to : List ℕ) (departs arrives : ℕ) (o : Option ℕ) → if_edited s number (extra_new s.timetable trip from to departs arrives o) ≡ Ok next → IsAddedTo s next number trip
+extra-new s next number trip from to departs arrives (Some a) e = absurd (cc)
+extra-new s next number trip from to departs arrives None e = extra-from s next number trip to departs arrives (number_of (place_names s.timetable) from) e
+
+pub stepped-extra : (s next : ScriptView) (number : ℕ) (edit : Edit) → IsExtra edit → stepped s number edit ≡ Ok next → (trip : List ℕ) × IsAddedTo s next number trip
+stepped-extra s next number (Extra trip from to departs arrives) is e = (trip, extra-new s next number trip from to departs arrives (number_of (slot_names s.timetable) trip) e)
+stepped-extra s next number (Shift trip by) is e = absurd is
+stepped-extra s next number (Cancel trip) is e = absurd is
+stepped-extra s next number (Restore trip) is e = absurd is
+stepped-extra s next number Undo is e = absurd is
+stepped-extra s next number Redo is e = absurd is
+stepped-extra s next number Show is e = absurd is
+
+-- an edit of a trip goes to one timetable
+pub record IsEdited (s next : ScriptView) (number : ℕ) : Type 0 where
+  pub timetable : TimetableView
+  pub is : next ≡ with_edit s number timetable
+
+-- an edit of a trip that is accepted, whichever it is
+pub edited-any : (s next : ScriptView) (number : ℕ) (r : Result TimetableView EditFault) → if_edited s number r ≡ Ok next → IsEdited s next number
+edited-any s next number (Ok t) e = record { timetable = t; is = cc }
+edited-any s next number (Err why) e = absurd (cc)
+
+-- what a reserve leaves of a history
+abbrev pub SameButRoom : HistoryView → HistoryView → Type 0
+SameButRoom h reserved = reserved ≡ record h { room = reserved.room }
+
+-- what the repair after an edit asks of the plan
+pub certified-cancel : (s next : ScriptView) (m : MatrixView) (h reserved : HistoryView) (deficits : List (List ℤ)) (number : ℕ) (edit : Edit) (trip : List ℕ) (slot : ℕ) (pairs : PairsView)
+    → IsDesk (desk_seen s m h) deficits → SameButRoom h reserved → IsTimetable s.timetable → edit ≡ Cancel trip → Some slot ≡ number_of (slot_names s.timetable) trip → stepped s number edit ≡ Ok next
+    → pairs ≡ pairs_of next.timetable m None → IsCertifiedWith pairs slot reserved.plan
+certified-cancel s next m h reserved deficits number edit trip slot pairs desk same valid is found accepted over =
+    let to = stepped-cancel s next number trip slot (sym found) (ap (stepped s number) (sym is) ∙ accepted) in
+    subst (λ p. IsCertifiedWith p slot reserved.plan) (sym (over ∙ ap (λ (n : ScriptView). pairs_of n.timetable m None) to))
+    (subst (λ p. IsCertifiedWith (pairs_of (with_live s.timetable slot false) m None) slot p) (sym (ap (λ (k : HistoryView). k.plan) same))
+    (IsCertifiedWith-cancelled s.timetable m h.plan slot (record (slot_at s.timetable slot).trip { live = false }) valid desk.places refl desk.plan.certified))
+
+pub certified-restore : (s next : ScriptView) (m : MatrixView) (h reserved : HistoryView) (deficits : List (List ℤ)) (number : ℕ) (edit : Edit) (trip : List ℕ) (slot : ℕ) (pairs : PairsView)
+    → IsDesk (desk_seen s m h) deficits → SameButRoom h reserved → slot < length s.timetable.slots → edit ≡ Restore trip → Some slot ≡ number_of (slot_names s.timetable) trip → stepped s number edit ≡ Ok next
+    → pairs ≡ pairs_of next.timetable m None → IsCertifiedWithout pairs slot reserved.plan
+certified-restore s next m h reserved deficits number edit trip slot pairs desk same within is found accepted over =
+    let to = stepped-restore s next number trip slot (sym found) (ap (stepped s number) (sym is) ∙ accepted) in
+    subst (λ p. IsCertifiedWithout p slot reserved.plan) (sym (over ∙ ap (λ (n : ScriptView). pairs_of n.timetable m None) to.1))
+    (subst (λ p. IsCertifiedWithout (pairs_of (with_live s.timetable slot true) m None) slot p) (sym (ap (λ (k : HistoryView). k.plan) same))
+    (IsCertifiedWithout-restored s.timetable m h.plan slot (record (slot_at s.timetable slot).trip { live = true }) within to.0 refl desk.plan.certified))
+
+pub certified-extra : (s next : ScriptView) (m : MatrixView) (h reserved : HistoryView) (deficits : List (List ℤ)) (number : ℕ) (edit : Edit) (slot : ℕ) (pairs : PairsView)
+    → IsDesk (desk_seen s m h) deficits → SameButRoom h reserved → slot ≡ length s.timetable.slots → IsExtra edit → stepped s number edit ≡ Ok next
+    → pairs ≡ pairs_of next.timetable m None → IsCertifiedWithout pairs slot reserved.plan
+certified-extra s next m h reserved deficits number edit slot pairs desk same last is accepted over =
+    let to = stepped-extra s next number edit is accepted in
+    let slot' : Slot = record { name = to.0; trip = to.1.added } in
+    subst (λ p. IsCertifiedWithout p slot reserved.plan) (sym (over ∙ ap (λ (n : ScriptView). pairs_of n.timetable m None) to.1.is))
+    (subst (λ n. IsCertifiedWithout (pairs_of (with_extra s.timetable to.0 to.1.added) m None) n reserved.plan) (sym last)
+    (subst (λ p. IsCertifiedWithout (pairs_of (with_extra s.timetable to.0 to.1.added) m None) (length s.timetable.slots) p) (sym (ap (λ (k : HistoryView). k.plan) same))
+    (IsCertifiedWithout-appended s.timetable m h.plan slot' to.1.live desk.plan.certified)))
+
+-- without the trip in a slot the pairs are the same with another trip in it
+pairs-replaced : (t : TimetableView) (m : MatrixView) (s : ℕ) (trip : Trip) → pairs_of (with_trip t s trip) m (Some s) ≡ pairs_of t m (Some s)
+pairs-replaced t m s trip =
+    let slot : Slot = record (slot_at t s) { trip = trip } in
+    let moves : set (trip_moves (set t.slots s slot)) s None ≡ set (trip_moves t.slots) s None =
+    ap (λ moves. set moves s None) (map-set move_of_slot t.slots s slot) ∙ set-set (trip_moves t.slots) s (move_of_slot slot) None in
+    λ i. record { moves = moves i; matrix = m }
+
+pub certified-shift : (s next : ScriptView) (m : MatrixView) (h reserved : HistoryView) (deficits : List (List ℤ)) (number : ℕ) (edit : Edit) (trip : List ℕ) (slot : ℕ) (without : PairsView)
+    → IsDesk (desk_seen s m h) deficits → SameButRoom h reserved → IsTimetable s.timetable → (by : ℤ) × (edit ≡ Shift trip by) → Some slot ≡ number_of (slot_names s.timetable) trip → stepped s number edit ≡ Ok next
+    → without ≡ pairs_of next.timetable m (Some slot) → IsCertifiedWith without slot reserved.plan
+certified-shift s next m h reserved deficits number edit trip slot without desk same valid is found accepted over =
+    let to = stepped-shift s next number trip is.0 slot (sym found) (ap (stepped s number) (sym is.1) ∙ accepted) in
+    subst (λ p. IsCertifiedWith p slot reserved.plan) (sym (over ∙ (ap (λ (n : ScriptView). pairs_of n.timetable m (Some slot)) to.1 ∙ pairs-replaced s.timetable m slot (shifted (slot_at s.timetable slot).trip is.0))))
+    (subst (λ p. IsCertifiedWith (pairs_of s.timetable m (Some slot)) slot p) (sym (ap (λ (k : HistoryView). k.plan) same))
+    (IsCertifiedWith-left_out s.timetable m h.plan slot valid desk.places desk.plan.certified))
+
+pub certified-shifted : (s next : ScriptView) (m : MatrixView) (number : ℕ) (edit : Edit) (trip : List ℕ) (slot : ℕ) (without pairs : PairsView)
+    → slot < length s.timetable.slots → (by : ℤ) × (edit ≡ Shift trip by) → Some slot ≡ number_of (slot_names s.timetable) trip → stepped s number edit ≡ Ok next
+    → without ≡ pairs_of next.timetable m (Some slot) → pairs ≡ pairs_of next.timetable m None → (plan : Plan) → IsCertified (pairs_network without) plan → IsCertifiedWithout pairs slot plan
+certified-shifted s next m number edit trip slot without pairs within is found accepted over_without over plan certified =
+    let to = stepped-shift s next number trip is.0 slot (sym found) (ap (stepped s number) (sym is.1) ∙ accepted) in
+    let rest : without ≡ pairs_of s.timetable m (Some slot) =
+    over_without ∙ (ap (λ (n : ScriptView). pairs_of n.timetable m (Some slot)) to.1 ∙ pairs-replaced s.timetable m slot (shifted (slot_at s.timetable slot).trip is.0)) in
+    subst (λ p. IsCertifiedWithout p slot plan) (sym (over ∙ ap (λ (n : ScriptView). pairs_of n.timetable m None) to.1))
+    (IsCertifiedWithout-replaced s.timetable m plan slot (shifted (slot_at s.timetable slot).trip is.0) within to.0 (subst (λ p. IsCertified (pairs_network p) plan) rest certified))
+
+pub slots-shift : (s next : ScriptView) (number : ℕ) (edit : Edit) (trip : List ℕ) (slot : ℕ) → (by : ℤ) × (edit ≡ Shift trip by) → Some slot ≡ number_of (slot_names s.timetable) trip → stepped s number edit ≡ Ok next
+    → length next.timetable.slots ≡ length s.timetable.slots
+slots-shift s next number edit trip slot is found accepted =
+    let to = stepped-shift s next number trip is.0 slot (sym found) (ap (stepped s number) (sym is.1) ∙ accepted) in
+    ap (λ (n : ScriptView). length n.timetable.slots) to.1 ∙ length-set s.timetable.slots slot (record (slot_at s.timetable slot) { trip = shifted (slot_at s.timetable slot).trip is.0 })
+
+pub edited-cancel : (s next : ScriptView) (number : ℕ) (edit : Edit) (trip : List ℕ) (slot : ℕ) → edit ≡ Cancel trip → Some slot ≡ number_of (slot_names s.timetable) trip → stepped s number edit ≡ Ok next → IsEdited s next number
+edited-cancel s next number edit trip slot is found accepted = record { timetable = with_live s.timetable slot false; is = stepped-cancel s next number trip slot (sym found) (ap (stepped s number) (sym is) ∙ accepted) }
+
+pub edited-restore : (s next : ScriptView) (number : ℕ) (edit : Edit) (trip : List ℕ) (slot : ℕ) → edit ≡ Restore trip → Some slot ≡ number_of (slot_names s.timetable) trip → stepped s number edit ≡ Ok next → IsEdited s next number
+edited-restore s next number edit trip slot is found accepted = record { timetable = with_live s.timetable slot true; is = (stepped-restore s next number trip slot (sym found) (ap (stepped s number) (sym is) ∙ accepted)).1 }
+
+pub edited-shift : (s next : ScriptView) (number : ℕ) (edit : Edit) (trip : List ℕ) (slot : ℕ) → (by : ℤ) × (edit ≡ Shift trip by) → Some slot ≡ number_of (slot_names s.timetable) trip → stepped s number edit ≡ Ok next → IsEdited s next number
+edited-shift s next number edit trip slot is found accepted =
+    record { timetable = with_shift s.timetable slot is.0; is = (stepped-shift s next number trip is.0 slot (sym found) (ap (stepped s number) (sym is.1) ∙ accepted)).1 }
+
+pub edited-extra : (s next : ScriptView) (number : ℕ) (edit : Edit) → IsExtra edit → stepped s number edit ≡ Ok next → IsEdited s next number
+edited-extra s next number edit is accepted =
+    let to = stepped-extra s next number edit is accepted in record { timetable = with_extra s.timetable to.0 to.1.added; is = to.1.is }
+
+-- a desk whose plan was repaired after an edit of a trip
+pub IsDesk-edited : (s next : ScriptView) (m : MatrixView) (h reserved new : HistoryView) (deficits followed : List (List ℤ)) (number : ℕ) (pairs : PairsView) → IsDesk (desk_seen s m h) deficits → SameButRoom h reserved
+    → IsEdited s next number → Holds followed (live_moves next.timetable.slots) → length followed ≡ length deficits → length next.timetable.places ≡ length s.timetable.places → pairs ≡ pairs_of next.timetable m None
+    → length new.plan.next ≡ length pairs.moves → IsCertified (pairs_network pairs) new.plan → new.earlier ≡ latest_items (reserved.earlier ++ reserved.plan ∷ []) → new.later ≡ [] → IsDesk (desk_seen next m new) followed
+IsDesk-edited s next m h reserved new deficits followed number pairs desk same to held rows places over slots certified earlier later = record {
+  places = places ∙ desk.places;
+  plan = record {
+    slots = slots ∙ (ap (λ (p : PairsView). length p.moves) over ∙ length-map next.timetable.slots move_of_slot);
+    certified = subst (λ p. IsCertified (pairs_network p) new.plan) over certified;
+  };
+  earlier = subst (λ ts. ArePlansFor m ts new.earlier) (sym (ap (λ (n : ScriptView). n.earlier) to.is))
+      (subst (λ ps. ArePlansFor m (latest_items (s.earlier ++ s.timetable ∷ [])) ps) (sym (earlier ∙ ap (λ (k : HistoryView). latest_items (k.earlier ++ k.plan ∷ [])) same))
+      (plans-latest m s.earlier h.earlier s.timetable h.plan desk.earlier desk.plan));
+  later = subst (λ ts. ArePlansFor m ts new.later) (sym (ap (λ (n : ScriptView). n.later) to.is)) (subst (λ ps. ArePlansFor m [] ps) (sym later) tt);
+  held = held;
+  rows = rows ∙ (desk.rows ∙ sym places);
+}
+
+-- an undo and a redo that are accepted
+pub record IsStepBack (s next : ScriptView) : Type 0 where
+  pub timetable : TimetableView
+  pub last : last_item s.earlier ≡ Some timetable
+  pub stands : next.timetable ≡ timetable
+  pub earlier : next.earlier ≡ all_but_last s.earlier
+  pub later : next.later ≡ s.later ++ s.timetable ∷ []
+  pub standing : next.standing ≡ all_but_last s.standing
+  pub undone : next.undone ≡ s.undone ++ last_alone s.standing
+  pub greatest : next.last ≡ s.last
+
+stepped-back : (s next : ScriptView) (o : Option TimetableView) → last_item s.earlier ≡ o → if_undone s o ≡ Ok next → IsStepBack s next
+stepped-back s next None last e = absurd (cc)
+stepped-back s next (Some t) last e = record { timetable = t; last = last; stands = cc; earlier = cc; later = cc; standing = cc; undone = cc; greatest = cc }
+
+pub stepped-undo : (s next : ScriptView) (number : ℕ) → stepped s number Undo ≡ Ok next → IsStepBack s next
+stepped-undo s next number e = stepped-back s next (last_item s.earlier) refl e
+
+pub record IsStepForth (s next : ScriptView) : Type 0 where
+  pub timetable : TimetableView
+  pub last : last_item s.later ≡ Some timetable
+  pub stands : next.timetable ≡ timetable
+  pub earlier : next.earlier ≡ s.earlier ++ s.timetable ∷ []
+  pub later : next.later ≡ all_but_last s.later
+  pub standing : next.standing ≡ s.standing ++ last_alone s.undone
+  pub undone : next.undone ≡ all_but_last s.undone
+  pub greatest : next.last ≡ s.last
+
+stepped-forth : (s next : ScriptView) (o : Option TimetableView) → last_item s.later ≡ o → if_redone s o ≡ Ok next → IsStepForth s next
+stepped-forth s next None last e = absurd (cc)
+stepped-forth s next (Some t) last e = record { timetable = t; last = last; stands = cc; earlier = cc; later = cc; standing = cc; undone = cc; greatest = cc }
+
+pub stepped-redo : (s next : ScriptView) (number : ℕ) (edit : Edit) → edit ≡ Redo → stepped s number edit ≡ Ok next → IsStepForth s next
+stepped-redo s next number edit is e = stepped-forth s next (last_item s.later) refl (ap (stepped s number) (sym is) ∙ e)
+
+pub undo-there : (s next : ScriptView) (m : MatrixView) (h : HistoryView) (deficits : List (List ℤ)) (number : ℕ) → IsDesk (desk_seen s m h) deficits → stepped s number Undo ≡ Ok next → h.earlier ≡ [] → ⊥
+undo-there s next m h deficits number desk e none = let back = stepped-undo s next number e in plans-some m s.earlier h.earlier back.timetable desk.earlier back.last none
+
+pub redo-there : (s next : ScriptView) (m : MatrixView) (h : HistoryView) (deficits : List (List ℤ)) (number : ℕ) (edit : Edit) → IsDesk (desk_seen s m h) deficits → edit ≡ Redo → stepped s number edit ≡ Ok next → h.later ≡ [] → ⊥
+redo-there s next m h deficits number edit desk is e none = let forth = stepped-redo s next number edit is e in plans-some m s.later h.later forth.timetable desk.later forth.last none
+
+pub IsDesk-undone : (s next : ScriptView) (m : MatrixView) (h new : HistoryView) (deficits followed : List (List ℤ)) (number : ℕ) → IsDesk (desk_seen s m h) deficits → stepped s number Undo ≡ Ok next
+    → Holds followed (live_moves next.timetable.slots) → length followed ≡ length deficits → length next.timetable.places ≡ length s.timetable.places
+    → h.earlier ≡ new.earlier ++ new.plan ∷ [] → new.later ≡ h.later ++ h.plan ∷ [] → IsDesk (desk_seen next m new) followed
+IsDesk-undone s next m h new deficits followed number desk e held rows places earlier later =
+    let back = stepped-undo s next number e in
+    let last = plans-last m s.earlier h.earlier new.earlier back.timetable new.plan desk.earlier back.last earlier in
+    record {
+      places = places ∙ desk.places;
+      plan = subst (λ t. IsPlanFor t m new.plan) (sym back.stands) last.0;
+      earlier = subst (λ ts. ArePlansFor m ts new.earlier) (sym back.earlier) last.1;
+      later = subst (λ ts. ArePlansFor m ts new.later) (sym back.later) (subst (λ ps. ArePlansFor m (s.later ++ s.timetable ∷ []) ps) (sym later) (plans-push m s.later h.later s.timetable h.plan desk.later desk.plan));
+      held = held;
+      rows = rows ∙ (desk.rows ∙ sym places);
+    }
+
+pub IsDesk-redone : (s next : ScriptView) (m : MatrixView) (h new : HistoryView) (deficits followed : List (List ℤ)) (number : ℕ) (edit : Edit) → IsDesk (desk_seen s m h) deficits → edit ≡ Redo → stepped s number edit ≡ Ok next
+    → Holds followed (live_moves next.timetable.slots) → length followed ≡ length deficits → length next.timetable.places ≡ length s.timetable.places
+    → h.later ≡ new.later ++ new.plan ∷ [] → new.earlier ≡ h.earlier ++ h.plan ∷ [] → IsDesk (desk_seen next m new) followed
+IsDesk-redone s next m h new deficits followed number edit desk is e held rows places later earlier =
+    let forth = stepped-redo s next number edit is e in
+    let last = plans-last m s.later h.later new.later forth.timetable new.plan desk.later forth.last later in
+    record {
+      places = places ∙ desk.places;
+      plan = subst (λ t. IsPlanFor t m new.plan) (sym forth.stands) last.0;
+      earlier = subst (λ ts. ArePlansFor m ts new.earlier) (sym forth.earlier) (subst (λ ps. ArePlansFor m (s.earlier ++ s.timetable ∷ []) ps) (sym earlier) (plans-push m s.earlier h.earlier s.timetable h.plan desk.earlier desk.plan));
+      later = subst (λ ts. ArePlansFor m ts new.later) (sym forth.later) last.1;
+      held = held;
+      rows = rows ∙ (desk.rows ∙ sym places);
+    }
+
+-- the slots of the pairs after a shift are those of before
+pub length-shift : (s next : ScriptView) (m : MatrixView) (number : ℕ) (edit : Edit) (trip : List ℕ) (slot : ℕ) (pairs : PairsView) → (by : ℤ) × (edit ≡ Shift trip by) → Some slot ≡ number_of (slot_names s.timetable) trip
+    → stepped s number edit ≡ Ok next → pairs ≡ pairs_of next.timetable m None → length pairs.moves ≡ length s.timetable.slots
+length-shift s next m number edit trip slot pairs is found accepted over =
+    ap (λ (p : PairsView). length p.moves) over ∙ (length-map next.timetable.slots move_of_slot ∙ slots-shift s next number edit trip slot is found accepted)
+
+-- an undo, by its edit
+pub done-undo : {T : Type 0} (r : Result T EditFault) (number : ℕ) (edit : Edit) (old new : DeskView) → edit ≡ Undo → OnOk r ((number : ℕ) → IsDone number Undo old new) → OnOk r (IsDone number edit old new)
+done-undo (Ok x) number edit old new is done = subst (λ e. IsDone number e old new) (sym is) (done number)
+done-undo (Err refused) number edit old new is done = tt
+
+pub refused-undo : {T : Type 0} (r : Result T EditFault) (number : ℕ) (edit : Edit) (s : ScriptView) → edit ≡ Undo → IfErr r (λ refused. (number : ℕ) → stepped s number Undo ≡ Err refused)
+    → IfErr r (λ refused. IsRefused refused edit (stepped s number edit))
+refused-undo (Ok x) number edit s is refused = tt
+refused-undo (Err why) number edit s is refused = subst (λ e. IsRefused why e (stepped s number e)) (sym is) (by why (refused number))
+  where
+    by : (f : EditFault) → stepped s number Undo ≡ Err f → IsRefused f Undo (stepped s number Undo)
+    by fault.Memory e = absurd (none (last_item s.earlier) e)
+      where
+        none : (o : Option TimetableView) → if_undone s o ≡ Err fault.Memory → ⊥
+        none None e = cc
+        none (Some t) e = cc
+    by f e = e

@@ -1,0 +1,4 @@
+pub mod CountLemmas
+pub mod DeskLemmas
+pub mod FollowLemmas
+pub mod StandingLemmas

@@ -1,0 +1,106 @@
+-- What a desk is seen as, what holds of each one, and what an edit does to it.
+use Rattle.std.specs.Prelude.{◌≡◌, ℕ, ◌+◌, ◌*◌, List, [], ◌∷◌, ◌++◌, length, Option, IfSome, Ok, Err, Result, ℤ, ⊤}
+use Rattle.std.specs.List.{AllZip}
+use Rattle.deadhead_matrix.specs.Matrix.{MatrixView}
+use Rattle.deadhead_matrix.specs.Paths.{IsTaken, IsAdded}
+use Rattle.deadhead_matrix.specs.Prices.{Plan, IsPlanFor}
+use Rattle.deficit_steps.specs.Holds.{Holds}
+use Rattle.edit_script.specs.Script.{ScriptView, TakesMemory, stepped}
+use Rattle.edit_script.specs.declared.edit.Edit.{Edit}
+use Rattle.edit_script.specs.declared.edit.Edit.TheVariants.{Shift, Cancel, Restore, Extra, Undo, Redo, Show}
+use Rattle.edit_script.specs.declared.fault.EditFault.{EditFault}
+use Rattle.edit_script.specs.declared.fault.EditFault.TheVariants as fault
+use Rattle.plan_history.specs.History.{HistoryView, IsReplaced}
+use Rattle.trip_model.specs.Deficit.{live_moves}
+use Rattle.trip_model.specs.Timetable.{TimetableView, number_of, slot_names}
+use Rattle.undo_log.specs.Log.{latest_items}
+
+-- a desk: the script, the matrix, the plan, of each edit that can be undone the plan before it, and of each that can be
+-- redone the plan after it; the last of each list is the newest
+pub record DeskView : Type 0 where
+  pub script : ScriptView
+  pub matrix : MatrixView
+  pub plan : Plan
+  pub earlier : List Plan
+  pub later : List Plan
+
+-- the desk of a script, a matrix and a history
+abbrev pub desk_seen : ScriptView → MatrixView → HistoryView → DeskView
+desk_seen script matrix history = record { script = script; matrix = matrix; plan = history.plan; earlier = history.earlier; later = history.later }
+
+-- as many plans as timetables, each for the one beside it
+abbrev pub ArePlansFor : MatrixView → List TimetableView → List Plan → Type 0
+ArePlansFor matrix timetables plans = AllZip (λ (timetable : TimetableView) (plan : Plan). IsPlanFor timetable matrix plan) timetables plans
+
+-- script, deficits and plans in lockstep: the matrix has the places of the timetable, the plan is one for both, and so is each
+-- that can be undone or redone for its timetable; and the deficits hold the moves of the trips that run, and no others
+pub record IsDesk (desk : DeskView) (deficits : List (List ℤ)) : Type 0 where
+  pub places : length desk.script.timetable.places ≡ length desk.matrix.walks
+  pub plan : IsPlanFor desk.script.timetable desk.matrix desk.plan
+  pub earlier : ArePlansFor desk.matrix desk.script.earlier desk.earlier
+  pub later : ArePlansFor desk.matrix desk.script.later desk.later
+  pub held : Holds deficits (live_moves desk.script.timetable.slots)
+  pub rows : length deficits ≡ length desk.script.timetable.places
+
+-- the edit adds a trip
+abbrev pub IsExtra : Edit → Type 0
+IsExtra (Extra trip from to departs arrives) = ⊤
+IsExtra edit = ⊥
+
+-- along which paths an edit of a trip changes the links of a plan for a timetable: those of a trip that is taken, added, or
+-- taken and added, in the slot of its name, or in a new last one. A show changes none.
+abbrev pub AreRepaired : Edit → TimetableView → List (Option ℕ) → List (Option ℕ) → Type 0
+AreRepaired (Shift trip by) timetable old new = IfSome (number_of (slot_names timetable) trip) (λ s. IsReplaced old new s)
+AreRepaired (Cancel trip) timetable old new = IfSome (number_of (slot_names timetable) trip) (λ s. IsTaken old new s)
+AreRepaired (Restore trip) timetable old new = IfSome (number_of (slot_names timetable) trip) (λ s. IsAdded old new s)
+AreRepaired (Extra trip from to departs arrives) timetable old new = IsAdded old new (length timetable.slots)
+AreRepaired Undo timetable old new = ⊤
+AreRepaired Redo timetable old new = ⊤
+AreRepaired Show timetable old new = new ≡ old
+
+-- the plan that stood is the last that can be undone, of 256 at most, and none can be redone
+pub record IsKept (old new : DeskView) : Type 0 where
+  pub earlier : new.earlier ≡ latest_items (old.earlier ++ old.plan ∷ [])
+  pub later : new.later ≡ []
+
+-- the plan is the last that could be undone, prices included, and the one that stood is the last that can be redone
+pub record IsUndone (old new : DeskView) : Type 0 where
+  pub earlier : old.earlier ≡ new.earlier ++ new.plan ∷ []
+  pub later : new.later ≡ old.later ++ old.plan ∷ []
+
+-- the plan is the last that could be redone, prices included, and the one that stood is the last that can be undone
+pub record IsRedone (old new : DeskView) : Type 0 where
+  pub later : old.later ≡ new.later ++ new.plan ∷ []
+  pub earlier : new.earlier ≡ old.earlier ++ old.plan ∷ []
+
+-- no plan is another
+pub record IsShown (old new : DeskView) : Type 0 where
+  pub plan : new.plan ≡ old.plan
+  pub earlier : new.earlier ≡ old.earlier
+  pub later : new.later ≡ old.later
+
+-- which plans can be undone and redone after an edit
+abbrev pub ArePlansAfter : Edit → DeskView → DeskView → Type 0
+ArePlansAfter Undo old new = IsUndone old new
+ArePlansAfter Redo old new = IsRedone old new
+ArePlansAfter Show old new = IsShown old new
+ArePlansAfter edit old new = IsKept old new
+
+-- the edit of a record of that number was done: the script made its step, and the plan was repaired, or restored as it was
+pub record IsDone (number : ℕ) (edit : Edit) (old new : DeskView) : Type 0 where
+  pub script : stepped old.script number edit ≡ Ok new.script
+  pub matrix : new.matrix ≡ old.matrix
+  pub links : AreRepaired edit old.script.timetable old.plan.next new.plan.next
+  pub plans : ArePlansAfter edit old new
+
+-- a fault is the refusal of an edit, or want of memory for one that takes memory
+abbrev pub IsRefused : EditFault → Edit → Result ScriptView EditFault → Type 0
+IsRefused fault.Memory edit due = TakesMemory edit
+IsRefused refused edit due = due ≡ Err refused
+
+-- the most steps of an edit, with so many slots after it
+abbrev pub most_steps : Edit → ℕ → ℕ
+most_steps Undo n = 56
+most_steps Redo n = 56
+most_steps Show n = 0
+most_steps edit n = 4 * n * n + 4 * n + 56

@@ -1,0 +1,4 @@
+pub mod Counts
+pub mod Desk
+pub mod Follow
+pub mod Standing

@@ -1,0 +1,341 @@
+ghost use Rattle.std.specs.Prelude.{◌≡◌, ◌≢◌, ℕ, ℤ, ◌+◌, ◌*◌, ◌≤◌, [], length, pos, IfErr, IfOk, IfSome, IsNone, OnErr, OnOk, ◌↔◌, Some};
+ghost use Rattle.deadhead_matrix.specs.Prices.{Plan as PlanView, IsPlanFor};
+ghost use Rattle.deficit_steps.specs.Holds.{Holds};
+ghost use Rattle.desk_core.specs.Counts.{blocks_in, minutes_in};
+ghost use Rattle.desk_core.specs.Desk.{ArePlansFor, IsDone, IsExtra, IsRefused, most_steps};
+ghost use Rattle.edit_script.specs.Edits.{InForm};
+ghost use Rattle.edit_script.specs.Script.{IsNext, stepped};
+ghost use Rattle.plan_history.specs.Stands.{differences};
+ghost use Rattle.trip_model.specs.Deficit.{deficit, live_moves};
+ghost use Rattle.trip_model.specs.Maximum.{sum_of_maxima};
+ghost use Rattle.undo_log.specs.Log.{last_item};
+
+use crate::counts::{block_count, block_minutes};
+use crate::follow::step;
+use deadhead_matrix::Matrix;
+use deficit_steps::laws::held_law;
+use deficit_steps::{Deficits, deficits_of};
+use desk_io::{Memory, Steps, Text};
+use edit_script::{Edit, EditFault, Script};
+use pair_graph::Pairs;
+use plan_history::{Changed, PlanHistory};
+use price_assign::Plan;
+use std::alloc::Global;
+use std::marker::Model;
+use std::sync::ledger::Ledger;
+use trip_model::Timetable;
+
+/// A timetable under edits, with the deficits of its trips and a plan that is certified for it.
+#[derive(Drop)]
+pub struct Desk {
+    script: Script,
+    matrix: Matrix,
+    deficits: Deficits,
+    history: PlanHistory,
+}
+
+impl Model for Desk {
+    ghost use Rattle.desk_core.specs.Desk.{DeskView, IsDesk, desk_seen};
+
+    ghost Value = { DeskView };
+
+    ghost view = { λ d. desk_seen d.script d.matrix d.history };
+
+    ghost invariant = { λ d. IsDesk (desk_seen d.script d.matrix d.history) d.deficits };
+}
+
+impl Desk {
+    /// The desk of a script to which nothing was done, and of the matrix of its places, with a first plan. At most
+    /// n^3 + n^2 + 28n steps for n slots.
+    pub fn open<L: Ledger>(
+        alloc: Global,
+        script: Script,
+        matrix: Matrix,
+        steps: &mut Steps<L>,
+    ) -> Result<Desk, Memory>
+        requires places { length script.timetable.places ≡ length matrix.walks }
+        requires earlier { script.earlier ≡ [] }
+        requires later { script.later ≡ [] }
+        ensures script { IfOk result (λ desk. desk.script ≡ script) }
+        ensures matrix { IfOk result (λ desk. desk.matrix ≡ matrix) }
+        ensures certified { IfOk result (λ desk. IsPlanFor script.timetable matrix desk.plan) }
+        ensures earlier { IfOk result (λ desk. desk.earlier ≡ []) }
+        ensures later { IfOk result (λ desk. desk.later ≡ []) }
+        ensures counted { let n = length script.timetable.slots in steps.new ≤ steps.old + (n * n * n + n * n + 28 * n) }
+    {
+        let deficits = deficits_of(alloc, script.timetable(), steps)?;
+        let mut history = PlanHistory::open(alloc)?;
+        history.solve(&Pairs::of(script.timetable(), &matrix), steps);
+        Ok(Desk {
+            script,
+            matrix,
+            deficits,
+            history,
+        })
+    }
+
+    /// The timetable that stands.
+    pub fn timetable(&self) -> &Timetable
+        ensures timetable { result.now ≡ self.now.script.timetable }
+        ensures places { length self.now.script.timetable.places ≡ length self.now.matrix.walks }
+    {
+        self.script.timetable()
+    }
+
+    /// The matrix that was handed in.
+    pub fn matrix(&self) -> &Matrix
+        ensures matrix { result.now ≡ self.now.matrix }
+        ensures places { length self.now.matrix.walks ≡ length self.now.script.timetable.places }
+    {
+        &self.matrix
+    }
+
+    /// The deficits of the trips that run.
+    pub fn deficits(&self) -> &Deficits
+        ensures held { Holds result.now (live_moves self.now.script.timetable.slots) }
+        ensures rows { length result.now ≡ length self.now.script.timetable.places }
+    {
+        &self.deficits
+    }
+
+    /// The plan, certified for the timetable and the matrix. Each that can be undone or redone is so for its own timetable.
+    pub fn plan(&self) -> &Plan
+        ensures plan { result.now ≡ self.now.plan }
+        ensures certified { IsPlanFor self.now.script.timetable self.now.matrix self.now.plan }
+        ensures earlier { ArePlansFor self.now.matrix self.now.script.earlier self.now.earlier }
+        ensures later { ArePlansFor self.now.matrix self.now.script.later self.now.later }
+    {
+        self.history.plan()
+    }
+
+    /// The numbers of the edits that stand.
+    pub fn standing(&self) -> &[u32]
+        ensures { result.now ≡ self.now.script.standing }
+    {
+        self.script.standing()
+    }
+
+    /// The sum of the greatest deficits of all places: the vehicles that suffice where none runs empty.
+    pub fn fixed(&self) -> u32
+        ensures { pos result ≡ sum_of_maxima (deficit (live_moves self.now.script.timetable.slots)) (length self.now.script.timetable.places) }
+    {
+        held_law();
+        // Their clauses say that the timetable and the deficits are valid.
+        let _places = self.script.timetable().places();
+        let _rows = self.deficits.places();
+        self.deficits.total() as u32
+    }
+
+    /// How many vehicles the plan has: how many blocks its links make.
+    pub fn vehicles(&self) -> u32
+        ensures { result ≡ length (blocks_in self.now.script.timetable self.now.plan) }
+    {
+        let pairs = Pairs::of(self.script.timetable(), &self.matrix);
+        block_count(&pairs, self.history.plan().links())
+    }
+
+    /// The empty minutes of the blocks that its links make.
+    pub fn minutes(&self) -> u32
+        ensures { result ≡ minutes_in self.now.script.timetable self.now.matrix self.now.plan }
+    {
+        let pairs = Pairs::of(self.script.timetable(), &self.matrix);
+        block_minutes(&pairs, &self.matrix, self.history.plan().links())
+    }
+
+    /// The slots that the last kept edit changed in the plan, ascending, each with what stood before and after. `None`:
+    /// nothing is kept.
+    pub fn last_change(&self) -> Option<&[Changed]>
+        ensures none { IsNone result ↔ (self.now.earlier ≡ []) }
+        ensures changes { IfSome result (λ changes. (plan : PlanView) → last_item self.now.earlier ≡ Some plan → changes.now ≡ differences plan self.now.plan) }
+    {
+        self.history.last_change()
+    }
+
+    // Cancels a trip, and takes it out of the plan.
+    fn cancel<L: Ledger>(
+        &mut self,
+        number: u32,
+        edit: &Edit,
+        trip: &Text,
+        steps: &mut Steps<L>,
+    ) -> Result<(), EditFault>
+        requires is { edit.now ≡ Edit.Cancel trip.now }
+        requires form { InForm edit.now }
+        requires next { IsNext self.old.script number edit.now }
+        ensures done { OnOk result (IsDone number edit.now self.old self.new) }
+        ensures refused { IfErr result (λ refused. IsRefused refused edit.now (stepped self.old.script number edit.now)) }
+        ensures unchanged { OnErr result (self.new ≡ self.old) }
+        ensures counted { OnOk result (steps.new ≤ steps.old + most_steps edit.now (length self.new.script.timetable.slots)) }
+        ensures uncounted { OnErr result (steps.new ≡ steps.old) }
+    {
+        self.history.reserve()?;
+        // Its clause says that the timetable is valid.
+        let _slots = self.script.timetable().slots();
+        let Some(slot) = self.script.timetable().find(trip.as_str()) else {
+            return Err(EditFault::UnknownTrip);
+        };
+        step(&mut self.script, &mut self.deficits, number, edit, steps)?;
+        let pairs = Pairs::of(self.script.timetable(), &self.matrix);
+        self.history.take(&pairs, slot, steps);
+        Ok(())
+    }
+
+    // Lets a trip run again, and adds it to the plan.
+    fn restore<L: Ledger>(
+        &mut self,
+        number: u32,
+        edit: &Edit,
+        trip: &Text,
+        steps: &mut Steps<L>,
+    ) -> Result<(), EditFault>
+        requires is { edit.now ≡ Edit.Restore trip.now }
+        requires form { InForm edit.now }
+        requires next { IsNext self.old.script number edit.now }
+        ensures done { OnOk result (IsDone number edit.now self.old self.new) }
+        ensures refused { IfErr result (λ refused. IsRefused refused edit.now (stepped self.old.script number edit.now)) }
+        ensures unchanged { OnErr result (self.new ≡ self.old) }
+        ensures counted { OnOk result (steps.new ≤ steps.old + most_steps edit.now (length self.new.script.timetable.slots)) }
+        ensures uncounted { OnErr result (steps.new ≡ steps.old) }
+    {
+        self.history.reserve()?;
+        let Some(slot) = self.script.timetable().find(trip.as_str()) else {
+            return Err(EditFault::UnknownTrip);
+        };
+        step(&mut self.script, &mut self.deficits, number, edit, steps)?;
+        let pairs = Pairs::of(self.script.timetable(), &self.matrix);
+        self.history.add(&pairs, slot, steps);
+        Ok(())
+    }
+
+    // Shifts a trip, which is taken out of the plan and added again.
+    fn shift<L: Ledger>(
+        &mut self,
+        number: u32,
+        edit: &Edit,
+        trip: &Text,
+        steps: &mut Steps<L>,
+    ) -> Result<(), EditFault>
+        requires is { (by : ℤ) × (edit.now ≡ Edit.Shift trip.now by) }
+        requires form { InForm edit.now }
+        requires next { IsNext self.old.script number edit.now }
+        ensures done { OnOk result (IsDone number edit.now self.old self.new) }
+        ensures refused { IfErr result (λ refused. IsRefused refused edit.now (stepped self.old.script number edit.now)) }
+        ensures unchanged { OnErr result (self.new ≡ self.old) }
+        ensures counted { OnOk result (steps.new ≤ steps.old + most_steps edit.now (length self.new.script.timetable.slots)) }
+        ensures uncounted { OnErr result (steps.new ≡ steps.old) }
+    {
+        self.history.reserve()?;
+        // Its clause says that the timetable is valid.
+        let _slots = self.script.timetable().slots();
+        let Some(slot) = self.script.timetable().find(trip.as_str()) else {
+            return Err(EditFault::UnknownTrip);
+        };
+        step(&mut self.script, &mut self.deficits, number, edit, steps)?;
+        let without = Pairs::without(self.script.timetable(), &self.matrix, slot);
+        let pairs = Pairs::of(self.script.timetable(), &self.matrix);
+        self.history.replace(&without, &pairs, slot, steps);
+        Ok(())
+    }
+
+    // Adds a trip, to the plan too.
+    fn extra<L: Ledger>(
+        &mut self,
+        number: u32,
+        edit: &Edit,
+        steps: &mut Steps<L>,
+    ) -> Result<(), EditFault>
+        requires is { IsExtra edit.now }
+        requires form { InForm edit.now }
+        requires next { IsNext self.old.script number edit.now }
+        ensures done { OnOk result (IsDone number edit.now self.old self.new) }
+        ensures refused { IfErr result (λ refused. IsRefused refused edit.now (stepped self.old.script number edit.now)) }
+        ensures unchanged { OnErr result (self.new ≡ self.old) }
+        ensures counted { OnOk result (steps.new ≤ steps.old + most_steps edit.now (length self.new.script.timetable.slots)) }
+        ensures uncounted { OnErr result (steps.new ≡ steps.old) }
+    {
+        self.history.reserve()?;
+        let slot = self.script.timetable().slots();
+        step(&mut self.script, &mut self.deficits, number, edit, steps)?;
+        let pairs = Pairs::of(self.script.timetable(), &self.matrix);
+        self.history.add(&pairs, slot, steps);
+        Ok(())
+    }
+
+    /// Undoes the last kept edit, or refuses that where none is kept. It takes no memory. At most 56 steps.
+    pub fn undo<L: Ledger>(&mut self, steps: &mut Steps<L>) -> Result<(), EditFault>
+        ensures done { OnOk result ((number : ℕ) → IsDone number Edit.Undo self.old self.new) }
+        ensures refused { IfErr result (λ refused. (number : ℕ) → stepped self.old.script number Edit.Undo ≡ Err refused) }
+        ensures memory { result ≢ Err EditFault.Memory }
+        ensures unchanged { OnErr result (self.new ≡ self.old) }
+        ensures counted { OnOk result (steps.new ≤ steps.old + 56) }
+        ensures uncounted { OnErr result (steps.new ≡ steps.old) }
+    {
+        step(&mut self.script, &mut self.deficits, 0, &Edit::Undo, steps)?;
+        self.history.undo();
+        Ok(())
+    }
+
+    // Redoes the edit that was undone last.
+    fn redo<L: Ledger>(
+        &mut self,
+        number: u32,
+        edit: &Edit,
+        steps: &mut Steps<L>,
+    ) -> Result<(), EditFault>
+        requires is { edit.now ≡ Edit.Redo }
+        ensures done { OnOk result (IsDone number edit.now self.old self.new) }
+        ensures refused { IfErr result (λ refused. IsRefused refused edit.now (stepped self.old.script number edit.now)) }
+        ensures unchanged { OnErr result (self.new ≡ self.old) }
+        ensures counted { OnOk result (steps.new ≤ steps.old + most_steps edit.now (length self.new.script.timetable.slots)) }
+        ensures uncounted { OnErr result (steps.new ≡ steps.old) }
+    {
+        step(&mut self.script, &mut self.deficits, number, edit, steps)?;
+        self.history.redo();
+        Ok(())
+    }
+
+    // Counts a show.
+    fn show(&mut self, number: u32, edit: &Edit) -> Result<(), EditFault>
+        requires is { edit.now ≡ Edit.Show }
+        ensures done { OnOk result (IsDone number edit.now self.old self.new) }
+        ensures refused { IfErr result (λ refused. IsRefused refused edit.now (stepped self.old.script number edit.now)) }
+        ensures unchanged { OnErr result (self.new ≡ self.old) }
+    {
+        self.script.step(number, edit)?;
+        Ok(())
+    }
+
+    /// Does the edit of a record of that number, or refuses it and changes nothing. It takes its memory first. With n slots
+    /// afterwards, at most 4n^2 + 4n + 56 steps for an edit of a trip, 56 for an undo and a redo, and none for a show and for
+    /// an edit that is refused.
+    pub fn apply<L: Ledger>(
+        &mut self,
+        number: u32,
+        edit: &Edit,
+        steps: &mut Steps<L>,
+    ) -> Result<(), EditFault>
+        requires form { InForm edit.now }
+        requires next { IsNext self.old.script number edit.now }
+        ensures done { OnOk result (IsDone number edit.now self.old self.new) }
+        ensures refused { IfErr result (λ refused. IsRefused refused edit.now (stepped self.old.script number edit.now)) }
+        ensures unchanged { OnErr result (self.new ≡ self.old) }
+        ensures counted { OnOk result (steps.new ≤ steps.old + most_steps edit.now (length self.new.script.timetable.slots)) }
+        ensures uncounted { OnErr result (steps.new ≡ steps.old) }
+    {
+        match edit {
+            Edit::Shift { trip, by: _ } => self.shift(number, edit, trip, steps),
+            Edit::Cancel { trip } => self.cancel(number, edit, trip, steps),
+            Edit::Restore { trip } => self.restore(number, edit, trip, steps),
+            Edit::Extra {
+                trip: _,
+                from: _,
+                to: _,
+                departs: _,
+                arrives: _,
+            } => self.extra(number, edit, steps),
+            Edit::Undo => self.undo(steps),
+            Edit::Redo => self.redo(number, edit, steps),
+            Edit::Show => self.show(number, edit),
+        }
+    }
+}
