@@ -1,0 +1,4 @@
+pub mod FieldsWritten
+pub mod Numbered
+pub mod ReadAgain
+pub mod TablesWritten

@@ -1,0 +1,5 @@
+pub mod Fields
+pub mod Laws
+pub mod StopTimes
+pub mod Texts
+pub mod Trips

@@ -1,0 +1,64 @@
+-- The records of `trips.txt`, written with the block of each selected trip.
+use Rattle.std.specs.Prelude.{ℕ, ◌==◌, Bool, false, List, [], ◌∷◌, ◌++◌, length, map, nat_lt, slice_index_or, Option, None, Some, if◌then◌else◌}
+use Rattle.std.specs.Fmt.{decimal}
+use Rattle.std.specs.List.{list_any, position_from, range_with_len}
+use Rattle.gtfs_tables.specs.Papers.{column_name_of}
+use Rattle.gtfs_tables.specs.Table.{TableView}
+use Rattle.gtfs_tables.specs.declared.paper.Column.TheVariants as column
+use Rattle.trip_model.specs.Timetable.{TimetableView, slot_at}
+use Rattle.block_writer.specs.Fields.{place_of, field_at, with_field, slot_in, table_text}
+
+-- whether the trip of a slot is one of a block
+abbrev pub is_in : ℕ → List ℕ → Bool
+is_in s block = list_any (λ x. x == s) block
+
+-- the number, from 1, of the block in which a slot stands, the first if there are more
+abbrev pub number_in : List (List ℕ) → ℕ → Option ℕ
+number_in blocks s = position_from (is_in s) 1 blocks
+
+-- the number that a slot has after a block of that number: the one that it had, or this one where it stands in the block
+abbrev pub numbered : Option ℕ → Bool → ℕ → Option ℕ
+numbered None stands number = if stands then Some number else None
+numbered (Some before) stands number = Some before
+
+-- the number of its block for each of so many slots
+abbrev pub block_numbers : ℕ → List (List ℕ) → List (Option ℕ)
+block_numbers slots blocks = map (number_in blocks) (range_with_len 0 slots)
+
+-- the name of the block of that number: the prefix and the number; empty where there is no block
+abbrev pub name_of : List ℕ → Option ℕ → List ℕ
+name_of prefix None = []
+name_of prefix (Some number) = prefix ++ decimal number
+
+-- the block of a selected trip: the name of that in which its slot stands; empty where it does not run
+abbrev pub block_of : TimetableView → List (Option ℕ) → List ℕ → Option ℕ → List ℕ
+block_of timetable numbers prefix None = []
+block_of timetable numbers prefix (Some s) = if (slot_at timetable s).trip.live then name_of prefix (slice_index_or numbers s None) else []
+
+-- a record with its block, where it is selected; any other as it came
+abbrev pub trip_written : TimetableView → List (Option ℕ) → List ℕ → ℕ → ℕ → Bool → List (List ℕ) → List (List ℕ)
+trip_written timetable numbers prefix trip block chosen row =
+    with_field row block (if chosen then block_of timetable numbers prefix (slot_in timetable trip row) else field_at row block)
+
+-- the header, with `block_id` at its end where it names no such column
+abbrev pub header_written : ℕ → List (List ℕ) → List (List ℕ)
+header_written block header = if nat_lt block (length header) then header else header ++ column_name_of column.BlockId ∷ []
+
+-- the records with their blocks, in their order; each is selected or not
+abbrev pub trips_rows : TableView → TimetableView → List Bool → List (List ℕ) → List ℕ → List (List (List ℕ))
+trips_rows table timetable chosen blocks prefix =
+    map
+    (λ r. trip_written timetable (block_numbers (length timetable.slots) blocks) prefix (place_of column.TripId table.header) (place_of column.BlockId table.header)
+    (slice_index_or chosen r false) (slice_index_or table.rows r []))
+    (range_with_len 0 (length table.rows))
+
+-- the table with the blocks
+unfoldable pub with_blocks : TableView → TimetableView → List Bool → List (List ℕ) → List ℕ → TableView
+with_blocks table timetable chosen blocks prefix = record {
+  header = header_written (place_of column.BlockId table.header) table.header;
+  rows = trips_rows table timetable chosen blocks prefix;
+}
+
+-- the text of `trips_blocks.txt`
+abbrev pub trips_written : TableView → TimetableView → List Bool → List (List ℕ) → List ℕ → List ℕ
+trips_written table timetable chosen blocks prefix = table_text (with_blocks table timetable chosen blocks prefix)
