@@ -1,4 +1,6 @@
+pub mod BlockNamed
 pub mod FieldsWritten
 pub mod Numbered
 pub mod ReadAgain
 pub mod TablesWritten
+pub mod TextsTold

@@ -1,23 +1,21 @@
 -- A table that is written reads back.
-use Rattle.std.proofs.Common.{◌≡◌, ℕ, zero, suc, ◌+◌, ◌-◌, ◌<◌, ◌≤◌, inl, inr, List, [], ◌∷◌, ◌++◌, length, length-append, get_or, set, map, replicate, All, Bool, true, false, Option, Some, None, Result, Ok, Err, refl, sym, ap, ◌∙◌, arith}
+use Rattle.std.proofs.Common.{◌≡◌, ℕ, suc, ◌+◌, ◌-◌, ◌<◌, ◌≤◌, inl, inr, List, [], ◌∷◌, length, length-append, get_or, set, map, All, Bool, true, false, None, Ok, refl, ap, ◌∙◌, arith}
 use Rattle.std.specs.Prelude.{if◌then◌else◌}
-use Rattle.std.specs.List.{position_from, range_with_len}
-use Rattle.std.proofs.lemmas.Bool.{cases_lt, cases_Bool, lt-ltb, le-ltb}
+use Rattle.std.specs.List.{position_from}
+use Rattle.std.proofs.lemmas.Bool.{cases_lt, lt-ltb, le-ltb}
 use Rattle.std.proofs.lemmas.List.{append-nil, get_or-map, length-map, length-set}
 use Rattle.std.proofs.lemmas.List.Elements.{All-cons, All-from_get_or}
 use Rattle.std.proofs.lemmas.List.FromFn.{get_or-map-range_with_len, length-map-range_with_len}
 use Rattle.csv.specs.Reading.{strip_bom}
 use Rattle.gtfs_tables.proofs.Written.{records-back}
 use Rattle.gtfs_tables.specs.Rows.{padded}
-use Rattle.gtfs_tables.specs.Table.{TableView, IsTable, body_of, is_longer, table_from, table_of, with_header}
-use Rattle.gtfs_tables.specs.Writing.{records_text, ReadBack}
+use Rattle.gtfs_tables.specs.Table.{TableView, is_longer, table_from, table_of}
 use Rattle.gtfs_tables.specs.declared.paper.Column.TheVariants as column
-use Rattle.gtfs_tables.specs.declared.table.TableFault.{TableFault}
 use Rattle.trip_model.specs.Timetable.{TimetableView}
 use Rattle.block_writer.specs.Fields.{place_of, field_at, with_field, table_text, slot_in}
 use Rattle.block_writer.specs.Laws as spec
-use Rattle.block_writer.specs.StopTimes.{moved_by, moved_row, moved_field, offset_of, stop_time_written, with_times, stop_times_written}
-use Rattle.block_writer.specs.Trips.{block_numbers, block_of, header_written, trip_written, trips_rows, with_blocks, trips_written}
+use Rattle.block_writer.specs.StopTimes.{moved_field, offset_of, stop_time_written, with_times}
+use Rattle.block_writer.specs.Trips.{block_numbers, header_written, trip_written, trips_rows, with_blocks}
 
 -- a record of that many fields is not padded
 padded-same : (width : ℕ) (row : List (List ℕ)) → length row ≡ width → padded width row ≡ row

@@ -1,10 +1,12 @@
--- What is written of a feed reads back.
-use Rattle.std.specs.Prelude.{◌≡◌, ℕ, ◌<◌, Bool, List, length, Ok}
+-- What is written of a feed reads back, and which block it names.
+use Rattle.std.specs.Prelude.{◌≡◌, ℕ, ◌<◌, Bool, true, List, [], length, slice_index_or, Ok}
 use Rattle.csv.specs.Reading.{strip_bom}
 use Rattle.gtfs_tables.specs.Table.{TableView, IsTable, table_of}
+use Rattle.trip_model.specs.Blocking.{times, slots_in}
 use Rattle.trip_model.specs.Timetable.{TimetableView}
+use Rattle.block_build.specs.Lines.{block_name}
 use Rattle.block_writer.specs.StopTimes.{with_times, stop_times_written}
-use Rattle.block_writer.specs.Trips.{with_blocks, trips_written}
+use Rattle.block_writer.specs.Trips.{is_in, name_of, number_in, with_blocks, trips_written}
 
 -- the text of the trips, unless it begins with a byte-order mark, reads back as the table with the blocks
 abbrev pub TripsReadBack : Type 0
@@ -22,3 +24,16 @@ StopTimesReadBack =
     → 0 < length table.header
     → strip_bom (stop_times_written table timetable base) ≡ stop_times_written table timetable base
     → table_of (stop_times_written table timetable base) ≡ Ok (with_times table timetable base)
+
+-- the block of that number, from 0, is the one in which a slot stands
+pub record IsBlockOf (blocks : List (List ℕ)) (s b : ℕ) : Type 0 where
+  pub within : b < length blocks
+  pub stands : is_in s (slice_index_or blocks b []) ≡ true
+  pub alone : (k : ℕ) → k < length blocks → is_in s (slice_index_or blocks k []) ≡ true → k ≡ b
+
+-- where a slot stands once in the blocks, there is one block in which it stands, and it is named as that one is printed
+abbrev pub BlockIsNamed : Type 0
+BlockIsNamed =
+    (blocks : List (List ℕ)) (s : ℕ) (prefix : List ℕ)
+    → times s (slots_in blocks) ≡ 1
+    → (b : ℕ) × IsBlockOf blocks s b × (name_of prefix (number_in blocks s) ≡ block_name prefix b)

@@ -1,5 +1,5 @@
 -- The records of `stop_times.txt`, written with the times of shifted trips moved.
-use Rattle.std.specs.Prelude.{ℕ, ◌+◌, ◌-◌, ◌*◌, ◌/◌, ◌%◌, ◌==◌, ◌&&◌, ℤ, pos, int_lt, unsigned_abs, List, [], ◌∷◌, ◌++◌, map, nat_lt, slice_set, Option, None, Some, if◌then◌else◌}
+use Rattle.std.specs.Prelude.{ℕ, ◌+◌, ◌-◌, ◌*◌, ◌/◌, ◌%◌, ◌==◌, ◌&&◌, ℤ, pos, int_lt, unsigned_abs, List, ◌∷◌, ◌++◌, map, nat_lt, slice_set, Option, None, Some, if◌then◌else◌}
 use Rattle.gtfs_tables.specs.Table.{TableView}
 use Rattle.gtfs_tables.specs.Times.{seconds_of, two_digits}
 use Rattle.gtfs_tables.specs.declared.paper.Column.TheVariants as column

@@ -10,3 +10,8 @@ pub fn trips_law()
 pub fn stop_times_law()
     ensures { spec.StopTimesReadBack }
 {}
+
+/// Where a slot stands once in the blocks, its record has the name of the block in which it stands.
+pub fn block_law()
+    ensures { spec.BlockIsNamed }
+{}

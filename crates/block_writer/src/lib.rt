@@ -2,7 +2,7 @@
 //!
 //! [`trips_text`] makes the text of `trips_blocks.txt` of the table of `trips.txt`, [`stop_times_text`] that of
 //! `stop_times_blocks.txt` of the table of `stop_times.txt`. [`all_utf8`] tells whether the fields of a table are texts, as
-//! both must be.
+//! both must be, and [`first_not_utf8`] the first that is not.
 //!
 //! The contract that the crates above use: a text has the records that were read, in their order, with nothing else than
 //! `block_id` of selected trips and the times of shifted ones replaced; it reads back as that table.
@@ -25,5 +25,5 @@ mod texts;
 mod trips;
 
 pub use stop_times::stop_times_text;
-pub use texts::all_utf8;
+pub use texts::{all_utf8, first_not_utf8};
 pub use trips::trips_text;

@@ -1,4 +1,4 @@
-use Rattle.std.proofs.Common.{◌≡◌, ◌++◌, [], get_or, map, false, length}
+use Rattle.std.proofs.Common.{◌≡◌, ◌++◌, [], get_or, map, false}
 use Rattle.std.specs.Prelude.{IsUtf8}
 use Rattle.std.specs.List.{range_with_len}
 use Rattle.gtfs_tables.specs.Writing.{record_text, records_text}
