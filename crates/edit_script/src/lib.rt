@@ -47,6 +47,3 @@ pub use reading::{read_edit, read_script};
 pub use script::Script;
 pub use touched::Touched;
 pub use writing::edit_line;
-
-#[cfg(test)]
-mod tests;

@@ -37,7 +37,6 @@ fault_text_of (fault.DuplicateSequence trip) = trip_text_of trip (codes "has a s
 fault_text_of (fault.NoTime trip) = trip_text_of trip (codes "has no time at an end")
 fault_text_of (fault.NotForward trip) = trip_text_of trip (codes "not forward")
 fault_text_of (fault.TooManyRecords paper) = file_name_of paper ++ codes ": too many records"
-fault_text_of (fault.NotYet paper) = file_name_of paper ++ codes ": not read yet"
 fault_text_of fault.Memory = []
 
 -- the whole line of a refused file, with its line feed

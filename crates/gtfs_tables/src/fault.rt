@@ -48,8 +48,6 @@ pub enum FeedFault {
     NotForward(Text),
     /// The file has more records than may be read, or would have them after what was asked.
     TooManyRecords(Paper),
-    /// The file is there, and this version does not read it.
-    NotYet(Paper),
     /// No memory was found.
     Memory,
 }
@@ -88,7 +86,6 @@ fn fault_text(alloc: Global, fault: &FeedFault) -> Result<String, AllocError>
             "{}: too many records",
             paper.file_name()
         ),
-        FeedFault::NotYet(paper) => format!(in alloc; "{}: not read yet", paper.file_name()),
         FeedFault::NotToml => format!(in alloc; "desk.toml: not TOML"),
         FeedFault::BadSettings(key) => format!(in alloc; "desk.toml: bad {}", key.as_str()),
         FeedFault::TooFewStops(trip) => trip_text(alloc, trip, "has too few stops"),

@@ -23,6 +23,3 @@
 mod log;
 
 pub use log::Log;
-
-#[cfg(test)]
-mod tests;
