@@ -196,3 +196,16 @@ AreRenamed-slotted n slot place next placed enter entering ρ within links price
   slots = len;
   places = len';
 }
+
+-- a column that a row is linked to by its place is one of so many
+pub within-placed : (w : ℕ → ℕ → Option ℕ) (n : ℕ) (slot place : ℕ → ℕ) (out : ℕ → Bool) (a b : Option ℕ) (placed : List (Option ℕ)) (leave entering : List ℕ) → AreWeights w n → IsRenaming n slot place
+    → IsMatched (λ i k. w i (slot k)) out a b placed leave entering → (i k : ℕ) → next_of placed i ≡ Some k → k < n
+within-placed w n slot place out a b placed leave entering weights ρ matched i k e =
+    slot-inside n slot place ρ k (weights.within i (slot k) (price leave i + price entering k) (matched.tight i k e)).1
+
+-- links that are matched by places, by slots
+pub AreRenamed-matched : (w : ℕ → ℕ → Option ℕ) (n : ℕ) (slot place : ℕ → ℕ) (out : ℕ → Bool) (a b : Option ℕ) (next placed : List (Option ℕ)) (leave enter entering : List ℕ) → AreWeights w n
+    → IsRenaming n slot place → IsMatched (λ i k. w i (slot k)) out a b placed leave entering → ((i : ℕ) → next_of next i ≡ option_map slot (next_of placed i))
+    → ((j : ℕ) → j < n → price enter j ≡ price entering (place j)) → length enter ≡ n → length entering ≡ n → AreRenamed n slot place next placed enter entering
+AreRenamed-matched w n slot place out a b next placed leave enter entering weights ρ matched links prices len len' =
+    AreRenamed-slotted n slot place next placed enter entering ρ (within-placed w n slot place out a b placed leave entering weights ρ matched) links prices len len'

@@ -55,11 +55,11 @@ pub(crate) fn begin<L: Ledger>(
     ensures counted { steps.new ≤ steps.old + side_slots side.now }
 {
     // Its clause says how the columns stand in groups.
-    let _groups = side.groups();
+    let groups = side.groups();
     leave[a as usize] = GREATEST_PRICE;
     dist.fill(FAR);
     done.fill(false);
-    seen.fill(UNSEEN);
+    seen[..groups].fill(UNSEEN);
     rows[0] = a;
     far[0] = 0;
     let line = side.line(a);

@@ -262,6 +262,121 @@ pub(crate) fn search_befores<L: Ledger>(
     write_links(turned, links);
 }
 
+// Adds one row after the other to links that link none, each by a search over the rows added so far: the one that stands last
+// in an order first.
+fn link_rows<L: Ledger>(
+    side: &Side<'_>,
+    departures: &[Column],
+    next: &mut [Option<u16>],
+    leave: &mut [u64],
+    enter: &mut [u64],
+    before: &mut [Option<u16>],
+    seen: &mut [Seen],
+    dist: &mut [u64],
+    parent: &mut [u16],
+    done: &mut [bool],
+    rows: &mut [u16],
+    far: &mut [u64],
+    steps: &mut Steps<L>,
+)
+    requires few { side_slots side.now ≤ MOST_SLOTS }
+    requires sound { AreWeights (place_weight side.now) (side_slots side.now) }
+    requires renaming { (turn : ℕ → ℕ) × IsRenaming (side_slots side.now) (slot_at (side_slots side.now) departures.now) turn }
+    requires all { length departures.now ≡ side_slots side.now }
+    requires next { next.old ≡ replicate (side_slots side.now) None }
+    requires leave { leave.old ≡ replicate (side_slots side.now) 0 }
+    requires enter { enter.old ≡ replicate (side_slots side.now) 0 }
+    requires before { length before.old ≡ side_slots side.now }
+    requires dist { length dist.old ≡ side_slots side.now }
+    requires parent { length parent.old ≡ side_slots side.now }
+    requires done { length done.old ≡ side_slots side.now }
+    requires rows { length rows.old ≡ side_slots side.now + 1 }
+    requires far { length far.old ≡ side_slots side.now + 1 }
+    requires seen { length seen.old ≡ side_slots side.now }
+    ensures matched { IsMatched (place_weight side.now) (λ _. false) None None next.new leave.new enter.new }
+    ensures covers { Covers (place_weight side.now) (λ _. false) None leave.new enter.new }
+    ensures counted { steps.new ≤ steps.old + side_slots side.now * (side_slots side.now * side_slots side.now + side_slots side.now) }
+{
+    let slots = side.slots();
+    for added in 0..slots {
+        let last = slots - 1 - added;
+        let a = departures[last as usize].slot;
+        search(
+            side, a, next, leave, enter, before, seen, dist, parent, done, rows, far, steps,
+        );
+    }
+}
+
+// The same over the slots of columns, with lists for as many as there may be. Links and prices are named by slots when all rows
+// have been added.
+fn link_rows_within<L: Ledger>(
+    side: &Side<'_>,
+    departures: &[Column],
+    next: &mut [Option<u16>],
+    leave: &mut [u64],
+    enter: &mut [u64],
+    placed: &mut Vec<Option<u16>>,
+    entering: &mut Vec<u64>,
+    before: &mut Vec<Option<u16>>,
+    seen: &mut Vec<Seen>,
+    dist: &mut Vec<u64>,
+    parent: &mut Vec<u16>,
+    done: &mut Vec<bool>,
+    rows: &mut Vec<u16>,
+    far: &mut Vec<u64>,
+    steps: &mut Steps<L>,
+)
+    requires renaming { (turn : ℕ → ℕ) × IsRenaming (side_slots side.now) (slot_at (side_slots side.now) departures.now) turn }
+    requires all { length departures.now ≡ side_slots side.now }
+    requires next { length next.old ≡ side_slots side.now }
+    requires leave { leave.old ≡ replicate (side_slots side.now) 0 }
+    requires enter { length enter.old ≡ side_slots side.now }
+    requires placed { vec_len placed.old ≡ MOST_SLOTS }
+    requires entering { vec_len entering.old ≡ MOST_SLOTS }
+    requires before { vec_len before.old ≡ MOST_SLOTS }
+    requires seen { vec_len seen.old ≡ MOST_SLOTS }
+    requires dist { vec_len dist.old ≡ MOST_SLOTS }
+    requires parent { vec_len parent.old ≡ MOST_SLOTS }
+    requires done { vec_len done.old ≡ MOST_SLOTS }
+    requires rows { vec_len rows.old ≡ MOST_SLOTS + 1 }
+    requires far { vec_len far.old ≡ MOST_SLOTS + 1 }
+    ensures placed { vec_len placed.new ≡ vec_len placed.old }
+    ensures entering { vec_len entering.new ≡ vec_len entering.old }
+    ensures before { vec_len before.new ≡ vec_len before.old }
+    ensures seen { vec_len seen.new ≡ vec_len seen.old }
+    ensures dist { vec_len dist.new ≡ vec_len dist.old }
+    ensures parent { vec_len parent.new ≡ vec_len parent.old }
+    ensures done { vec_len done.new ≡ vec_len done.old }
+    ensures rows { vec_len rows.new ≡ vec_len rows.old }
+    ensures far { vec_len far.new ≡ vec_len far.old }
+    ensures matched { IsMatched (side_weight side.now) (λ _. false) None None next.new leave.new enter.new }
+    ensures covers { Covers (side_weight side.now) (λ _. false) None leave.new enter.new }
+    ensures counted { steps.new ≤ steps.old + side_slots side.now * (side_slots side.now * side_slots side.now + side_slots side.now) }
+{
+    let slots = side.slots() as usize;
+    let placed = &mut placed[..slots];
+    let entering = &mut entering[..slots];
+    placed.fill(None);
+    entering.fill(0);
+    link_rows(
+        side,
+        departures,
+        placed,
+        leave,
+        entering,
+        &mut before[..slots],
+        &mut seen[..slots],
+        &mut dist[..slots],
+        &mut parent[..slots],
+        &mut done[..slots],
+        &mut rows[..slots + 1],
+        &mut far[..slots + 1],
+        steps,
+    );
+    link_columns(side, placed, next);
+    price_columns(side, entering, enter);
+}
+
 /// Adds one row after the other to links that link none, each by a search over the rows added so far: the one that stands
 /// last in an order first.
 pub(crate) fn link_all<L: Ledger>(
@@ -290,10 +405,24 @@ pub(crate) fn link_all<L: Ledger>(
     ensures covers { Covers (side_weight side.now) (λ _. false) None leave.new.items enter.new.items }
     ensures counted { steps.new ≤ steps.old + side_slots side.now * (side_slots side.now * side_slots side.now + side_slots side.now) }
 {
-    let slots = side.slots();
-    for added in 0..slots {
-        let last = slots - 1 - added;
-        let a = departures[last as usize].slot;
-        search_links(side, a, links, leave, enter, next, lists, steps);
-    }
+    let slots = side.slots() as usize;
+    let next = &mut next[..slots];
+    link_rows_within(
+        side,
+        departures,
+        next,
+        leave,
+        enter,
+        &mut lists.placed,
+        &mut lists.entering,
+        &mut lists.before,
+        &mut lists.seen,
+        &mut lists.dist,
+        &mut lists.parent,
+        &mut lists.done,
+        &mut lists.rows,
+        &mut lists.far,
+        steps,
+    );
+    write_links(next, links);
 }

@@ -1,5 +1,5 @@
-use Rattle.std.proofs.Common.{◌≡◌, ◌∙◌, ℕ, ◌<◌, ◌≤◌, List, length, set, replicate, false, sym, ap, subst, arith}
-use Rattle.std.proofs.lemmas.List.{get_or-replicate, get_or-set_same}
+use Rattle.std.proofs.Common.{◌≡◌, ◌∙◌, ℕ, ◌<◌, ◌≤◌, List, ◌++◌, length, take, drop, set, replicate, false, sym, ap, subst, arith}
+use Rattle.std.proofs.lemmas.List.{get_or_append_left, get_or-replicate, get_or-set_same, length-replicate, length-take}
 use Rattle.price_assign.specs.declared.scan.Seen.{Seen}
 use Rattle.price_assign.specs.Groups.{seen_at, AreNear, AreReached}
 use Rattle.price_assign.specs.Search.{problem, AreLooked}
@@ -21,29 +21,42 @@ returns-clause-tree g c = λ before given.
     (rw (c.fill.ensures.len ∙ c.requires.dist) at c.look_from.ensures.looked))
 
 -- nothing is seen of any group yet
-unseen : (r : ℕ) (n : ℕ) (seen : List Seen) → seen ≡ replicate n (record { near = 67111745; cost = 18446744073709551615; from = 65535 }) → r < n
-    → seen_at seen r ≡ record { near = 67111745; cost = 18446744073709551615; from = 65535 }
-unseen r n seen is lt =
-    ap (λ xs. seen_at xs r) is
-    ∙ get_or-replicate {A = Seen} n r (record { near = 67111745; cost = 18446744073709551615; from = 65535 }) (record { near = 0; cost = 0; from = 0 }) lt
+unseen : (r m : ℕ) (front rest : List Seen) → front ≡ replicate m (record { near = 67111745; cost = 18446744073709551615; from = 65535 }) → r < m
+    → seen_at (front ++ rest) r ≡ record { near = 67111745; cost = 18446744073709551615; from = 65535 }
+unseen r m front rest is lt =
+    get_or_append_left front rest (record { near = 0; cost = 0; from = 0 }) r (omega (arith, lt, ap length is, length-replicate {A = Seen} m (record { near = 67111745; cost = 18446744073709551615; from = 65535 })))
+    ∙ ap (λ xs. seen_at xs r) is
+    ∙ get_or-replicate {A = Seen} m r (record { near = 67111745; cost = 18446744073709551615; from = 65535 }) (record { near = 0; cost = 0; from = 0 }) lt
 
 pub look_from-requires-clause-near : goal.look_from-requires-clause-near
 look_from-requires-clause-near g c =
     let side : SideView = c.args.side.now in
     let n = side_slots side in
     let are = c.groups-groups.ensures.groups in
-    let near : (r : ℕ) → r < side.count → (seen_at c.fill-3.new.self r).near ≤ 67111745 =
-    λ r lt. omega (arith, ap (λ (s : Seen). s.near) (unseen r (length c.args.seen.now) c.fill-3.new.self (c.fill-3.ensures.after (λ y e. e)) (omega (arith, lt, are.few, c.requires.room)))) in
-    subst (λ (line : LineView). AreNear line.side.count line.side.groups c.fill-2.new.self c.fill.new.self c.fill-3.new.self) (sym c.line-line.ensures)
-    (AreNear-none n side.count side.groups c.fill-2.new.self c.fill.new.self c.fill-3.new.self are.few (c.fill.ensures.after (λ y e. e) ∙ ap (λ m. replicate m 67111745) c.requires.dist) are.within near)
+    let front = c.fill-3.new.self in
+    let rest = drop c.groups-groups.result c.args.seen.now in
+    let near : (r : ℕ) → r < side.count → (seen_at (front ++ rest) r).near ≤ 67111745 =
+    λ r lt. omega (
+      arith,
+      ap (λ (s : Seen). s.near)
+          (unseen r (length (take c.groups-groups.result c.args.seen.now)) front rest (c.fill-3.ensures.after (λ y e. e)) (omega (arith, length-take {A = Seen}, lt, are.few, c.requires.room, c.groups-groups.ensures.count))),
+    ) in
+    subst (λ (line : LineView). AreNear line.side.count line.side.groups c.fill-2.new.self c.fill.new.self (front ++ rest)) (sym c.line-line.ensures)
+    (AreNear-none n side.count side.groups c.fill-2.new.self c.fill.new.self (front ++ rest) are.few (c.fill.ensures.after (λ y e. e) ∙ ap (λ m. replicate m 67111745) c.requires.dist) are.within near)
 
 pub look_from-requires-clause-reached : goal.look_from-requires-clause-reached
 look_from-requires-clause-reached g c =
     let side : SideView = c.args.side.now in
     let n = side_slots side in
     let are = c.groups-groups.ensures.groups in
-    let from : (r : ℕ) → r < side.count → 65535 ≤ (seen_at c.fill-3.new.self r).from =
-    λ r lt. omega (arith, ap (λ (s : Seen). s.from) (unseen r (length c.args.seen.now) c.fill-3.new.self (c.fill-3.ensures.after (λ y e. e)) (omega (arith, lt, are.few, c.requires.room)))) in
-    subst (λ (line : LineView). AreReached line.side.count line.side.groups c.args.enter.now c.fill-2.new.self c.fill.new.self c.fill-3.new.self) (sym c.line-line.ensures)
-    (AreReached-none n side.count side.groups c.fill-2.new.self c.fill.new.self c.fill-3.new.self are.few (c.fill.ensures.after (λ y e. e) ∙ ap (λ m. replicate m 67111745) c.requires.dist) are.within c.args.enter.now
+    let front = c.fill-3.new.self in
+    let rest = drop c.groups-groups.result c.args.seen.now in
+    let from : (r : ℕ) → r < side.count → 65535 ≤ (seen_at (front ++ rest) r).from =
+    λ r lt. omega (
+      arith,
+      ap (λ (s : Seen). s.from)
+          (unseen r (length (take c.groups-groups.result c.args.seen.now)) front rest (c.fill-3.ensures.after (λ y e. e)) (omega (arith, length-take {A = Seen}, lt, are.few, c.requires.room, c.groups-groups.ensures.count))),
+    ) in
+    subst (λ (line : LineView). AreReached line.side.count line.side.groups c.args.enter.now c.fill-2.new.self c.fill.new.self (front ++ rest)) (sym c.line-line.ensures)
+    (AreReached-none n side.count side.groups c.fill-2.new.self c.fill.new.self (front ++ rest) are.few (c.fill.ensures.after (λ y e. e) ∙ ap (λ m. replicate m 67111745) c.requires.dist) are.within c.args.enter.now
     (omega (arith, c.requires.few)) from)
