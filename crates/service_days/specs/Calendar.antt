@@ -1,0 +1,173 @@
+-- The weekly schedules that `calendar.txt` gives services.
+use Rattle.std.specs.Prelude.{ℕ, ◌==◌, ◌&&◌, Bool, false, not, List, [], ◌∷◌, ◌++◌, map, nat_le, slice_index_or, Option, Result, Ok, is_some, String, string_bytes}
+use Rattle.std.specs.Map.{lookup}
+use Rattle.std.specs.Str.{bytes_eq}
+use Rattle.desk_io.specs.declared.shelf.Found.{Found}
+use Rattle.desk_io.specs.declared.shelf.Found.TheVariants.{Missing}
+use Rattle.gtfs_tables.specs.declared.fault.FeedFault.{FeedFault}
+use Rattle.gtfs_tables.specs.declared.fault.FeedFault.TheVariants as fault
+use Rattle.gtfs_tables.specs.declared.paper.Column.{Column}
+use Rattle.gtfs_tables.specs.declared.paper.Column.TheVariants as column
+use Rattle.gtfs_tables.specs.declared.paper.Paper.TheVariants as paper
+use Rattle.gtfs_tables.specs.Fold.{paper_read}
+use Rattle.gtfs_tables.specs.Reading.{◌>>=◌, provided, nothing, column_in, field_at, text_in, filled_in, number_in}
+use Rattle.service_days.specs.declared.calendar.Columns.{Columns}
+use Rattle.service_days.specs.declared.calendar.Schedule.{Schedule}
+use Rattle.service_days.specs.declared.calendar.Texts.{Texts}
+use Rattle.service_days.specs.Dates.{weekday_of, date_in}
+
+-- a service, as the bytes of its name
+abbrev pub Name : Type 0
+Name = List ℕ
+
+-- where the required columns stand
+unfoldable pub columns_in : List (List ℕ) → Result Columns FeedFault
+columns_in header = do
+  service ← column_in paper.Calendar column.ServiceId header
+  monday ← column_in paper.Calendar column.Monday header
+  tuesday ← column_in paper.Calendar column.Tuesday header
+  wednesday ← column_in paper.Calendar column.Wednesday header
+  thursday ← column_in paper.Calendar column.Thursday header
+  friday ← column_in paper.Calendar column.Friday header
+  saturday ← column_in paper.Calendar column.Saturday header
+  sunday ← column_in paper.Calendar column.Sunday header
+  start ← column_in paper.Calendar column.StartDate header
+  end ← column_in paper.Calendar column.EndDate header
+  Ok (record {
+    service = service;
+    monday = monday;
+    tuesday = tuesday;
+    wednesday = wednesday;
+    thursday = thursday;
+    friday = friday;
+    saturday = saturday;
+    sunday = sunday;
+    start = start;
+    end = end;
+  })
+
+-- the texts of a record
+pub record TextsView : Type 0 where
+  pub service : List ℕ
+  pub monday : List ℕ
+  pub tuesday : List ℕ
+  pub wednesday : List ℕ
+  pub thursday : List ℕ
+  pub friday : List ℕ
+  pub saturday : List ℕ
+  pub sunday : List ℕ
+  pub start : List ℕ
+  pub end : List ℕ
+
+-- what a clause sees of the program's own
+abbrev pub seen : Texts → TextsView
+seen texts = record {
+  service = texts.service.now;
+  monday = texts.monday.now;
+  tuesday = texts.tuesday.now;
+  wednesday = texts.wednesday.now;
+  thursday = texts.thursday.now;
+  friday = texts.friday.now;
+  saturday = texts.saturday.now;
+  sunday = texts.sunday.now;
+  start = texts.start.now;
+  end = texts.end.now;
+}
+
+-- the text of a field
+abbrev pub text_at : ℕ → Column → ℕ → List (List ℕ) → Result (List ℕ) FeedFault
+text_at number column place fields = text_in paper.Calendar number column (field_at fields place)
+
+-- the texts of a record, which must be UTF-8
+unfoldable pub texts_in : Columns → ℕ → List (List ℕ) → Result TextsView FeedFault
+texts_in columns number fields = do
+  service ← text_at number column.ServiceId columns.service fields
+  monday ← text_at number column.Monday columns.monday fields
+  tuesday ← text_at number column.Tuesday columns.tuesday fields
+  wednesday ← text_at number column.Wednesday columns.wednesday fields
+  thursday ← text_at number column.Thursday columns.thursday fields
+  friday ← text_at number column.Friday columns.friday fields
+  saturday ← text_at number column.Saturday columns.saturday fields
+  sunday ← text_at number column.Sunday columns.sunday fields
+  start ← text_at number column.StartDate columns.start fields
+  end ← text_at number column.EndDate columns.end fields
+  Ok (record {
+    service = service;
+    monday = monday;
+    tuesday = tuesday;
+    wednesday = wednesday;
+    thursday = thursday;
+    friday = friday;
+    saturday = saturday;
+    sunday = sunday;
+    start = start;
+    end = end;
+  })
+
+-- the texts of a record must not be empty
+unfoldable pub filled : ℕ → TextsView → Result (Unit {0}) FeedFault
+filled number texts = do
+  _ ← filled_in paper.Calendar number column.ServiceId texts.service
+  _ ← filled_in paper.Calendar number column.Monday texts.monday
+  _ ← filled_in paper.Calendar number column.Tuesday texts.tuesday
+  _ ← filled_in paper.Calendar number column.Wednesday texts.wednesday
+  _ ← filled_in paper.Calendar number column.Thursday texts.thursday
+  _ ← filled_in paper.Calendar number column.Friday texts.friday
+  _ ← filled_in paper.Calendar number column.Saturday texts.saturday
+  _ ← filled_in paper.Calendar number column.Sunday texts.sunday
+  _ ← filled_in paper.Calendar number column.StartDate texts.start
+  _ ← filled_in paper.Calendar number column.EndDate texts.end
+  nothing
+
+-- whether a service runs on the weekday of a column: 1 says yes and 0 no
+abbrev pub runs_in : ℕ → Column → List ℕ → Result Bool FeedFault
+runs_in number column text = number_in paper.Calendar number column 1 1 text >>= λ flag. Ok (flag == 1)
+
+-- on which weekdays a service runs, from Monday
+unfoldable pub weekdays_in : ℕ → TextsView → Result (List Bool) FeedFault
+weekdays_in number texts = do
+  monday ← runs_in number column.Monday texts.monday
+  tuesday ← runs_in number column.Tuesday texts.tuesday
+  wednesday ← runs_in number column.Wednesday texts.wednesday
+  thursday ← runs_in number column.Thursday texts.thursday
+  friday ← runs_in number column.Friday texts.friday
+  saturday ← runs_in number column.Saturday texts.saturday
+  sunday ← runs_in number column.Sunday texts.sunday
+  Ok (monday ∷ tuesday ∷ wednesday ∷ thursday ∷ friday ∷ saturday ∷ sunday ∷ [])
+
+-- the service of one record and its schedule
+unfoldable pub schedule_in : Columns → ℕ → List (List ℕ) → Result (Name × Schedule) FeedFault
+schedule_in columns number fields = do
+  texts ← texts_in columns number fields
+  _ ← filled number texts
+  weekdays ← weekdays_in number texts
+  start ← date_in paper.Calendar number column.StartDate texts.start
+  end ← date_in paper.Calendar number column.EndDate texts.end
+  Ok (texts.service, record { weekdays = weekdays; start = start; end = end })
+
+-- the schedule of a service, if it has one
+abbrev pub schedule_of : List (Name × Schedule) → Name → Option Schedule
+schedule_of schedules service = lookup (bytes_eq service) schedules
+
+-- the schedules with that of a record, whose service must be new, at the end
+abbrev pub with_schedule : ℕ → List (Name × Schedule) → Name × Schedule → Result (List (Name × Schedule)) FeedFault
+with_schedule number before entry =
+    provided (not (is_some (schedule_of before entry.0))) (fault.DuplicateRow paper.Calendar number) (Ok (before ++ entry ∷ []))
+
+-- the schedules with that of one record
+abbrev pub with_record : Columns → ℕ → List (Name × Schedule) → List (List ℕ) → Result (List (Name × Schedule)) FeedFault
+with_record columns number before fields = schedule_in columns number fields >>= with_schedule number before
+
+-- the schedules of the file, record by record; without one there are none
+abbrev pub schedules_of : Found → Result (List (Name × Schedule)) FeedFault
+schedules_of Missing = Ok []
+schedules_of found = paper_read paper.Calendar columns_in with_record [] found
+
+-- whether a schedule has a date: its weekday, and from the start to the end, both included
+abbrev pub covers : Schedule → ℕ → Bool
+covers schedule date =
+    slice_index_or schedule.weekdays (weekday_of date) false && nat_le schedule.start date && nat_le date schedule.end
+
+-- the schedules that a map from names holds in order
+abbrev pub schedules_from : {Y : Type 0} → List (String Y × Schedule) → List (Name × Schedule)
+schedules_from entries = map (λ e. (string_bytes e.0, e.1)) entries

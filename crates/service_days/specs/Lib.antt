@@ -1,0 +1,5 @@
+pub mod Dates
+pub mod Calendar
+pub mod CalendarDates
+pub mod Services
+pub mod Laws

@@ -1,0 +1,54 @@
+-- The services that run on a date.
+use Rattle.std.specs.Prelude.{ℕ, Bool, true, false, ◌&&◌, not, List, Option, Some, None, Result, Ok, Contains, IsTrue, ◌↔◌}
+use Rattle.std.specs.Cmp.Lexicographic.{slice_cmp}
+use Rattle.std.specs.List.Sorted.{IsStrictlySortedBy}
+use Rattle.std.specs.Ordering.{nat_cmp}
+use Rattle.desk_io.specs.declared.shelf.Found.{Found}
+use Rattle.desk_io.specs.declared.shelf.Found.TheVariants.{File, Missing, TooLong}
+use Rattle.gtfs_tables.specs.declared.fault.FeedFault.{FeedFault}
+use Rattle.gtfs_tables.specs.declared.fault.FeedFault.TheVariants as fault
+use Rattle.gtfs_tables.specs.declared.paper.Paper.TheVariants as paper
+use Rattle.gtfs_tables.specs.Reading.{◌>>=◌, provided}
+use Rattle.service_days.specs.declared.calendar.Schedule.{Schedule}
+use Rattle.service_days.specs.declared.calendar_dates.Exception.{Exception}
+use Rattle.service_days.specs.declared.calendar_dates.Exception.TheVariants.{Added, Removed}
+use Rattle.service_days.specs.Calendar.{Name, schedules_of, schedule_of, covers}
+use Rattle.service_days.specs.CalendarDates.{ServiceDate, exceptions_of, exception_of}
+
+-- the services with their schedules, and those on dates with their exceptions, record by record
+pub record ServicesView : Type 0 where
+  pub schedules : List (Name × Schedule)
+  pub exceptions : List (ServiceDate × Exception)
+
+-- whether there is no such file
+abbrev pub is_missing : Found → Bool
+is_missing Missing = true
+is_missing (File bytes) = false
+is_missing TooLong = false
+
+-- what `calendar.txt` and `calendar_dates.txt` say, judged in this order; one of them must be there
+unfoldable pub services_of : Found → Found → Result ServicesView FeedFault
+services_of calendar dates = provided (not (is_missing calendar && is_missing dates)) (fault.Missing paper.Calendar) (do
+  schedules ← schedules_of calendar
+  exceptions ← exceptions_of dates
+  Ok (record { schedules = schedules; exceptions = exceptions }))
+
+-- whether a schedule, if there is one, has the date
+abbrev pub is_scheduled : Option Schedule → ℕ → Bool
+is_scheduled None date = false
+is_scheduled (Some schedule) date = covers schedule date
+
+-- whether a service with that exception on the date, or with none, and that schedule runs on it
+abbrev pub runs_by : Option Exception → Option Schedule → ℕ → Bool
+runs_by (Some Added) schedule date = true
+runs_by (Some Removed) schedule date = false
+runs_by None schedule date = is_scheduled schedule date
+
+-- whether a service runs on a date
+abbrev pub is_running : ServicesView → ℕ → Name → Bool
+is_running services date service = runs_by (exception_of services.exceptions (service, date)) (schedule_of services.schedules service) date
+
+-- exactly the services that run on a date, each once, in the order of their bytes
+pub record AreRunning (services : ServicesView) (date : ℕ) (names : List Name) : Type 0 where
+  pub exact : (service : Name) → IsTrue (is_running services date service) ↔ Contains names service
+  pub rising : IsStrictlySortedBy (slice_cmp nat_cmp) names

@@ -1,0 +1,27 @@
+//! Which services run on a date, as `calendar.txt` and `calendar_dates.txt` of a feed say.
+//!
+//! [`read_date`] makes a date of a text. [`running`] gives the services that run on a date, of the two files, each as it
+//! was found; one of them may be missing.
+//!
+//! The contract that the crates above use: a date is eight digits of a day that the calendar of `jiff` has; the answer is
+//! exactly the services that run on the date, each once, in byte order, or the first refusal of the two files.
+//!
+//! ```text
+//! if let Some(date) = read_date(word) {
+//!     let services = running(alloc, date, &calendar, &calendar_dates)?;
+//! }
+//! ```
+//!
+//! The contracts cite `Dates` (dates and their weekdays), `Calendar` (the schedules, record after record),
+//! `CalendarDates` (the exceptions, record after record) and `Services` (the services that run). That a number is told to be
+//! a date exactly where `jiff` has its day is a law (`laws`).
+#![tactic(auto)]
+
+mod calendar;
+mod calendar_dates;
+mod date;
+pub mod laws;
+mod services;
+
+pub use date::read_date;
+pub use services::running;

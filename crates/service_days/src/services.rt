@@ -1,0 +1,168 @@
+ghost use Rattle.std.specs.Prelude.{◌≡◌, ◌&&◌, ◌||◌, IfErr, IfOk, IsOkAnd, OnOk, is_some};
+ghost use Rattle.std.specs.BTreeSet.{contains};
+ghost use Rattle.std.specs.Cmp.Lexicographic.{slice_cmp};
+ghost use Rattle.std.specs.List.Sorted.{IsStrictlySortedBy};
+ghost use Rattle.std.specs.Ordering.{nat_cmp};
+ghost use Rattle.std.specs.Str.{bytes_eq};
+ghost use Rattle.gtfs_tables.specs.Papers.{IsWithinLimit};
+ghost use Rattle.gtfs_tables.specs.Reading.{Fails, Gives};
+ghost use Rattle.service_days.specs.Calendar.{Name, schedule_of};
+ghost use Rattle.service_days.specs.CalendarDates.{exception_of};
+ghost use Rattle.service_days.specs.Dates.{IsDateNumber};
+ghost use Rattle.service_days.specs.Services as spec;
+ghost use Rattle.service_days.specs.Services.{AreRunning};
+
+use crate::calendar::Calendar;
+use crate::calendar_dates::{CalendarDates, Exception};
+use desk_io::{Found, Memory, Text};
+use gtfs_tables::{FeedFault, Paper};
+use std::alloc::Global;
+use std::collections::BTreeSet;
+use std::marker::Model;
+
+// Whether there is no such file.
+fn is_missing(found: &Found) -> bool
+    ensures { result ≡ spec.is_missing found.now }
+{
+    matches!(found, Found::Missing)
+}
+
+// The names of a set, in byte order.
+fn names_of(alloc: Global, set: BTreeSet<Text>) -> Result<Vec<Text>, Memory>
+    ensures all { IfOk result (λ names. names.items ≡ set.keys) }
+    ensures rising { IfOk result (λ names. IsStrictlySortedBy (slice_cmp nat_cmp) names.items) }
+{
+    Ok(set.into_iter().collect(alloc)?)
+}
+
+// The services of the two files.
+#[derive(Drop)]
+struct Services {
+    calendar: Calendar,
+    dates: CalendarDates,
+}
+
+impl Model for Services {
+    ghost use Rattle.service_days.specs.Services.{ServicesView};
+
+    ghost Value = { ServicesView };
+
+    ghost view = { λ s. record { schedules = s.calendar; exceptions = s.dates } };
+}
+
+impl Services {
+    // What the files say.
+    #[tactic(auto, unfolding(crate::specs::Services::services_of))]
+    fn read(alloc: Global, calendar: &Found, dates: &Found) -> Result<Services, FeedFault>
+        requires calendar { IsWithinLimit calendar.now }
+        requires dates { IsWithinLimit dates.now }
+        ensures { Gives (λ services. services) result (spec.services_of calendar.now dates.now) }
+    {
+        if is_missing(calendar) && is_missing(dates) {
+            return Err(FeedFault::Missing(Paper::Calendar));
+        }
+        let calendar = Calendar::read(alloc, calendar)?;
+        let dates = CalendarDates::read(alloc, dates)?;
+        Ok(Services { calendar, dates })
+    }
+
+    // Whether a service runs on a date.
+    fn is_running(&self, date: u32, service: &str) -> Result<bool, Memory>
+        requires { IsDateNumber date }
+        ensures { IfOk result (λ runs. runs ≡ spec.is_running self.now date service.now) }
+    {
+        Ok(match self.dates.find(service, date)? {
+            Some(Exception::Added) => true,
+            Some(Exception::Removed) => false,
+            None => match self.calendar.find(service) {
+                Some(schedule) => schedule.covers(date),
+                None => false,
+            },
+        })
+    }
+
+    // Adds a service where it runs on the date.
+    fn add_running(
+        &self,
+        alloc: Global,
+        date: u32,
+        service: &str,
+        names: &mut BTreeSet<Text>,
+    ) -> Result<(), Memory>
+        requires { IsDateNumber date }
+        ensures { OnOk result ((other : Name) → contains (slice_cmp nat_cmp) names.new other
+            ≡ (contains (slice_cmp nat_cmp) names.old other || (bytes_eq other service.now && spec.is_running self.now date other))) }
+    {
+        if self.is_running(date, service)? {
+            names.insert(Text::of(alloc, service)?)?;
+        }
+        Ok(())
+    }
+
+    // Adds the services that have a schedule and run on the date.
+    fn add_scheduled(
+        &self,
+        alloc: Global,
+        date: u32,
+        names: &mut BTreeSet<Text>,
+    ) -> Result<(), Memory>
+        requires { IsDateNumber date }
+        ensures { OnOk result ((service : Name) → contains (slice_cmp nat_cmp) names.new service
+            ≡ (contains (slice_cmp nat_cmp) names.old service || (is_some (schedule_of self.now.schedules service) && spec.is_running self.now date service))) }
+    {
+        for number in 0..self.calendar.len() {
+            self.add_running(alloc, date, self.calendar.service(number), names)?;
+        }
+        Ok(())
+    }
+
+    // Adds the services that have an exception on the date and run on it.
+    fn add_excepted(
+        &self,
+        alloc: Global,
+        date: u32,
+        names: &mut BTreeSet<Text>,
+    ) -> Result<(), Memory>
+        requires { IsDateNumber date }
+        ensures { OnOk result ((service : Name) → contains (slice_cmp nat_cmp) names.new service
+            ≡ (contains (slice_cmp nat_cmp) names.old service || (is_some (exception_of self.now.exceptions (service, date)) && spec.is_running self.now date service))) }
+    {
+        for number in 0..self.dates.len() {
+            let (service, on) = self.dates.service_date(number);
+            if on == date {
+                self.add_running(alloc, date, service, names)?;
+            }
+        }
+        Ok(())
+    }
+
+    // The services that run on the date, in byte order.
+    fn running(&self, alloc: Global, date: u32) -> Result<Vec<Text>, Memory>
+        requires { IsDateNumber date }
+        ensures { IfOk result (λ names. AreRunning self.now date names.items) }
+    {
+        let mut names = BTreeSet::new(alloc);
+        self.add_scheduled(alloc, date, &mut names)?;
+        self.add_excepted(alloc, date, &mut names)?;
+        names_of(alloc, names)
+    }
+}
+
+/// The services that run on a date, which is an answer of [`crate::read_date`], each once, in byte order; or the first
+/// refusal, of `calendar.txt` and then of `calendar_dates.txt`. A file that is not there has no records, but where neither
+/// is there `calendar.txt` is missing.
+pub fn running(
+    alloc: Global,
+    date: u32,
+    calendar: &Found,
+    dates: &Found,
+) -> Result<Vec<Text>, FeedFault>
+    requires date { IsDateNumber date }
+    requires calendar { IsWithinLimit calendar.now }
+    requires dates { IsWithinLimit dates.now }
+    ensures running { IfOk result (λ names. IsOkAnd (spec.services_of calendar.now dates.now) (λ services. AreRunning services date names.items)) }
+    ensures refused { IfErr result (λ refused. Fails refused (spec.services_of calendar.now dates.now)) }
+{
+    let services = Services::read(alloc, calendar, dates)?;
+    Ok(services.running(alloc, date)?)
+}
