@@ -4,7 +4,7 @@ use Rattle.std.specs.Str.{bytes_eq}
 use Rattle.desk_run.specs.Commands.{Asked}
 use Rattle.feed_commands.specs.Deficits.{deficits_asked}
 use Rattle.feed_commands.specs.Fixed.{fixed_asked}
-use Rattle.plan_commands.specs.Blocks.{blocks_asked}
+use Rattle.desk_commands.specs.Blocks.{blocks_asked}
 use Rattle.plan_commands.specs.Chart.{chart_asked}
 use Rattle.plan_commands.specs.Check.{check_asked}
 use Rattle.blockdesk.specs.declared.command.Command.{Command}

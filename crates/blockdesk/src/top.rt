@@ -3,10 +3,11 @@ ghost use Rattle.blockdesk.specs.Commands as spec;
 ghost use Rattle.blockdesk.specs.Runs.{IsCaused, IsDue, IsRun, IsWithin};
 
 use crate::{Command, command_of, put_usage};
+use desk_commands::run_blocks;
 use desk_io::{Shelf, Sink, Steps, Text};
 use desk_keeper::Keeper;
 use feed_commands::{run_deficits, run_fixed};
-use plan_commands::{run_blocks, run_chart, run_check};
+use plan_commands::{run_chart, run_check};
 use std::alloc::Global;
 use std::sync::ledger::Ledger;
 

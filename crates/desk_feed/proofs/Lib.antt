@@ -1,1 +1,4 @@
+pub mod GivenLemmas
 pub mod SaidLemmas
+pub mod ScriptLemmas
+pub mod TimelyLinks

@@ -9,12 +9,12 @@ use Rattle.desk_settings.specs.Settings.{SettingsView}
 use Rattle.trip_model.specs.Timetable.{TimetableView}
 use Rattle.deadhead_matrix.specs.declared.entry.Entry.{Entry}
 use Rattle.deadhead_matrix.specs.declared.pulls.Pull.{Pull}
-use Rattle.desk_feed.specs.Feed.{Said, settings_in, timetable_in, deadheads_in, pulls_in, no_edits, said_by}
+use Rattle.desk_feed.specs.Feed.{Said, settings_in, timetable_in, deadheads_in, pulls_in, lines_in, said_by, said_with}
 
 module _ (found : Paper → Found) (settings : SettingsView) where
   -- what is said once the pulls are read, once the deadheads are, and once the timetable is
   abbrev with_pulls : TimetableView × List Entry → List Pull → Result Said FeedFault
-  with_pulls deadheads pulls = no_edits found >>= λ _. Ok (record { settings = settings; base = deadheads.0; timetable = deadheads.0; entries = deadheads.1; pulls = pulls })
+  with_pulls deadheads pulls = lines_in found >>= λ lines. Ok (said_with settings deadheads.0 deadheads.1 pulls lines)
 
   abbrev with_deadheads : TimetableView × List Entry → Result Said FeedFault
   with_deadheads deadheads = pulls_in found deadheads.0 >>= with_pulls deadheads
@@ -25,8 +25,8 @@ module _ (found : Paper → Found) (settings : SettingsView) where
   module _ (known : settings_in found ≡ Ok settings) where
     said_with_settings : said_by found ≡ (timetable_in found settings >>= with_timetable)
     unfolding said_by
-    said_with_settings = ap (λ read. read >>= λ s. timetable_in found s >>= λ t. deadheads_in found t >>= λ d. pulls_in found d.0 >>= λ p. no_edits found
-        >>= λ _. Ok (record { settings = s; base = d.0; timetable = d.0; entries = d.1; pulls = p })) known
+    said_with_settings = ap (λ read. read >>= λ s. timetable_in found s >>= λ t. deadheads_in found t >>= λ d. pulls_in found d.0 >>= λ p. lines_in found
+        >>= λ lines. Ok (said_with s d.0 d.1 p lines)) known
 
     -- the timetable is refused
     pub said-no_timetable : (refused : FeedFault) → Fails refused (timetable_in found settings) → Fails refused (said_by found)
@@ -51,8 +51,8 @@ module _ (found : Paper → Found) (settings : SettingsView) where
         said-no_pulls refused due =
             Fails-equal refused (with_deadheads deadheads) (said_by found) (sym said_with_deadheads) (Fails->>= refused (pulls_in found deadheads.0) (with_pulls deadheads) due)
 
-        -- the edits are refused
-        pub said-no_edits : (pulls : List Pull) (refused : FeedFault) → pulls_in found deadheads.0 ≡ Ok pulls → Fails refused (no_edits found) → Fails refused (said_by found)
-        said-no_edits pulls refused pulled due =
+        -- the script is refused
+        pub said-no_lines : (pulls : List Pull) (refused : FeedFault) → pulls_in found deadheads.0 ≡ Ok pulls → Fails refused (lines_in found) → Fails refused (said_by found)
+        said-no_lines pulls refused pulled due =
             Fails-equal refused (with_pulls deadheads pulls) (said_by found) (sym (said_with_deadheads ∙ ap (λ read. read >>= with_pulls deadheads) pulled))
-            (Fails->>= refused (no_edits found) (λ _. Ok (record { settings = settings; base = deadheads.0; timetable = deadheads.0; entries = deadheads.1; pulls = pulls })) due)
+            (Fails->>= refused (lines_in found) (λ lines. Ok (said_with settings deadheads.0 deadheads.1 pulls lines)) due)

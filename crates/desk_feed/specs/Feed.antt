@@ -1,4 +1,4 @@
--- From the papers of a feed to its settings, its timetable, its deadheads and its depot, or the first refusal.
+-- From the papers of a feed to its settings, its timetable, its deadheads, its depot and its script, or the first refusal.
 use Rattle.std.specs.Prelude.{◌≡◌, List, [], ◌∷◌, length, All, Result, Ok, Err}
 use Rattle.desk_io.specs.declared.shelf.Found.{Found}
 use Rattle.desk_io.specs.declared.shelf.Found.TheVariants.{File, Missing, TooLong}
@@ -8,6 +8,8 @@ use Rattle.gtfs_tables.specs.declared.paper.Paper.{Paper}
 use Rattle.gtfs_tables.specs.declared.paper.Paper.TheVariants as paper
 use Rattle.gtfs_tables.specs.Reading.{◌>>=◌}
 use Rattle.desk_settings.specs.Settings.{SettingsView, settings_of}
+use Rattle.edit_script.specs.Forms.{script_of}
+use Rattle.edit_script.specs.declared.edit.Line.{Line}
 use Rattle.trip_model.specs.Timetable.{TimetableView}
 use Rattle.feed_read.specs.Base.{base_of}
 use Rattle.deadhead_matrix.specs.declared.entry.Entry.{Entry}
@@ -16,26 +18,21 @@ use Rattle.deadhead_matrix.specs.Deadheads.{deadheads_of}
 use Rattle.deadhead_matrix.specs.Depot.{pulls_of}
 use Rattle.desk_run.specs.Reading.{IsAmong, papers_of}
 use Rattle.desk_run.specs.declared.reading.Page.{Page}
+use Rattle.desk_feed.specs.Edited.{standing_after}
 use Rattle.desk_feed.specs.declared.feed.Feed.{Feed}
 
 -- the papers of a feed, in the order in which they are read and judged
 abbrev pub feed_papers : List Paper
 feed_papers = paper.Settings ∷ paper.Terminals ∷ paper.Tolerances ∷ paper.Trips ∷ paper.StopTimes ∷ paper.Deadheads ∷ paper.Depot ∷ paper.Edits ∷ []
 
--- what the papers of a feed say: the settings, the base timetable, the timetable that stands after the script of edits, the
--- entries of the deadheads, and the pulls of each place
+-- what the papers of a feed say: the settings, the base timetable, the lines of the script of edits, the entries of the
+-- deadheads, and the pulls of each place
 pub record Said : Type 0 where
   pub settings : SettingsView
   pub base : TimetableView
-  pub timetable : TimetableView
+  pub lines : List Line
   pub entries : List Entry
   pub pulls : List Pull
-
--- a paper that is not read as yet must not be there
-abbrev pub not_there : Paper → Found → Result (Unit {0}) FeedFault
-not_there name Missing = Ok tt
-not_there name TooLong = Err (fault.NotYet name)
-not_there name (File bytes) = Err (fault.NotYet name)
 
 -- each part of a feed, of what was found of its papers
 abbrev pub settings_in : (Paper → Found) → Result SettingsView FeedFault
@@ -50,23 +47,37 @@ deadheads_in found timetable = deadheads_of (found paper.Deadheads) timetable
 abbrev pub pulls_in : (Paper → Found) → TimetableView → Result (List Pull) FeedFault
 pulls_in found timetable = pulls_of (found paper.Depot) timetable
 
-abbrev pub no_edits : (Paper → Found) → Result (Unit {0}) FeedFault
-no_edits found = not_there paper.Edits (found paper.Edits)
+-- the lines of the script, none where there is no file of edits
+abbrev pub lines_by : Found → Result (List Line) FeedFault
+lines_by Missing = Ok []
+lines_by TooLong = Err (fault.TooLong paper.Edits)
+lines_by (File bytes) = script_of paper.Edits bytes
 
--- What the papers say. They are judged one after the other, and the first refusal ends it. No script is read as yet, so the
--- base timetable stands.
+abbrev pub lines_in : (Paper → Found) → Result (List Line) FeedFault
+lines_in found = lines_by (found paper.Edits)
+
+-- what is said of these parts
+abbrev pub said_with : SettingsView → TimetableView → List Entry → List Pull → List Line → Said
+said_with settings base entries pulls lines =
+    record { settings = settings; base = base; lines = lines; entries = entries; pulls = pulls }
+
+-- the timetable that stands after all records of the script
+abbrev pub standing : Said → TimetableView
+standing said = standing_after said.base said.lines
+
+-- What the papers say. They are judged one after the other, and the first refusal ends it.
 unfoldable pub said_by : (Paper → Found) → Result Said FeedFault
 said_by found = do
   settings ← settings_in found
   timetable ← timetable_in found settings
   deadheads ← deadheads_in found timetable
   pulls ← pulls_in found deadheads.0
-  _ ← no_edits found
-  Ok (record { settings = settings; base = deadheads.0; timetable = deadheads.0; entries = deadheads.1; pulls = pulls })
+  lines ← lines_in found
+  Ok (said_with settings deadheads.0 deadheads.1 pulls lines)
 
 -- what a feed says
 abbrev pub said_of : Feed → Said
-said_of feed = record { settings = feed.settings; base = feed.timetable; timetable = feed.timetable; entries = feed.deadheads; pulls = feed.pulls }
+said_of feed = said_with feed.settings feed.timetable feed.deadheads feed.pulls feed.lines.items
 
 -- all papers of a feed were read
 abbrev pub HasPapers : List Page → Type 0

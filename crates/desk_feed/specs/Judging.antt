@@ -8,7 +8,9 @@ use Rattle.desk_run.specs.Outcome.{OutcomeView, putting}
 use Rattle.desk_run.specs.Reading.{ReadView, found_of}
 use Rattle.desk_run.specs.declared.status.Ending.{Ending}
 use Rattle.desk_run.specs.declared.status.Ending.TheVariants as ending
+use Rattle.desk_feed.specs.Edited.{ending_after, refused_text, refusing_first}
 use Rattle.desk_feed.specs.Feed.{Said, HavePulls, feed_papers, said_by, said_of}
+use Rattle.desk_feed.specs.Script.{IsScript}
 use Rattle.desk_feed.specs.declared.judging.Judged.{Judged}
 use Rattle.desk_feed.specs.declared.judging.Judged.TheVariants.{Accepted, Refused}
 
@@ -22,7 +24,7 @@ refusing refused = putting (feed_line_of refused) ending.FeedRefused
 
 -- an accepted feed says what was read; a refused one has the outcome of the first refusal
 abbrev pub Judges : ReadView → Judged → Type 0
-Judges read (Accepted feed) = (said_in read ≡ Ok (said_of feed)) × HavePulls feed
+Judges read (Accepted feed) = (said_in read ≡ Ok (said_of feed)) × HavePulls feed × IsScript feed.lines.items
 Judges read (Refused outcome) = (refused : FeedFault) × (said_in read ≡ Err refused) × (outcome ≡ refusing refused)
 
 -- how a run ends: of an accepted feed as the command says, and of a refused one as refused
@@ -51,14 +53,22 @@ of_feed papers accepted Accepts most = record {
   most = λ read. most_of most (said_in read);
 }
 
+-- how a run ends after the script of a feed, and the lines of its refused records
+abbrev pub ending_of : Said → Ending
+ending_of said = ending_after said.base said.lines
+
+abbrev pub refused_of : Said → List ℕ
+refused_of said = refused_text said.base said.lines
+
 -- what a command asks that comes to its end with each accepted feed
 abbrev pub doing : (Said → OutcomeView → Type 0) → (Said → ℕ) → Asked
-doing Accepts most = of_feed feed_papers (λ read said end. end ≡ ending.Done) (λ read. Accepts) most
+doing Accepts most = of_feed feed_papers (λ read said end. end ≡ ending_of said) (λ read. Accepts) most
 
--- an outcome that puts a text which is shown of what is said, and nothing else
+-- an outcome that puts the lines of the refused records and a text that is shown of what is said, and nothing else
 pub record Puts (Shows : Said → List ℕ → Type 0) (said : Said) (outcome : OutcomeView) : Type 0 where
-  pub alone : outcome ≡ putting outcome.text ending.Done
-  pub shown : Shows said outcome.text
+  pub text : List ℕ
+  pub shown : Shows said text
+  pub alone : outcome ≡ refusing_first (refused_of said) text (ending_of said)
 
 -- what a command asks that puts a text of each accepted feed
 abbrev pub showing : (Said → List ℕ → Type 0) → (Said → ℕ) → Asked

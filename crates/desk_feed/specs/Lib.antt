@@ -1,3 +1,5 @@
+pub mod Edited
 pub mod Feed
 pub mod Judging
 pub mod Schedule
+pub mod Script

@@ -1,5 +1,5 @@
 -- The plan of a feed and its blocks, for every command that draws, writes or lists them.
-use Rattle.std.specs.Prelude.{◌≡◌, ℕ, List, length}
+use Rattle.std.specs.Prelude.{◌≡◌, ℕ, ◌+◌, ◌*◌, List, length}
 use Rattle.trip_model.specs.Blocking.{IsLeast}
 use Rattle.trip_model.specs.Links.{blocks_along}
 use Rattle.trip_model.specs.Order.{by_departure}
@@ -19,9 +19,9 @@ pub record IsMatrixOf (entries : List Entry) (pulls : List Pull) (places : ℕ) 
   pub count : length matrix.walks ≡ places
   pub walks : AreLeastWalks matrix
 
--- the matrix of what a feed says
+-- the matrix of what a feed says: no edit changes the places
 abbrev pub IsMatrixFor : Said → MatrixView → Type 0
-IsMatrixFor said matrix = IsMatrixOf said.entries said.pulls (length said.timetable.places) matrix
+IsMatrixFor said matrix = IsMatrixOf said.entries said.pulls (length said.base.places) matrix
 
 -- A plan that its prices prove, and the blocks along its links, in order of departure. They are least: no blocking, also with
 -- deadheads, has fewer vehicles, and none with as few has fewer empty minutes.
@@ -30,7 +30,6 @@ pub record IsScheduled (timetable : TimetableView) (matrix : MatrixView) (plan :
   pub along : blocks ≡ blocks_along plan.next (by_departure (trip_moves timetable.slots))
   pub least : IsLeast (deadhead_network (trip_moves timetable.slots) matrix) blocks
 
--- the schedule of what a feed says
-pub record IsSchedule (said : Said) (matrix : MatrixView) (plan : Plan) (blocks : List (List ℕ)) : Type 0 where
-  pub matrix_is : IsMatrixFor said matrix
-  pub scheduled : IsScheduled said.timetable matrix plan blocks
+-- the most steps that a plan from scratch counts: of n trips the cube and the square for the plan, and 28 each for the deficits
+abbrev pub most_steps : ℕ → ℕ
+most_steps n = n * n * n + n * n + 28 * n

@@ -2,32 +2,26 @@ ghost use Rattle.std.specs.Prelude.{◌≡◌, length, IfOk};
 ghost use Rattle.gtfs_tables.specs.Reading.{Gives};
 ghost use Rattle.desk_run.specs.Reading.{found_of};
 ghost use Rattle.desk_feed.specs.Feed as spec;
+ghost use Rattle.desk_feed.specs.Script.{IsScript};
 
 use deadhead_matrix::{Deadheads, Pulls};
 use desk_io::Found;
 use desk_run::Read;
 use desk_settings::Settings;
+use edit_script::{Line, read_script};
 use gtfs_tables::{FeedFault, Paper};
 use std::alloc::Global;
 use trip_model::Timetable;
 
-/// What a feed says: the settings of the desk, the timetable, the deadheads between its places, and their pulls.
+/// What a feed says: the settings of the desk, the timetable before its script, the deadheads between its places, their pulls,
+/// and the lines of its script.
 #[derive(Drop)]
 pub struct Feed {
     pub settings: Settings,
     pub timetable: Timetable,
     pub deadheads: Deadheads,
     pub pulls: Pulls,
-}
-
-// A paper that is not read as yet must not be there.
-fn not_there(paper: Paper, found: &Found) -> Result<(), FeedFault>
-    ensures { Gives (λ done. done) result (spec.not_there paper found.now) }
-{
-    match found {
-        Found::Missing => Ok(()),
-        Found::TooLong | Found::File(_) => Err(FeedFault::NotYet(paper)),
-    }
+    pub lines: Vec<Line>,
 }
 
 fn read_settings(alloc: Global, read: &Read) -> Result<Settings, FeedFault>
@@ -68,30 +62,38 @@ fn read_pulls(alloc: Global, timetable: &Timetable, read: &Read) -> Result<Pulls
     Pulls::read(alloc, read.found(Paper::Depot), timetable)
 }
 
-fn no_edits(read: &Read) -> Result<(), FeedFault>
+// The lines of the script, none where there is no file of edits.
+fn read_lines(alloc: Global, read: &Read) -> Result<Vec<Line>, FeedFault>
     requires { spec.HasPapers read.now.pages }
-    ensures { Gives (λ done. done) result (spec.no_edits (found_of read.now.pages)) }
+    ensures gives { Gives (λ lines. lines.items) result (spec.lines_in (found_of read.now.pages)) }
+    ensures script { IfOk result (λ lines. IsScript lines.items) }
 {
-    not_there(Paper::Edits, read.found(Paper::Edits))
+    match read.found(Paper::Edits) {
+        Found::Missing => Ok(Vec::new(alloc)),
+        Found::TooLong => Err(FeedFault::TooLong(Paper::Edits)),
+        Found::File(bytes) => read_script(alloc, Paper::Edits, bytes.as_slice()),
+    }
 }
 
-/// The settings, the timetable, the deadheads and the pulls of a feed, or the first refusal in the order in which its papers
-/// are judged.
+/// The settings, the timetable, the deadheads, the pulls and the script of a feed, or the first refusal in the order in which
+/// its papers are judged.
 #[tactic(auto, unfolding(crate::specs::Feed::said_by))]
 pub(crate) fn read_feed(alloc: Global, read: &Read) -> Result<Feed, FeedFault>
     requires { spec.HasPapers read.now.pages }
     ensures gives { Gives spec.said_of result (spec.said_by (found_of read.now.pages)) }
     ensures pulls { IfOk result spec.HavePulls }
+    ensures script { IfOk result (λ feed. IsScript feed.lines.items) }
 {
     let settings = read_settings(alloc, read)?;
     let mut timetable = read_timetable(alloc, &settings, read)?;
     let deadheads = read_deadheads(alloc, &mut timetable, read)?;
     let pulls = read_pulls(alloc, &timetable, read)?;
-    no_edits(read)?;
+    let lines = read_lines(alloc, read)?;
     Ok(Feed {
         settings,
         timetable,
         deadheads,
         pulls,
+        lines,
     })
 }

@@ -13,7 +13,7 @@ use Rattle.deadhead_matrix.specs.Matrix.{MatrixView, empty_matrix}
 use Rattle.fixed_fleet.specs.Rule.{first_in_first_out}
 use Rattle.block_build.specs.Lines.{block_text}
 use Rattle.desk_run.specs.Commands.{Asked}
-use Rattle.desk_feed.specs.Feed.{Said}
+use Rattle.desk_feed.specs.Feed.{Said, standing}
 use Rattle.desk_feed.specs.Judging.{showing}
 
 -- the matrix without entries that has the pulls: no vehicle runs empty from one trip to the next
@@ -34,7 +34,7 @@ pub record IsFixedText (timetable : TimetableView) (pulls : List Pull) (prefix :
   pub printed : text ≡ fixed_text timetable pulls prefix blocks
 
 abbrev pub IsFixed : Said → List ℕ → Type 0
-IsFixed said text = IsFixedText said.timetable said.pulls said.settings.prefix text
+IsFixed said text = IsFixedText (standing said) said.pulls said.settings.prefix text
 
 abbrev pub fixed_asked : Asked
 fixed_asked = showing IsFixed (λ said. 0)

@@ -6,10 +6,10 @@ ghost use Rattle.desk_run.specs.World.{world};
 ghost use Rattle.feed_commands.specs.Deficits.{deficits_asked, deficits_text};
 
 use deficit_steps::{deficit_lines, deficits_of};
-use desk_feed::{FEED_PAPERS, Judged, judge_feed};
+use desk_feed::{FEED_PAPERS, Judged, after_script, judge_feed, putting_after};
 use desk_io::{Memory, Shelf, Sink, Steps, Text};
 use desk_keeper::Keeper;
-use desk_run::{Command, Ending, Outcome, Read, perform};
+use desk_run::{Command, Outcome, Read, perform};
 use gtfs_tables::Paper;
 use std::alloc::Global;
 use std::sync::ledger::Ledger;
@@ -52,8 +52,9 @@ impl Command for ShowDeficits {
         match judge_feed(alloc, read)? {
             Judged::Refused(outcome) => Ok(outcome),
             Judged::Accepted(feed) => {
-                let text = deficits_text(alloc, &feed.timetable, steps)?;
-                Ok(Outcome::putting(alloc, text, Ending::Done))
+                let edited = after_script(alloc, feed.timetable, &feed.lines)?;
+                let text = deficits_text(alloc, edited.script.timetable(), steps)?;
+                putting_after(alloc, &edited.refused, &text, edited.ending)
             }
         }
     }

@@ -14,10 +14,10 @@ ghost use Rattle.feed_commands.specs.Fixed.{IsFixedText, fixed_asked};
 
 use block_build::{Blocks, block_lines, blocks_of};
 use deadhead_matrix::{Deadheads, Matrix, Pulls};
-use desk_feed::{FEED_PAPERS, Judged, judge_feed};
+use desk_feed::{FEED_PAPERS, Judged, after_script, judge_feed, putting_after};
 use desk_io::{Memory, Shelf, Sink, Steps, Text};
 use desk_keeper::Keeper;
-use desk_run::{Command, Ending, Outcome, Read, perform};
+use desk_run::{Command, Outcome, Read, perform};
 use fixed_fleet::fixed_links;
 use gtfs_tables::Paper;
 use std::alloc::Global;
@@ -84,9 +84,10 @@ impl Command for ShowFixed {
             Judged::Refused(outcome) => Ok(outcome),
             Judged::Accepted(feed) => {
                 let pulls = feed.pulls;
+                let edited = after_script(alloc, feed.timetable, &feed.lines)?;
                 let prefix = feed.settings.prefix();
-                let text = fixed_text(alloc, &feed.timetable, pulls, prefix)?;
-                Ok(Outcome::putting(alloc, text, Ending::Done))
+                let text = fixed_text(alloc, edited.script.timetable(), pulls, prefix)?;
+                putting_after(alloc, &edited.refused, &text, edited.ending)
             }
         }
     }

@@ -1,4 +1,2 @@
-pub mod ConfirmedLemmas
 pub mod Given
-pub mod NamesSaid
 pub mod ScheduleLemmas

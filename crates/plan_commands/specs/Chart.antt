@@ -7,10 +7,9 @@ use Rattle.deadhead_matrix.specs.Prices.{Plan}
 use Rattle.chart_text.specs.Blocks.{block_chart_text}
 use Rattle.chart_text.specs.Deficits.{deficit_chart_text}
 use Rattle.desk_run.specs.Commands.{Asked}
-use Rattle.desk_feed.specs.Feed.{Said}
+use Rattle.desk_feed.specs.Feed.{Said, standing}
 use Rattle.desk_feed.specs.Judging.{showing}
-use Rattle.desk_feed.specs.Schedule.{IsMatrixFor, IsScheduled}
-use Rattle.plan_commands.specs.Steps.{most_steps}
+use Rattle.desk_feed.specs.Schedule.{IsMatrixFor, IsScheduled, most_steps}
 
 -- the chart of the deficits, and then that of the blocks
 abbrev pub chart_text : TimetableView → MatrixView → List ℕ → List (List ℕ) → List ℕ
@@ -28,7 +27,7 @@ pub record IsChartText (timetable : TimetableView) (matrix : MatrixView) (prefix
 pub record IsChart (said : Said) (text : List ℕ) : Type 0 where
   pub matrix : MatrixView
   pub matrix_is : IsMatrixFor said matrix
-  pub chart : IsChartText said.timetable matrix said.settings.prefix text
+  pub chart : IsChartText (standing said) matrix said.settings.prefix text
 
 abbrev pub chart_asked : Asked
-chart_asked = showing IsChart (λ said. most_steps (length said.timetable.slots))
+chart_asked = showing IsChart (λ said. most_steps (length (standing said).slots))

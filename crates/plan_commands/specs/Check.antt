@@ -15,35 +15,36 @@ use Rattle.claim_files.specs.declared.fault.ClaimFault.{ClaimFault}
 use Rattle.claim_files.specs.Claims.{claimed_of}
 use Rattle.claim_files.specs.Lines.{claim_line_of, reason_line_of}
 use Rattle.desk_run.specs.Commands.{Asked}
-use Rattle.desk_run.specs.Outcome.{OutcomeView, putting}
+use Rattle.desk_run.specs.Outcome.{OutcomeView}
 use Rattle.desk_run.specs.Reading.{ReadView, found_of}
 use Rattle.desk_run.specs.declared.status.Ending.{Ending}
 use Rattle.desk_run.specs.declared.status.Ending.TheVariants as ending
-use Rattle.desk_feed.specs.Feed.{Said, feed_papers}
-use Rattle.desk_feed.specs.Judging.{of_feed}
+use Rattle.desk_feed.specs.Edited.{refusing_first}
+use Rattle.desk_feed.specs.Feed.{Said, feed_papers, standing}
+use Rattle.desk_feed.specs.Judging.{of_feed, refused_of}
 use Rattle.desk_feed.specs.Schedule.{IsMatrixFor}
 
 -- the line of a yes, with the vehicles and the empty minutes of the blocks
 abbrev pub yes_line : ℕ → ℕ → List ℕ
 yes_line vehicles minutes = codes "yes, vehicles " ++ (decimal vehicles ++ (codes ", minutes " ++ (decimal minutes ++ 10 ∷ [])))
 
--- what is put of a verdict
-abbrev pub verdict_outcome : TimetableView → ClaimedView → Verdict → OutcomeView
-verdict_outcome timetable claimed (Yes vehicles minutes) = putting (yes_line vehicles minutes) ending.Done
-verdict_outcome timetable claimed (No reason) = putting (reason_line_of timetable claimed reason) ending.No
+-- what is put of a verdict, behind the lines of refused records
+abbrev pub verdict_outcome : List ℕ → TimetableView → ClaimedView → Verdict → OutcomeView
+verdict_outcome refused timetable claimed (Yes vehicles minutes) = refusing_first refused (yes_line vehicles minutes) ending.Done
+verdict_outcome refused timetable claimed (No reason) = refusing_first refused (reason_line_of timetable claimed reason) ending.No
 
 -- what is put of a claim, or of files that are none
-abbrev pub claim_outcome : TimetableView → MatrixView → Result ClaimedView ClaimFault → OutcomeView
-claim_outcome timetable matrix (Err fault) = putting (claim_line_of fault) ending.No
-claim_outcome timetable matrix (Ok claimed) = verdict_outcome timetable claimed (verdict_of timetable matrix claimed)
+abbrev pub claim_outcome : List ℕ → TimetableView → MatrixView → Result ClaimedView ClaimFault → OutcomeView
+claim_outcome refused timetable matrix (Err fault) = refusing_first refused (claim_line_of fault) ending.No
+claim_outcome refused timetable matrix (Ok claimed) = verdict_outcome refused timetable claimed (verdict_of timetable matrix claimed)
 
 -- what the two files claim of what a feed says
 abbrev pub claim_in : ReadView → Said → Result ClaimedView ClaimFault
-claim_in read said = claimed_of said.timetable (found_of read.pages paper.Blocks) (found_of read.pages paper.Prices)
+claim_in read said = claimed_of (standing said) (found_of read.pages paper.Blocks) (found_of read.pages paper.Prices)
 
 -- what is put of them, by a matrix
 abbrev pub checked : ReadView → Said → MatrixView → OutcomeView
-checked read said matrix = claim_outcome said.timetable matrix (claim_in read said)
+checked read said matrix = claim_outcome (refused_of said) (standing said) matrix (claim_in read said)
 
 -- A claim against which no reason holds proves its blocks: it is a certificate, and they are least over all blockings.
 abbrev pub Proves : TimetableView → MatrixView → Result ClaimedView ClaimFault → Type 0
@@ -56,7 +57,7 @@ pub record IsChecked (read : ReadView) (said : Said) (outcome : OutcomeView) : T
   pub matrix : MatrixView
   pub matrix_is : IsMatrixFor said matrix
   pub done : outcome ≡ checked read said matrix
-  pub proved : Proves said.timetable matrix (claim_in read said)
+  pub proved : Proves (standing said) matrix (claim_in read said)
 
 -- how the run ends: by every matrix of the feed in the same way
 abbrev pub EndsAs : ReadView → Said → Ending → Type 0

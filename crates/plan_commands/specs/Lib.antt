@@ -1,5 +1,2 @@
-pub mod Blocks
 pub mod Chart
 pub mod Check
-pub mod Confirmed
-pub mod Steps

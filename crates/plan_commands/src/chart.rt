@@ -1,19 +1,19 @@
 ghost use Rattle.std.specs.Prelude.{◌≡◌, ◌+◌, ◌≤◌, length, IfOk};
+ghost use Rattle.desk_feed.specs.Schedule.{most_steps};
 ghost use Rattle.desk_run.specs.Causes.{HasCause, IsComplete};
 ghost use Rattle.desk_run.specs.Commands.{IsCounted};
 ghost use Rattle.desk_run.specs.Runs.{RunsAs};
 ghost use Rattle.desk_run.specs.World.{world};
 ghost use Rattle.plan_commands.specs.Chart.{IsChartText, chart_asked};
-ghost use Rattle.plan_commands.specs.Steps.{most_steps};
 
-use crate::schedule::{matrix_of, schedule_of};
 use chart_text::{block_chart, deficit_chart};
 use deadhead_matrix::Matrix;
 use deficit_steps::deficits_of;
-use desk_feed::{FEED_PAPERS, Judged, judge_feed};
+use desk_feed::{FEED_PAPERS, Judged, after_script, judge_feed, matrix_of, putting_after};
 use desk_io::{Memory, Shelf, Sink, Steps, Text};
 use desk_keeper::Keeper;
-use desk_run::{Command, Ending, Outcome, Read, perform};
+use desk_run::{Command, Outcome, Read, perform};
+use feed_schedule::schedule_of;
 use gtfs_tables::Paper;
 use std::alloc::Global;
 use std::sync::ledger::Ledger;
@@ -62,11 +62,13 @@ impl Command for ShowChart {
         match judge_feed(alloc, read)? {
             Judged::Refused(outcome) => Ok(outcome),
             Judged::Accepted(feed) => {
+                let base = feed.timetable;
                 let pulls = feed.pulls;
-                let timetable = &feed.timetable;
-                let matrix = matrix_of(alloc, timetable, &feed.deadheads, pulls)?;
+                let matrix = matrix_of(alloc, &base, &feed.deadheads, pulls)?;
+                let edited = after_script(alloc, base, &feed.lines)?;
+                let timetable = edited.script.timetable();
                 let text = charts(alloc, timetable, &matrix, feed.settings.prefix(), steps)?;
-                Ok(Outcome::putting(alloc, text, Ending::Done))
+                putting_after(alloc, &edited.refused, &text, edited.ending)
             }
         }
     }

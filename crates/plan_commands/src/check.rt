@@ -10,11 +10,10 @@ ghost use Rattle.desk_run.specs.Runs.{RunsAs};
 ghost use Rattle.desk_run.specs.World.{world};
 ghost use Rattle.plan_commands.specs.Check.{Proves, check_asked, claim_outcome, verdict_outcome};
 
-use crate::schedule::matrix_of;
 use claim_files::laws::{rows_law, told_law};
 use claim_files::{ClaimFault, claim_line, read_claimed, reason_line};
 use deadhead_matrix::Matrix;
-use desk_feed::{Judged, judge_feed};
+use desk_feed::{Judged, after_script, judge_feed, matrix_of, putting_after};
 use desk_io::{Found, Memory, Shelf, Sink, Steps, Text};
 use desk_keeper::Keeper;
 use desk_run::{Command, Ending, Outcome, Read, perform};
@@ -40,9 +39,10 @@ const CLAIM_PAPERS: [Paper; 10] = [
     Paper::Prices,
 ];
 
-// What is put of a claim that was read.
+// What is put of a claim that was read, behind the lines of refused records.
 fn judged(
     alloc: Global,
+    refused: &Text,
     timetable: &Timetable,
     matrix: &Matrix,
     claimed: &Claimed,
@@ -50,24 +50,25 @@ fn judged(
     requires places { length timetable.now.places ≡ length matrix.now.walks }
     requires blocks { AreBlockRows timetable.now claimed.now.blocks }
     requires prices { ArePriceRows timetable.now claimed.now.prices }
-    ensures { IfOk result (λ outcome. outcome ≡ verdict_outcome timetable.now claimed.now (verdict_of timetable.now matrix.now claimed.now)) }
+    ensures { IfOk result (λ outcome. outcome ≡ verdict_outcome refused.now timetable.now claimed.now (verdict_of timetable.now matrix.now claimed.now)) }
 {
     told_law();
     match check(timetable, matrix, claimed) {
         Verdict::Yes { vehicles, minutes } => {
             let line = format!(in alloc; "yes, vehicles {vehicles}, minutes {minutes}\n")?;
-            Ok(Outcome::putting(alloc, Text::wrap(line), Ending::Done))
+            putting_after(alloc, refused, &Text::wrap(line), Ending::Done)
         }
         Verdict::No(reason) => {
             let line = reason_line(alloc, timetable, claimed, &reason)?;
-            Ok(Outcome::putting(alloc, line, Ending::No))
+            putting_after(alloc, refused, &line, Ending::No)
         }
     }
 }
 
-// What is put of the two files of a claim.
+// What is put of the two files of a claim, behind the lines of refused records.
 fn checked(
     alloc: Global,
+    refused: &Text,
     timetable: &Timetable,
     matrix: &Matrix,
     blocks: &Found,
@@ -76,7 +77,7 @@ fn checked(
     requires places { length timetable.now.places ≡ length matrix.now.walks }
     requires blocks { IsWithinLimit blocks.now }
     requires prices { IsWithinLimit prices.now }
-    ensures done { IfOk result (λ outcome. outcome ≡ claim_outcome timetable.now matrix.now (claimed_of timetable.now blocks.now prices.now)) }
+    ensures done { IfOk result (λ outcome. outcome ≡ claim_outcome refused.now timetable.now matrix.now (claimed_of timetable.now blocks.now prices.now)) }
     ensures proved { Proves timetable.now matrix.now (claimed_of timetable.now blocks.now prices.now) }
     ensures moves { AreMoves (length timetable.now.places) (trip_moves timetable.now.slots) }
 {
@@ -88,11 +89,11 @@ fn checked(
     let _slots = timetable.slots();
     let _places = matrix.places();
     match read_claimed(alloc, timetable, blocks, prices) {
-        Ok(claimed) => judged(alloc, timetable, matrix, &claimed),
+        Ok(claimed) => judged(alloc, refused, timetable, matrix, &claimed),
         Err(ClaimFault::Memory) => Err(Memory),
         Err(fault) => {
             let line = claim_line(alloc, &fault)?;
-            Ok(Outcome::putting(alloc, line, Ending::No))
+            putting_after(alloc, refused, &line, Ending::No)
         }
     }
 }
@@ -121,12 +122,14 @@ impl Command for CheckClaim {
         match judge_feed(alloc, read)? {
             Judged::Refused(outcome) => Ok(outcome),
             Judged::Accepted(feed) => {
+                let base = feed.timetable;
                 let pulls = feed.pulls;
-                let timetable = &feed.timetable;
-                let matrix = matrix_of(alloc, timetable, &feed.deadheads, pulls)?;
+                let matrix = matrix_of(alloc, &base, &feed.deadheads, pulls)?;
+                let edited = after_script(alloc, base, &feed.lines)?;
+                let timetable = edited.script.timetable();
                 let blocks = read.found(Paper::Blocks);
                 let prices = read.found(Paper::Prices);
-                checked(alloc, timetable, &matrix, blocks, prices)
+                checked(alloc, &edited.refused, timetable, &matrix, blocks, prices)
             }
         }
     }

@@ -1,6 +1,6 @@
 use Rattle.std.proofs.lemmas.Result.{err_from_is_err_and}
 use Rattle.desk_run.specs.Reading.{found_of}
-use Rattle.desk_feed.proofs.SaidLemmas.{said-no_timetable, said-no_deadheads, said-no_pulls, said-no_edits}
+use Rattle.desk_feed.proofs.SaidLemmas.{said-no_timetable, said-no_deadheads, said-no_pulls, said-no_lines}
 use Rattle.desk_feed.proofs.feed.read_feed.Goals as goal
 
 pub returns-in_err-timetable-clause-gives : goal.returns-in_err-timetable-clause-gives
@@ -23,9 +23,9 @@ returns-in_err-pulls-clause-gives c =
     rw (p.1, p.2) (said-no_pulls found c.in_ok-settings.settings c.in_ok-settings.ensures c.in_ok-timetable.timetable c.in_ok-timetable.ensures
     _ c.in_ok-deadheads.ensures c.in_err-pulls.field-0.0 c.in_err-pulls.ensures.gives)
 
-pub returns-in_err-no_edits-clause-gives : goal.returns-in_err-no_edits-clause-gives
-returns-in_err-no_edits-clause-gives c =
-    let p = err_from_is_err_and c.from_residual-in_err-no_edits.result c.from_residual-in_err-no_edits.ensures.1 in
+pub returns-in_err-lines-clause-gives : goal.returns-in_err-lines-clause-gives
+returns-in_err-lines-clause-gives c =
+    let p = err_from_is_err_and c.from_residual-in_err-lines.result c.from_residual-in_err-lines.ensures.1 in
     let found = found_of c.args.read.now.pages in
-    rw (p.1, p.2) (said-no_edits found c.in_ok-settings.settings c.in_ok-settings.ensures c.in_ok-timetable.timetable c.in_ok-timetable.ensures
-    _ c.in_ok-deadheads.ensures c.in_ok-pulls.pulls c.in_err-no_edits.field-0.0 c.in_ok-pulls.ensures.gives c.in_err-no_edits.ensures)
+    rw (p.1, p.2) (said-no_lines found c.in_ok-settings.settings c.in_ok-settings.ensures c.in_ok-timetable.timetable c.in_ok-timetable.ensures
+    _ c.in_ok-deadheads.ensures c.in_ok-pulls.pulls c.in_err-lines.field-0.0 c.in_ok-pulls.ensures.gives c.in_err-lines.ensures.gives)

@@ -1,0 +1,318 @@
+-- The desk and the plan at each moment of a script.
+use Rattle.std.proofs.Common.{◌≡◌, ◌≢◌, ℕ, zero, suc, ◌+◌, ◌-◌, ◌<◌, ◌≤◌, ◌⊎◌, inl, inr, ⊎_elim, Bool, true, false, List, [], ◌∷◌, ◌++◌, length, Option, None, Some, Result, Ok, Err, nat_le, if◌then◌else◌, refl, sym, ap, subst, ◌∙◌, arith}
+use Rattle.std.specs.Prelude.{All, IfOk, IsSome, IsUtf8, pos, unsigned_abs}
+use Rattle.std.proofs.lemmas.Bool.{false≢true, cases_lt, le-leb, leb-true}
+use Rattle.trip_model.specs.Blocking.{IsFewest, IsLeast}
+use Rattle.trip_model.specs.Deficit.{deficit, live_moves}
+use Rattle.trip_model.specs.Links.{blocks_along}
+use Rattle.trip_model.specs.Maximum.{sum_of_maxima}
+use Rattle.trip_model.specs.Order.{by_departure}
+use Rattle.trip_model.specs.Plain.{made, plain_network, trip_moves, AreMoves}
+use Rattle.trip_model.specs.Timetable.{Slot, TimetableView, IsTimetable}
+use Rattle.trip_model.specs.declared.trip.Move.{Move}
+use Rattle.deadhead_matrix.specs.Fitting.{deadhead_network}
+use Rattle.deadhead_matrix.specs.Matrix.{MatrixView}
+use Rattle.deadhead_matrix.specs.Prices.{Plan, IsPlanFor}
+use Rattle.deadhead_matrix.specs.Pulls.{IsPull}
+use Rattle.fixed_fleet.specs.Rule.{first_in_first_out}
+use Rattle.edit_script.specs.Machine.{IsAt, machine, numbers_of}
+use Rattle.edit_script.specs.Script.{ScriptView, opened}
+use Rattle.edit_script.specs.declared.edit.Edit.{Edit}
+use Rattle.edit_script.specs.declared.fault.EditFault.TheVariants as fault
+use Rattle.edit_script.specs.declared.edit.Line.{Line}
+use Rattle.edit_script.specs.declared.fault.EditFault.{EditFault}
+use Rattle.desk_core.specs.Desk.{DeskView, IsRefused}
+use Rattle.desk_core.specs.Standing.{IsLed, IsOpened}
+use Rattle.desk_feed.specs.Script.{IsStepped, first_records, line_at, record_at, refusal_in, standing_at, state_at, step_at}
+use Rattle.desk_run.specs.Outcome.{OutcomeView}
+use Rattle.desk_run.specs.declared.status.Ending.{Ending}
+use Rattle.desk_feed.specs.Edited.{ending_after}
+use Rattle.desk_commands.specs.Answers.{answer_text, answers_to, fixed_number, most_of, most_to, numbers_text}
+use Rattle.desk_commands.specs.Blocks.{ArePlanned, IsFixed, IsPlanned, IsPlannedAt, plan_files}
+use Rattle.desk_commands.specs.Moments.{AreMoments, IsAnswered, IsFollowed, IsMoment}
+
+-- a refusal that is not want of memory is that of the script
+pub refusal-named : (refused : EditFault) (edit : Edit) (due : Result ScriptView EditFault) → refused ≢ fault.Memory → IsRefused refused edit due → due ≡ Err refused
+refusal-named fault.NotAnEdit edit due named is = is
+refusal-named fault.UnknownTrip edit due named is = is
+refusal-named fault.NotLive edit due named is = is
+refusal-named fault.NotCancelled edit due named is = is
+refusal-named (fault.OutsideTolerance sum) edit due named is = is
+refusal-named fault.BeforeMidnight edit due named is = is
+refusal-named fault.TripExists edit due named is = is
+refusal-named (fault.UnknownPlace side) edit due named is = is
+refusal-named fault.ClassesDiffer edit due named is = is
+refusal-named fault.NotForward edit due named is = is
+refusal-named fault.TooManyTrips edit due named is = is
+refusal-named fault.NothingToUndo edit due named is = is
+refusal-named fault.NothingToRedo edit due named is = is
+refusal-named fault.TooManyShows edit due named is = is
+refusal-named fault.Memory edit due named is = absurd (named refl)
+
+-- a moment is at most another one, or above it
+by_order : (k m : ℕ) → (k ≤ m) ⊎ (m < k)
+by_order k m = ⊎_elim (λ above. inr above) (λ within. inl within) (cases_lt m k)
+
+-- one more desk, at the next moment
+abbrev extend : (ℕ → DeskView) → ℕ → DeskView → ℕ → DeskView
+extend desks m next k = if nat_le k m then desks k else next
+
+extend-old : (desks : ℕ → DeskView) (m : ℕ) (next : DeskView) (k : ℕ) → k ≤ m → extend desks m next k ≡ desks k
+extend-old desks m next k le = ap (λ b. if b then desks k else next) (le-leb k m le)
+
+extend-new : (desks : ℕ → DeskView) (m : ℕ) (next : DeskView) (k : ℕ) → m < k → extend desks m next k ≡ next
+extend-new desks m next k lt = by (nat_le k m) refl
+  where
+    by : (b : Bool) → nat_le k m ≡ b → (if b then desks k else next) ≡ next
+    by true is = let le = leb-true k m is in absurd (omega (arith, le, lt))
+    by false is = refl
+
+-- the text by plans that are the same at each moment is the same
+answers-same : (matrix : MatrixView) (prefix : List ℕ) (base : TimetableView) (lines : List Line) (plans other : ℕ → Plan) (n : ℕ) → ((k : ℕ) → k ≤ n → plans k ≡ other k)
+    → answers_to matrix prefix base lines plans n ≡ answers_to matrix prefix base lines other n
+unfolding answers_to
+answers-same matrix prefix base lines plans other zero same = refl
+answers-same matrix prefix base lines plans other (suc n) same = λ i.
+    answers-same matrix prefix base lines plans other n (λ k le. same k (omega (arith, le))) i
+    ++ answer_text matrix prefix (n + 1) (line_at lines n) (standing_at base lines (suc n)) (same (suc n) (omega arith) i) (refusal_in (step_at base lines n))
+
+first-none : (lines : List Line) → first_records lines 0 ≡ []
+unfolding first_records
+first-none lines = refl
+
+first-more : (lines : List Line) (n : ℕ) → first_records lines (suc n) ≡ first_records lines n ++ record_at lines n ∷ []
+unfolding first_records
+first-more lines n = refl
+
+answers-none : (matrix : MatrixView) (prefix : List ℕ) (base : TimetableView) (lines : List Line) (plans : ℕ → Plan) → answers_to matrix prefix base lines plans 0 ≡ []
+unfolding answers_to
+answers-none matrix prefix base lines plans = refl
+
+answers-more : (matrix : MatrixView) (prefix : List ℕ) (base : TimetableView) (lines : List Line) (plans : ℕ → Plan) (n : ℕ)
+    → answers_to matrix prefix base lines plans (suc n)
+    ≡ answers_to matrix prefix base lines plans n ++ answer_text matrix prefix (n + 1) (line_at lines n) (standing_at base lines (suc n)) (plans (suc n)) (refusal_in (step_at base lines n))
+unfolding answers_to
+answers-more matrix prefix base lines plans n = refl
+
+-- and so are the steps
+most-none : (base : TimetableView) (lines : List Line) → most_to base lines 0 ≡ 0
+unfolding most_to
+most-none base lines = refl
+
+most-more : (base : TimetableView) (lines : List Line) (n : ℕ)
+    → most_to base lines (suc n) ≡ most_to base lines n + most_of (line_at lines n) (length (standing_at base lines (suc n)).slots) (refusal_in (step_at base lines n))
+unfolding most_to
+most-more base lines n = refl
+
+pub most-le : (base : TimetableView) (lines : List Line) (n d m : ℕ) → n + d ≡ m → most_to base lines n ≤ most_to base lines m
+most-le base lines n zero m e = omega (arith, let same : n ≡ m = omega (arith, e) in ap (most_to base lines) same)
+most-le base lines n (suc d) m e = omega (arith, most-le base lines (suc n) d m (omega (arith, e)), most-more base lines n)
+
+-- before the first record
+abbrev StartsAt : Type 0
+StartsAt = (base : TimetableView) → IsAt base (machine base []) (opened base)
+
+pub IsAnswered-none : StartsAt → (prefix : List ℕ) (lines : List Line) (desk : DeskView) → IsOpened desk → IsPlanFor desk.script.timetable desk.matrix desk.plan → IsTimetable desk.script.timetable
+    → IsAnswered prefix desk.script.timetable lines desk 0 desk []
+IsAnswered-none starts prefix lines desk is plan valid =
+    let base = desk.script.timetable in
+    let script : opened base ≡ desk.script = ap opened (ap (λ s. s.timetable) is.script) ∙ sym is.script in
+    let at : IsAt base (state_at base lines 0) desk.script = subst (λ records. IsAt base (machine base records) desk.script) (sym (first-none lines)) (subst (IsAt base (machine base [])) script (starts base)) in
+    record {
+      desks = λ k. desk;
+      are = record {
+        begins = refl;
+        ends = refl;
+        each = λ k le. subst (λ m. IsMoment base lines desk.matrix m desk) (let none : 0 ≡ k = omega (arith, le) in none) (record { at = at; matrix_is = refl; plan = plan; valid = valid });
+        follow = λ k lt. absurd (omega (arith, lt));
+      };
+      put = sym (answers-none desk.matrix prefix base lines (λ k. desk.plan));
+    }
+
+-- and after each
+module _ (prefix : List ℕ) (base : TimetableView) (lines : List Line) (first : DeskView) (m : ℕ) (last next : DeskView) (text more : List ℕ) (refused : Option EditFault)
+    (so_far : IsAnswered prefix base lines first m last text) (stepped : IsStepped (m + 1) (line_at lines m) refused last.script next.script) (followed : IsFollowed refused last next)
+    (matrix : next.matrix ≡ last.matrix) (plan : IsPlanFor next.script.timetable next.matrix next.plan) (valid : IsTimetable next.script.timetable)
+    (put : more ≡ text ++ answer_text next.matrix prefix (m + 1) (line_at lines m) next.script.timetable next.plan refused) where
+  abbrev before : AreMoments base lines first m last so_far.desks
+  before = so_far.are
+
+  last_is : IsMoment base lines first.matrix m last
+  last_is = subst (IsMoment base lines first.matrix m) before.ends (before.each m (omega arith))
+
+  pub step : (refused ≡ refusal_in (step_at base lines m)) × IsAt base (machine base (first_records lines m ++ record_at lines m ∷ [])) next.script
+  step = stepped base (first_records lines m) last_is.at
+
+  same_matrix : next.matrix ≡ first.matrix
+  same_matrix = matrix ∙ last_is.matrix_is
+
+  next_is : IsMoment base lines first.matrix (suc m) next
+  next_is = record {
+    at = subst (λ records. IsAt base (machine base records) next.script) (sym (first-more lines m)) step.1;
+    matrix_is = same_matrix;
+    plan = subst (λ matrix. IsPlanFor next.script.timetable matrix next.plan) same_matrix plan;
+    valid = valid;
+  }
+
+  abbrev desks : ℕ → DeskView
+  desks = extend so_far.desks m next
+
+  each : (k : ℕ) → k ≤ suc m → IsMoment base lines first.matrix k (desks k)
+  each k le = ⊎_elim
+      (λ old. subst (IsMoment base lines first.matrix k) (sym (extend-old so_far.desks m next k old)) (before.each k old))
+      (λ new. subst (IsMoment base lines first.matrix k) (sym (extend-new so_far.desks m next k new))
+      (subst (λ n. IsMoment base lines first.matrix n next) (let is : suc m ≡ k = omega (arith, le, new) in is) next_is))
+      (by_order k m)
+
+  at_m : desks m ≡ last
+  at_m = extend-old so_far.desks m next m (omega arith) ∙ before.ends
+
+  at_next : desks (suc m) ≡ next
+  at_next = extend-new so_far.desks m next (suc m) (omega arith)
+
+  follow : (k : ℕ) → k < suc m → IsFollowed (refusal_in (step_at base lines k)) (desks k) (desks (suc k))
+  follow k lt = ⊎_elim
+      (λ (old : suc k ≤ m).
+      subst (IsFollowed (refusal_in (step_at base lines k)) (desks k)) (sym (extend-old so_far.desks m next (suc k) old))
+      (subst (λ desk. IsFollowed (refusal_in (step_at base lines k)) desk (so_far.desks (suc k))) (sym (extend-old so_far.desks m next k (omega (arith, old)))) (before.follow k (omega (arith, old)))))
+      (λ new. let is : m ≡ k = omega (arith, lt, new) in
+      subst (λ k. IsFollowed (refusal_in (step_at base lines k)) (desks k) (desks (suc k))) is
+      (subst (IsFollowed (refusal_in (step_at base lines m)) (desks m)) (sym at_next) (subst (λ desk. IsFollowed (refusal_in (step_at base lines m)) desk next) (sym at_m) (subst (λ r. IsFollowed r last next) step.0 followed))))
+      (by_order (suc k) m)
+
+  moments : AreMoments base lines first (suc m) next desks
+  moments = record { begins = extend-old so_far.desks m next 0 (omega arith) ∙ before.begins; ends = at_next; each = each; follow = follow }
+
+  written : more ≡ answers_to first.matrix prefix base lines (λ k. (desks k).plan) (suc m)
+  written =
+      put
+      ∙ (λ i. (so_far.put ∙ answers-same first.matrix prefix base lines (λ k. (so_far.desks k).plan) (λ k. (desks k).plan) m (λ k le. ap (λ (d : DeskView). d.plan) (sym (extend-old so_far.desks m next k le)))) i
+      ++ answer_text (same_matrix i) prefix (m + 1) (line_at lines m) (next_is.at.timetable i) (sym (ap (λ (d : DeskView). d.plan) at_next) i) (step.0 i))
+      ∙ sym (answers-more first.matrix prefix base lines (λ k. (desks k).plan) m)
+
+  -- the steps of the record are counted with those before it
+  pub most-next : (k : ℕ) → k ≡ m + 1 → most_to base lines k ≡ most_to base lines m + most_of (line_at lines m) (length next.script.timetable.slots) refused
+  most-next k is =
+      let same : suc m ≡ k = omega (arith, is) in
+      sym (ap (most_to base lines) same) ∙ most-more base lines m ∙ (λ i. most_to base lines m + most_of (line_at lines m) (length (sym next_is.at.timetable i).slots) (sym step.0 i))
+
+  pub IsAnswered-next : (k : ℕ) → k ≡ m + 1 → IsAnswered prefix base lines first k next more
+  IsAnswered-next k is = subst (λ k. IsAnswered prefix base lines first k next more) (let next : suc m ≡ k = omega (arith, is) in next) (record { desks = desks; are = moments; put = written })
+
+-- what is needed of the laws
+abbrev pub AreRestored : Type 0
+AreRestored = (start one two : DeskView) (before between : List DeskView) → IsOpened start → IsLed start before one → IsLed one between two
+    → one.script.standing ≡ two.script.standing → (one.script.timetable ≡ two.script.timetable) × (one.plan ≡ two.plan)
+
+abbrev pub AreProved : Type 0
+AreProved = (timetable : TimetableView) (matrix : MatrixView) (plan : Plan) → IsTimetable timetable → All IsPull matrix.pulls → IsPlanFor timetable matrix plan
+    → IsLeast (deadhead_network (trip_moves timetable.slots) matrix) (blocks_along plan.next (by_departure (trip_moves timetable.slots)))
+
+abbrev pub MakesMoves : Type 0
+MakesMoves = (timetable : TimetableView) → IsTimetable timetable → AreMoves (length timetable.places) (trip_moves timetable.slots)
+
+abbrev pub AreMade : Type 0
+AreMade = (slots : List Slot) → made (trip_moves slots) ≡ live_moves slots
+
+abbrev pub ReachesMaxima : Type 0
+ReachesMaxima = (places : ℕ) (moves : List (Option Move)) → AreMoves places moves
+    → IsFewest (plain_network moves) (blocks_along (first_in_first_out moves) (by_departure moves)) × (pos (length (blocks_along (first_in_first_out moves) (by_departure moves))) ≡ sum_of_maxima (deficit (made moves)) places)
+
+-- the fewest vehicles without deadheads
+module _ (makes : MakesMoves) (are_made : AreMade) (reaches : ReachesMaxima) where
+  pub fixed-is : (timetable : TimetableView) → IsTimetable timetable → IsFixed timetable (fixed_number timetable)
+  fixed-is timetable valid =
+      let moves = trip_moves timetable.slots in
+      let reached = reaches (length timetable.places) moves (makes timetable valid) in
+      let sum : pos (length (blocks_along (first_in_first_out moves) (by_departure moves))) ≡ sum_of_maxima (deficit (live_moves timetable.slots)) (length timetable.places) =
+      reached.1 ∙ ap (λ ms. sum_of_maxima (deficit ms) (length timetable.places)) (are_made timetable.slots) in
+      let count : length (blocks_along (first_in_first_out moves) (by_departure moves)) ≡ fixed_number timetable = ap unsigned_abs sum in
+      record {
+        maxima = ap pos (sym count) ∙ sum;
+        blocks = blocks_along (first_in_first_out moves) (by_departure moves);
+        fewest = reached.0;
+        count = count;
+      }
+
+-- the plans of all moments
+module _ (restores : AreRestored) (proves : AreProved) (makes : MakesMoves) (are_made : AreMade) (reaches : ReachesMaxima)
+    (base : TimetableView) (lines : List Line) (first last : DeskView) (n : ℕ) (desks : ℕ → DeskView) (are : AreMoments base lines first n last desks) (opened : IsOpened first) (pulls : All IsPull first.matrix.pulls) where
+  -- from one moment to a later one a desk is led by the edits between them
+  led-on : (m d : ℕ) → m + d ≤ n → (moments : List DeskView) × IsLed (desks m) moments (desks (m + d))
+  led-on m zero le = ([], ap desks (let same : m + zero ≡ m = omega arith in same))
+  led-on m (suc d) le =
+      let rest = led-on (suc m) d (omega (arith, le)) in
+      let there : suc m + d ≡ m + suc d = omega arith in
+      let led : IsLed (desks (suc m)) rest.0 (desks (m + suc d)) = subst (λ k. IsLed (desks (suc m)) rest.0 (desks k)) there rest.1 in
+      by (refusal_in (step_at base lines m)) (are.follow m (omega (arith, le))) rest.0 led
+    where
+      by : (refused : Option EditFault) → IsFollowed refused (desks m) (desks (suc m)) → (rest : List DeskView) → IsLed (desks (suc m)) rest (desks (m + suc d)) → (moments : List DeskView) × IsLed (desks m) moments (desks (m + suc d))
+      by None followed rest led = (desks (suc m) ∷ rest, (followed, led))
+      by (Some refused) followed rest led = (rest, subst (λ desk. IsLed desk rest (desks (m + suc d))) followed led)
+
+  in_order : (m d k : ℕ) → m + d ≡ k → k ≤ n → (state_at base lines m).standing ≡ (state_at base lines k).standing → (desks m).plan ≡ (desks k).plan
+  in_order m d k there le standing =
+      let before = led-on 0 m (omega (arith, there, le)) in
+      let between = led-on m d (omega (arith, there, le)) in
+      (restores first (desks m) (desks k) before.0 between.0 opened
+      (subst (λ desk. IsLed desk before.0 (desks m)) are.begins (subst (λ k. IsLed (desks 0) before.0 (desks k)) (let same : 0 + m ≡ m = omega arith in same) before.1))
+      (subst (λ k. IsLed (desks m) between.0 (desks k)) there between.1)
+      ((are.each m (omega (arith, there, le))).at.standing ∙ ap numbers_of standing ∙ sym (are.each k le).at.standing)).1
+
+  restored : (m k : ℕ) → m ≤ n → k ≤ n → (state_at base lines m).standing ≡ (state_at base lines k).standing → (desks m).plan ≡ (desks k).plan
+  restored m k m_in k_in standing = ⊎_elim
+      (λ le. in_order m (k - m) k (omega (arith, le)) k_in standing)
+      (λ lt. sym (in_order k (m - k) m (omega (arith, lt)) m_in (sym standing)))
+      (by_order m k)
+
+  planned : (m : ℕ) → m ≤ n → IsPlannedAt (standing_at base lines m) first.matrix (desks m).plan
+  planned m le =
+      let here = are.each m le in
+      subst (λ timetable. IsPlannedAt timetable first.matrix (desks m).plan) here.at.timetable (record {
+        valid = here.valid;
+        scheduled = record { certified = here.plan; along = refl; least = proves (desks m).script.timetable first.matrix (desks m).plan here.valid pulls here.plan };
+        without = fixed-is makes are_made reaches (desks m).script.timetable here.valid;
+      })
+
+  unchanged : (m : ℕ) → m < n → IsSome (refusal_in (step_at base lines m)) → (desks (suc m)).plan ≡ (desks m).plan
+  unchanged m lt is = by (refusal_in (step_at base lines m)) (are.follow m lt) is
+    where
+      by : (refused : Option EditFault) → IsFollowed refused (desks m) (desks (suc m)) → IsSome refused → (desks (suc m)).plan ≡ (desks m).plan
+      by None followed is = absurd (false≢true is)
+      by (Some refused) followed is = ap (λ (d : DeskView). d.plan) followed
+
+  pub are-planned : n ≡ length lines → ArePlanned base lines first.matrix (λ k. (desks k).plan)
+  are-planned all = record {
+    planned = λ m le. planned m (omega (arith, all, le));
+    restored = λ m k m_in k_in standing. restored m k (omega (arith, all, m_in)) (omega (arith, all, k_in)) standing;
+    unchanged = λ m lt is. unchanged m (omega (arith, all, lt)) is;
+  }
+
+  -- what is written and put is that of these plans
+  pub planned-of : {E : Type 0} (prefix text : List ℕ) (end : Ending) → n ≡ length lines → IsUtf8 prefix
+      → text ≡ answers_to first.matrix prefix base lines (λ k. (desks k).plan) n → end ≡ ending_after base lines → (result : Result OutcomeView E)
+      → IfOk result (λ outcome. outcome ≡ record {
+        writes = plan_files last.script.timetable last.matrix prefix last.plan;
+        lines = None;
+        text = text ++ numbers_text last.script.timetable last.matrix last.plan;
+        ending = end;
+      })
+      → IfOk result (IsPlanned base lines first.matrix prefix)
+  planned-of prefix text end all begun put end_is (Err e) done = tt
+  planned-of prefix text end all begun put end_is (Ok outcome) done =
+      let last_is = subst (IsMoment base lines first.matrix n) are.ends (are.each n (omega arith)) in
+      let stands : last.script.timetable ≡ standing_at base lines (length lines) = last_is.at.timetable ∙ ap (standing_at base lines) all in
+      let plan : last.plan ≡ (desks (length lines)).plan = ap (λ (d : DeskView). d.plan) (sym are.ends ∙ ap desks all) in
+      let answers : text ≡ answers_to first.matrix prefix base lines (λ k. (desks k).plan) (length lines) = put ∙ ap (answers_to first.matrix prefix base lines (λ k. (desks k).plan)) all in
+      record {
+        plans = λ k. (desks k).plan;
+        are = are-planned all;
+        pulls = pulls;
+        begun = begun;
+        done = done ∙ (λ i. record {
+          writes = plan_files (stands i) (last_is.matrix_is i) prefix (plan i);
+          lines = None;
+          text = answers i ++ numbers_text (stands i) (last_is.matrix_is i) (plan i);
+          ending = end_is i;
+        });
+      }

@@ -1,0 +1,37 @@
+-- The desk at each moment of a script: terms of the functions inside.
+use Rattle.std.specs.Prelude.{◌≡◌, ℕ, suc, ◌<◌, ◌≤◌, List, Option, None, Some}
+use Rattle.trip_model.specs.Timetable.{TimetableView, IsTimetable}
+use Rattle.edit_script.specs.Machine.{IsAt}
+use Rattle.edit_script.specs.declared.edit.Line.{Line}
+use Rattle.edit_script.specs.declared.fault.EditFault.{EditFault}
+use Rattle.deadhead_matrix.specs.Matrix.{MatrixView}
+use Rattle.deadhead_matrix.specs.Prices.{IsPlanFor}
+use Rattle.desk_core.specs.Desk.{DeskView}
+use Rattle.desk_core.specs.Standing.{IsApplied}
+use Rattle.desk_feed.specs.Script.{refusal_in, state_at, step_at}
+use Rattle.desk_commands.specs.Answers.{answers_to}
+
+-- what a record does to a desk: its edit is done, or it is refused and changes nothing
+abbrev pub IsFollowed : Option EditFault → DeskView → DeskView → Type 0
+IsFollowed None old new = IsApplied old new
+IsFollowed (Some refused) old new = new ≡ old
+
+-- a desk stands where the machine does at a moment, and its plan is one for a valid timetable
+pub record IsMoment (base : TimetableView) (lines : List Line) (matrix : MatrixView) (m : ℕ) (desk : DeskView) : Type 0 where
+  pub at : IsAt base (state_at base lines m) desk.script
+  pub matrix_is : desk.matrix ≡ matrix
+  pub plan : IsPlanFor desk.script.timetable matrix desk.plan
+  pub valid : IsTimetable desk.script.timetable
+
+-- the desks at the moments from a first to a last one
+pub record AreMoments (base : TimetableView) (lines : List Line) (first : DeskView) (m : ℕ) (last : DeskView) (desks : ℕ → DeskView) : Type 0 where
+  pub begins : desks 0 ≡ first
+  pub ends : desks m ≡ last
+  pub each : (k : ℕ) → k ≤ m → IsMoment base lines first.matrix k (desks k)
+  pub follow : (k : ℕ) → k < m → IsFollowed (refusal_in (step_at base lines k)) (desks k) (desks (suc k))
+
+-- what was put of the records from a first moment to a last one
+pub record IsAnswered (prefix : List ℕ) (base : TimetableView) (lines : List Line) (first : DeskView) (m : ℕ) (last : DeskView) (text : List ℕ) : Type 0 where
+  pub desks : ℕ → DeskView
+  pub are : AreMoments base lines first m last desks
+  pub put : text ≡ answers_to first.matrix prefix base lines (λ k. (desks k).plan) m

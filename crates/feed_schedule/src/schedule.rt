@@ -1,0 +1,57 @@
+ghost use Rattle.std.specs.Prelude.{◌≡◌, ◌+◌, ◌*◌, ◌≤◌, ◌<◌, length, All, IfOk};
+ghost use Rattle.deadhead_matrix.specs.Prices.{IsPlanFor};
+ghost use Rattle.desk_feed.specs.Schedule.{IsScheduled};
+
+use block_build::{Blocks, blocks_of};
+use deadhead_matrix::Matrix;
+use deadhead_matrix::laws::plan_law;
+use desk_io::{Memory, Steps};
+use pair_graph::Pairs;
+use price_assign::Solver;
+use std::alloc::Global;
+use std::sync::ledger::Ledger;
+use trip_model::Timetable;
+
+/// A plan, and the blocks along its links.
+#[derive(Drop)]
+pub struct Schedule {
+    pub solver: Solver,
+    pub blocks: Blocks,
+}
+
+// A plan for a timetable and the matrix over its places, which its prices prove.
+fn plan_of<L: Ledger>(
+    alloc: Global,
+    timetable: &Timetable,
+    matrix: &Matrix,
+    steps: &mut Steps<L>,
+) -> Result<Solver, Memory>
+    requires { length timetable.now.places ≡ length matrix.now.walks }
+    ensures plan { IfOk result (IsPlanFor timetable.now matrix.now) }
+    ensures counted { let n = length timetable.now.slots in steps.new ≤ steps.old + (n * n * n + n * n) }
+{
+    let mut solver = Solver::open(alloc)?;
+    solver.solve(&Pairs::of(timetable, matrix), steps);
+    Ok(solver)
+}
+
+/// A plan for a timetable and the matrix over its places, and its blocks, which are least.
+pub fn schedule_of<L: Ledger>(
+    alloc: Global,
+    timetable: &Timetable,
+    matrix: &Matrix,
+    steps: &mut Steps<L>,
+) -> Result<Schedule, Memory>
+    requires { length timetable.now.places ≡ length matrix.now.walks }
+    ensures scheduled { IfOk result (λ schedule. IsScheduled timetable.now matrix.now schedule.solver schedule.blocks) }
+    ensures within { IfOk result (λ schedule. All (All (λ s. s < length timetable.now.slots)) schedule.blocks) }
+    ensures counted { let n = length timetable.now.slots in steps.new ≤ steps.old + (n * n * n + n * n) }
+{
+    plan_law();
+    // Their clauses say that the timetable is valid and that no pull is longer than a day.
+    let _slots = timetable.slots();
+    let _places = matrix.places();
+    let solver = plan_of(alloc, timetable, matrix, steps)?;
+    let blocks = blocks_of(alloc, timetable, solver.plan().links())?;
+    Ok(Schedule { solver, blocks })
+}

@@ -1,0 +1,235 @@
+-- What `blocks` has written, `check` accepts.
+use Rattle.std.proofs.Common.{◌≡◌, ◌≢◌, ℕ, ◌≤◌, Bool, true, false, cond, List, [], ◌++◌, length, Option, Some, None, Result, Ok, Err, refl, sym, ap, subst, ◌∙◌, arith}
+use Rattle.std.specs.Prelude.{IfSome, option_map, nat_le, if◌then◌else◌}
+use Rattle.std.proofs.lemmas.Cmp.{nat_list_cmp_total}
+use Rattle.std.specs.Cmp.Lexicographic.{slice_cmp}
+use Rattle.std.specs.FinMap.{get, insert, get-insert}
+use Rattle.std.specs.Ordering.{eq_by_cmp, nat_cmp}
+use Rattle.desk_io.specs.Shelf.{Files, found_as, found_in}
+use Rattle.desk_io.specs.Sink.{put_bytes}
+use Rattle.desk_io.specs.declared.shelf.Found.{Found}
+use Rattle.desk_io.specs.declared.shelf.Found.TheVariants.{File, TooLong}
+use Rattle.gtfs_tables.specs.Papers.{file_name_of}
+use Rattle.gtfs_tables.specs.Reading.{◌>>=◌}
+use Rattle.gtfs_tables.specs.declared.fault.FeedFault.{FeedFault}
+use Rattle.gtfs_tables.specs.declared.paper.Paper.{Paper}
+use Rattle.gtfs_tables.specs.declared.paper.Paper.TheVariants as paper
+use Rattle.gtfs_tables.specs.declared.paper.TheConstants.{MOST_BYTES}
+use Rattle.desk_settings.specs.Settings.{settings_of}
+use Rattle.feed_read.specs.Base.{base_of}
+use Rattle.deadhead_matrix.specs.Deadheads.{deadheads_of}
+use Rattle.deadhead_matrix.specs.Depot.{pulls_of}
+use Rattle.deadhead_matrix.specs.Matrix.{MatrixView}
+use Rattle.deadhead_matrix.specs.Prices.{Plan}
+use Rattle.block_build.specs.Files.{blocks_text, prices_text}
+use Rattle.claim_files.specs.Claims.{claimed_of}
+use Rattle.claim_files.specs.Written.{AreOfPlan, IsAccepted}
+use Rattle.trip_model.specs.Plain.{trip_moves, AreMoves}
+use Rattle.trip_model.specs.Timetable.{TimetableView, IsTimetable}
+use Rattle.desk_run.specs.Becomes.{with_writings}
+use Rattle.desk_run.specs.Commands.{IsGiven}
+use Rattle.desk_run.specs.Outcome.{OutcomeView, putting, status_of}
+use Rattle.desk_run.specs.Reading.{ReadView, AreRead, found_of, pages_in}
+use Rattle.desk_run.specs.declared.status.Ending.TheVariants as ending
+use Rattle.desk_run.specs.declared.status.TheConstants.{EDITS_REFUSED}
+use Rattle.desk_run.specs.Runs.{HasEnded}
+use Rattle.desk_run.specs.World.{World}
+use Rattle.desk_run.proofs.EachStatus.{pages_told}
+use Rattle.desk_core.specs.Counts.{blocks_in, minutes_in}
+use Rattle.desk_commands.specs.Answers.{answers_to, fixed_number}
+use Rattle.desk_commands.specs.Blocks.{IsPlan, IsPlannedAt, blocks_asked}
+use Rattle.desk_feed.specs.Feed.{Said, feed_papers, lines_by, said_by, said_with, standing}
+use Rattle.desk_feed.specs.Judging.{Does, refused_of, said_in}
+use Rattle.plan_commands.specs.Check.{IsChecked, check_asked, claim_papers, claim_in, claim_outcome, verdict_outcome, yes_line}
+use Rattle.desk_feed.proofs.ScriptLemmas.{standing-places}
+use Rattle.plan_commands.proofs.Given.{put-alone}
+use Rattle.two_runs.proofs.NamesSaid.{said-names}
+use Rattle.plan_commands.proofs.ScheduleLemmas.{outcome-same}
+use Rattle.two_runs.specs.Confirmed.{IsShort, IsConfirmed}
+
+-- the files with those of blocks and of prices
+abbrev written : Files → List ℕ → List ℕ → Files
+written files blocks prices = insert (insert files (file_name_of paper.Blocks) blocks) (file_name_of paper.Prices) prices
+
+-- papers that are found as before say what they said
+said_same : (one other : Paper → Found) → one paper.Settings ≡ other paper.Settings → one paper.Terminals ≡ other paper.Terminals → one paper.Tolerances ≡ other paper.Tolerances
+    → one paper.Trips ≡ other paper.Trips → one paper.StopTimes ≡ other paper.StopTimes → one paper.Deadheads ≡ other paper.Deadheads → one paper.Depot ≡ other paper.Depot → one paper.Edits ≡ other paper.Edits
+    → said_by one ≡ said_by other
+unfolding said_by
+said_same one other settings terminals tolerances trips stop_times deadheads depot edits = λ i.
+    settings_of (settings i) (terminals i) (tolerances i) >>= λ s. base_of s (trips i) (stop_times i) >>= λ t. deadheads_of (deadheads i) t >>= λ d. pulls_of (depot i) d.0
+    >>= λ p. lines_by (edits i) >>= λ lines. Ok (said_with s d.0 d.1 p lines)
+
+-- a file that is there and not too long is found
+found_short : (bytes : List ℕ) → (if nat_le (length bytes) MOST_BYTES then File bytes else TooLong) ≢ TooLong → (if nat_le (length bytes) MOST_BYTES then File bytes else TooLong) ≡ File bytes
+found_short bytes short = by (nat_le (length bytes) MOST_BYTES) short
+  where
+    by : (b : Bool) → (if b then File bytes else TooLong) ≢ TooLong → (if b then File bytes else TooLong) ≡ File bytes
+    by true short = refl
+    by false short = absurd (short refl)
+
+-- each other file stands in them as before
+module _ (files : Files) (blocks prices : List ℕ) where
+  kept : (name : List ℕ) → eq_by_cmp (slice_cmp nat_cmp) name (file_name_of paper.Prices) ≡ false → eq_by_cmp (slice_cmp nat_cmp) name (file_name_of paper.Blocks) ≡ false
+      → found_in (written files blocks prices) name MOST_BYTES ≡ found_in files name MOST_BYTES
+  kept name prices_no blocks_no = ap (found_as MOST_BYTES)
+      (get-insert nat_list_cmp_total (insert files (file_name_of paper.Blocks) blocks) (file_name_of paper.Prices) prices name
+      ∙ ap (λ b. cond b (Some prices) (get (insert files (file_name_of paper.Blocks) blocks) name)) prices_no
+      ∙ get-insert nat_list_cmp_total files (file_name_of paper.Blocks) blocks name
+      ∙ ap (λ b. cond b (Some blocks) (get files name)) blocks_no)
+
+  blocks_found : get (written files blocks prices) (file_name_of paper.Blocks) ≡ Some blocks
+  blocks_found =
+      get-insert nat_list_cmp_total (insert files (file_name_of paper.Blocks) blocks) (file_name_of paper.Prices) prices (file_name_of paper.Blocks)
+      ∙ get-insert nat_list_cmp_total files (file_name_of paper.Blocks) blocks (file_name_of paper.Blocks)
+
+  prices_found : get (written files blocks prices) (file_name_of paper.Prices) ≡ Some prices
+  prices_found = get-insert nat_list_cmp_total (insert files (file_name_of paper.Blocks) blocks) (file_name_of paper.Prices) prices (file_name_of paper.Prices)
+
+  -- the papers of a feed say what they said
+  pub said_kept : said_by (found_of (pages_in claim_papers (written files blocks prices))) ≡ said_by (found_of (pages_in feed_papers files))
+  said_kept = said_same (found_of (pages_in claim_papers (written files blocks prices))) (found_of (pages_in feed_papers files))
+      (kept (file_name_of paper.Settings) refl refl) (kept (file_name_of paper.Terminals) refl refl) (kept (file_name_of paper.Tolerances) refl refl) (kept (file_name_of paper.Trips) refl refl)
+      (kept (file_name_of paper.StopTimes) refl refl) (kept (file_name_of paper.Deadheads) refl refl) (kept (file_name_of paper.Depot) refl refl) (kept (file_name_of paper.Edits) refl refl)
+
+  -- the two files are found as they were written, where they are not too long
+  pub blocks_read : IsShort (written files blocks prices) paper.Blocks → found_of (pages_in claim_papers (written files blocks prices)) paper.Blocks ≡ File blocks
+  blocks_read short = ap (found_as MOST_BYTES) blocks_found ∙ found_short blocks (λ long. short (ap (found_as MOST_BYTES) blocks_found ∙ long))
+
+  pub prices_read : IsShort (written files blocks prices) paper.Prices → found_of (pages_in claim_papers (written files blocks prices)) paper.Prices ≡ File prices
+  prices_read short = ap (found_as MOST_BYTES) prices_found ∙ found_short prices (λ long. short (ap (found_as MOST_BYTES) prices_found ∙ long))
+
+-- a run of `blocks` that has done all has done so with an accepted feed
+planned_said : (read : ReadView) (outcome : OutcomeView) → IsGiven blocks_asked read outcome → status_of outcome.ending ≤ EDITS_REFUSED → (said : Said) × (said_in read ≡ Ok said) × IsPlan said outcome
+planned_said read outcome given low = by (said_in read) refl given.gives
+  where
+    by : (result : Result Said FeedFault) → said_in read ≡ result → Does IsPlan result outcome → (said : Said) × (said_in read ≡ Ok said) × IsPlan said outcome
+    by (Ok said) is does = (said, is, does)
+    by (Err refused) is does = absurd (omega (arith, low, ap (λ (o : OutcomeView). status_of o.ending) does))
+
+-- a run of `check` writes no file
+writes_none : (read : ReadView) (outcome : OutcomeView) → IsGiven check_asked read outcome → outcome.writes ≡ []
+writes_none read outcome given = by (said_in read) given.gives
+  where
+    by : (result : Result Said FeedFault) → Does (IsChecked read) result outcome → outcome.writes ≡ []
+    by (Ok said) does = ap (λ (o : OutcomeView). o.writes) does.done ∙ (put-alone (refused_of said) (standing said) does.matrix (claim_in read said)).0
+    by (Err refused) does = ap (λ (o : OutcomeView). o.writes) does
+
+-- the files of a shelf with two more, where it tells them
+abbrev with_texts : List ℕ → List ℕ → Option Files → Option Files
+with_texts blocks prices files = option_map (λ fs. insert fs (file_name_of paper.Prices) prices) (option_map (λ fs. insert fs (file_name_of paper.Blocks) blocks) files)
+
+-- what is needed of the laws
+abbrev pub AcceptsPlans : Type 0
+AcceptsPlans = (timetable : TimetableView) (matrix : MatrixView) (prefix : List ℕ) (plan : Plan) (blocks : List (List ℕ)) → AreOfPlan timetable matrix prefix plan blocks
+    → IsAccepted timetable matrix prefix blocks plan.leave plan.enter
+
+abbrev pub MakesMoves : Type 0
+MakesMoves = (timetable : TimetableView) → IsTimetable timetable → AreMoves (length timetable.places) (trip_moves timetable.slots)
+
+module _ (accepts : AcceptsPlans) (makes : MakesMoves) (before middle after : World) (first second : ℕ) (one : HasEnded blocks_asked before middle first) (two : HasEnded check_asked middle after second) (all : first ≤ EDITS_REFUSED) where
+  abbrev planned : (said : Said) × (said_in one.chosen.read ≡ Ok said) × IsPlan said one.chosen.outcome
+  planned = planned_said one.chosen.read one.chosen.outcome one.chosen.given (omega (arith, all, one.answered))
+
+  abbrev said : Said
+  said = planned.0
+
+  abbrev plan : IsPlan said one.chosen.outcome
+  plan = planned.2
+
+  -- the plan at the last moment, and its blocks
+  abbrev last_plan : Plan
+  last_plan = plan.planned.plans (length said.lines)
+
+  last_planned : IsPlannedAt (standing said) plan.matrix last_plan
+  last_planned = plan.planned.are.planned (length said.lines) (omega arith)
+
+  abbrev blocks : List (List ℕ)
+  blocks = blocks_in (standing said) last_plan
+
+  abbrev text_of_blocks : List ℕ
+  text_of_blocks = blocks_text (standing said) plan.matrix said.settings.prefix blocks
+
+  abbrev text_of_prices : List ℕ
+  text_of_prices = prices_text (standing said) last_plan.leave last_plan.enter
+
+  -- the files after the first run, where the shelf tells them
+  files_between : middle.shelf.files ≡ with_texts text_of_blocks text_of_prices before.shelf.files
+  files_between = ap (λ (w : World). w.shelf.files) one.carried ∙ ap (λ (o : OutcomeView). (with_writings o.writes before.shelf).files) plan.planned.done
+
+  -- the blocks and the prices are accepted
+  accepted : IsAccepted (standing said) plan.matrix said.settings.prefix blocks last_plan.leave last_plan.enter
+  accepted = accepts (standing said) plan.matrix said.settings.prefix last_plan blocks (record {
+    valid = last_planned.valid;
+    pulls = plan.planned.pulls;
+    certified = last_planned.scheduled.certified;
+    along = last_planned.scheduled.along;
+    begun = plan.planned.begun;
+    names = said-names (found_of one.chosen.read.pages) said planned.1;
+  })
+
+  module _ (files : Files) (told : before.shelf.files ≡ Some files) (blocks_short : IsShort (written files text_of_blocks text_of_prices) paper.Blocks) (prices_short : IsShort (written files text_of_blocks text_of_prices) paper.Prices) where
+    now : middle.shelf.files ≡ Some (written files text_of_blocks text_of_prices)
+    now = files_between ∙ ap (with_texts text_of_blocks text_of_prices) told
+
+    read_first : one.chosen.read.pages ≡ pages_in feed_papers files
+    read_first = pages_told files feed_papers one.chosen.read.pages (subst (λ fs. AreRead fs feed_papers one.chosen.read.pages) told one.chosen.told.pages)
+
+    read_second : two.chosen.read.pages ≡ pages_in claim_papers (written files text_of_blocks text_of_prices)
+    read_second = pages_told (written files text_of_blocks text_of_prices) claim_papers two.chosen.read.pages (subst (λ fs. AreRead fs claim_papers two.chosen.read.pages) now two.chosen.told.pages)
+
+    says : said_in two.chosen.read ≡ Ok said
+    says = ap (λ pages. said_by (found_of pages)) read_second ∙ said_kept files text_of_blocks text_of_prices ∙ sym (ap (λ pages. said_by (found_of pages)) read_first) ∙ planned.1
+
+    claim : claim_in two.chosen.read said ≡ Ok accepted.0
+    claim =
+        (λ i. claimed_of (standing said)
+        ((ap (λ pages. found_of pages paper.Blocks) read_second ∙ blocks_read files text_of_blocks text_of_prices blocks_short) i)
+        ((ap (λ pages. found_of pages paper.Prices) read_second ∙ prices_read files text_of_blocks text_of_prices prices_short) i))
+        ∙ accepted.1
+
+    judged : IsChecked two.chosen.read said two.chosen.outcome
+    judged = subst (λ said. Does (IsChecked two.chosen.read) said two.chosen.outcome) says two.chosen.given.gives
+
+    abbrev vehicles : ℕ
+    vehicles = length blocks
+
+    abbrev minutes : ℕ
+    minutes = minutes_in (standing said) plan.matrix last_plan
+
+    moves : AreMoves (length said.base.places) (trip_moves (standing said).slots)
+    moves = subst (λ places. AreMoves (length places) (trip_moves (standing said).slots)) (standing-places said.base said.lines (length said.lines)) (makes (standing said) last_planned.valid)
+
+    yes : two.chosen.outcome ≡ putting (refused_of said ++ yes_line vehicles minutes) ending.Done
+    yes =
+        judged.done
+        ∙ outcome-same said.entries said.pulls (length said.base.places) judged.matrix plan.matrix judged.matrix_is plan.matrix_is (refused_of said) (standing said) moves (claim_in two.chosen.read said)
+        ∙ ap (claim_outcome (refused_of said) (standing said) plan.matrix) claim
+        ∙ ap (verdict_outcome (refused_of said) (standing said) accepted.0) accepted.2
+
+    confirmed : IsConfirmed before after second
+    confirmed = record {
+      answers = answers_to plan.matrix said.settings.prefix said.base said.lines plan.planned.plans (length said.lines);
+      refused = refused_of said;
+      fixed = fixed_number (standing said);
+      vehicles = vehicles;
+      minutes = minutes;
+      yes = two.answered ∙ ap (λ (o : OutcomeView). status_of o.ending) yes;
+      put = ap (λ (w : World). w.sink) two.carried ∙ (λ i. put_bytes (yes i).text ((ap (λ (w : World). w.sink) one.carried ∙ ap (λ (o : OutcomeView). put_bytes o.text before.sink) plan.planned.done) i));
+    }
+
+  -- and after both
+  files_after : after.shelf.files ≡ with_texts text_of_blocks text_of_prices before.shelf.files
+  files_after =
+      ap (λ (w : World). w.shelf.files) two.carried
+      ∙ ap (λ writes. (with_writings writes middle.shelf).files) (writes_none two.chosen.read two.chosen.outcome two.chosen.given)
+      ∙ files_between
+
+  pub confirms : IfSome after.shelf.files (λ files. IsShort files paper.Blocks → IsShort files paper.Prices → IsConfirmed before after second)
+  confirms = subst (λ fs. IfSome fs (λ files. IsShort files paper.Blocks → IsShort files paper.Prices → IsConfirmed before after second)) (sym files_after) (by before.shelf.files refl)
+    where
+      by : (o : Option Files) → before.shelf.files ≡ o
+          → IfSome (with_texts text_of_blocks text_of_prices o)
+          (λ files. IsShort files paper.Blocks → IsShort files paper.Prices → IsConfirmed before after second)
+      by None told = tt
+      by (Some files) told = λ blocks_short prices_short. confirmed files told blocks_short prices_short

@@ -1,0 +1,3 @@
+pub mod ConfirmedLemmas
+pub mod NamesSaid
+pub mod NamesStanding

@@ -1,0 +1,187 @@
+-- What an accepted feed says has names that are text. A `_` for a type stands where its crate keeps the type to itself.
+use Rattle.std.proofs.Common.{◌≡◌, ℕ, ◌+◌, ◌<◌, ◌==◌, nat_le, nat_lt, not, Bool, true, false, List, [], ◌∷◌, ◌++◌, length, Option, None, Some, Result, Ok, if◌then◌else◌, refl, ap, subst, ◌∙◌, arith}
+use Rattle.std.specs.Prelude.{All, IsUtf8}
+use Rattle.std.specs.Option.{ok_or}
+use Rattle.std.specs.Str.{is_utf8}
+use Rattle.std.proofs.lemmas.Bool.{false≢true}
+use Rattle.std.proofs.lemmas.List.Elements.{All-head, All-map, All-nil, All-push, All-tail}
+use Rattle.std.proofs.lemmas.Str.{IsUtf8-from_is_utf8}
+use Rattle.desk_io.specs.declared.shelf.Found.{Found}
+use Rattle.desk_io.specs.declared.shelf.Found.TheVariants.{Missing}
+use Rattle.gtfs_tables.specs.declared.fault.FeedFault.{FeedFault}
+use Rattle.gtfs_tables.specs.declared.fault.FeedFault.TheVariants as fault
+use Rattle.gtfs_tables.specs.declared.paper.Column.{Column}
+use Rattle.gtfs_tables.specs.declared.paper.Column.TheVariants as column
+use Rattle.gtfs_tables.specs.declared.paper.Paper.{Paper}
+use Rattle.gtfs_tables.specs.declared.paper.Paper.TheVariants as paper
+use Rattle.gtfs_tables.specs.Fold.{paper_read, table_read}
+use Rattle.gtfs_tables.specs.Reading.{each_record, field_at, filled_in, table_in, text_in}
+use Rattle.gtfs_tables.specs.Table.{TableView}
+use Rattle.desk_settings.specs.Entries.{Name}
+use Rattle.desk_settings.specs.Names.{is_among}
+use Rattle.desk_settings.specs.Settings.{SettingsView, is_chosen}
+use Rattle.trip_model.specs.declared.limits.TheConstants.{MOST_PLACES, MOST_SLOTS}
+use Rattle.trip_model.specs.Place.{Place}
+use Rattle.trip_model.specs.Timetable.{TimetableView, Slot, number_of, place_names}
+use Rattle.feed_read.specs.Base.{base_of, ends_of, names_met, slot_of, timetable_of, timetable_over}
+use Rattle.feed_read.specs.Journeys.{first_visit, has_repeat, journey_between, journey_from, journey_of, journeys_in, last_visit, sequences, time_or, visits_of, with_journey}
+use Rattle.feed_read.specs.Trips as trips
+use Rattle.feed_read.specs.Trips.{trips_in, with_name, with_trip}
+use Rattle.feed_read.specs.Visits.{VisitView, visits_in}
+use Rattle.deadhead_matrix.specs.declared.entry.Entry.{Entry}
+use Rattle.deadhead_matrix.specs.Deadheads as deadheads
+use Rattle.deadhead_matrix.specs.Deadheads.{ReadingView, begun, deadhead_in, deadheads_of, or_new_place, with_deadhead, with_entries, with_place, with_places, with_unplaced}
+use Rattle.deadhead_matrix.specs.Posts.{Class, classes_of, place_for}
+use Rattle.claim_files.specs.Written.{IsName}
+use Rattle.claim_files.proofs.EachRecord.{each-keeps, provided-parts, read-parts, same_Ok}
+use Rattle.desk_feed.specs.Feed.{Said, deadheads_in, lines_in, pulls_in, said_by, said_with, settings_in, standing, timetable_in}
+use Rattle.two_runs.proofs.NamesStanding.{lines-named, standing-named}
+
+-- a text that was read is text
+text-read : (paper : Paper) (number : ℕ) (column : Column) (bytes text : List ℕ) → text_in paper number column bytes ≡ Ok text → IsUtf8 text
+text-read paper number column bytes text e =
+    let parts = provided-parts (is_utf8 bytes) (fault.NotUtf8 paper number column) (Ok bytes) text e in
+    subst IsUtf8 (same_Ok bytes text parts.1) (IsUtf8-from_is_utf8 bytes parts.0)
+
+filled : (text : List ℕ) → not (length text == 0) ≡ true → 0 < length text
+filled [] e = absurd (false≢true e)
+filled (x ∷ text) e = omega arith
+
+-- the names with one more
+one-more : (number : ℕ) (before after : List Name) (name : Name) → IsUtf8 name → All IsName before → with_name number before name ≡ Ok after → All IsName after
+unfolding with_name
+one-more number before after name text are e =
+    let full = read-parts (filled_in paper.Trips number column.TripId name) _ after e in
+    let has = provided-parts (not (length name == 0)) (fault.EmptyField paper.Trips number column.TripId) (Ok name) full.0 full.1 in
+    let fresh = provided-parts (not (is_among name before)) (fault.DuplicateRow paper.Trips number) _ after full.2 in
+    let few = provided-parts (nat_lt (length before) MOST_SLOTS) (fault.TooManyTrips number) _ after fresh.1 in
+    subst (All IsName) (same_Ok (before ++ name ∷ []) after few.1) (All-push IsName before name are (record { text = text; filled = filled name has.0 }))
+
+if-chosen : (chosen : Bool) (number : ℕ) (before after : List Name) (name : Name) → IsUtf8 name → All IsName before
+    → (if chosen then with_name number before name else Ok before) ≡ Ok after → All IsName after
+if-chosen true number before after name text are e = one-more number before after name text are e
+if-chosen false number before after name text are e = subst (All IsName) (same_Ok before after e) are
+
+step-named : (settings : SettingsView) (columns : _) (number : ℕ) (before after : List Name) (fields : List (List ℕ)) → All IsName before
+    → with_trip settings columns number before fields ≡ Ok after → All IsName after
+unfolding with_trip
+step-named settings columns number before after fields are e =
+    let service = read-parts (text_in paper.Trips number column.ServiceId (field_at fields columns.service)) _ after e in
+    let name = read-parts (text_in paper.Trips number column.TripId (field_at fields columns.trip)) _ after service.2 in
+    let text = text-read paper.Trips number column.TripId (field_at fields columns.trip) name.0 name.1 in
+    if-chosen (is_chosen settings service.0) number before after name.0 text are name.2
+
+-- the names of the selected trips
+trips-named : (settings : SettingsView) (found : Found) (names : List Name) → trips_in settings found ≡ Ok names → All IsName names
+trips-named settings found names e =
+    let table = read-parts (table_in paper.Trips found) _ names e in
+    let columns = read-parts (trips.columns_in table.0.header) _ names table.2 in
+    each-keeps (with_trip settings columns.0) (All IsName) (λ n a b fields are is. step-named settings columns.0 n a b fields are is) 1 [] names table.0.rows (All-nil IsName) columns.2
+
+-- a trip keeps its name
+between-name : (settings : SettingsView) (name : Name) (first last : VisitView) (journey : _) → journey_between settings name first last ≡ Ok journey → name ≡ (slot_of [] journey).name
+unfolding journey_between
+between-name settings name first last journey e =
+    let departure = read-parts (ok_or (time_or first.departure first.arrival) (fault.NoTime name)) _ journey e in
+    let arrival = read-parts (ok_or (time_or last.arrival last.departure) (fault.NoTime name)) _ journey departure.2 in
+    let forward = provided-parts (nat_lt departure.0 arrival.0) (fault.NotForward name) _ journey arrival.2 in
+    ap (λ j. (slot_of [] j).name) (same_Ok _ journey forward.1)
+
+from-name : (settings : SettingsView) (name : Name) (first last : Option VisitView) (journey : _) → journey_from settings name first last ≡ Ok journey → name ≡ (slot_of [] journey).name
+from-name settings name (Some first) (Some last) journey e = between-name settings name first last journey e
+from-name settings name None last journey e = absurd (cc)
+from-name settings name (Some first) None journey e = absurd (cc)
+
+journey-name : (settings : SettingsView) (name : Name) (visits : List VisitView) (journey : _) → journey_of settings name visits ≡ Ok journey → name ≡ (slot_of [] journey).name
+unfolding journey_of
+journey-name settings name visits journey e =
+    let two = provided-parts (nat_le 2 (length visits)) (fault.TooFewStops name) _ journey e in
+    let once = provided-parts (not (has_repeat (sequences visits))) (fault.DuplicateSequence name) _ journey two.1 in
+    from-name settings name (first_visit visits) (last_visit visits) journey once.1
+
+each-named : (settings : SettingsView) (visits : List VisitView) (number : ℕ) (before after : List _) (names : List Name) → All IsName names → All (λ j. IsName (slot_of [] j).name) before
+    → each_record (with_journey settings visits) number before names ≡ Ok after → All (λ j. IsName (slot_of [] j).name) after
+each-named settings visits number before after [] named are e = subst (All (λ j. IsName (slot_of [] j).name)) (same_Ok before after e) are
+each-named settings visits number before after (name ∷ names) named are e =
+    let parts = read-parts (with_journey settings visits number before name) (λ more. each_record (with_journey settings visits) (number + 1) more names) after e in
+    let journey = read-parts (journey_of settings name (visits_of number visits)) _ parts.0 parts.1 in
+    let here = subst IsName (journey-name settings name (visits_of number visits) journey.0 journey.1) (All-head IsName name names named) in
+    let more = subst (All (λ j. IsName (slot_of [] j).name)) (same_Ok (before ++ journey.0 ∷ []) parts.0 journey.2) (All-push (λ j. IsName (slot_of [] j).name) before journey.0 are here) in
+    each-named settings visits (number + 1) parts.0 after names (All-tail IsName name names named) more parts.2
+
+-- the slots of the base timetable
+over-named : (settings : SettingsView) (journeys : List _) (t : TimetableView) → All (λ j. IsName (slot_of [] j).name) journeys → timetable_of settings journeys ≡ Ok t → All (λ (slot : Slot). IsName slot.name) t.slots
+unfolding timetable_of
+over-named settings journeys t are e =
+    let names = names_met (ends_of journeys) in
+    let few = provided-parts (nat_le (length names) MOST_PLACES) (fault.TooManyPlaces paper.StopTimes) (Ok (timetable_over settings names journeys)) t e in
+    subst (λ (t : TimetableView). All (λ (slot : Slot). IsName slot.name) t.slots) (same_Ok (timetable_over settings names journeys) t few.1) (All-map (λ (slot : Slot). IsName slot.name) (slot_of names) journeys are)
+
+base-named : (settings : SettingsView) (trips_found stop_times_found : Found) (t : TimetableView) → base_of settings trips_found stop_times_found ≡ Ok t → All (λ (slot : Slot). IsName slot.name) t.slots
+unfolding base_of
+base-named settings trips_found stop_times_found t e =
+    let names = read-parts (trips_in settings trips_found) _ t e in
+    let journeys = read-parts (journeys_in settings names.0 stop_times_found) _ t names.2 in
+    let visits = read-parts (visits_in names.0 stop_times_found) _ journeys.0 journeys.1 in
+    let named = each-named settings visits.0 0 [] journeys.0 names.0 (trips-named settings trips_found names.0 names.1) (All-nil (λ j. IsName (slot_of [] j).name)) visits.2 in
+    over-named settings journeys.0 t named journeys.2
+
+-- the places of terminals leave the slots as they are
+place-slots : (t : TimetableView) (place : Place) (found : Option ℕ) (after : TimetableView × ℕ) → or_new_place t place found ≡ Ok after → t.slots ≡ after.0.slots
+place-slots t place (Some number) after e = ap (λ (r : TimetableView × ℕ). r.0.slots) (same_Ok (t, number) after e)
+place-slots t place None after e =
+    let room = provided-parts (nat_lt (length t.places) MOST_PLACES) (fault.TooManyPlaces paper.Deadheads) _ after e in
+    ap (λ (r : TimetableView × ℕ). r.0.slots) (same_Ok _ after room.1)
+
+places-slots : (terminal : List ℕ) (t : TimetableView) (numbers : List ℕ) (classes : List Class) (after : TimetableView × List ℕ) → with_places terminal t numbers classes ≡ Ok after → t.slots ≡ after.0.slots
+places-slots terminal t numbers [] after e = ap (λ (r : TimetableView × List ℕ). r.0.slots) (same_Ok (t, numbers) after e)
+places-slots terminal t numbers (class ∷ classes) after e =
+    let place = place_for t.classed terminal class in
+    let here = read-parts (with_place t place) (λ here. with_places terminal here.0 (numbers ++ here.1 ∷ []) classes) after e in
+    place-slots t place (number_of (place_names t) place.name) here.0 here.1 ∙ places-slots terminal here.0.0 (numbers ++ here.0.1 ∷ []) classes after here.2
+
+read-slots : (given after : ReadingView) → ◌≡◌ {A = Result ReadingView FeedFault} (Ok given) (Ok after) → given.timetable.slots ≡ after.timetable.slots
+read-slots given after e = ap (λ (r : ReadingView). r.timetable.slots) (same_Ok given after e)
+
+step-slots : (slots : List Slot) (classes : List Class) (columns : _) (number : ℕ) (before after : ReadingView) (fields : List (List ℕ)) → slots ≡ before.timetable.slots
+    → with_deadhead classes columns number before fields ≡ Ok after → slots ≡ after.timetable.slots
+unfolding with_deadhead
+step-slots slots classes columns number before after fields are e =
+    let deadhead = read-parts (deadhead_in columns number fields) _ after e in
+    let from = read-parts (with_places deadhead.0.0 before.timetable [] classes) _ after deadhead.2 in
+    let to = read-parts (with_places deadhead.0.1 from.0.0 [] classes) _ after from.2 in
+    let entries = read-parts (with_entries number deadhead.0.2 before.entries from.0.1 to.0.1) _ after to.2 in
+    let unplaced = read-parts (with_unplaced number classes before.unplaced (deadhead.0.0, deadhead.0.1)) (λ more. Ok (record { timetable = to.0.0; entries = entries.0; unplaced = more })) after entries.2 in
+    let given : ReadingView = record { timetable = to.0.0; entries = entries.0; unplaced = unplaced.0 } in
+    are ∙ places-slots deadhead.0.0 before.timetable [] classes from.0 from.1 ∙ places-slots deadhead.0.1 from.0.0 [] classes to.0 to.1
+    ∙ read-slots given after unplaced.2
+
+-- and so do the deadheads
+table-slots : (t : TimetableView) (after : ReadingView) (table : TableView) → table_read deadheads.columns_in (with_deadhead (classes_of t)) (begun t) table ≡ Ok after → t.slots ≡ after.timetable.slots
+table-slots t after table e =
+    let columns = read-parts (deadheads.columns_in table.header) _ after e in
+    each-keeps (with_deadhead (classes_of t) columns.0) (λ (r : ReadingView). t.slots ≡ r.timetable.slots) (λ n a b fields are is. step-slots t.slots (classes_of t) columns.0 n a b fields are is)
+    1 (begun t) after table.rows refl columns.2
+
+deadheads-slots : (found : Found) (t : TimetableView) (after : TimetableView × List Entry) → deadheads_of found t ≡ Ok after → t.slots ≡ after.0.slots
+deadheads-slots Missing t after e = ap (λ (r : TimetableView × List Entry). r.0.slots) (same_Ok (t, []) after e)
+deadheads-slots found t after e =
+    let read = read-parts (paper_read paper.Deadheads deadheads.columns_in (with_deadhead (classes_of t)) (begun t) found) (λ read. Ok (read.timetable, read.entries)) after e in
+    let table = read-parts (table_in paper.Deadheads found) (table_read deadheads.columns_in (with_deadhead (classes_of t)) (begun t)) read.0 read.1 in
+    table-slots t read.0 table.0 table.2
+    ∙ ap (λ (r : TimetableView × List Entry). r.0.slots) (same_Ok (read.0.timetable, read.0.entries) after read.2)
+
+-- the names of an accepted feed are text, after its script too
+pub said-names : (found : Paper → Found) (said : Said) → said_by found ≡ Ok said → All (λ slot. IsName slot.name) (standing said).slots
+unfolding said_by
+said-names found said e =
+    let settings = read-parts (settings_in found) _ said e in
+    let base = read-parts (timetable_in found settings.0) _ said settings.2 in
+    let entries = read-parts (deadheads_in found base.0) _ said base.2 in
+    let pulls = read-parts (pulls_in found entries.0.0) _ said entries.2 in
+    let lines = read-parts (lines_in found) _ said pulls.2 in
+    let given = said_with settings.0 entries.0.0 entries.0.1 pulls.0 lines.0 in
+    let slots = deadheads-slots (found paper.Deadheads) base.0 entries.0 entries.1 in
+    let before = subst (All (λ (slot : Slot). IsName slot.name)) slots (base-named settings.0 (found paper.Trips) (found paper.StopTimes) base.0 base.1) in
+    subst (λ (said : Said). All (λ (slot : Slot). IsName slot.name) (standing said).slots) (same_Ok given said lines.2)
+    (standing-named entries.0.0 lines.0 (length lines.0) before (lines-named (found paper.Edits) lines.0 lines.1))
