@@ -1,0 +1,149 @@
+ghost use Rattle.std.specs.Prelude.{◌≡◌, ℕ, ◌+◌, ◌-◌, ◌*◌, ◌<◌, ◌≤◌, true, length, ℤ, pos, neg_ℤ, unsigned_abs, IfNone, IfSome, List};
+ghost use Rattle.deficit_steps.specs.Holds.{Holds};
+ghost use Rattle.shift_moves.specs.Lowering.{IsFirst, IsLowering};
+ghost use Rattle.shift_moves.specs.Trial.{IsFirstInSlot, IsRoom, tried};
+ghost use Rattle.trip_model.specs.Deficit.{live_moves};
+ghost use Rattle.trip_model.specs.Place.{Place};
+ghost use Rattle.trip_model.specs.Timetable.{slot_at};
+ghost use Rattle.trip_model.specs.Trip.{IsValidTrip};
+ghost use Rattle.trip_model.specs.declared.limits.TheConstants.{MOST_TOLERANCE};
+
+use crate::trial::is_lowering;
+use deficit_steps::Deficits;
+use desk_io::Steps;
+use std::sync::ledger::Ledger;
+use trip_model::{Timetable, Trip};
+
+/// The trip of a slot moved by so many minutes, earlier where they are negative.
+#[derive(Clone, Copy, Debug, PartialEq, Eq)]
+pub struct Shift {
+    pub slot: u16,
+    pub by: i16,
+}
+
+// By how many minutes a trip may be moved earlier, and by how many later.
+#[derive(Clone, Copy)]
+struct Room {
+    earlier: u16,
+    later: u16,
+}
+
+// How far a trip may be moved within its tolerances, and not to before midnight.
+fn room_of(trip: &Trip) -> Room
+    requires valid { (places : List Place) × IsValidTrip places trip.now }
+    ensures { IsRoom trip.now result.earlier result.later }
+{
+    let earlier = (i16::from(trip.early) + i16::from(trip.offset)) as u16;
+    Room {
+        earlier: earlier.min(trip.departs),
+        later: (i16::from(trip.late) - i16::from(trip.offset)) as u16,
+    }
+}
+
+// So many minutes earlier.
+fn earlier(size: u16) -> i16
+    requires { size ≤ 2 * MOST_TOLERANCE }
+    ensures { result ≡ neg_ℤ (pos size) }
+{
+    -(size as i16)
+}
+
+// So many minutes later.
+fn later(size: u16) -> i16
+    requires { size ≤ 2 * MOST_TOLERANCE }
+    ensures { result ≡ pos size }
+{
+    size as i16
+}
+
+// The lowering shift of the trip of a slot by so many minutes, earlier before later.
+fn shift_of_size<L: Ledger>(
+    timetable: &Timetable,
+    deficits: &mut Deficits,
+    slot: u16,
+    room: Room,
+    size: u16,
+    steps: &mut Steps<L>,
+) -> Option<i16>
+    requires held { Holds deficits.old (live_moves timetable.now.slots) }
+    requires rows { length deficits.old ≡ length timetable.now.places }
+    requires slot { slot < length timetable.now.slots }
+    requires live { (slot_at timetable.now slot).trip.live ≡ true }
+    requires room { IsRoom (slot_at timetable.now slot).trip room.earlier room.later }
+    requires some { 0 < size }
+    requires few { size ≤ 2 * MOST_TOLERANCE }
+    ensures lowering { IfSome result (IsLowering timetable.now slot) }
+    ensures size { IfSome result (λ by. unsigned_abs by ≡ size) }
+    ensures earlier { IfSome result (λ by. by ≡ pos size → ¬ IsLowering timetable.now slot (neg_ℤ (pos size))) }
+    ensures none_earlier { IfNone result (¬ IsLowering timetable.now slot (neg_ℤ (pos size))) }
+    ensures none_later { IfNone result (¬ IsLowering timetable.now slot (pos size)) }
+    ensures unchanged { deficits.new ≡ deficits.old }
+    ensures counted { steps.new + 112 * tried room.earlier room.later (size - 1)
+        ≤ steps.old + 112 * tried room.earlier room.later size }
+{
+    let by = earlier(size);
+    let may = size <= room.earlier;
+    if is_lowering(timetable, deficits, slot, by, may, steps) {
+        return Some(by);
+    }
+    let by = later(size);
+    let may = size <= room.later;
+    if is_lowering(timetable, deficits, slot, by, may, steps) {
+        return Some(by);
+    }
+    None
+}
+
+// The first lowering shift of the trip of a slot.
+fn shift_of_slot<L: Ledger>(
+    timetable: &Timetable,
+    deficits: &mut Deficits,
+    slot: u16,
+    steps: &mut Steps<L>,
+) -> Option<i16>
+    requires held { Holds deficits.old (live_moves timetable.now.slots) }
+    requires rows { length deficits.old ≡ length timetable.now.places }
+    requires slot { slot < length timetable.now.slots }
+    ensures first { IfSome result (IsFirstInSlot timetable.now slot) }
+    ensures none { IfNone result ((by : ℤ) → ¬ IsLowering timetable.now slot by) }
+    ensures unchanged { deficits.new ≡ deficits.old }
+    ensures counted { steps.new ≤ steps.old + 112 * (2 * MOST_TOLERANCE) }
+{
+    let trip = timetable.trip(slot);
+    if !trip.live {
+        return None;
+    }
+    let room = room_of(&trip);
+    for size in 1..room.earlier.max(room.later) + 1 {
+        if let Some(by) = shift_of_size(timetable, deficits, slot, room, size, steps) {
+            return Some(by);
+        }
+    }
+    None
+}
+
+/// The first shift of a trip that runs, within its tolerances and not to before midnight, with which the sum of the maxima
+/// of the deficits is smaller: the first by slot, then by the size of the number of minutes, earlier before later. None
+/// where there is none.
+///
+/// Each shift is tried on the deficits and taken back, so that they are in the end what they were: four changes of at most
+/// 28 steps, for each number of minutes within two tolerances. It takes no memory.
+pub fn next_shift<L: Ledger>(
+    timetable: &Timetable,
+    deficits: &mut Deficits,
+    steps: &mut Steps<L>,
+) -> Option<Shift>
+    requires held { Holds deficits.old (live_moves timetable.now.slots) }
+    requires rows { length deficits.old ≡ length timetable.now.places }
+    ensures first { IfSome result (λ shift. IsFirst timetable.now shift.slot shift.by) }
+    ensures none { IfNone result ((slot : ℕ) (by : ℤ) → ¬ IsLowering timetable.now slot by) }
+    ensures unchanged { deficits.new ≡ deficits.old }
+    ensures counted { steps.new ≤ steps.old + 4 * 28 * (2 * MOST_TOLERANCE) * length timetable.now.slots }
+{
+    for slot in 0..timetable.slots() {
+        if let Some(by) = shift_of_slot(timetable, deficits, slot, steps) {
+            return Some(Shift { slot, by });
+        }
+    }
+    None
+}

@@ -1,0 +1,127 @@
+ghost use Rattle.std.specs.Prelude.{◌≡◌, ◌≢◌, ℕ, ◌+◌, ◌<◌, ◌≤◌, true, false, List, ◌∷◌, ◌++◌, length, ℤ, pos, ◌<ℤ◌, ◌↔◌};
+ghost use Rattle.deficit_steps.specs.Changes.{IsDeficits, changes_of, value};
+ghost use Rattle.deficit_steps.specs.Holds.{Holds};
+ghost use Rattle.shift_moves.specs.Lowering.{IsLowering, deficit_sum, with_shift};
+ghost use Rattle.shift_moves.specs.Trial.{AreSwapped, HoldsAmong, maxima_at};
+ghost use Rattle.trip_model.specs.Deficit.{live_moves};
+ghost use Rattle.trip_model.specs.Plain.{IsMove};
+ghost use Rattle.trip_model.specs.Timetable.{slot_at};
+ghost use Rattle.trip_model.specs.Trip.{MayShift};
+ghost use Rattle.trip_model.specs.declared.trip.Move.{Move as ModelMove};
+
+use deficit_steps::Deficits;
+use deficit_steps::laws::held_law;
+use desk_io::Steps;
+use std::sync::ledger::Ledger;
+use trip_model::{Move, Timetable};
+
+// The move of the trip of a slot, which runs, as it stands and moved by so many minutes.
+fn moves_of(timetable: &Timetable, slot: u16, by: i16) -> (Move, Move)
+    requires slot { slot < length timetable.now.slots }
+    requires live { (slot_at timetable.now slot).trip.live ≡ true }
+    requires within { MayShift (slot_at timetable.now slot).trip by }
+    ensures swapped { AreSwapped result.0 result.1 timetable.now.slots (with_shift timetable.now slot by).slots }
+    ensures before { IsMove (length timetable.now.places) result.0 }
+    ensures after { IsMove (length timetable.now.places) result.1 }
+    ensures from { result.1.from ≡ result.0.from }
+    ensures to { result.1.to ≡ result.0.to }
+{
+    let stands = timetable.trip(slot).as_move();
+    let moved = Move {
+        leaves: stands.leaves.checked_add_signed(by).unwrap(),
+        arrives: stands.arrives.checked_add_signed(by).unwrap(),
+        ..stands
+    };
+    (stands, moved)
+}
+
+// Holds another move between the same places in the stead of one that is held.
+fn replace<L: Ledger>(deficits: &mut Deficits, taken: &Move, added: &Move, steps: &mut Steps<L>)
+    requires taken { IsMove (length deficits.old) taken.now }
+    requires added { IsMove (length deficits.old) added.now }
+    requires from { added.now.from ≡ taken.now.from }
+    requires to { added.now.to ≡ taken.now.to }
+    requires held { HoldsAmong deficits.old taken.now }
+    ensures rows { length deficits.new ≡ length deficits.old }
+    ensures before { IsDeficits deficits.old }
+    ensures after { IsDeficits deficits.new }
+    ensures held { (front back : List ModelMove) → Holds deficits.old (front ++ taken.now ∷ back)
+        → Holds deficits.new (front ++ added.now ∷ back) }
+    ensures others { (place : ℕ) → place ≢ taken.now.from → place ≢ taken.now.to
+        → changes_of deficits.new place ≡ changes_of deficits.old place }
+    ensures counted { steps.new ≤ steps.old + 56 }
+{
+    held_law();
+    let _before = deficits.places();
+    deficits.take(taken, steps);
+    deficits.add(added, steps);
+    let _after = deficits.places();
+}
+
+// The greatest values of the place that a move leaves and of the one where it arrives, added up.
+fn maxima(deficits: &Deficits, between: &Move) -> u64
+    requires from { between.now.from < length deficits.now }
+    requires to { between.now.to < length deficits.now }
+    ensures { pos result ≡ maxima_at (value deficits.now) between.now.from between.now.to }
+{
+    let (from, _) = deficits.max(between.from);
+    let (to, _) = deficits.max(between.to);
+    u64::from(from) + u64::from(to)
+}
+
+// Whether the sum of the maxima is smaller with the trip of a slot moved by so many minutes. It reads no places but the
+// two of the trip, since all others keep their maxima.
+fn lowers<L: Ledger>(
+    timetable: &Timetable,
+    deficits: &mut Deficits,
+    slot: u16,
+    by: i16,
+    steps: &mut Steps<L>,
+) -> bool
+    requires held { Holds deficits.old (live_moves timetable.now.slots) }
+    requires rows { length deficits.old ≡ length timetable.now.places }
+    requires slot { slot < length timetable.now.slots }
+    requires live { (slot_at timetable.now slot).trip.live ≡ true }
+    requires within { MayShift (slot_at timetable.now slot).trip by }
+    ensures lower { (result ≡ true) ↔ (deficit_sum (with_shift timetable.now slot by) <ℤ deficit_sum timetable.now) }
+    ensures unchanged { deficits.new ≡ deficits.old }
+    ensures counted { steps.new ≤ steps.old + 112 }
+{
+    held_law();
+    // Its clause says that the timetable is valid.
+    let _slots = timetable.slots();
+    let (stands, moved) = moves_of(timetable, slot, by);
+    let before = maxima(deficits, &stands);
+    replace(deficits, &stands, &moved, steps);
+    let after = maxima(deficits, &stands);
+    replace(deficits, &moved, &stands, steps);
+    after < before
+}
+
+// Whether the shift of the trip of a slot by so many minutes lowers the sum; `may` says whether it may be made at all.
+pub(crate) fn is_lowering<L: Ledger>(
+    timetable: &Timetable,
+    deficits: &mut Deficits,
+    slot: u16,
+    by: i16,
+    may: bool,
+    steps: &mut Steps<L>,
+) -> bool
+    requires held { Holds deficits.old (live_moves timetable.now.slots) }
+    requires rows { length deficits.old ≡ length timetable.now.places }
+    requires slot { slot < length timetable.now.slots }
+    requires live { (slot_at timetable.now slot).trip.live ≡ true }
+    requires moved { by ≢ pos 0 }
+    requires may { may ≡ true → MayShift (slot_at timetable.now slot).trip by }
+    requires may_not { may ≡ false → ¬ MayShift (slot_at timetable.now slot).trip by }
+    ensures yes { result ≡ true → IsLowering timetable.now slot by }
+    ensures no { result ≡ false → ¬ IsLowering timetable.now slot by }
+    ensures unchanged { deficits.new ≡ deficits.old }
+    ensures counted { steps.new ≤ steps.old + 112 }
+    ensures uncounted { may ≡ false → steps.new ≡ steps.old }
+{
+    if !may {
+        return false;
+    }
+    lowers(timetable, deficits, slot, by, steps)
+}
