@@ -7,8 +7,9 @@ use Rattle.feed_commands.specs.Fixed.{fixed_asked}
 use Rattle.desk_commands.specs.Blocks.{blocks_asked}
 use Rattle.plan_commands.specs.Chart.{chart_asked}
 use Rattle.plan_commands.specs.Check.{check_asked}
+use Rattle.written_feed.specs.Write.{write_asked}
 use Rattle.blockdesk.specs.declared.command.Command.{Command}
-use Rattle.blockdesk.specs.declared.command.Command.TheVariants.{Deficits, Fixed, Blocks, Check, Chart}
+use Rattle.blockdesk.specs.declared.command.Command.TheVariants.{Deficits, Fixed, Blocks, Check, Write, Chart}
 
 -- the command of that name
 abbrev pub command_named : List ℕ → Option Command
@@ -17,6 +18,7 @@ command_named word =
     else if bytes_eq word (codes "fixed") then Some Fixed
     else if bytes_eq word (codes "blocks") then Some Blocks
     else if bytes_eq word (codes "check") then Some Check
+    else if bytes_eq word (codes "write") then Some Write
     else if bytes_eq word (codes "chart") then Some Chart
     else None
 
@@ -31,6 +33,7 @@ asked_by Deficits = deficits_asked
 asked_by Fixed = fixed_asked
 asked_by Blocks = blocks_asked
 asked_by Check = check_asked
+asked_by Write = write_asked
 asked_by Chart = chart_asked
 
 -- the folder that is read and written: the second of two words, but for `sample`, which works on none

@@ -14,6 +14,8 @@ pub enum Command {
     Blocks,
     /// Whether two files of blocks and prices prove that the blocks are least.
     Check,
+    /// The feed written again, with the block of each trip.
+    Write,
     /// Charts of deficits and of blocks.
     Chart,
 }
@@ -27,6 +29,7 @@ fn command_named(word: &str) -> Option<Command>
         "fixed" => Some(Command::Fixed),
         "blocks" => Some(Command::Blocks),
         "check" => Some(Command::Check),
+        "write" => Some(Command::Write),
         "chart" => Some(Command::Chart),
         _ => None,
     }

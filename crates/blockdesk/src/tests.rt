@@ -57,7 +57,7 @@ fn ran(alloc: Global, command: &str, shelf: &mut NotedReads) -> Result<u8, Memor
 #[test]
 fn each_file_is_read_once_in_the_order_of_judging(rt: HostRuntime) -> Result<(), Fail> {
     let alloc = rt.alloc();
-    for command in ["deficits", "fixed", "blocks", "chart"] {
+    for command in ["deficits", "fixed", "blocks", "write", "chart"] {
         let mut shelf = NotedReads {
             names: String::new(alloc),
         };

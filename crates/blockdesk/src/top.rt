@@ -10,6 +10,7 @@ use feed_commands::{run_deficits, run_fixed};
 use plan_commands::{run_chart, run_check};
 use std::alloc::Global;
 use std::sync::ledger::Ledger;
+use written_feed::run_write;
 
 /// The whole program over the words after its name, a shelf, a sink and a keeper. It answers the status.
 pub fn run<S: Shelf, O: Sink, K: Keeper, L: Ledger>(
@@ -38,6 +39,7 @@ pub fn run<S: Shelf, O: Sink, K: Keeper, L: Ledger>(
         Some(Command::Fixed) => run_fixed(alloc, shelf, out, keeper, steps),
         Some(Command::Blocks) => run_blocks(alloc, shelf, out, keeper, steps),
         Some(Command::Check) => run_check(alloc, shelf, out, keeper, steps),
+        Some(Command::Write) => run_write(alloc, shelf, out, keeper, steps),
         Some(Command::Chart) => run_chart(alloc, shelf, out, keeper, steps),
     }
 }
