@@ -64,7 +64,7 @@ fn each_file_is_read_once_in_the_order_of_judging(rt: HostRuntime) -> Result<(),
         assert_eq!(rt; ran(alloc, command, &mut shelf)?, 3);
         assert_eq!(rt;
             shelf.names.as_str(),
-            "desk.toml terminals.csv tolerances.csv trips.txt stop_times.txt deadheads.csv depot.csv edits.csv "
+            "desk.toml terminals.csv tolerances.csv calendar.txt calendar_dates.txt trips.txt stop_times.txt deadheads.csv depot.csv edits.csv "
         );
     }
     let mut shelf = NotedReads {

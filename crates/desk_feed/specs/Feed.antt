@@ -1,5 +1,6 @@
 -- From the papers of a feed to its settings, its timetable, its deadheads, its depot and its script, or the first refusal.
-use Rattle.std.specs.Prelude.{◌≡◌, List, [], ◌∷◌, length, All, Result, Ok, Err}
+use Rattle.std.specs.Prelude.{◌≡◌, ℕ, List, [], ◌∷◌, length, Option, None, Some, Result, Ok, Err}
+use Rattle.std.specs.List.{AllByRecursion}
 use Rattle.desk_io.specs.declared.shelf.Found.{Found}
 use Rattle.desk_io.specs.declared.shelf.Found.TheVariants.{File, Missing, TooLong}
 use Rattle.gtfs_tables.specs.declared.fault.FeedFault.{FeedFault}
@@ -7,7 +8,8 @@ use Rattle.gtfs_tables.specs.declared.fault.FeedFault.TheVariants as fault
 use Rattle.gtfs_tables.specs.declared.paper.Paper.{Paper}
 use Rattle.gtfs_tables.specs.declared.paper.Paper.TheVariants as paper
 use Rattle.gtfs_tables.specs.Reading.{◌>>=◌}
-use Rattle.desk_settings.specs.Settings.{SettingsView, settings_of}
+use Rattle.desk_settings.specs.Settings.{SettingsView, settings_of, with_services_kept}
+use Rattle.service_days.specs.Services.{services_running}
 use Rattle.edit_script.specs.Forms.{script_of}
 use Rattle.edit_script.specs.declared.edit.Line.{Line}
 use Rattle.trip_model.specs.Timetable.{TimetableView}
@@ -23,9 +25,9 @@ use Rattle.desk_feed.specs.declared.feed.Feed.{Feed}
 
 -- the papers of a feed, in the order in which they are read and judged
 abbrev pub feed_papers : List Paper
-feed_papers = paper.Settings ∷ paper.Terminals ∷ paper.Tolerances ∷ paper.Trips ∷ paper.StopTimes ∷ paper.Deadheads ∷ paper.Depot ∷ paper.Edits ∷ []
+feed_papers = paper.Settings ∷ paper.Terminals ∷ paper.Tolerances ∷ paper.Calendar ∷ paper.CalendarDates ∷ paper.Trips ∷ paper.StopTimes ∷ paper.Deadheads ∷ paper.Depot ∷ paper.Edits ∷ []
 
--- what the papers of a feed say: the settings, the base timetable, the lines of the script of edits, the entries of the
+-- what the papers of a feed say: the settings, of the services that run where there is a date; the base timetable, the lines of the script of edits, the entries of the
 -- deadheads, and the pulls of each place
 pub record Said : Type 0 where
   pub settings : SettingsView
@@ -34,9 +36,17 @@ pub record Said : Type 0 where
   pub entries : List Entry
   pub pulls : List Pull
 
+-- the settings where there is no date; where there is one, those in which the services are kept that run on it
+abbrev pub kept_on : Found → Found → SettingsView → Option ℕ → Result SettingsView FeedFault
+kept_on calendar dates settings None = Ok settings
+kept_on calendar dates settings (Some date) = services_running date calendar dates >>= λ running. Ok (with_services_kept settings running)
+
 -- each part of a feed, of what was found of its papers
+abbrev pub selection_in : (Paper → Found) → SettingsView → Result SettingsView FeedFault
+selection_in found settings = kept_on (found paper.Calendar) (found paper.CalendarDates) settings settings.date
+
 abbrev pub settings_in : (Paper → Found) → Result SettingsView FeedFault
-settings_in found = settings_of (found paper.Settings) (found paper.Terminals) (found paper.Tolerances)
+settings_in found = settings_of (found paper.Settings) (found paper.Terminals) (found paper.Tolerances) >>= selection_in found
 
 abbrev pub timetable_in : (Paper → Found) → SettingsView → Result TimetableView FeedFault
 timetable_in found settings = base_of settings (found paper.Trips) (found paper.StopTimes)
@@ -81,7 +91,7 @@ said_of feed = said_with feed.settings feed.timetable feed.deadheads feed.pulls 
 
 -- all papers of a feed were read
 abbrev pub HasPapers : List Page → Type 0
-HasPapers pages = All (IsAmong (papers_of pages)) feed_papers
+HasPapers pages = AllByRecursion (IsAmong (papers_of pages)) feed_papers
 
 -- a feed has the pulls of each of its places
 abbrev pub HavePulls : Feed → Type 0

@@ -10,11 +10,12 @@ use desk_run::Read;
 use desk_settings::Settings;
 use edit_script::{Line, read_script};
 use gtfs_tables::{FeedFault, Paper};
+use service_days::running;
 use std::alloc::Global;
 use trip_model::Timetable;
 
-/// What a feed says: the settings of the desk, the timetable before its script, the deadheads between its places, their pulls,
-/// and the lines of its script.
+/// What a feed says: the settings of the desk, where they have a date with the services alone that run on it; the timetable
+/// before its script, the deadheads between its places, their pulls, and the lines of its script.
 #[derive(Drop)]
 pub struct Feed {
     pub settings: Settings,
@@ -24,6 +25,22 @@ pub struct Feed {
     pub lines: Vec<Line>,
 }
 
+// The settings with the services alone that run on their date, where they have one.
+fn kept_on_date(alloc: Global, settings: Settings, read: &Read) -> Result<Settings, FeedFault>
+    requires { spec.HasPapers read.now.pages }
+    ensures { Gives (λ kept. kept) result (spec.selection_in (found_of read.now.pages) settings) }
+{
+    let Some(date) = settings.date() else {
+        return Ok(settings);
+    };
+    let calendar = read.found(Paper::Calendar);
+    let dates = read.found(Paper::CalendarDates);
+    let services = running(alloc, date, calendar, dates)?;
+    let mut kept = settings;
+    kept.keep_services(&services)?;
+    Ok(kept)
+}
+
 fn read_settings(alloc: Global, read: &Read) -> Result<Settings, FeedFault>
     requires { spec.HasPapers read.now.pages }
     ensures { Gives (λ settings. settings) result (spec.settings_in (found_of read.now.pages)) }
@@ -31,7 +48,8 @@ fn read_settings(alloc: Global, read: &Read) -> Result<Settings, FeedFault>
     let settings = read.found(Paper::Settings);
     let terminals = read.found(Paper::Terminals);
     let tolerances = read.found(Paper::Tolerances);
-    Settings::read(alloc, settings, terminals, tolerances)
+    let settings = Settings::read(alloc, settings, terminals, tolerances)?;
+    kept_on_date(alloc, settings, read)
 }
 
 fn read_timetable(alloc: Global, settings: &Settings, read: &Read) -> Result<Timetable, FeedFault>

@@ -9,10 +9,12 @@ use gtfs_tables::{FeedFault, Paper, feed_line};
 use std::alloc::Global;
 
 /// The papers of a feed, in the order in which they are read and judged.
-pub const FEED_PAPERS: [Paper; 8] = [
+pub const FEED_PAPERS: [Paper; 10] = [
     Paper::Settings,
     Paper::Terminals,
     Paper::Tolerances,
+    Paper::Calendar,
+    Paper::CalendarDates,
     Paper::Trips,
     Paper::StopTimes,
     Paper::Deadheads,

@@ -1,8 +1,8 @@
 //! What a feed says, for every command that works on one.
 //!
-//! [`judge_feed`] makes of what a command has read the feed, its settings, timetable, deadheads, pulls and script, or the
-//! outcome of a refused feed: the line of its first refusal. [`FEED_PAPERS`] are the papers that it takes. [`after_script`] is
-//! the timetable after the script, [`matrix_of`] the matrix of its places, and [`putting_after`] puts a text behind the lines of
+//! [`judge_feed`] makes of what a command has read the feed, its settings with the services of its date, timetable, deadheads,
+//! pulls and script, or the outcome of a refused feed: the line of its first refusal. [`FEED_PAPERS`] are the papers that it
+//! takes. [`after_script`] is the timetable after the script, [`matrix_of`] the matrix of its places, and [`putting_after`] puts a text behind the lines of
 //! the records that were refused.
 //!
 //! The contract that the crates above use: an accepted feed says what its papers say; of a refused one the line of the

@@ -27,11 +27,13 @@ bad-anywhere : (desk other : Desk) (key : Name) (value : Data) → is_some (with
 unfolding with_key
 bad-anywhere desk other key value =
     either-some (bytes_eq key (codes "services")) _ _ _ _ (map-some _ _ _)
+    (either-some (bytes_eq key (codes "date")) _ _ _ _ (map-some _ _ _)
+    (either-some (bytes_eq key (codes "classes")) _ _ _ _ (map-some _ _ _)
     (either-some (bytes_eq key (codes "layover")) _ _ _ _ (map-some _ _ _)
     (either-some (bytes_eq key (codes "layovers")) _ _ _ _ (map-some _ _ _)
     (either-some (bytes_eq key (codes "early")) _ _ _ _ (map-some _ _ _)
     (either-some (bytes_eq key (codes "late")) _ _ _ _ (map-some _ _ _)
-    (either-some (bytes_eq key (codes "block_prefix")) _ _ _ _ (map-some _ _ _) refl)))))
+    (either-some (bytes_eq key (codes "block_prefix")) _ _ _ _ (map-some _ _ _) refl)))))))
 
 lt_from : (o : Ordering) → is_lt o ≡ true → o ≡ Less
 lt_from Less h = refl

@@ -3,3 +3,4 @@ pub mod NamesLemmas
 pub mod DeskLemmas
 pub mod DocumentLemmas
 pub mod FirstBadKey
+pub mod SettingsLemmas

@@ -1,5 +1,5 @@
 -- Names among the keys that a set holds.
-use Rattle.std.proofs.Common.{◌≡◌, ◌≢◌, ◌+◌, Bool, true, false, cond, not, nat_lt, ◌||◌, List, [], ◌∷◌, ◌++◌, map, AllPairs, Some, None, position, refl, sym, ap, subst, ◌∙◌, String, string_bytes}
+use Rattle.std.proofs.Common.{◌≡◌, ◌≢◌, ◌+◌, Bool, true, false, cond, not, nat_lt, ◌||◌, ◌&&◌, fold, List, [], ◌∷◌, ◌++◌, map, AllPairs, Some, None, position, refl, sym, ap, subst, ◌∙◌, String, string_bytes}
 use Rattle.std.specs.Prelude.{string_eq}
 use Rattle.std.specs.List.{list_any, prefix_len, IsDistinct, AllByRecursion}
 use Rattle.std.specs.Str.{bytes_eq}
@@ -8,7 +8,7 @@ use Rattle.std.proofs.lemmas.Map.Made.{AllPairs-from_IsDistinct}
 use Rattle.std.proofs.lemmas.Slice.Eq.{bytes_eq-Decides}
 use Rattle.indexmap.specs.IndexSet.{insert_key}
 use Rattle.desk_settings.specs.Entries.{Name}
-use Rattle.desk_settings.specs.Names.{is_among, with_name}
+use Rattle.desk_settings.specs.Names.{each_once, if_among, is_among, kept_among, with_name}
 
 -- a name is among the keys where the set has it
 pub is_among-keys : {Y : Type 0} (name : Name) (ks : List (String Y)) → list_any (λ k. bytes_eq name (string_bytes k)) ks ≡ is_among name (map string_bytes ks)
@@ -50,3 +50,80 @@ distinct-map (k ∷ ks) distinct = (apart-map k ks distinct.0, distinct-map ks d
 -- the names of a set are distinct
 pub keys-distinct : {Y : Type 0} (ks : List (String Y)) (names : List Name) → map string_bytes ks ≡ names → IsDistinct string_eq ks → AllPairs (λ x y. x ≢ y) names
 keys-distinct ks names view distinct = subst (λ ns. AllPairs (λ x y. x ≢ y) ns) view (AllPairs-from_IsDistinct bytes_eq-Decides (map string_bytes ks) (distinct-map ks distinct))
+
+or-false : (b : Bool) → (b || false) ≡ b
+or-false true = refl
+or-false false = refl
+
+or-assoc : (a b c : Bool) → (a || (b || c)) ≡ ((a || b) || c)
+or-assoc true b c = refl
+or-assoc false b c = refl
+
+either-of : (a b c d : Bool) → ((a || (b && d)) || (c && d)) ≡ (a || ((b || c) && d))
+either-of true b c d = refl
+either-of false true c true = refl
+either-of false true true false = refl
+either-of false true false false = refl
+either-of false false c d = refl
+
+-- a name is among the names with one more where it was among them or is that one
+among-more : (s n : Name) (names : List Name) → is_among s (names ++ n ∷ []) ≡ (is_among s names || bytes_eq s n)
+among-more s n [] = or-false (bytes_eq s n)
+among-more s n (x ∷ names) = ap (λ b. bytes_eq s x || b) (among-more s n names) ∙ or-assoc (bytes_eq s x) (is_among s names) (bytes_eq s n)
+
+among-again : (s n : Name) (names : List Name) → is_among n names ≡ true → is_among s names ≡ (is_among s names || bytes_eq s n)
+among-again s n names has = by (bytes_eq s n) refl
+  where
+    by : (b : Bool) → bytes_eq s n ≡ b → is_among s names ≡ (is_among s names || bytes_eq s n)
+    by true same =
+        let is = ap (λ m. is_among m names) ((bytes_eq-Decides s n).0 same) ∙ has in
+        is ∙ sym (ap (λ b. b || bytes_eq s n) is)
+    by false apart = sym (or-false (is_among s names)) ∙ sym (ap (λ b. is_among s names || b) apart)
+
+among-with : (s n : Name) (names : List Name) → is_among s (with_name names n) ≡ (is_among s names || bytes_eq s n)
+among-with s n names = by (is_among n names) refl
+  where
+    by : (b : Bool) → is_among n names ≡ b → is_among s (with_name names n) ≡ (is_among s names || bytes_eq s n)
+    by true has = ap (λ b. is_among s (cond b names (names ++ n ∷ []))) has ∙ among-again s n names has
+    by false new = ap (λ b. is_among s (cond b names (names ++ n ∷ []))) new ∙ among-more s n names
+
+among-after : (s : Name) (before names : List Name) → is_among s (fold with_name before names) ≡ (is_among s before || is_among s names)
+among-after s before [] = sym (or-false (is_among s before))
+among-after s before (n ∷ names) =
+    among-after s (with_name before n) names
+    ∙ ap (λ b. b || is_among s names) (among-with s n before)
+    ∙ sym (or-assoc (is_among s before) (bytes_eq s n) (is_among s names))
+
+-- a name is among names, each taken once, where it is among them
+pub among-once : (s : Name) (names : List Name) → is_among s (each_once names) ≡ is_among s names
+among-once s names = among-after s [] names
+
+among-if : (s n : Name) (others kept : List Name) → is_among s (if_among others kept n) ≡ (is_among s kept || (bytes_eq s n && is_among s others))
+among-if s n others kept = by (is_among n others) (bytes_eq s n) refl refl
+  where
+    by : (b d : Bool) → is_among n others ≡ b → bytes_eq s n ≡ d → is_among s (if_among others kept n) ≡ (is_among s kept || (bytes_eq s n && is_among s others))
+    by true true has same =
+        ap (λ b. is_among s (cond b (with_name kept n) kept)) has ∙ among-with s n kept
+        ∙ ap (λ b. is_among s kept || b) (same ∙ sym (λ i. same i && (ap (λ m. is_among m others) ((bytes_eq-Decides s n).0 same) ∙ has) i))
+    by true false has apart =
+        ap (λ b. is_among s (cond b (with_name kept n) kept)) has ∙ among-with s n kept
+        ∙ ap (λ b. is_among s kept || b) (apart ∙ sym (ap (λ b. b && is_among s others) apart))
+    by false true new same =
+        ap (λ b. is_among s (cond b (with_name kept n) kept)) new
+        ∙ sym (or-false (is_among s kept))
+        ∙ sym (ap (λ b. is_among s kept || b) (λ i. same i && (ap (λ m. is_among m others) ((bytes_eq-Decides s n).0 same) ∙ new) i))
+    by false false new apart =
+        ap (λ b. is_among s (cond b (with_name kept n) kept)) new
+        ∙ sym (or-false (is_among s kept))
+        ∙ sym (ap (λ b. is_among s kept || (b && is_among s others)) apart)
+
+among-kept_after : (s : Name) (others kept names : List Name) → is_among s (fold (if_among others) kept names) ≡ (is_among s kept || (is_among s names && is_among s others))
+among-kept_after s others kept [] = sym (or-false (is_among s kept))
+among-kept_after s others kept (n ∷ names) =
+    among-kept_after s others (if_among others kept n) names
+    ∙ ap (λ b. b || (is_among s names && is_among s others)) (among-if s n others kept)
+    ∙ either-of (is_among s kept) (bytes_eq s n) (is_among s names) (is_among s others)
+
+-- a name is among those that are kept where it is among the names and among the others
+pub among-kept : (s : Name) (others names : List Name) → is_among s (kept_among others names) ≡ (is_among s names && is_among s others)
+among-kept s others names = among-kept_after s others [] names

@@ -1,5 +1,5 @@
 -- What `desk.toml` says. The members of its table stand in the byte order of their keys.
-use Rattle.std.specs.Prelude.{◌≡◌, ◌⊎◌, ℕ, Bool, true, false, not, ⊤, ◌++◌, ℤ, pos, List, [], ◌∷◌, length, nat_le, Option, Some, None, is_some, option_map, option_and_then, Result, Ok, Err, codes, if◌then◌else◌}
+use Rattle.std.specs.Prelude.{◌≡◌, ◌⊎◌, ℕ, ◌==◌, ◌&&◌, Bool, true, false, not, ⊤, ◌++◌, ℤ, pos, List, [], ◌∷◌, length, nat_le, Option, Some, None, is_some, option_map, option_and_then, Result, Ok, Err, codes, if◌then◌else◌}
 use Rattle.std.specs.Cmp.Lexicographic.{slice_cmp}
 use Rattle.std.specs.Option.{ok_or}
 use Rattle.std.specs.Ordering.{nat_cmp, is_lt}
@@ -7,10 +7,12 @@ use Rattle.std.specs.Str.{is_utf8, bytes_eq}
 use Rattle.desk_io.specs.declared.shelf.Found.{Found}
 use Rattle.desk_io.specs.declared.shelf.Found.TheVariants.{File, Missing, TooLong}
 use Rattle.trip_model.specs.declared.limits.TheConstants.{MOST_LAYOVER, MOST_TOLERANCE}
+use Rattle.trip_model.specs.Place.{has_slash}
 use Rattle.gtfs_tables.specs.declared.fault.FeedFault.{FeedFault}
 use Rattle.gtfs_tables.specs.declared.fault.FeedFault.TheVariants as fault
 use Rattle.gtfs_tables.specs.declared.paper.Paper.TheVariants as paper
 use Rattle.gtfs_tables.specs.Reading.{◌>>=◌, provided}
+use Rattle.service_days.specs.Dates.{date_of}
 use Rattle.toml.specs.Data.{Data, Items, no_items, item, Members, no_members, member, is_before, as_integer, as_str, as_array, as_table}
 use Rattle.toml.specs.Parse.{parse_document}
 use Rattle.desk_settings.specs.Entries.{Name, Entries}
@@ -43,18 +45,40 @@ names_from before (item value rest) = option_and_then (λ name. names_from (with
 abbrev pub names_in : Data → Option (List Name)
 names_in value = option_and_then (names_from []) (as_array value)
 
--- the places of a table with their minutes, each an integer of at most 240, after those before them
-abbrev pub layovers_from : Entries ℕ → Members → Option (Entries ℕ)
-layovers_from before no_members = Some before
-layovers_from before (member place value rest) = option_and_then (λ minutes. layovers_from (before ++ (place, minutes) ∷ []) rest) (minutes_in MOST_LAYOVER value)
+-- the names of a table with their values, each of a form, after those before them
+abbrev pub entries_from : {X : Type 0} → (Data → Option X) → Entries X → Members → Option (Entries X)
+entries_from value_in before no_members = Some before
+entries_from value_in before (member name value rest) = option_and_then (λ x. entries_from value_in (before ++ (name, x) ∷ []) rest) (value_in value)
 
--- a value that is a table from places to minutes
+-- a value that is a table from places to minutes of layover
 abbrev pub layovers_in : Data → Option (Entries ℕ)
-layovers_in value = option_and_then (layovers_from []) (as_table value)
+layovers_in value = option_and_then (entries_from (minutes_in MOST_LAYOVER) []) (as_table value)
+
+-- whether a text is a class of vehicles: 1 to 16 bytes without `/`
+abbrev pub is_class : List ℕ → Bool
+is_class text = nat_le 1 (length text) && nat_le (length text) 16 && not (has_slash text)
+
+-- a value that is a class
+abbrev pub if_class : List ℕ → Option Name
+if_class text = if is_class text then Some text else None
+
+abbrev pub class_in : Data → Option Name
+class_in value = option_and_then if_class (as_str value)
+
+-- a value that is a table from routes to classes
+abbrev pub classes_in : Data → Option (Entries Name)
+classes_in value = option_and_then (entries_from class_in []) (as_table value)
+
+-- a value that is a date: a string of its eight digits, without spaces
+abbrev pub if_date : List ℕ → Option ℕ
+if_date text = if length text == 8 then date_of text else None
+
+abbrev pub date_in : Data → Option ℕ
+date_in value = option_and_then if_date (as_str value)
 
 -- what holds where `desk.toml` does not say otherwise
 abbrev pub standard_desk : Desk
-standard_desk = record { services = None; layover = 0; layovers = []; early = 0; late = 0; prefix = codes "B" }
+standard_desk = record { services = None; date = None; classes = []; layover = 0; layovers = []; early = 0; late = 0; prefix = codes "B" }
 
 -- the keys of members ascend in byte order
 abbrev pub Ascend : Members → Type 0
@@ -65,6 +89,8 @@ Ascend (member key value rest) = (is_before key rest ≡ true) × Ascend rest
 unfoldable pub with_key : Desk → Name → Data → Option Desk
 with_key desk key value =
     if bytes_eq key (codes "services") then option_map (λ names. record desk { services = Some names }) (names_in value)
+    else if bytes_eq key (codes "date") then option_map (λ date. record desk { date = Some date }) (date_in value)
+    else if bytes_eq key (codes "classes") then option_map (λ classes. record desk { classes = classes }) (classes_in value)
     else if bytes_eq key (codes "layover") then option_map (λ minutes. record desk { layover = minutes }) (minutes_in MOST_LAYOVER value)
     else if bytes_eq key (codes "layovers") then option_map (λ layovers. record desk { layovers = layovers }) (layovers_in value)
     else if bytes_eq key (codes "early") then option_map (λ minutes. record desk { early = minutes }) (minutes_in MOST_TOLERANCE value)

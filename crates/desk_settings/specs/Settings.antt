@@ -1,19 +1,22 @@
 -- The settings of a desk, read from three files, and what they answer.
-use Rattle.std.specs.Prelude.{ℕ, Bool, true, List, Option, None, Some, Result, Ok, unwrap_or}
+use Rattle.std.specs.Prelude.{ℕ, ◌==◌, Bool, true, not, List, [], length, Option, None, Some, Result, Ok, unwrap_or}
 use Rattle.desk_io.specs.declared.shelf.Found.{Found}
 use Rattle.gtfs_tables.specs.declared.fault.FeedFault.{FeedFault}
 use Rattle.gtfs_tables.specs.Reading.{◌>>=◌}
 use Rattle.desk_settings.specs.Entries.{Name, Entries, value_of}
-use Rattle.desk_settings.specs.Names.{is_among}
+use Rattle.desk_settings.specs.Names.{each_once, is_among, kept_among}
 use Rattle.desk_settings.specs.Desk.{desk_of}
 use Rattle.desk_settings.specs.Terminals.{terminals_of}
 use Rattle.desk_settings.specs.Tolerances.{tolerances_of}
 use Rattle.desk_settings.specs.declared.desk.Desk.{Desk}
 
--- the services that are selected, None where all are; minutes of layover, and those of places; minutes of tolerance;
--- what the names of blocks begin with; the terminals of stops; the tolerances of trips, early before late
+-- the services that are selected, None where all are; the date of which the services that run are selected, where there is
+-- one; the classes of routes; minutes of layover, and those of places; minutes of tolerance; what the names of blocks begin
+-- with; the terminals of stops; the tolerances of trips, early before late
 pub record SettingsView : Type 0 where
   pub services : Option (List (List ℕ))
+  pub date : Option ℕ
+  pub classes : List (List ℕ × List ℕ)
   pub layover : ℕ
   pub layovers : List (List ℕ × ℕ)
   pub early : ℕ
@@ -26,6 +29,8 @@ pub record SettingsView : Type 0 where
 abbrev pub settings_with : Desk → Entries Name → Entries (ℕ × ℕ) → SettingsView
 settings_with desk terminals tolerances = record {
   services = desk.services;
+  date = desk.date;
+  classes = desk.classes;
   layover = desk.layover;
   layovers = desk.layovers;
   early = desk.early;
@@ -51,6 +56,24 @@ is_in (Some services) service = is_among service services
 -- whether the trips of a service are selected
 abbrev pub is_chosen : SettingsView → Name → Bool
 is_chosen settings service = is_in settings.services service
+
+-- the services that are selected of those that run: those of a list that are among them, or all of them, each once
+abbrev pub kept_services : Option (List Name) → List Name → List Name
+kept_services None running = each_once running
+kept_services (Some services) running = kept_among (each_once running) services
+
+-- the settings where the services that run are these
+abbrev pub with_services_kept : SettingsView → List Name → SettingsView
+with_services_kept settings running = record settings { services = Some (kept_services settings.services running) }
+
+-- whether vehicles are of classes
+abbrev pub is_classed : SettingsView → Bool
+is_classed settings = not (length settings.classes == 0)
+
+-- the class of the trips of a route; that of a trip without a route is empty
+abbrev pub class_of : SettingsView → Name → Name
+class_of settings [] = []
+class_of settings route = unwrap_or (value_of route settings.classes) []
 
 -- the layover of a place
 abbrev pub layover_at : SettingsView → Name → ℕ

@@ -4,11 +4,14 @@ ghost use Rattle.gtfs_tables.specs.Reading.{Gives};
 ghost use Rattle.toml.specs.View.{view, items_view, table_view};
 ghost use Rattle.desk_settings.specs.Desk as spec;
 
+use crate::class::Class;
+use crate::date::Date;
 use crate::entries::Entries;
 use crate::minutes::{Layover, Tolerance};
 use crate::names::Names;
 use desk_io::{Found, Memory, Text};
 use gtfs_tables::{FeedFault, Paper};
+use service_days::read_date;
 use std::alloc::Global;
 use toml::{Table, Value};
 use trip_model::{MOST_LAYOVER, MOST_TOLERANCE};
@@ -18,6 +21,10 @@ use trip_model::{MOST_LAYOVER, MOST_TOLERANCE};
 pub(crate) struct Desk {
     /// The services whose trips are selected; None where all are.
     pub(crate) services: Option<Names>,
+    /// The date of which the services that run are selected, where there is one.
+    pub(crate) date: Option<Date>,
+    /// The classes of routes; vehicles are of none where there is no entry.
+    pub(crate) classes: Entries<Class>,
     /// How long a vehicle stays after a trip where `layovers` does not name the place.
     pub(crate) layover: Layover,
     /// How long a vehicle stays at these places.
@@ -77,7 +84,7 @@ fn names_in(alloc: Global, value: &Value) -> Result<Option<Names>, Memory>
 
 // The places of a table with their minutes; None where a value is no integer from 0 to 240.
 fn layovers_from(alloc: Global, table: &Table) -> Result<Option<Entries<Layover>>, Memory>
-    ensures { IfOk result (λ layovers. layovers ≡ spec.layovers_from [] (table_view table.now)) }
+    ensures { IfOk result (λ layovers. layovers ≡ spec.entries_from (spec.minutes_in MOST_LAYOVER) [] (table_view table.now)) }
 {
     let mut layovers = Entries::new(alloc);
     for (place, value) in table.iter() {
@@ -99,6 +106,57 @@ fn layovers_in(alloc: Global, value: &Value) -> Result<Option<Entries<Layover>>,
     }
 }
 
+// Whether a text is a class: 1 to 16 bytes without `/`.
+fn is_class(text: &str) -> bool
+    ensures { result ≡ spec.is_class text.now }
+{
+    !text.is_empty() && text.len() <= 16 && !text.as_bytes().contains(&b'/')
+}
+
+// A class.
+fn class_in(alloc: Global, value: &Value) -> Result<Option<Class>, Memory>
+    ensures { IfOk result (λ class. class ≡ spec.class_in (view value.now)) }
+{
+    match value.as_str() {
+        Some(text) if is_class(text) => Ok(Some(Class::of(Text::of(alloc, text)?))),
+        _ => Ok(None),
+    }
+}
+
+// The routes of a table with their classes; None where a value is no class.
+fn classes_from(alloc: Global, table: &Table) -> Result<Option<Entries<Class>>, Memory>
+    ensures { IfOk result (λ classes. classes ≡ spec.entries_from spec.class_in [] (table_view table.now)) }
+{
+    let mut classes = Entries::new(alloc);
+    for (route, value) in table.iter() {
+        let Some(class) = class_in(alloc, value)? else {
+            return Ok(None);
+        };
+        classes.push(route.as_str(), class)?;
+    }
+    Ok(Some(classes))
+}
+
+// A table from routes to classes.
+fn classes_in(alloc: Global, value: &Value) -> Result<Option<Entries<Class>>, Memory>
+    ensures { IfOk result (λ classes. classes ≡ spec.classes_in (view value.now)) }
+{
+    match value.as_table() {
+        Some(table) => classes_from(alloc, table),
+        None => Ok(None),
+    }
+}
+
+// A string of the eight digits of a date.
+fn date_in(value: &Value) -> Option<Date>
+    ensures { result ≡ spec.date_in (view value.now) }
+{
+    match value.as_str() {
+        Some(text) if text.len() == 8 => Some(Date::of(read_date(text)?)),
+        _ => None,
+    }
+}
+
 impl Desk {
     // What holds where `desk.toml` does not say otherwise.
     fn standard(alloc: Global) -> Result<Desk, Memory>
@@ -106,6 +164,8 @@ impl Desk {
     {
         Ok(Desk {
             services: None,
+            date: None,
+            classes: Entries::new(alloc),
             layover: Layover::of(0),
             layovers: Entries::new(alloc),
             early: Tolerance::of(0),
@@ -122,6 +182,8 @@ impl Desk {
         let bad = FeedFault::BadSettings(Text::of(alloc, key)?);
         match key {
             "services" => self.services = Some(names_in(alloc, value)?.ok_or(bad)?),
+            "date" => self.date = Some(date_in(value).ok_or(bad)?),
+            "classes" => self.classes = classes_in(alloc, value)?.ok_or(bad)?,
             "layover" => self.layover = Layover::of(minutes_in(value, MOST_LAYOVER).ok_or(bad)?),
             "layovers" => self.layovers = layovers_in(alloc, value)?.ok_or(bad)?,
             "early" => self.early = Tolerance::of(

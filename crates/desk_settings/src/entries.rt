@@ -1,4 +1,4 @@
-ghost use Rattle.std.specs.Prelude.{◌≡◌, [], ◌∷◌, ◌++◌, false, OnOk, OnErr};
+ghost use Rattle.std.specs.Prelude.{◌≡◌, [], ◌∷◌, ◌++◌, false, length, OnOk, OnErr};
 ghost use Rattle.std.specs.Option.{option_copied};
 ghost use Rattle.gtfs_tables.specs.Reading.{Gives};
 ghost use Rattle.desk_settings.specs.Entries.{value_of, has_name, with_record};
@@ -32,6 +32,18 @@ impl<V> Entries<V> {
         Entries {
             map: IndexMap::new(alloc),
         }
+    }
+
+    /// The allocator of the entries.
+    pub(crate) fn allocator(&self) -> Global {
+        *self.map.allocator()
+    }
+
+    /// How many names there are.
+    pub(crate) fn len(&self) -> usize
+        ensures { result ≡ length self.now }
+    {
+        self.map.len()
     }
 
     /// The value of a name.

@@ -1,8 +1,10 @@
-//! The settings of a desk: which services are selected, layovers, tolerances, the prefix of block names, and the
-//! terminals of stops.
+//! The settings of a desk: which services are selected, or on which date they run; classes of vehicles, layovers, tolerances,
+//! the prefix of block names, and the terminals of stops.
 //!
 //! [`Settings::read`] makes them of three files, each as it was found: `desk.toml`, `terminals.csv`, `tolerances.csv`. A
 //! file that is not there has no entries. Look-ups by name take time that hardly grows with the number of entries.
+//!
+//! Where there is a date ([`Settings::date`]), [`Settings::keep_services`] selects the services that run on it.
 //!
 //! [`Names`] are names without repeats, each with its number.
 //!
@@ -24,6 +26,8 @@
 //! each) and `Names` (names without repeats).
 #![tactic(auto)]
 
+mod class;
+mod date;
 mod desk;
 mod entries;
 pub mod laws;

@@ -1,8 +1,8 @@
-ghost use Rattle.std.specs.Prelude.{◌≡◌, ◌≢◌, ◌<◌, AllPairs, [], length, slice_index_or, position, IfSome, OnOk, OnErr};
+ghost use Rattle.std.specs.Prelude.{◌≡◌, ◌≢◌, ◌<◌, AllPairs, [], length, slice_index_or, position, IfOk, IfSome, OnOk, OnErr};
 ghost use Rattle.std.specs.Str.{bytes_eq};
-ghost use Rattle.desk_settings.specs.Names.{is_among, with_name};
+ghost use Rattle.desk_settings.specs.Names.{each_once, is_among, kept_among, with_name};
 
-use desk_io::Memory;
+use desk_io::{Memory, Text};
 use indexmap::IndexSet;
 use std::alloc::Global;
 use std::marker::Model;
@@ -70,5 +70,30 @@ impl Names {
         let name = String::from_str(*self.set.allocator(), name)?;
         self.set.insert(name)?;
         Ok(())
+    }
+
+    /// These names, each where it first stands.
+    pub(crate) fn of(alloc: Global, texts: &[Text]) -> Result<Names, Memory>
+        ensures { IfOk result (λ names. names ≡ each_once texts.now) }
+    {
+        let mut names = Names::new(alloc);
+        for text in texts {
+            names.add(text.as_str())?;
+        }
+        Ok(names)
+    }
+
+    /// Those of the names that are among others.
+    pub(crate) fn kept(&self, alloc: Global, others: &Names) -> Result<Names, Memory>
+        ensures { IfOk result (λ names. names ≡ kept_among others.now self.now) }
+    {
+        let mut kept = Names::new(alloc);
+        for number in 0..self.len() {
+            let name = self.get(number);
+            if others.has(name) {
+                kept.add(name)?;
+            }
+        }
+        Ok(kept)
     }
 }

@@ -1,24 +1,28 @@
-ghost use Rattle.std.specs.Prelude.{◌≡◌, ℕ, ◌≤◌, List, Ok};
+ghost use Rattle.std.specs.Prelude.{◌≡◌, ℕ, ◌≤◌, ◌&&◌, false, List, Ok, IfOk, IfSome, OnOk, OnErr};
+ghost use Rattle.service_days.specs.Dates.{IsDateNumber};
+ghost use Rattle.trip_model.specs.Place.{has_slash};
 ghost use Rattle.trip_model.specs.declared.limits.TheConstants.{MOST_LAYOVER, MOST_TOLERANCE};
 ghost use Rattle.gtfs_tables.specs.Papers.{IsWithinLimit};
 ghost use Rattle.gtfs_tables.specs.Reading.{Gives};
 ghost use Rattle.toml.specs.Data.{Members};
 ghost use Rattle.desk_settings.specs.Desk.{Ascend, document_in};
+ghost use Rattle.desk_settings.specs.Names.{is_among};
 ghost use Rattle.desk_settings.specs.Settings as spec;
 
 use crate::desk::{Desk, desk_of};
 use crate::entries::Entries;
 use crate::laws::key_order_law;
 use crate::minutes::Tolerance;
+use crate::names::Names;
 use crate::terminals::terminals_of;
 use crate::tolerances::tolerances_of;
-use desk_io::{Found, Text};
+use desk_io::{Found, Memory, Text};
 use gtfs_tables::FeedFault;
 use std::alloc::Global;
 use std::marker::Model;
 
-/// The settings of a desk, seen as a record: the services that are selected, each once, or None where all are; the
-/// minutes of layover, with a list of places that have their own; the minutes of tolerance early and late; what the
+/// The settings of a desk, seen as a record: the services that are selected, each once, or None where all are; the date of
+/// which the services that run are to be selected, where there is one; the classes of routes; the minutes of layover, with a list of places that have their own; the minutes of tolerance early and late; what the
 /// names of blocks begin with; and the lists of stops with their terminals and of trips with their tolerances.
 /// Entries for places, stops and trips that no feed names are kept.
 #[derive(Drop)]
@@ -34,6 +38,17 @@ impl Model for Settings {
     ghost Value = { SettingsView };
 
     ghost view = { λ s. settings_with s.desk s.terminals s.tolerances };
+}
+
+// Of the services that are selected those that run: all that run, each once, or those of a list.
+fn kept_services(alloc: Global, services: &Option<Names>, running: &[Text]) -> Result<Names, Memory>
+    ensures { IfOk result (λ kept. kept ≡ spec.kept_services services.now running.now) }
+{
+    let among = Names::of(alloc, running)?;
+    match services {
+        None => Ok(among),
+        Some(services) => services.kept(alloc, &among),
+    }
 }
 
 impl Settings {
@@ -73,6 +88,47 @@ impl Settings {
         match &self.desk.services {
             None => true,
             Some(services) => services.has(service),
+        }
+    }
+
+    /// The date of which the services that run are to be selected, as the number YYYYMMDD; None where `desk.toml` has none.
+    pub fn date(&self) -> Option<u32>
+        ensures value { result ≡ self.now.date }
+        ensures valid { IfSome result IsDateNumber }
+    {
+        let date = self.desk.date.as_ref()?;
+        Some(date.number())
+    }
+
+    /// Selects of the services that are chosen those alone that are among these.
+    pub fn keep_services(&mut self, services: &[Text]) -> Result<(), Memory>
+        ensures kept { OnOk result (self.new ≡ spec.with_services_kept self.old services.now) }
+        ensures err { OnErr result (self.new ≡ self.old) }
+        ensures chosen { OnOk result ((service : List ℕ) → spec.is_chosen self.new service ≡ (spec.is_chosen self.old service && is_among service services.now)) }
+    {
+        let alloc = self.desk.classes.allocator();
+        self.desk.services = Some(kept_services(alloc, &self.desk.services, services)?);
+        Ok(())
+    }
+
+    /// Whether vehicles are of classes, as they are where `desk.toml` has a class for a route.
+    pub fn classed(&self) -> bool
+        ensures { result ≡ spec.is_classed self.now }
+    {
+        self.desk.classes.len() != 0
+    }
+
+    /// The class of the vehicles of a route: the empty one where the route is empty or `desk.toml` has no class for it.
+    pub fn class(&self, route: &str) -> &str
+        ensures value { result.now ≡ spec.class_of self.now route.now }
+        ensures valid { has_slash result.now ≡ false }
+    {
+        if route.is_empty() {
+            return "";
+        }
+        match self.desk.classes.find(route) {
+            Some(class) => class.name(),
+            None => "",
         }
     }
 

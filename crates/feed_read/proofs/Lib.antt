@@ -1,3 +1,4 @@
+mod Classes
 mod EndsLemmas
 mod JourneyLemmas
 mod KeptLemmas

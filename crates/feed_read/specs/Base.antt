@@ -1,5 +1,5 @@
 -- The timetable of a feed.
-use Rattle.std.specs.Prelude.{◌<◌, nat_le, List, [], ◌∷◌, ◌++◌, length, map, fold, pos, true, false, unwrap_or, Result, Ok, ⊤, if◌then◌else◌}
+use Rattle.std.specs.Prelude.{ℕ, ◌<◌, nat_le, List, [], ◌∷◌, ◌++◌, length, map, fold, pos, true, unwrap_or, Result, Ok, ⊤, if◌then◌else◌}
 use Rattle.std.specs.List.{flat_map}
 use Rattle.desk_io.specs.declared.shelf.Found.{Found}
 use Rattle.gtfs_tables.specs.declared.fault.FeedFault.{FeedFault}
@@ -8,54 +8,74 @@ use Rattle.gtfs_tables.specs.declared.paper.Paper.TheVariants as paper
 use Rattle.gtfs_tables.specs.Reading.{◌>>=◌, provided}
 use Rattle.trip_model.specs.declared.limits.TheConstants.{MOST_PLACES}
 use Rattle.desk_settings.specs.Entries.{Name}
-use Rattle.desk_settings.specs.Names.{is_among, with_name}
-use Rattle.desk_settings.specs.Settings.{SettingsView, layover_at}
-use Rattle.trip_model.specs.Place.{Place, terminal_place}
-use Rattle.trip_model.specs.Timetable.{TimetableView, Slot, number_of, place_names}
+use Rattle.desk_settings.specs.Names.{is_among}
+use Rattle.desk_settings.specs.Settings.{SettingsView, is_classed, layover_at}
+use Rattle.trip_model.specs.declared.trip.Trip.{Trip}
+use Rattle.trip_model.specs.Place.{Place, post_place, terminal_place}
+use Rattle.trip_model.specs.Timetable.{TimetableView, Slot, number_of}
 use Rattle.feed_read.specs.declared.journey.Journey.{Journey}
 use Rattle.feed_read.specs.Trips.{trips_in}
 use Rattle.feed_read.specs.Journeys.{journeys_in}
 
+-- the place of a terminal for vehicles of a class, with the layover of the terminal: a post where vehicles are of classes, else
+-- the terminal
+abbrev pub place_of : SettingsView → Name → Name → Place
+place_of settings terminal class =
+    if is_classed settings then post_place terminal class (layover_at settings terminal) else terminal_place terminal (layover_at settings terminal)
+
+-- the place from which a trip runs, and the place to which it runs
+abbrev pub start_of : SettingsView → Journey → Place
+start_of settings journey = place_of settings journey.from journey.class
+
+abbrev pub end_of : SettingsView → Journey → Place
+end_of settings journey = place_of settings journey.to journey.class
+
 -- the places at which trips begin and end, trip by trip
-abbrev pub ends_of : List Journey → List Name
-ends_of journeys = flat_map (λ journey. journey.from ∷ journey.to ∷ []) journeys
+abbrev pub ends_of : SettingsView → List Journey → List Place
+ends_of settings journeys = flat_map (λ journey. start_of settings journey ∷ end_of settings journey ∷ []) journeys
 
--- the names that are met, each once, in the order in which they are met
-abbrev pub names_met : List Name → List Name
-names_met names = fold with_name [] names
+-- the names of places
+abbrev pub names_of : List Place → List Name
+names_of places = map (λ place. place.name) places
 
--- a place, with its layover
-abbrev pub place_of : SettingsView → Name → Place
-place_of settings name = terminal_place name (layover_at settings name)
+-- places, and this one at the end if its name is new
+abbrev pub with_place : List Place → Place → List Place
+with_place places place = if is_among place.name (names_of places) then places else places ++ place ∷ []
 
--- a timetable with a place at the end of its places, where it is new
-abbrev pub with_place : SettingsView → TimetableView → Name → TimetableView
-with_place settings timetable name =
-    if is_among name (place_names timetable) then timetable
-    else record timetable { places = timetable.places ++ place_of settings name ∷ [] }
+-- the places that are met, each once, in the order in which they are met
+abbrev pub places_met : List Place → List Place
+places_met ends = fold with_place [] ends
 
--- the slot of a trip, among places of these names: live, and as published
-abbrev pub slot_of : List Name → Journey → Slot
-slot_of names journey = record {
-  name = journey.name;
-  trip = record {
-    from = unwrap_or (number_of names journey.from) 0;
-    to = unwrap_or (number_of names journey.to) 0;
-    departs = journey.departs;
-    ends = journey.ends;
-    offset = pos 0;
-    early = journey.early;
-    late = journey.late;
-    live = true;
-  };
+-- the number of a place among places, by its name
+abbrev pub number_in : List Place → Place → ℕ
+number_in places place = unwrap_or (number_of (names_of places) place.name) 0
+
+-- a trip between two places: live, and as published
+abbrev pub trip_between : ℕ → ℕ → Journey → Trip
+trip_between from to journey = record {
+  from = from;
+  to = to;
+  departs = journey.departs;
+  ends = journey.ends;
+  offset = pos 0;
+  early = journey.early;
+  late = journey.late;
+  live = true;
 }
 
--- places of these names, and a slot for each trip
-abbrev pub timetable_over : SettingsView → List Name → List Journey → TimetableView
-timetable_over settings names journeys = record {
-  classed = false;
-  places = map (place_of settings) names;
-  slots = map (slot_of names) journeys;
+-- the slot of a trip, among these places
+abbrev pub slot_of : SettingsView → List Place → Journey → Slot
+slot_of settings places journey = record {
+  name = journey.name;
+  trip = trip_between (number_in places (start_of settings journey)) (number_in places (end_of settings journey)) journey;
+}
+
+-- these places, and a slot for each trip
+abbrev pub timetable_over : SettingsView → List Place → List Journey → TimetableView
+timetable_over settings places journeys = record {
+  classed = is_classed settings;
+  places = places;
+  slots = map (slot_of settings places) journeys;
   early = settings.early;
   late = settings.late;
 }
@@ -63,19 +83,19 @@ timetable_over settings names journeys = record {
 -- the timetable of trips between at most 512 places, which are numbered in the order in which the trips meet them
 unfoldable pub timetable_of : SettingsView → List Journey → Result TimetableView FeedFault
 timetable_of settings journeys =
-    let names = names_met (ends_of journeys) in
-    provided (nat_le (length names) MOST_PLACES) (fault.TooManyPlaces paper.StopTimes) (Ok (timetable_over settings names journeys))
+    let places = places_met (ends_of settings journeys) in
+    provided (nat_le (length places) MOST_PLACES) (fault.TooManyPlaces paper.StopTimes) (Ok (timetable_over settings places journeys))
 
 -- The base timetable: of `trips.txt` the selected trips, of `stop_times.txt` their visits, and of these the timetable. What
 -- stands first is judged first.
 unfoldable pub base_of : SettingsView → Found → Found → Result TimetableView FeedFault
 base_of settings trips_found stop_times_found = do
-  names ← trips_in settings trips_found
-  journeys ← journeys_in settings names stop_times_found
+  selected ← trips_in settings trips_found
+  journeys ← journeys_in settings selected stop_times_found
   timetable_of settings journeys
 
--- a refusal: there are too many names, or there was no memory
-abbrev pub IsFullOrMemory : List Name → FeedFault → Type 0
-IsFullOrMemory names fault.Memory = ⊤
-IsFullOrMemory names (fault.TooManyPlaces paper.StopTimes) = MOST_PLACES < length names
-IsFullOrMemory names _ = ⊥
+-- a refusal: there are too many places, or there was no memory
+abbrev pub IsFullOrMemory : List Place → FeedFault → Type 0
+IsFullOrMemory places fault.Memory = ⊤
+IsFullOrMemory places (fault.TooManyPlaces paper.StopTimes) = MOST_PLACES < length places
+IsFullOrMemory places _ = ⊥

@@ -1,5 +1,5 @@
 -- The selected trips as the feed has them.
-use Rattle.std.specs.Prelude.{ℕ, ◌+◌, ◌<◌, ◌≤◌, Bool, false, not, ◌||◌, ◌==◌, nat_lt, nat_le, List, [], ◌∷◌, ◌++◌, length, map, filter, fold, All, Contains, Option, Some, None, Result, Ok, Err, if◌then◌else◌}
+use Rattle.std.specs.Prelude.{◌≡◌, ℕ, ◌+◌, ◌<◌, ◌≤◌, Bool, false, not, ◌||◌, ◌==◌, nat_lt, nat_le, List, [], ◌∷◌, ◌++◌, length, map, filter, fold, slice_index_or, All, Contains, Option, Some, None, Result, Ok, Err, if◌then◌else◌}
 use Rattle.std.specs.List.{list_any}
 use Rattle.std.specs.Option.{ok_or}
 use Rattle.desk_io.specs.declared.shelf.Found.{Found}
@@ -8,9 +8,11 @@ use Rattle.gtfs_tables.specs.declared.fault.FeedFault.TheVariants as fault
 use Rattle.gtfs_tables.specs.Reading.{◌>>=◌, provided, each_record}
 use Rattle.gtfs_tables.specs.Times.{rounded_down, rounded_up}
 use Rattle.trip_model.specs.declared.limits.TheConstants.{LAST_DEPARTURE, LAST_END, MOST_TOLERANCE}
+use Rattle.trip_model.specs.Place.{has_slash}
 use Rattle.desk_settings.specs.Entries.{Name}
 use Rattle.desk_settings.specs.Settings.{SettingsView, terminal_of, layover_at, tolerance_of}
 use Rattle.feed_read.specs.declared.journey.Journey.{Journey}
+use Rattle.feed_read.specs.Trips.{Selected}
 use Rattle.feed_read.specs.Visits.{VisitView, visits_in}
 
 -- the visits of the trip of a slot
@@ -59,14 +61,15 @@ abbrev pub time_or : Option ℕ → Option ℕ → Option ℕ
 time_or (Some seconds) other = Some seconds
 time_or None other = other
 
--- A trip between its first and its last visit. It departs rounded down to the minute, and ends rounded up, after the layover
+-- A trip of vehicles of a class between its first and its last visit. It departs rounded down to the minute, and ends rounded up, after the layover
 -- of its last place.
-unfoldable pub journey_between : SettingsView → Name → VisitView → VisitView → Result Journey FeedFault
-journey_between settings name first last = do
+unfoldable pub journey_between : SettingsView → Name → Name → VisitView → VisitView → Result Journey FeedFault
+journey_between settings name class first last = do
   departure ← ok_or (time_or first.departure first.arrival) (fault.NoTime name)
   arrival ← ok_or (time_or last.arrival last.departure) (fault.NoTime name)
   provided (nat_lt departure arrival) (fault.NotForward name) (Ok (record {
     name = name;
+    class = class;
     from = terminal_of settings first.stop;
     to = terminal_of settings last.stop;
     departs = rounded_down departure;
@@ -76,33 +79,36 @@ journey_between settings name first last = do
   }))
 
 -- a trip between its ends, if it has any
-abbrev pub journey_from : SettingsView → Name → Option VisitView → Option VisitView → Result Journey FeedFault
-journey_from settings name (Some first) (Some last) = journey_between settings name first last
-journey_from settings name _ _ = Err (fault.TooFewStops name)
+abbrev pub journey_from : SettingsView → Name → Name → Option VisitView → Option VisitView → Result Journey FeedFault
+journey_from settings name class (Some first) (Some last) = journey_between settings name class first last
+journey_from settings name class _ _ = Err (fault.TooFewStops name)
 
--- the trip of that name with these visits: at least two, no two of one number, with a time at both ends, and forward
-unfoldable pub journey_of : SettingsView → Name → List VisitView → Result Journey FeedFault
-journey_of settings name visits =
+-- the trip of that name and class with these visits: at least two, no two of one number, with a time at both ends, and forward
+unfoldable pub journey_of : SettingsView → Name → Name → List VisitView → Result Journey FeedFault
+journey_of settings name class visits =
     provided (nat_le 2 (length visits)) (fault.TooFewStops name)
     (provided (not (has_repeat (sequences visits))) (fault.DuplicateSequence name)
-    (journey_from settings name (first_visit visits) (last_visit visits)))
+    (journey_from settings name class (first_visit visits) (last_visit visits)))
 
--- the trips, and that of the next slot
-abbrev pub with_journey : SettingsView → List VisitView → ℕ → List Journey → Name → Result (List Journey) FeedFault
-with_journey settings visits slot before name = journey_of settings name (visits_of slot visits) >>= λ journey. Ok (before ++ journey ∷ [])
+-- the trips, and that of the next slot, whose class stands at that slot
+abbrev pub with_journey : SettingsView → List Name → List VisitView → ℕ → List Journey → Name → Result (List Journey) FeedFault
+with_journey settings classes visits slot before name =
+    journey_of settings name (slice_index_or classes slot []) (visits_of slot visits) >>= λ journey. Ok (before ++ journey ∷ [])
 
--- the trips of these names, slot by slot
-abbrev pub journeys_of : SettingsView → List Name → List VisitView → Result (List Journey) FeedFault
-journeys_of settings names visits = each_record (with_journey settings visits) 0 [] names
+-- the selected trips, slot by slot
+abbrev pub journeys_of : SettingsView → Selected → List VisitView → Result (List Journey) FeedFault
+journeys_of settings selected visits = each_record (with_journey settings selected.classes visits) 0 [] selected.names
 
--- the trips of these names, by their visits in the file
-abbrev pub journeys_in : SettingsView → List Name → Found → Result (List Journey) FeedFault
-journeys_in settings names found = visits_in names found >>= journeys_of settings names
+-- the selected trips, by their visits in the file
+abbrev pub journeys_in : SettingsView → Selected → Found → Result (List Journey) FeedFault
+journeys_in settings selected found = visits_in selected.names found >>= journeys_of settings selected
 
--- a trip ends after it departs, both stand on the service day, and it may be moved by at most an hour each way
+-- a trip ends after it departs, both stand on the service day, it may be moved by at most an hour each way, and its class has
+-- no `/`
 pub record IsJourney (journey : Journey) : Type 0 where
   pub forward : journey.departs < journey.ends
   pub departs : journey.departs ≤ LAST_DEPARTURE
   pub ends : journey.ends ≤ LAST_END
   pub early : journey.early ≤ MOST_TOLERANCE
   pub late : journey.late ≤ MOST_TOLERANCE
+  pub class : has_slash journey.class ≡ false

@@ -5,38 +5,44 @@ ghost use Rattle.trip_model.specs.Timetable.{AreDistinct};
 ghost use Rattle.feed_read.specs.Base.{base_of};
 ghost use Rattle.feed_read.specs.Journeys as spec;
 ghost use Rattle.feed_read.specs.Journeys.{IsJourney};
+ghost use Rattle.feed_read.specs.Trips.{seen};
 
 use crate::journey::{Journey, journeys_of};
+use crate::selection::Selection;
 use crate::timetable::timetable_of;
 use crate::trips::trips_in;
 use crate::visits::stops_in;
 use desk_io::Found;
-use desk_settings::{Names, Settings};
+use desk_settings::Settings;
 use gtfs_tables::FeedFault;
 use std::alloc::Global;
 use trip_model::Timetable;
 
-// The trips of these names, by what `stop_times.txt` leaves of their visits.
+// The selected trips, by what `stop_times.txt` leaves of their visits.
 fn journeys_in(
     alloc: Global,
     settings: &Settings,
-    names: &Names,
+    selection: &Selection,
     stop_times: &Found,
 ) -> Result<Vec<Journey>, FeedFault>
     requires { IsWithinLimit stop_times.now }
-    ensures gives { Gives (λ journeys. journeys.items) result (spec.journeys_in settings.now names.now stop_times.now) }
+    ensures gives { Gives (λ journeys. journeys.items) result (spec.journeys_in settings.now (seen selection.now) stop_times.now) }
     ensures valid { IfOk result (λ journeys. All IsJourney journeys.items) }
     ensures distinct { IfOk result (λ journeys. AreDistinct (map (λ journey. journey.name) journeys.items)) }
-    ensures count { IfOk result (λ journeys. length journeys.items ≡ length names.now) }
+    ensures count { IfOk result (λ journeys. length journeys.items ≡ length selection.now.names) }
 {
-    let stops = stops_in(alloc, names, stop_times)?;
-    journeys_of(alloc, settings, names, &stops)
+    let stops = stops_in(alloc, &selection.names, stop_times)?;
+    journeys_of(alloc, settings, selection, &stops)
 }
 
 /// The base timetable of a feed: the trips of the chosen services, in the order of `trips.txt`, all live and as published;
 /// or the first refusal in the order of judging. A trip departs in the minute of its first departure and ends in that of its
-/// last arrival, rounded up, plus the layover of its last place. Places are numbered as the trips meet them, slot by slot,
+/// last arrival, rounded up, plus the layover of its last terminal. Places are numbered as the trips meet them, slot by slot,
 /// from before to.
+///
+/// Where the settings give routes classes, the feed is classed: a trip is of the class of its route, which is empty where the
+/// route has none, and runs between posts, each a terminal with that class and named TERMINAL/CLASS. Then `trips.txt` must
+/// have the column `route_id`. Elsewhere places are terminals.
 ///
 /// Each file has at most [`gtfs_tables::MOST_BYTES`] bytes.
 #[tactic(auto, unfolding(crate::specs::Base::base_of))]
@@ -50,7 +56,7 @@ pub fn read_feed(
     requires stop_times { IsWithinLimit stop_times.now }
     ensures { Gives (λ timetable. timetable) result (base_of settings.now trips.now stop_times.now) }
 {
-    let names = trips_in(alloc, settings, trips)?;
-    let journeys = journeys_in(alloc, settings, &names, stop_times)?;
+    let selection = trips_in(alloc, settings, trips)?;
+    let journeys = journeys_in(alloc, settings, &selection, stop_times)?;
     timetable_of(alloc, settings, &journeys)
 }

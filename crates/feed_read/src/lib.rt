@@ -2,7 +2,8 @@
 //!
 //! [`read_feed`] makes the base timetable of `trips.txt`, `stop_times.txt` and the settings of a desk: the trips of the
 //! chosen services, in the order of their records, each from its first stop to its last by `stop_sequence`, wherever these
-//! rows stand in the file.
+//! rows stand in the file. A feed is classed where the settings give routes classes: then each trip is of the class of its
+//! route, and the places are posts, terminals with a class, so that trips of two classes have no place in common.
 //!
 //! The contract that the crates above use: the timetable is `base_of` the three, or the refusal is the first of the order
 //! of judging.
@@ -12,14 +13,15 @@
 //! let timetable = read_feed(alloc, &trips, &stop_times, &settings)?;
 //! ```
 //!
-//! The contracts cite `Base` (the timetable of a feed), and by it `Trips` (the selected trips), `Visits` (their records of
-//! `stop_times.txt`) and `Journeys` (the first and the last of these, of which [`laws::ends_law`] speaks, and what the trip is
-//! by them).
+//! The contracts cite `Base` (the timetable of a feed), and by it `Trips` (the selected trips and their classes), `Visits`
+//! (their records of `stop_times.txt`) and `Journeys` (the first and the last of these, of which [`laws::ends_law`] speaks,
+//! and what the trip is by them).
 #![tactic(auto)]
 
 mod feed;
 mod journey;
 pub mod laws;
+mod selection;
 mod stops;
 mod timetable;
 mod trips;

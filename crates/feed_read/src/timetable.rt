@@ -1,8 +1,9 @@
-ghost use Rattle.std.specs.Prelude.{◌≡◌, ◌≤◌, false, [], length, map, All, IfErr, OnOk};
-ghost use Rattle.desk_settings.specs.Names.{with_name};
+ghost use Rattle.std.specs.Prelude.{◌≡◌, ◌<◌, ◌≤◌, false, [], ◌∷◌, ◌++◌, length, map, All, Contains, IfErr, IfOk, IfSome, OnOk};
+ghost use Rattle.desk_settings.specs.Settings.{is_classed};
 ghost use Rattle.gtfs_tables.specs.Reading.{Gives};
-ghost use Rattle.trip_model.specs.declared.limits.TheConstants.{MOST_SLOTS};
-ghost use Rattle.trip_model.specs.Timetable.{AreDistinct, place_names};
+ghost use Rattle.trip_model.specs.declared.limits.TheConstants.{MOST_PLACES, MOST_SLOTS};
+ghost use Rattle.trip_model.specs.Place.{has_slash, post_place};
+ghost use Rattle.trip_model.specs.Timetable.{AreDistinct, number_of, place_names};
 ghost use Rattle.feed_read.specs.Base as spec;
 ghost use Rattle.feed_read.specs.Journeys.{IsJourney};
 
@@ -13,57 +14,117 @@ use gtfs_tables::{FeedFault, Paper};
 use std::alloc::Global;
 use trip_model::{MOST_PLACES, Timetable, Trip};
 
-// Puts a place of that name at the end, where there is none yet.
-fn push_place(settings: &Settings, timetable: &mut Timetable, name: &Text) -> Result<(), FeedFault>
-    requires { timetable.old.classed ≡ false }
-    ensures pushed { OnOk result (timetable.new ≡ spec.with_place settings.now timetable.old name.now) }
-    ensures full { IfErr result (spec.IsFullOrMemory (with_name (place_names timetable.old) name.now)) }
+// The name of the post of a terminal for a class.
+fn post_name(alloc: Global, terminal: &Text, class: &Text) -> Result<Text, Memory>
+    ensures { IfOk result (λ name. name ≡ (post_place terminal.now class.now 0).name) }
 {
-    match timetable.find_place(name.as_str()) {
+    let (terminal, class) = (terminal.as_str(), class.as_str());
+    Ok(Text::wrap(format!(in alloc; "{terminal}/{class}")?))
+}
+
+// The number of the place of a terminal for vehicles of a class.
+fn find_place(
+    alloc: Global,
+    settings: &Settings,
+    timetable: &Timetable,
+    terminal: &Text,
+    class: &Text,
+) -> Result<Option<u16>, Memory>
+    ensures number { IfOk result (λ place. place ≡ number_of (place_names timetable.now) (spec.place_of settings.now terminal.now class.now).name) }
+    ensures within { IfOk result (λ place. IfSome place (λ p. p < length timetable.now.places)) }
+{
+    if settings.classed() {
+        let name = post_name(alloc, terminal, class)?;
+        Ok(timetable.find_place(name.as_str()))
+    } else {
+        Ok(timetable.find_place(terminal.as_str()))
+    }
+}
+
+// Appends the place of a terminal for vehicles of a class.
+fn append_place(
+    settings: &Settings,
+    timetable: &mut Timetable,
+    terminal: &Text,
+    class: &Text,
+) -> Result<(), Memory>
+    requires classed { timetable.old.classed ≡ is_classed settings.now }
+    requires new { ¬ Contains (place_names timetable.old) (spec.place_of settings.now terminal.now class.now).name }
+    requires named { has_slash class.now ≡ false }
+    requires room { length timetable.old.places < MOST_PLACES }
+    ensures { OnOk result (timetable.new ≡ record timetable.old {
+      places = timetable.old.places ++ spec.place_of settings.now terminal.now class.now ∷ [];
+    }) }
+{
+    let (terminal, class) = (terminal.as_str(), class.as_str());
+    let layover = settings.layover(terminal);
+    if settings.classed() {
+        timetable.push_post(terminal, class, layover)?;
+    } else {
+        timetable.push_place(terminal, layover)?;
+    }
+    Ok(())
+}
+
+// Puts the place of a terminal for vehicles of a class at the end, where there is none yet.
+fn push_place(
+    alloc: Global,
+    settings: &Settings,
+    timetable: &mut Timetable,
+    terminal: &Text,
+    class: &Text,
+) -> Result<(), FeedFault>
+    requires classed { timetable.old.classed ≡ is_classed settings.now }
+    requires named { has_slash class.now ≡ false }
+    ensures pushed { OnOk result (timetable.new ≡ record timetable.old {
+      places = spec.with_place timetable.old.places (spec.place_of settings.now terminal.now class.now);
+    }) }
+    ensures full { IfErr result (spec.IsFullOrMemory (spec.with_place timetable.old.places (spec.place_of settings.now terminal.now class.now))) }
+{
+    match find_place(alloc, settings, timetable, terminal, class)? {
         Some(_) => Ok(()),
         None if timetable.places() >= MOST_PLACES => Err(FeedFault::TooManyPlaces(
             Paper::StopTimes,
         )),
-        None => {
-            timetable.push_place(name.as_str(), settings.layover(name.as_str()))?;
-            Ok(())
-        }
+        None => Ok(append_place(settings, timetable, terminal, class)?),
     }
 }
 
 // The places of the trips, in the order in which the trips meet them.
 fn push_places(
+    alloc: Global,
     settings: &Settings,
     timetable: &mut Timetable,
     journeys: &[Journey],
 ) -> Result<(), FeedFault>
-    requires { timetable.old ≡ spec.timetable_over settings.now [] [] }
-    ensures pushed { OnOk result (timetable.new ≡ spec.timetable_over settings.now (spec.names_met (spec.ends_of journeys.now)) []) }
-    ensures full { IfErr result (spec.IsFullOrMemory (spec.names_met (spec.ends_of journeys.now))) }
+    requires empty { timetable.old ≡ spec.timetable_over settings.now [] [] }
+    requires valid { All IsJourney journeys.now }
+    ensures pushed { OnOk result (timetable.new ≡ spec.timetable_over settings.now (spec.places_met (spec.ends_of settings.now journeys.now)) []) }
+    ensures full { IfErr result (spec.IsFullOrMemory (spec.places_met (spec.ends_of settings.now journeys.now))) }
 {
     for journey in journeys {
-        push_place(settings, timetable, &journey.from)?;
-        push_place(settings, timetable, &journey.to)?;
+        push_place(alloc, settings, timetable, &journey.from, &journey.class)?;
+        push_place(alloc, settings, timetable, &journey.to, &journey.class)?;
     }
     Ok(())
 }
 
 // The slots of the trips, whose places are there already.
-#[tactic(auto, using(crate::proofs::Places::of_one_class))]
 fn push_trips(
+    alloc: Global,
     settings: &Settings,
     timetable: &mut Timetable,
     journeys: &[Journey],
 ) -> Result<(), Memory>
-    requires places { timetable.old ≡ spec.timetable_over settings.now (spec.names_met (spec.ends_of journeys.now)) [] }
+    requires places { timetable.old ≡ spec.timetable_over settings.now (spec.places_met (spec.ends_of settings.now journeys.now)) [] }
     requires few { length journeys.now ≤ MOST_SLOTS }
     requires distinct { AreDistinct (map (λ journey. journey.name) journeys.now) }
     requires valid { All IsJourney journeys.now }
-    ensures { OnOk result (timetable.new ≡ spec.timetable_over settings.now (spec.names_met (spec.ends_of journeys.now)) journeys.now) }
+    ensures { OnOk result (timetable.new ≡ spec.timetable_over settings.now (spec.places_met (spec.ends_of settings.now journeys.now)) journeys.now) }
 {
     for journey in journeys {
-        let from = timetable.find_place(journey.from.as_str()).unwrap();
-        let to = timetable.find_place(journey.to.as_str()).unwrap();
+        let from = find_place(alloc, settings, timetable, &journey.from, &journey.class)?.unwrap();
+        let to = find_place(alloc, settings, timetable, &journey.to, &journey.class)?.unwrap();
         let trip = Trip {
             from,
             to,
@@ -79,6 +140,17 @@ fn push_trips(
     Ok(())
 }
 
+// A timetable without places and slots.
+fn opened(alloc: Global, settings: &Settings) -> Timetable
+    ensures { result ≡ spec.timetable_over settings.now [] [] }
+{
+    if settings.classed() {
+        Timetable::open_classed(alloc, settings.early(), settings.late())
+    } else {
+        Timetable::open(alloc, settings.early(), settings.late())
+    }
+}
+
 /// The timetable of trips: places in the order in which the trips meet them, and a slot for each trip.
 #[tactic(auto, unfolding(crate::specs::Base::timetable_of))]
 pub(crate) fn timetable_of(
@@ -91,8 +163,8 @@ pub(crate) fn timetable_of(
     requires valid { All IsJourney journeys.now }
     ensures { Gives (λ timetable. timetable) result (spec.timetable_of settings.now journeys.now) }
 {
-    let mut timetable = Timetable::open(alloc, settings.early(), settings.late());
-    push_places(settings, &mut timetable, journeys)?;
-    push_trips(settings, &mut timetable, journeys)?;
+    let mut timetable = opened(alloc, settings);
+    push_places(alloc, settings, &mut timetable, journeys)?;
+    push_trips(alloc, settings, &mut timetable, journeys)?;
     Ok(timetable)
 }

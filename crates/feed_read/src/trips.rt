@@ -1,10 +1,11 @@
-ghost use Rattle.std.specs.Prelude.{◌≡◌, ◌≤◌, IfOk, length};
+ghost use Rattle.std.specs.Prelude.{◌≡◌, false, option_map};
 ghost use Rattle.gtfs_tables.specs.Papers.{IsWithinLimit};
 ghost use Rattle.gtfs_tables.specs.Reading.{Gives};
-ghost use Rattle.trip_model.specs.declared.limits.TheConstants.{MOST_SLOTS};
+ghost use Rattle.trip_model.specs.Place.{has_slash};
 ghost use Rattle.feed_read.specs.Trips as spec;
 
-use desk_io::Found;
+use crate::selection::Selection;
+use desk_io::{Found, Text};
 use desk_settings::{Names, Settings};
 use gtfs_tables::{
     Column, FeedFault, Paper, RecordReader, Row, column_in, filled_in, read_records, text_in,
@@ -19,47 +20,104 @@ pub(crate) struct Columns {
     trip: usize,
 }
 
-// Adds the name of a selected record.
-#[tactic(auto, unfolding(crate::specs::Trips::with_name))]
-fn add_name(number: u32, name: &str, names: &mut Names) -> Result<(), FeedFault>
-    requires { length names.old ≤ MOST_SLOTS }
-    ensures gives { Gives (λ _. names.new) result (spec.with_name number names.old name.now) }
-    ensures few { length names.new ≤ MOST_SLOTS }
-{
-    let name = filled_in(Paper::Trips, number, Column::TripId, name)?;
-    if names.has(name) {
-        return Err(FeedFault::DuplicateRow(Paper::Trips, number));
-    }
-    if names.len() >= usize::from(MOST_SLOTS) {
-        return Err(FeedFault::TooManyTrips(number));
-    }
-    names.add(name)?;
-    Ok(())
+/// The same where vehicles are of classes, with the column of the routes that have them.
+#[derive(Clone, Copy)]
+pub(crate) struct ClassedColumns {
+    columns: Columns,
+    route: usize,
 }
 
-// The names of the selected records that were read.
+impl Selection {
+    // No trips.
+    fn new(alloc: Global) -> Selection
+        ensures { spec.seen result ≡ spec.nothing_selected }
+    {
+        Selection {
+            names: Names::new(alloc),
+            classes: Vec::new(alloc),
+        }
+    }
+
+    // Adds the trip of a selected record.
+    #[tactic(auto, unfolding(crate::specs::Trips::with_selected))]
+    fn add(&mut self, number: u32, name: &str, class: &str) -> Result<(), FeedFault>
+        requires { has_slash class.now ≡ false }
+        ensures { Gives (λ _. spec.seen self.new) result (spec.with_selected number (spec.seen self.old) name.now class.now) }
+    {
+        let name = filled_in(Paper::Trips, number, Column::TripId, name)?;
+        if self.names.has(name) {
+            return Err(FeedFault::DuplicateRow(Paper::Trips, number));
+        }
+        if self.names.len() >= usize::from(MOST_SLOTS) {
+            return Err(FeedFault::TooManyTrips(number));
+        }
+        // The class comes first, so that each name has one even if there is no memory for the name.
+        let alloc = *self.classes.allocator();
+        self.classes.push(Text::of(alloc, class)?)?;
+        self.names.add(name)?;
+        Ok(())
+    }
+}
+
+#[tactic(auto, unfolding(crate::specs::Trips::columns_in))]
+fn columns_in(header: &Row) -> Result<Columns, FeedFault>
+    ensures { Gives (λ columns. columns) result (spec.columns_in header.now) }
+{
+    let service = column_in(Paper::Trips, Column::ServiceId, header)?;
+    let trip = column_in(Paper::Trips, Column::TripId, header)?;
+    Ok(Columns { service, trip })
+}
+
+// The name of a record, if its service is chosen.
+#[tactic(auto, unfolding(crate::specs::Trips::chosen_in))]
+fn chosen_in<'a>(
+    settings: &Settings,
+    columns: &Columns,
+    number: u32,
+    row: &'a Row,
+) -> Result<Option<&'a str>, FeedFault>
+    ensures { Gives (option_map (λ name. name.now)) result (spec.chosen_in settings.now columns.now number row.now) }
+{
+    let service = text_in(
+        Paper::Trips,
+        number,
+        Column::ServiceId,
+        row.field(columns.service),
+    )?;
+    let name = text_in(
+        Paper::Trips,
+        number,
+        Column::TripId,
+        row.field(columns.trip),
+    )?;
+    if settings.chosen(service) {
+        Ok(Some(name))
+    } else {
+        Ok(None)
+    }
+}
+
+// The selected records that were read, where vehicles are of no classes.
 #[derive(Drop)]
 struct Trips<'a> {
     settings: &'a Settings,
-    names: Names,
-    ghost few: { length names ≤ MOST_SLOTS },
+    selection: Selection,
 }
 
 impl<'a> RecordReader for Trips<'a> {
-    ghost use Rattle.std.specs.Prelude.{List};
-    ghost use Rattle.desk_settings.specs.Entries.{Name};
     ghost use Rattle.desk_settings.specs.Settings.{SettingsView};
     ghost use Rattle.feed_read.specs.Trips as spec;
+    ghost use Rattle.feed_read.specs.Trips.{Selected};
 
     type Columns = Columns;
 
     ghost Kept = { SettingsView };
 
-    ghost State = { List Name };
+    ghost State = { Selected };
 
     ghost kept = { λ read. read.settings.now };
 
-    ghost state = { λ read. read.names };
+    ghost state = { λ read. spec.seen read.selection };
 
     ghost columns_in = { spec.columns_in };
 
@@ -67,49 +125,97 @@ impl<'a> RecordReader for Trips<'a> {
 
     ghost Leaves = { λ _ _ _ _ _ _. Unit {0} };
 
-    #[tactic(auto, unfolding(crate::specs::Trips::columns_in))]
     fn columns(&self, header: &Row) -> Result<Columns, FeedFault> {
-        let service = column_in(Paper::Trips, Column::ServiceId, header)?;
-        let trip = column_in(Paper::Trips, Column::TripId, header)?;
-        Ok(Columns { service, trip })
+        columns_in(header)
     }
 
     #[tactic(auto, unfolding(crate::specs::Trips::with_trip))]
     fn record(&mut self, columns: &Columns, number: u32, row: &Row) -> Result<(), FeedFault> {
-        let service = text_in(
-            Paper::Trips,
-            number,
-            Column::ServiceId,
-            row.field(columns.service),
-        )?;
-        let name = text_in(
-            Paper::Trips,
-            number,
-            Column::TripId,
-            row.field(columns.trip),
-        )?;
-        if self.settings.chosen(service) {
-            add_name(number, name, &mut self.names)
-        } else {
-            Ok(())
+        match chosen_in(self.settings, columns, number, row)? {
+            Some(name) => self.selection.add(number, name, ""),
+            None => Ok(()),
         }
     }
 }
 
-/// The names of the selected trips of the file, in the order of its records.
+// The selected records that were read, where vehicles are of the classes of routes.
+#[derive(Drop)]
+struct ClassedTrips<'a> {
+    settings: &'a Settings,
+    selection: Selection,
+}
+
+impl<'a> RecordReader for ClassedTrips<'a> {
+    ghost use Rattle.desk_settings.specs.Settings.{SettingsView};
+    ghost use Rattle.feed_read.specs.Trips as spec;
+    ghost use Rattle.feed_read.specs.Trips.{Selected};
+
+    type Columns = ClassedColumns;
+
+    ghost Kept = { SettingsView };
+
+    ghost State = { Selected };
+
+    ghost kept = { λ read. read.settings.now };
+
+    ghost state = { λ read. spec.seen read.selection };
+
+    ghost columns_in = { spec.classed_columns_in };
+
+    ghost step = { spec.with_classed_trip };
+
+    ghost Leaves = { λ _ _ _ _ _ _. Unit {0} };
+
+    #[tactic(auto, unfolding(crate::specs::Trips::classed_columns_in))]
+    fn columns(&self, header: &Row) -> Result<ClassedColumns, FeedFault> {
+        let columns = columns_in(header)?;
+        let route = column_in(Paper::Trips, Column::RouteId, header)?;
+        Ok(ClassedColumns { columns, route })
+    }
+
+    #[tactic(auto, unfolding(crate::specs::Trips::with_classed_trip))]
+    fn record(
+        &mut self,
+        columns: &ClassedColumns,
+        number: u32,
+        row: &Row,
+    ) -> Result<(), FeedFault> {
+        let Some(name) = chosen_in(self.settings, &columns.columns, number, row)? else {
+            return Ok(());
+        };
+        let route = text_in(
+            Paper::Trips,
+            number,
+            Column::RouteId,
+            row.field(columns.route),
+        )?;
+        self.selection.add(number, name, self.settings.class(route))
+    }
+}
+
+/// The selected trips of the file, in the order of its records, each with its class.
 pub(crate) fn trips_in(
     alloc: Global,
     settings: &Settings,
     found: &Found,
-) -> Result<Names, FeedFault>
+) -> Result<Selection, FeedFault>
     requires { IsWithinLimit found.now }
-    ensures gives { Gives (λ names. names) result (spec.trips_in settings.now found.now) }
-    ensures few { IfOk result (λ names. length names ≤ MOST_SLOTS) }
+    ensures { Gives spec.seen result (spec.trips_in settings.now found.now) }
 {
-    let mut read = Trips {
-        settings,
-        names: Names::new(alloc),
-    };
-    read_records(alloc, Paper::Trips, found, &mut read)?;
-    Ok(read.names)
+    let selection = Selection::new(alloc);
+    if settings.classed() {
+        let mut read = ClassedTrips {
+            settings,
+            selection,
+        };
+        read_records(alloc, Paper::Trips, found, &mut read)?;
+        Ok(read.selection)
+    } else {
+        let mut read = Trips {
+            settings,
+            selection,
+        };
+        read_records(alloc, Paper::Trips, found, &mut read)?;
+        Ok(read.selection)
+    }
 }

@@ -1,2 +1,3 @@
+pub mod ClaimPapers
 pub mod Given
 pub mod ScheduleLemmas

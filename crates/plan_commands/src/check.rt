@@ -26,10 +26,12 @@ use trip_model::Timetable;
 use trip_model::laws::plain_law;
 
 // The papers of a feed, and then the two files of a claim.
-const CLAIM_PAPERS: [Paper; 10] = [
+const CLAIM_PAPERS: [Paper; 12] = [
     Paper::Settings,
     Paper::Terminals,
     Paper::Tolerances,
+    Paper::Calendar,
+    Paper::CalendarDates,
     Paper::Trips,
     Paper::StopTimes,
     Paper::Deadheads,

@@ -1,3 +1,3 @@
 pub mod DateLemmas
 pub mod ViewedLemmas
-pub mod ServicesLemmas
+pub mod RunningLemmas

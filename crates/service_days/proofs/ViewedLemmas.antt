@@ -1,5 +1,5 @@
 -- What a map holds in order, seen by what its keys are seen as.
-use Rattle.std.proofs.Common.{◌≡◌, ℕ, ◌+◌, zero, suc, add-one, Bool, true, false, cond, not, ◌||◌, List, [], ◌∷◌, ◌++◌, map, take, slice_get, Option, Some, None, is_some, option_map, refl, sym, ap, ◌∙◌}
+use Rattle.std.proofs.Common.{◌≡◌, ℕ, ◌+◌, zero, suc, add-one, Bool, true, false, cond, not, ◌||◌, List, [], ◌∷◌, ◌++◌, map, take, fold, slice_get, Option, Some, None, is_some, option_map, refl, sym, ap, ◌∙◌}
 use Rattle.std.specs.Map.{lookup}
 use Rattle.std.proofs.lemmas.List.{map-append}
 use Rattle.indexmap.specs.IndexMap.{IndexMap, insert_entry}
@@ -33,29 +33,13 @@ pushed view eq m new k v found told absent looked put is =
     let none : lookup (eq k) m.entries ≡ None = sym looked ∙ none_from found (absent ∙ ap not is) in
     ap (viewed view) (put ∙ insert_entry-new eq m k v none) ∙ map-append _ m.entries ((k, v) ∷ [])
 
-some-cond : {X : Type 0} (b : Bool) (x : X) (found : Option X) → is_some (cond b (Some x) found) ≡ (b || is_some found)
-some-cond true x found = refl
-some-cond false x found = refl
+fold-more : {K X A : Type 0} (f : A → K → A) (a : A) (es : List (K × X)) (n : ℕ) (k : K) → option_map (λ e. e.0) (slice_get es n) ≡ Some k
+    → fold (λ a e. f a e.0) a (take (suc n) es) ≡ f (fold (λ a e. f a e.0) a (take n es)) k
+fold-more f a [] n k at = cc
+fold-more f a (e ∷ es) zero k at = ap (f a) (let same : e.0 ≡ k = cc in same)
+fold-more f a (e ∷ es) (suc n) k at = fold-more f (f a e.0) es n k at
 
-or-assoc : (a b c : Bool) → (a || (b || c)) ≡ ((a || b) || c)
-or-assoc true b c = refl
-or-assoc false b c = refl
-
-found-more : {K X : Type 0} (test : K → Bool) (es : List (K × X)) (n : ℕ) (k : K) → option_map (λ e. e.0) (slice_get es n) ≡ Some k
-    → is_some (lookup test (take (suc n) es)) ≡ (is_some (lookup test (take n es)) || test k)
-found-more test [] n k at = cc
-found-more test (e ∷ es) zero k at = some-cond (test e.0) e.1 None ∙ by (test e.0) (test k) (let same : e.0 ≡ k = cc in ap test same)
-  where
-    by : (b d : Bool) → b ≡ d → (b || false) ≡ d
-    by true d same = same
-    by false d same = same
-found-more test (e ∷ es) (suc n) k at =
-    some-cond (test e.0) e.1 (lookup test (take (suc n) es))
-    ∙ ap (λ b. test e.0 || b) (found-more test es n k at)
-    ∙ or-assoc (test e.0) (is_some (lookup test (take n es))) (test k)
-    ∙ ap (λ b. b || test k) (sym (some-cond (test e.0) e.1 (lookup test (take n es))))
-
--- one more entry is found where an earlier one is, or it is the one
-pub found-next : {K X : Type 0} (test : K → Bool) (es : List (K × X)) (n : ℕ) (k : K) → option_map (λ e. e.0) (slice_get es n) ≡ Some k
-    → is_some (lookup test (take (n + 1) es)) ≡ (is_some (lookup test (take n es)) || test k)
-found-next test es n k at = rw (add-one n) (found-more test es n k at)
+-- what is made of the keys of the entries, with one more
+pub fold-next : {K X A : Type 0} (f : A → K → A) (a : A) (es : List (K × X)) (n : ℕ) (k : K) → option_map (λ e. e.0) (slice_get es n) ≡ Some k
+    → fold (λ a e. f a e.0) a (take (n + 1) es) ≡ f (fold (λ a e. f a e.0) a (take n es)) k
+fold-next f a es n k at = rw (add-one n) (fold-more f a es n k at)

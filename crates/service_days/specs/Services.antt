@@ -1,5 +1,6 @@
 -- The services that run on a date.
-use Rattle.std.specs.Prelude.{ℕ, Bool, true, false, ◌&&◌, not, List, Option, Some, None, Result, Ok, Contains, IsTrue, ◌↔◌}
+use Rattle.std.specs.Prelude.{ℕ, ◌==◌, Bool, true, false, ◌&&◌, not, List, [], fold, Option, Some, None, Result, Ok, Contains, IsTrue, ◌↔◌, if◌then◌else◌}
+use Rattle.std.specs.BTreeSet.{insert_key}
 use Rattle.std.specs.Cmp.Lexicographic.{slice_cmp}
 use Rattle.std.specs.List.Sorted.{IsStrictlySortedBy}
 use Rattle.std.specs.Ordering.{nat_cmp}
@@ -52,3 +53,25 @@ is_running services date service = runs_by (exception_of services.exceptions (se
 pub record AreRunning (services : ServicesView) (date : ℕ) (names : List Name) : Type 0 where
   pub exact : (service : Name) → IsTrue (is_running services date service) ↔ Contains names service
   pub rising : IsStrictlySortedBy (slice_cmp nat_cmp) names
+
+-- services in byte order, with one more at its place where it runs on the date
+abbrev pub with_running : ServicesView → ℕ → List Name → Name → List Name
+with_running services date names service = if is_running services date service then insert_key (slice_cmp nat_cmp) names service else names
+
+-- and with that of an exception, where it is one of the date
+abbrev pub with_excepted : ServicesView → ℕ → List Name → ServiceDate → List Name
+with_excepted services date names key = if key.1 == date then with_running services date names key.0 else names
+
+-- the services that run on a date, in byte order: of those that have a schedule, and of those that have an exception on it
+abbrev pub scheduled_on : ServicesView → ℕ → List Name → List Name
+scheduled_on services date names = fold (λ before entry. with_running services date before entry.0) names services.schedules
+
+abbrev pub excepted_on : ServicesView → ℕ → List Name → List Name
+excepted_on services date names = fold (λ before entry. with_excepted services date before entry.0) names services.exceptions
+
+abbrev pub services_on : ServicesView → ℕ → List Name
+services_on services date = excepted_on services date (scheduled_on services date [])
+
+-- those of the two files
+abbrev pub services_running : ℕ → Found → Found → Result (List Name) FeedFault
+services_running date calendar dates = services_of calendar dates >>= λ services. Ok (services_on services date)

@@ -1,16 +1,8 @@
-ghost use Rattle.std.specs.Prelude.{◌≡◌, ◌&&◌, ◌||◌, IfErr, IfOk, IsOkAnd, OnOk, is_some};
-ghost use Rattle.std.specs.BTreeSet.{contains};
-ghost use Rattle.std.specs.Cmp.Lexicographic.{slice_cmp};
-ghost use Rattle.std.specs.List.Sorted.{IsStrictlySortedBy};
-ghost use Rattle.std.specs.Ordering.{nat_cmp};
-ghost use Rattle.std.specs.Str.{bytes_eq};
+ghost use Rattle.std.specs.Prelude.{◌≡◌, IfOk, OnOk};
 ghost use Rattle.gtfs_tables.specs.Papers.{IsWithinLimit};
-ghost use Rattle.gtfs_tables.specs.Reading.{Fails, Gives};
-ghost use Rattle.service_days.specs.Calendar.{Name, schedule_of};
-ghost use Rattle.service_days.specs.CalendarDates.{exception_of};
+ghost use Rattle.gtfs_tables.specs.Reading.{Gives};
 ghost use Rattle.service_days.specs.Dates.{IsDateNumber};
 ghost use Rattle.service_days.specs.Services as spec;
-ghost use Rattle.service_days.specs.Services.{AreRunning};
 
 use crate::calendar::Calendar;
 use crate::calendar_dates::{CalendarDates, Exception};
@@ -29,8 +21,7 @@ fn is_missing(found: &Found) -> bool
 
 // The names of a set, in byte order.
 fn names_of(alloc: Global, set: BTreeSet<Text>) -> Result<Vec<Text>, Memory>
-    ensures all { IfOk result (λ names. names.items ≡ set.keys) }
-    ensures rising { IfOk result (λ names. IsStrictlySortedBy (slice_cmp nat_cmp) names.items) }
+    ensures { IfOk result (λ names. names.items ≡ set.keys) }
 {
     Ok(set.into_iter().collect(alloc)?)
 }
@@ -90,8 +81,7 @@ impl Services {
         names: &mut BTreeSet<Text>,
     ) -> Result<(), Memory>
         requires { IsDateNumber date }
-        ensures { OnOk result ((other : Name) → contains (slice_cmp nat_cmp) names.new other
-            ≡ (contains (slice_cmp nat_cmp) names.old other || (bytes_eq other service.now && spec.is_running self.now date other))) }
+        ensures { OnOk result (names.new.keys ≡ spec.with_running self.now date names.old.keys service.now) }
     {
         if self.is_running(date, service)? {
             names.insert(Text::of(alloc, service)?)?;
@@ -107,8 +97,7 @@ impl Services {
         names: &mut BTreeSet<Text>,
     ) -> Result<(), Memory>
         requires { IsDateNumber date }
-        ensures { OnOk result ((service : Name) → contains (slice_cmp nat_cmp) names.new service
-            ≡ (contains (slice_cmp nat_cmp) names.old service || (is_some (schedule_of self.now.schedules service) && spec.is_running self.now date service))) }
+        ensures { OnOk result (names.new.keys ≡ spec.scheduled_on self.now date names.old.keys) }
     {
         for number in 0..self.calendar.len() {
             self.add_running(alloc, date, self.calendar.service(number), names)?;
@@ -124,8 +113,7 @@ impl Services {
         names: &mut BTreeSet<Text>,
     ) -> Result<(), Memory>
         requires { IsDateNumber date }
-        ensures { OnOk result ((service : Name) → contains (slice_cmp nat_cmp) names.new service
-            ≡ (contains (slice_cmp nat_cmp) names.old service || (is_some (exception_of self.now.exceptions (service, date)) && spec.is_running self.now date service))) }
+        ensures { OnOk result (names.new.keys ≡ spec.excepted_on self.now date names.old.keys) }
     {
         for number in 0..self.dates.len() {
             let (service, on) = self.dates.service_date(number);
@@ -139,7 +127,7 @@ impl Services {
     // The services that run on the date, in byte order.
     fn running(&self, alloc: Global, date: u32) -> Result<Vec<Text>, Memory>
         requires { IsDateNumber date }
-        ensures { IfOk result (λ names. AreRunning self.now date names.items) }
+        ensures { IfOk result (λ names. names.items ≡ spec.services_on self.now date) }
     {
         let mut names = BTreeSet::new(alloc);
         self.add_scheduled(alloc, date, &mut names)?;
@@ -149,7 +137,7 @@ impl Services {
 }
 
 /// The services that run on a date, which is an answer of [`crate::read_date`], each once, in byte order; or the first
-/// refusal, of `calendar.txt` and then of `calendar_dates.txt`. A file that is not there has no records, but where neither
+/// refusal, of `calendar.txt` and then of `calendar_dates.txt` ([`crate::laws::running_law`]). A file that is not there has no records, but where neither
 /// is there `calendar.txt` is missing.
 pub fn running(
     alloc: Global,
@@ -160,8 +148,7 @@ pub fn running(
     requires date { IsDateNumber date }
     requires calendar { IsWithinLimit calendar.now }
     requires dates { IsWithinLimit dates.now }
-    ensures running { IfOk result (λ names. IsOkAnd (spec.services_of calendar.now dates.now) (λ services. AreRunning services date names.items)) }
-    ensures refused { IfErr result (λ refused. Fails refused (spec.services_of calendar.now dates.now)) }
+    ensures { Gives (λ names. names.items) result (spec.services_running date calendar.now dates.now) }
 {
     let services = Services::read(alloc, calendar, dates)?;
     Ok(services.running(alloc, date)?)

@@ -38,7 +38,7 @@ use Rattle.desk_run.proofs.EachStatus.{pages_told}
 use Rattle.desk_core.specs.Counts.{blocks_in, minutes_in}
 use Rattle.desk_commands.specs.Answers.{answers_to, fixed_number}
 use Rattle.desk_commands.specs.Blocks.{IsPlan, IsPlannedAt, blocks_asked}
-use Rattle.desk_feed.specs.Feed.{Said, feed_papers, lines_by, said_by, said_with, standing}
+use Rattle.desk_feed.specs.Feed.{Said, feed_papers, kept_on, lines_by, said_by, said_with, standing}
 use Rattle.desk_feed.specs.Judging.{Does, refused_of, said_in}
 use Rattle.plan_commands.specs.Check.{IsChecked, check_asked, claim_papers, claim_in, claim_outcome, verdict_outcome, yes_line}
 use Rattle.desk_feed.proofs.ScriptLemmas.{standing-places}
@@ -53,11 +53,11 @@ written files blocks prices = insert (insert files (file_name_of paper.Blocks) b
 
 -- papers that are found as before say what they said
 said_same : (one other : Paper → Found) → one paper.Settings ≡ other paper.Settings → one paper.Terminals ≡ other paper.Terminals → one paper.Tolerances ≡ other paper.Tolerances
-    → one paper.Trips ≡ other paper.Trips → one paper.StopTimes ≡ other paper.StopTimes → one paper.Deadheads ≡ other paper.Deadheads → one paper.Depot ≡ other paper.Depot → one paper.Edits ≡ other paper.Edits
+    → one paper.Calendar ≡ other paper.Calendar → one paper.CalendarDates ≡ other paper.CalendarDates → one paper.Trips ≡ other paper.Trips → one paper.StopTimes ≡ other paper.StopTimes → one paper.Deadheads ≡ other paper.Deadheads → one paper.Depot ≡ other paper.Depot → one paper.Edits ≡ other paper.Edits
     → said_by one ≡ said_by other
 unfolding said_by
-said_same one other settings terminals tolerances trips stop_times deadheads depot edits = λ i.
-    settings_of (settings i) (terminals i) (tolerances i) >>= λ s. base_of s (trips i) (stop_times i) >>= λ t. deadheads_of (deadheads i) t >>= λ d. pulls_of (depot i) d.0
+said_same one other settings terminals tolerances calendar dates trips stop_times deadheads depot edits = λ i.
+    (settings_of (settings i) (terminals i) (tolerances i) >>= λ s. kept_on (calendar i) (dates i) s s.date) >>= λ s. base_of s (trips i) (stop_times i) >>= λ t. deadheads_of (deadheads i) t >>= λ d. pulls_of (depot i) d.0
     >>= λ p. lines_by (edits i) >>= λ lines. Ok (said_with s d.0 d.1 p lines)
 
 -- a file that is there and not too long is found
@@ -89,7 +89,8 @@ module _ (files : Files) (blocks prices : List ℕ) where
   -- the papers of a feed say what they said
   pub said_kept : said_by (found_of (pages_in claim_papers (written files blocks prices))) ≡ said_by (found_of (pages_in feed_papers files))
   said_kept = said_same (found_of (pages_in claim_papers (written files blocks prices))) (found_of (pages_in feed_papers files))
-      (kept (file_name_of paper.Settings) refl refl) (kept (file_name_of paper.Terminals) refl refl) (kept (file_name_of paper.Tolerances) refl refl) (kept (file_name_of paper.Trips) refl refl)
+      (kept (file_name_of paper.Settings) refl refl) (kept (file_name_of paper.Terminals) refl refl) (kept (file_name_of paper.Tolerances) refl refl) (kept (file_name_of paper.Calendar) refl refl)
+      (kept (file_name_of paper.CalendarDates) refl refl) (kept (file_name_of paper.Trips) refl refl)
       (kept (file_name_of paper.StopTimes) refl refl) (kept (file_name_of paper.Deadheads) refl refl) (kept (file_name_of paper.Depot) refl refl) (kept (file_name_of paper.Edits) refl refl)
 
   -- the two files are found as they were written, where they are not too long

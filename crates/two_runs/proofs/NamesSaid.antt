@@ -1,6 +1,7 @@
 -- What an accepted feed says has names that are text. A `_` for a type stands where its crate keeps the type to itself.
 use Rattle.std.proofs.Common.{◌≡◌, ℕ, ◌+◌, ◌<◌, ◌==◌, nat_le, nat_lt, not, Bool, true, false, List, [], ◌∷◌, ◌++◌, length, Option, None, Some, Result, Ok, if◌then◌else◌, refl, ap, subst, ◌∙◌, arith}
-use Rattle.std.specs.Prelude.{All, IsUtf8}
+use Rattle.std.specs.Prelude.{All, IsUtf8, slice_index_or}
+use Rattle.std.specs.Bool.{⊤}
 use Rattle.std.specs.Option.{ok_or}
 use Rattle.std.specs.Str.{is_utf8}
 use Rattle.std.proofs.lemmas.Bool.{false≢true}
@@ -14,19 +15,19 @@ use Rattle.gtfs_tables.specs.declared.paper.Column.{Column}
 use Rattle.gtfs_tables.specs.declared.paper.Column.TheVariants as column
 use Rattle.gtfs_tables.specs.declared.paper.Paper.{Paper}
 use Rattle.gtfs_tables.specs.declared.paper.Paper.TheVariants as paper
-use Rattle.gtfs_tables.specs.Fold.{paper_read, table_read}
+use Rattle.gtfs_tables.specs.Fold.{ColumnsIn, Step, paper_read, table_read}
 use Rattle.gtfs_tables.specs.Reading.{each_record, field_at, filled_in, table_in, text_in}
 use Rattle.gtfs_tables.specs.Table.{TableView}
 use Rattle.desk_settings.specs.Entries.{Name}
 use Rattle.desk_settings.specs.Names.{is_among}
-use Rattle.desk_settings.specs.Settings.{SettingsView, is_chosen}
+use Rattle.desk_settings.specs.Settings.{SettingsView, class_of, is_chosen, is_classed}
 use Rattle.trip_model.specs.declared.limits.TheConstants.{MOST_PLACES, MOST_SLOTS}
 use Rattle.trip_model.specs.Place.{Place}
 use Rattle.trip_model.specs.Timetable.{TimetableView, Slot, number_of, place_names}
-use Rattle.feed_read.specs.Base.{base_of, ends_of, names_met, slot_of, timetable_of, timetable_over}
+use Rattle.feed_read.specs.Base.{base_of, ends_of, places_met, slot_of, timetable_of, timetable_over}
 use Rattle.feed_read.specs.Journeys.{first_visit, has_repeat, journey_between, journey_from, journey_of, journeys_in, last_visit, sequences, time_or, visits_of, with_journey}
 use Rattle.feed_read.specs.Trips as trips
-use Rattle.feed_read.specs.Trips.{trips_in, with_name, with_trip}
+use Rattle.feed_read.specs.Trips.{Selected, chosen_in, trips_in, with_chosen, with_chosen_class, with_classed_trip, with_selected, with_trip}
 use Rattle.feed_read.specs.Visits.{VisitView, visits_in}
 use Rattle.deadhead_matrix.specs.declared.entry.Entry.{Entry}
 use Rattle.deadhead_matrix.specs.Deadheads as deadheads
@@ -47,83 +48,125 @@ filled : (text : List ℕ) → not (length text == 0) ≡ true → 0 < length te
 filled [] e = absurd (false≢true e)
 filled (x ∷ text) e = omega arith
 
--- the names with one more
-one-more : (number : ℕ) (before after : List Name) (name : Name) → IsUtf8 name → All IsName before → with_name number before name ≡ Ok after → All IsName after
-unfolding with_name
-one-more number before after name text are e =
+-- the selected trips with one more
+one-more : (number : ℕ) (before after : Selected) (name class : Name) → IsUtf8 name → All IsName before.names → with_selected number before name class ≡ Ok after → All IsName after.names
+unfolding with_selected
+one-more number before after name class text are e =
     let full = read-parts (filled_in paper.Trips number column.TripId name) _ after e in
     let has = provided-parts (not (length name == 0)) (fault.EmptyField paper.Trips number column.TripId) (Ok name) full.0 full.1 in
-    let fresh = provided-parts (not (is_among name before)) (fault.DuplicateRow paper.Trips number) _ after full.2 in
-    let few = provided-parts (nat_lt (length before) MOST_SLOTS) (fault.TooManyTrips number) _ after fresh.1 in
-    subst (All IsName) (same_Ok (before ++ name ∷ []) after few.1) (All-push IsName before name are (record { text = text; filled = filled name has.0 }))
+    let fresh = provided-parts (not (is_among name before.names)) (fault.DuplicateRow paper.Trips number) _ after full.2 in
+    let few = provided-parts (nat_lt (length before.names) MOST_SLOTS) (fault.TooManyTrips number) _ after fresh.1 in
+    subst (λ (selected : Selected). All IsName selected.names) (same_Ok _ after few.1) (All-push IsName before.names name are (record { text = text; filled = filled name has.0 }))
 
-if-chosen : (chosen : Bool) (number : ℕ) (before after : List Name) (name : Name) → IsUtf8 name → All IsName before
-    → (if chosen then with_name number before name else Ok before) ≡ Ok after → All IsName after
-if-chosen true number before after name text are e = one-more number before after name text are e
-if-chosen false number before after name text are e = subst (All IsName) (same_Ok before after e) are
+-- a name, if there is one, is text
+abbrev IsText : Option Name → Type 0
+IsText None = ⊤
+IsText (Some name) = IsUtf8 name
 
-step-named : (settings : SettingsView) (columns : _) (number : ℕ) (before after : List Name) (fields : List (List ℕ)) → All IsName before
-    → with_trip settings columns number before fields ≡ Ok after → All IsName after
+if-text : (chosen : Bool) (name : Name) → IsUtf8 name → IsText (if chosen then Some name else None)
+if-text true name text = text
+if-text false name text = tt
+
+chosen-text : (settings : SettingsView) (columns : _) (number : ℕ) (fields : List (List ℕ)) (found : Option Name) → chosen_in settings columns number fields ≡ Ok found → IsText found
+unfolding chosen_in
+chosen-text settings columns number fields found e =
+    let service = read-parts (text_in paper.Trips number column.ServiceId (field_at fields columns.service)) _ found e in
+    let name = read-parts (text_in paper.Trips number column.TripId (field_at fields columns.trip)) _ found service.2 in
+    let text = text-read paper.Trips number column.TripId (field_at fields columns.trip) name.0 name.1 in
+    subst IsText (same_Ok _ found name.2) (if-text (is_chosen settings service.0) name.0 text)
+
+chosen-named : (number : ℕ) (before after : Selected) (found : Option Name) → IsText found → All IsName before.names → with_chosen number before found ≡ Ok after → All IsName after.names
+chosen-named number before after None text are e = subst (λ (selected : Selected). All IsName selected.names) (same_Ok before after e) are
+chosen-named number before after (Some name) text are e = one-more number before after name [] text are e
+
+step-named : (settings : SettingsView) (columns : _) (number : ℕ) (before after : Selected) (fields : List (List ℕ)) → All IsName before.names
+    → with_trip settings columns number before fields ≡ Ok after → All IsName after.names
 unfolding with_trip
 step-named settings columns number before after fields are e =
-    let service = read-parts (text_in paper.Trips number column.ServiceId (field_at fields columns.service)) _ after e in
-    let name = read-parts (text_in paper.Trips number column.TripId (field_at fields columns.trip)) _ after service.2 in
-    let text = text-read paper.Trips number column.TripId (field_at fields columns.trip) name.0 name.1 in
-    if-chosen (is_chosen settings service.0) number before after name.0 text are name.2
+    let found = read-parts (chosen_in settings columns number fields) (with_chosen number before) after e in
+    chosen-named number before after found.0 (chosen-text settings columns number fields found.0 found.1) are found.2
 
--- the names of the selected trips
-trips-named : (settings : SettingsView) (found : Found) (names : List Name) → trips_in settings found ≡ Ok names → All IsName names
-trips-named settings found names e =
-    let table = read-parts (table_in paper.Trips found) _ names e in
-    let columns = read-parts (trips.columns_in table.0.header) _ names table.2 in
-    each-keeps (with_trip settings columns.0) (All IsName) (λ n a b fields are is. step-named settings columns.0 n a b fields are is) 1 [] names table.0.rows (All-nil IsName) columns.2
+class-named : (settings : SettingsView) (columns : _) (number : ℕ) (before after : Selected) (fields : List (List ℕ)) (found : Option Name) → IsText found → All IsName before.names
+    → with_chosen_class settings columns number before fields found ≡ Ok after → All IsName after.names
+class-named settings columns number before after fields None text are e = subst (λ (selected : Selected). All IsName selected.names) (same_Ok before after e) are
+class-named settings columns number before after fields (Some name) text are e =
+    let route = read-parts (text_in paper.Trips number column.RouteId (field_at fields columns.route)) (λ route. with_selected number before name (class_of settings route)) after e in
+    one-more number before after name (class_of settings route.0) text are route.2
+
+step-classed : (settings : SettingsView) (columns : _) (number : ℕ) (before after : Selected) (fields : List (List ℕ)) → All IsName before.names
+    → with_classed_trip settings columns number before fields ≡ Ok after → All IsName after.names
+unfolding with_classed_trip
+step-classed settings columns number before after fields are e =
+    let found = read-parts (chosen_in settings columns.columns number fields) (with_chosen_class settings columns number before fields) after e in
+    class-named settings columns number before after fields found.0 (chosen-text settings columns.columns number fields found.0 found.1) are found.2
+
+-- the names of the selected trips, by either reading
+file-named : {C : Type 0} (columns_in : ColumnsIn C) (step : C → Step Selected) (found : Found) (selected : Selected)
+    → ((columns : C) (number : ℕ) (before after : Selected) (fields : List (List ℕ)) → All IsName before.names → step columns number before fields ≡ Ok after → All IsName after.names)
+    → paper_read paper.Trips columns_in step trips.nothing_selected found ≡ Ok selected → All IsName selected.names
+file-named columns_in step found selected each e =
+    let table = read-parts (table_in paper.Trips found) _ selected e in
+    let columns = read-parts (columns_in table.0.header) _ selected table.2 in
+    each-keeps (step columns.0) (λ (selected : Selected). All IsName selected.names) (λ n a b fields are is. each columns.0 n a b fields are is) 1 trips.nothing_selected selected table.0.rows (All-nil IsName) columns.2
+
+trips-named : (settings : SettingsView) (found : Found) (selected : Selected) → trips_in settings found ≡ Ok selected → All IsName selected.names
+trips-named settings found selected e = by (is_classed settings) e
+  where
+    by : (classed : Bool)
+        → (if classed then paper_read paper.Trips trips.classed_columns_in (with_classed_trip settings) trips.nothing_selected found
+        else paper_read paper.Trips trips.columns_in (with_trip settings) trips.nothing_selected found) ≡ Ok selected
+        → All IsName selected.names
+    by true e = file-named trips.classed_columns_in (with_classed_trip settings) found selected (step-classed settings) e
+    by false e = file-named trips.columns_in (with_trip settings) found selected (step-named settings) e
 
 -- a trip keeps its name
-between-name : (settings : SettingsView) (name : Name) (first last : VisitView) (journey : _) → journey_between settings name first last ≡ Ok journey → name ≡ (slot_of [] journey).name
+between-name : (settings : SettingsView) (name class : Name) (first last : VisitView) (journey : _) → journey_between settings name class first last ≡ Ok journey → name ≡ (slot_of settings [] journey).name
 unfolding journey_between
-between-name settings name first last journey e =
+between-name settings name class first last journey e =
     let departure = read-parts (ok_or (time_or first.departure first.arrival) (fault.NoTime name)) _ journey e in
     let arrival = read-parts (ok_or (time_or last.arrival last.departure) (fault.NoTime name)) _ journey departure.2 in
     let forward = provided-parts (nat_lt departure.0 arrival.0) (fault.NotForward name) _ journey arrival.2 in
-    ap (λ j. (slot_of [] j).name) (same_Ok _ journey forward.1)
+    ap (λ j. (slot_of settings [] j).name) (same_Ok _ journey forward.1)
 
-from-name : (settings : SettingsView) (name : Name) (first last : Option VisitView) (journey : _) → journey_from settings name first last ≡ Ok journey → name ≡ (slot_of [] journey).name
-from-name settings name (Some first) (Some last) journey e = between-name settings name first last journey e
-from-name settings name None last journey e = absurd (cc)
-from-name settings name (Some first) None journey e = absurd (cc)
+from-name : (settings : SettingsView) (name class : Name) (first last : Option VisitView) (journey : _) → journey_from settings name class first last ≡ Ok journey → name ≡ (slot_of settings [] journey).name
+from-name settings name class (Some first) (Some last) journey e = between-name settings name class first last journey e
+from-name settings name class None last journey e = absurd (cc)
+from-name settings name class (Some first) None journey e = absurd (cc)
 
-journey-name : (settings : SettingsView) (name : Name) (visits : List VisitView) (journey : _) → journey_of settings name visits ≡ Ok journey → name ≡ (slot_of [] journey).name
+journey-name : (settings : SettingsView) (name class : Name) (visits : List VisitView) (journey : _) → journey_of settings name class visits ≡ Ok journey → name ≡ (slot_of settings [] journey).name
 unfolding journey_of
-journey-name settings name visits journey e =
+journey-name settings name class visits journey e =
     let two = provided-parts (nat_le 2 (length visits)) (fault.TooFewStops name) _ journey e in
     let once = provided-parts (not (has_repeat (sequences visits))) (fault.DuplicateSequence name) _ journey two.1 in
-    from-name settings name (first_visit visits) (last_visit visits) journey once.1
+    from-name settings name class (first_visit visits) (last_visit visits) journey once.1
 
-each-named : (settings : SettingsView) (visits : List VisitView) (number : ℕ) (before after : List _) (names : List Name) → All IsName names → All (λ j. IsName (slot_of [] j).name) before
-    → each_record (with_journey settings visits) number before names ≡ Ok after → All (λ j. IsName (slot_of [] j).name) after
-each-named settings visits number before after [] named are e = subst (All (λ j. IsName (slot_of [] j).name)) (same_Ok before after e) are
-each-named settings visits number before after (name ∷ names) named are e =
-    let parts = read-parts (with_journey settings visits number before name) (λ more. each_record (with_journey settings visits) (number + 1) more names) after e in
-    let journey = read-parts (journey_of settings name (visits_of number visits)) _ parts.0 parts.1 in
-    let here = subst IsName (journey-name settings name (visits_of number visits) journey.0 journey.1) (All-head IsName name names named) in
-    let more = subst (All (λ j. IsName (slot_of [] j).name)) (same_Ok (before ++ journey.0 ∷ []) parts.0 journey.2) (All-push (λ j. IsName (slot_of [] j).name) before journey.0 are here) in
-    each-named settings visits (number + 1) parts.0 after names (All-tail IsName name names named) more parts.2
+each-named : (settings : SettingsView) (classes : List Name) (visits : List VisitView) (number : ℕ) (before after : List _) (names : List Name) → All IsName names
+    → All (λ j. IsName (slot_of settings [] j).name) before → each_record (with_journey settings classes visits) number before names ≡ Ok after → All (λ j. IsName (slot_of settings [] j).name) after
+each-named settings classes visits number before after [] named are e = subst (All (λ j. IsName (slot_of settings [] j).name)) (same_Ok before after e) are
+each-named settings classes visits number before after (name ∷ names) named are e =
+    let parts = read-parts (with_journey settings classes visits number before name) (λ more. each_record (with_journey settings classes visits) (number + 1) more names) after e in
+    let class = slice_index_or classes number [] in
+    let journey = read-parts (journey_of settings name class (visits_of number visits)) _ parts.0 parts.1 in
+    let here = subst IsName (journey-name settings name class (visits_of number visits) journey.0 journey.1) (All-head IsName name names named) in
+    let more = subst (All (λ j. IsName (slot_of settings [] j).name)) (same_Ok (before ++ journey.0 ∷ []) parts.0 journey.2) (All-push (λ j. IsName (slot_of settings [] j).name) before journey.0 are here) in
+    each-named settings classes visits (number + 1) parts.0 after names (All-tail IsName name names named) more parts.2
 
 -- the slots of the base timetable
-over-named : (settings : SettingsView) (journeys : List _) (t : TimetableView) → All (λ j. IsName (slot_of [] j).name) journeys → timetable_of settings journeys ≡ Ok t → All (λ (slot : Slot). IsName slot.name) t.slots
+over-named : (settings : SettingsView) (journeys : List _) (t : TimetableView) → All (λ j. IsName (slot_of settings [] j).name) journeys → timetable_of settings journeys ≡ Ok t → All (λ (slot : Slot). IsName slot.name) t.slots
 unfolding timetable_of
 over-named settings journeys t are e =
-    let names = names_met (ends_of journeys) in
-    let few = provided-parts (nat_le (length names) MOST_PLACES) (fault.TooManyPlaces paper.StopTimes) (Ok (timetable_over settings names journeys)) t e in
-    subst (λ (t : TimetableView). All (λ (slot : Slot). IsName slot.name) t.slots) (same_Ok (timetable_over settings names journeys) t few.1) (All-map (λ (slot : Slot). IsName slot.name) (slot_of names) journeys are)
+    let places = places_met (ends_of settings journeys) in
+    let few = provided-parts (nat_le (length places) MOST_PLACES) (fault.TooManyPlaces paper.StopTimes) (Ok (timetable_over settings places journeys)) t e in
+    subst (λ (t : TimetableView). All (λ (slot : Slot). IsName slot.name) t.slots) (same_Ok (timetable_over settings places journeys) t few.1)
+    (All-map (λ (slot : Slot). IsName slot.name) (slot_of settings places) journeys are)
 
 base-named : (settings : SettingsView) (trips_found stop_times_found : Found) (t : TimetableView) → base_of settings trips_found stop_times_found ≡ Ok t → All (λ (slot : Slot). IsName slot.name) t.slots
 unfolding base_of
 base-named settings trips_found stop_times_found t e =
-    let names = read-parts (trips_in settings trips_found) _ t e in
-    let journeys = read-parts (journeys_in settings names.0 stop_times_found) _ t names.2 in
-    let visits = read-parts (visits_in names.0 stop_times_found) _ journeys.0 journeys.1 in
-    let named = each-named settings visits.0 0 [] journeys.0 names.0 (trips-named settings trips_found names.0 names.1) (All-nil (λ j. IsName (slot_of [] j).name)) visits.2 in
+    let selected = read-parts (trips_in settings trips_found) _ t e in
+    let journeys = read-parts (journeys_in settings selected.0 stop_times_found) _ t selected.2 in
+    let visits = read-parts (visits_in selected.0.names stop_times_found) _ journeys.0 journeys.1 in
+    let named = each-named settings selected.0.classes visits.0 0 [] journeys.0 selected.0.names (trips-named settings trips_found selected.0 selected.1) (All-nil (λ j. IsName (slot_of settings [] j).name)) visits.2 in
     over-named settings journeys.0 t named journeys.2
 
 -- the places of terminals leave the slots as they are

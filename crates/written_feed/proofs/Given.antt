@@ -14,6 +14,7 @@ use Rattle.desk_feed.specs.declared.feed.Feed.{Feed}
 use Rattle.desk_feed.specs.Feed.{Said, said_of}
 use Rattle.desk_feed.specs.Judging as judging
 use Rattle.desk_feed.specs.Judging.{Does, said_in}
+use Rattle.desk_settings.specs.Settings.{SettingsView}
 use Rattle.trip_model.specs.Timetable.{TimetableView}
 use Rattle.deadhead_matrix.specs.Matrix.{MatrixView}
 use Rattle.desk_io.specs.declared.memory.Memory.{Memory}
@@ -71,29 +72,29 @@ write-given read feed says (Ok outcome) does = record {
 }
 
 -- two tables that may be written are those that were read
-pub tables-of : (one other : Result TableView FeedFault) (trips stop_times : TableView) → IsWritable one other (Tables trips stop_times)
+pub tables-of : (settings : SettingsView) (one other : Result TableView FeedFault) (trips stop_times : TableView) → IsWritable settings one other (Tables trips stop_times)
     → (one ≡ Ok trips) × (other ≡ Ok stop_times) × AreTexts trips × AreTexts stop_times
-tables-of (Ok first) (Ok second) trips stop_times is = (ap Ok (sym is.0), ap Ok (sym is.1), subst AreTexts (sym is.0) is.2, subst AreTexts (sym is.1) is.3)
-tables-of (Ok first) (Err refused) trips stop_times is = absurd is
-tables-of (Err refused) other trips stop_times is = absurd is
+tables-of settings (Ok first) (Ok second) trips stop_times is = (ap Ok (sym is.0), ap Ok (sym is.1), subst AreTexts (sym is.0) is.2, subst AreTexts (sym is.1) is.3)
+tables-of settings (Ok first) (Err refused) trips stop_times is = absurd is
+tables-of settings (Err refused) other trips stop_times is = absurd is
 
 -- the refusal of one is what is written of them
-refused-by : (said : Said) (one other : Result TableView FeedFault) (outcome : OutcomeView) → IsWritable one other (Refused outcome) → WritesBy said one other outcome
+refused-by : (said : Said) (one other : Result TableView FeedFault) (outcome : OutcomeView) → IsWritable said.settings one other (Refused outcome) → WritesBy said one other outcome
 refused-by said (Ok trips) (Ok stop_times) outcome is = ⊎_elim (λ bad. inl bad) (λ bad. inr (inl bad)) is
 refused-by said (Ok trips) (Err refused) outcome is = is
 refused-by said (Err refused) other outcome is = is
 
-pub refused-given : (read : ReadView) (feed : Feed) → said_in read ≡ Ok (said_of feed) → (outcome : OutcomeView) → IsWritable (trips_in read) (stop_times_in read) (Refused outcome) → IsGiven write_asked read outcome
+pub refused-given : (read : ReadView) (feed : Feed) → said_in read ≡ Ok (said_of feed) → (outcome : OutcomeView) → IsWritable feed.settings (trips_in read) (stop_times_in read) (Refused outcome) → IsGiven write_asked read outcome
 refused-given read feed says outcome is = write-given {E = Memory} read feed says (Ok outcome) (refused-by (said_of feed) (trips_in read) (stop_times_in read) outcome is)
 
 -- and the two files of the timetable after the script
 pub written-given : {E : Type 0} (read : ReadView) (feed : Feed) (matrix : MatrixView) (edited : Edited) (trips stop_times : TableView) → said_in read ≡ Ok (said_of feed) → IsMatrixFor (said_of feed) matrix
-    → IsEdited feed.timetable feed.lines.items edited → IsWritable (trips_in read) (stop_times_in read) (Tables trips stop_times)
+    → IsEdited feed.timetable feed.lines.items edited → IsWritable feed.settings (trips_in read) (stop_times_in read) (Tables trips stop_times)
     → (result : Result OutcomeView E) (base : ℕ) → base ≡ length feed.timetable.slots → IfOk result (IsWrittenOf feed.settings matrix edited base trips stop_times) → IfOk result (IsGiven write_asked read)
 written-given read feed matrix edited trips stop_times says is stands tables (Err e) base count written = tt
 written-given read feed matrix edited trips stop_times says is stands tables (Ok outcome) base count written =
     let said = said_of feed in
-    let were = tables-of (trips_in read) (stop_times_in read) trips stop_times tables in
+    let were = tables-of feed.settings (trips_in read) (stop_times_in read) trips stop_times tables in
     let of : IsWritten said trips stop_times outcome = record {
       matrix = matrix;
       matrix_is = is;

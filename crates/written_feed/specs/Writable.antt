@@ -16,18 +16,18 @@ use Rattle.written_feed.specs.declared.write.Writable.{Writable}
 use Rattle.written_feed.specs.declared.write.Writable.TheVariants.{Tables, Refused}
 
 -- two tables may be written where all their fields are texts; else the first that is refused is told
-abbrev pub IsWritableOf : TableView → TableView → Writable → Type 0
-IsWritableOf trips stop_times (Tables first second) = (first ≡ trips) × (second ≡ stop_times) × AreTexts trips × AreTexts stop_times
-IsWritableOf trips stop_times (Refused outcome) =
-    IsRefusedTable paper.Trips trip_columns trips outcome ⊎ (AreTexts trips × IsRefusedTable paper.StopTimes stop_time_columns stop_times outcome)
+abbrev pub IsWritableOf : SettingsView → TableView → TableView → Writable → Type 0
+IsWritableOf settings trips stop_times (Tables first second) = (first ≡ trips) × (second ≡ stop_times) × AreTexts trips × AreTexts stop_times
+IsWritableOf settings trips stop_times (Refused outcome) =
+    IsRefusedTable paper.Trips (trip_columns settings) trips outcome ⊎ (AreTexts trips × IsRefusedTable paper.StopTimes stop_time_columns stop_times outcome)
 
 -- and so two papers, where both are tables
-abbrev pub IsWritable : Result TableView FeedFault → Result TableView FeedFault → Writable → Type 0
-IsWritable (Ok trips) (Ok stop_times) writable = IsWritableOf trips stop_times writable
-IsWritable (Ok trips) (Err refused) (Refused outcome) = outcome ≡ refusing refused
-IsWritable (Ok trips) (Err refused) (Tables first second) = ⊥
-IsWritable (Err refused) stop_times (Refused outcome) = outcome ≡ refusing refused
-IsWritable (Err refused) stop_times (Tables first second) = ⊥
+abbrev pub IsWritable : SettingsView → Result TableView FeedFault → Result TableView FeedFault → Writable → Type 0
+IsWritable settings (Ok trips) (Ok stop_times) writable = IsWritableOf settings trips stop_times writable
+IsWritable settings (Ok trips) (Err refused) (Refused outcome) = outcome ≡ refusing refused
+IsWritable settings (Ok trips) (Err refused) (Tables first second) = ⊥
+IsWritable settings (Err refused) stop_times (Refused outcome) = outcome ≡ refusing refused
+IsWritable settings (Err refused) stop_times (Tables first second) = ⊥
 
 -- the outcome of a timetable after its script
 pub record IsWrittenOf (settings : SettingsView) (matrix : MatrixView) (edited : Edited) (base : ℕ) (trips stop_times : TableView) (outcome : OutcomeView) : Type 0 where

@@ -9,7 +9,7 @@ use Rattle.gtfs_tables.specs.declared.paper.Column.{Column}
 use Rattle.gtfs_tables.specs.declared.paper.Column.TheVariants as column
 use Rattle.gtfs_tables.specs.declared.paper.Paper.{Paper}
 use Rattle.gtfs_tables.specs.declared.paper.Paper.TheVariants as paper
-use Rattle.desk_settings.specs.Settings.{SettingsView, is_chosen}
+use Rattle.desk_settings.specs.Settings.{SettingsView, is_chosen, is_classed}
 use Rattle.trip_model.specs.Timetable.{TimetableView}
 use Rattle.deadhead_matrix.specs.Matrix.{MatrixView}
 use Rattle.deadhead_matrix.specs.Prices.{Plan}
@@ -34,9 +34,11 @@ trips_in read = table_in paper.Trips (found_of read.pages paper.Trips)
 abbrev pub stop_times_in : ReadView → Result TableView FeedFault
 stop_times_in read = table_in paper.StopTimes (found_of read.pages paper.StopTimes)
 
--- the columns that are known by their names
-abbrev pub trip_columns : List Column
-trip_columns = column.ServiceId ∷ column.TripId ∷ column.BlockId ∷ []
+-- the columns that are known by their names; that of routes is where vehicles are of classes
+abbrev pub trip_columns : SettingsView → List Column
+trip_columns settings =
+    if is_classed settings then column.ServiceId ∷ column.TripId ∷ column.BlockId ∷ column.RouteId ∷ []
+    else column.ServiceId ∷ column.TripId ∷ column.BlockId ∷ []
 
 abbrev pub stop_time_columns : List Column
 stop_time_columns = column.TripId ∷ column.ArrivalTime ∷ column.DepartureTime ∷ column.StopId ∷ column.StopSequence ∷ []
@@ -101,7 +103,7 @@ pub record IsRefusedTable (paper : Paper) (columns : List Column) (table : Table
 -- what is done of two tables: the feed is written where all their fields are texts
 abbrev pub WritesOf : Said → TableView → TableView → OutcomeView → Type 0
 WritesOf said trips stop_times outcome =
-    IsRefusedTable paper.Trips trip_columns trips outcome
+    IsRefusedTable paper.Trips (trip_columns said.settings) trips outcome
     ⊎ ((AreTexts trips × IsRefusedTable paper.StopTimes stop_time_columns stop_times outcome) ⊎ (AreTexts trips × AreTexts stop_times × IsWritten said trips stop_times outcome))
 
 abbrev pub WritesBy : Said → Result TableView FeedFault → Result TableView FeedFault → OutcomeView → Type 0

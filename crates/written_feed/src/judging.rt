@@ -13,8 +13,16 @@ use desk_settings::Settings;
 use gtfs_tables::{Column, FeedFault, Paper, Table};
 use std::alloc::Global;
 
-/// The columns of `trips.txt` that are known by their names.
-pub(crate) const TRIP_COLUMNS: [Column; 3] = [Column::ServiceId, Column::TripId, Column::BlockId];
+// The columns of `trips.txt` that are known by their names.
+const TRIP_COLUMNS: [Column; 3] = [Column::ServiceId, Column::TripId, Column::BlockId];
+
+// Those where vehicles are of classes.
+const CLASSED_TRIP_COLUMNS: [Column; 4] = [
+    Column::ServiceId,
+    Column::TripId,
+    Column::BlockId,
+    Column::RouteId,
+];
 
 /// The columns of `stop_times.txt` that are known by their names.
 pub(crate) const STOP_TIME_COLUMNS: [Column; 5] = [
@@ -24,6 +32,17 @@ pub(crate) const STOP_TIME_COLUMNS: [Column; 5] = [
     Column::StopId,
     Column::StopSequence,
 ];
+
+/// The columns of `trips.txt` that are known by their names: that of routes is where vehicles are of classes.
+pub(crate) fn trip_columns(settings: &Settings) -> &'static [Column]
+    ensures { result.now ≡ spec.trip_columns settings.now }
+{
+    if settings.classed() {
+        &CLASSED_TRIP_COLUMNS
+    } else {
+        &TRIP_COLUMNS
+    }
+}
 
 // Whether a place is the first of a column in the header of a table.
 fn stands_at(table: &Table, column: Column, place: usize) -> bool

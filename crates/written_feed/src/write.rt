@@ -10,7 +10,7 @@ ghost use Rattle.desk_run.specs.World.{world};
 ghost use Rattle.written_feed.specs.Write.{files_of, stop_times_in, trips_in, write_asked};
 ghost use Rattle.written_feed.specs.Writable.{IsWritable, IsWritableOf, IsWrittenOf};
 
-use crate::judging::{STOP_TIME_COLUMNS, TRIP_COLUMNS, chosen_in, refusal};
+use crate::judging::{STOP_TIME_COLUMNS, chosen_in, refusal, trip_columns};
 use block_build::Blocks;
 use block_writer::{stop_times_text, trips_text};
 use deadhead_matrix::Matrix;
@@ -52,10 +52,15 @@ enum Writable {
 }
 
 // What is made of a table that was read: its refusal where one of its fields is not UTF-8.
-fn judged(alloc: Global, trips: Table, stop_times: Table) -> Result<Writable, Memory>
-    ensures { IfOk result (IsWritableOf trips stop_times) }
+fn judged(
+    alloc: Global,
+    settings: &Settings,
+    trips: Table,
+    stop_times: Table,
+) -> Result<Writable, Memory>
+    ensures { IfOk result (IsWritableOf settings.now trips stop_times) }
 {
-    if let Some(fault) = refusal(Paper::Trips, &TRIP_COLUMNS, &trips) {
+    if let Some(fault) = refusal(Paper::Trips, trip_columns(settings), &trips) {
         return Ok(Writable::Refused(refused(alloc, &fault)?));
     }
     if let Some(fault) = refusal(Paper::StopTimes, &STOP_TIME_COLUMNS, &stop_times) {
@@ -65,21 +70,23 @@ fn judged(alloc: Global, trips: Table, stop_times: Table) -> Result<Writable, Me
 }
 
 // The two tables of what was read, where they may be written.
-fn read_tables(alloc: Global, read: &Read) -> Result<Writable, Memory>
+fn read_tables(alloc: Global, settings: &Settings, read: &Read) -> Result<Writable, Memory>
     requires { HasPapers read.now.pages }
-    ensures { IfOk result (IsWritable (trips_in read.now) (stop_times_in read.now)) }
+    ensures { IfOk result (IsWritable settings.now (trips_in read.now) (stop_times_in read.now)) }
 {
-    let trips = match table_in(alloc, Paper::Trips, read.found(Paper::Trips)) {
+    let trips = read.found(Paper::Trips);
+    let stop_times = read.found(Paper::StopTimes);
+    let trips = match table_in(alloc, Paper::Trips, trips) {
         Ok(trips) => trips,
         Err(FeedFault::Memory) => return Err(Memory),
         Err(fault) => return Ok(Writable::Refused(refused(alloc, &fault)?)),
     };
-    let stop_times = match table_in(alloc, Paper::StopTimes, read.found(Paper::StopTimes)) {
+    let stop_times = match table_in(alloc, Paper::StopTimes, stop_times) {
         Ok(stop_times) => stop_times,
         Err(FeedFault::Memory) => return Err(Memory),
         Err(fault) => return Ok(Writable::Refused(refused(alloc, &fault)?)),
     };
-    judged(alloc, trips, stop_times)
+    judged(alloc, settings, trips, stop_times)
 }
 
 // The two files of blocks for a timetable, of which so many slots have records.
@@ -158,7 +165,7 @@ impl Command for WriteFeed {
             Judged::Refused(outcome) => return Ok(outcome),
             Judged::Accepted(feed) => feed,
         };
-        let (trips, stop_times) = match read_tables(alloc, read)? {
+        let (trips, stop_times) = match read_tables(alloc, &feed.settings, read)? {
             Writable::Refused(outcome) => return Ok(outcome),
             Writable::Tables(trips, stop_times) => (trips, stop_times),
         };

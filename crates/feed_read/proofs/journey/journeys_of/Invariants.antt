@@ -8,7 +8,8 @@ use Rattle.feed_read.proofs.journey.journeys_of.Given as goal
 
 abbrev pub invariant-loop-slot : goal.invariant-loop-slot
 invariant-loop-slot l = record {
-  gives : (visits : List VisitView) → AreKept visits (map stops_seen l.stops) → each_record (with_journey l.settings visits) l.slot l.journeys.items (drop l.slot l.names) ≡ each_record (with_journey l.settings visits) 0 [] l.names;
+  gives : (visits : List VisitView) → AreKept visits (map stops_seen l.stops) → each_record (with_journey l.settings l.selection.classes.items visits) l.slot l.journeys.items (drop l.slot l.selection.names)
+      ≡ each_record (with_journey l.settings l.selection.classes.items visits) 0 [] l.selection.names;
   valid : All IsJourney l.journeys.items;
-  names : map (λ journey. journey.name) l.journeys.items ≡ take l.slot l.names;
+  names : map (λ journey. journey.name) l.journeys.items ≡ take l.slot l.selection.names;
 }

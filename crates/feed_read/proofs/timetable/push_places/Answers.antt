@@ -1,20 +1,20 @@
 use Rattle.std.proofs.Common.{◌<◌, length, arith}
 use Rattle.std.proofs.lemmas.Result.{err_from_is_err_and}
-use Rattle.feed_read.proofs.Places.{places_go_on, places_end_at_from, places_end_at_to}
+use Rattle.feed_read.proofs.Places.{places_go_on, places_end_at_start, places_end_at_end}
 use Rattle.feed_read.proofs.timetable.push_places.Goals as goal
 
 pub returns-in_err-push_place-clause-full : goal.returns-in_err-push_place-clause-full
 returns-in_err-push_place-clause-full c =
     let p = err_from_is_err_and c.from_residual.result c.from_residual.ensures.1 in
     let lt : c.loop-journey.journey-index < length c.args.journeys.now = omega arith in
-    rw (p.1, p.2) (places_end_at_from c.args.settings.now c.args.journeys.now c.loop-journey.journey-index c.journey-item.result c.loop-journey.timetable c.in_err-push_place.field-0.0
+    rw (p.1, p.2) (places_end_at_start c.args.settings.now c.args.journeys.now c.loop-journey.journey-index c.journey-item.result c.loop-journey.timetable c.in_err-push_place.field-0.0
     lt c.journey-item.is c.loop-journey.invariant c.in_err-push_place.ensures.full)
 
 pub returns-in_err-push_place-2-clause-full : goal.returns-in_err-push_place-2-clause-full
 returns-in_err-push_place-2-clause-full c =
     let p = err_from_is_err_and c.from_residual-in_err-push_place-2.result c.from_residual-in_err-push_place-2.ensures.1 in
     let lt : c.loop-journey.journey-index < length c.args.journeys.now = omega arith in
-    rw (p.1, p.2) (places_end_at_to c.args.settings.now c.args.journeys.now c.loop-journey.journey-index c.journey-item.result c.loop-journey.timetable c.push_place.new.timetable c.in_err-push_place-2.field-0.0
+    rw (p.1, p.2) (places_end_at_end c.args.settings.now c.args.journeys.now c.loop-journey.journey-index c.journey-item.result c.loop-journey.timetable c.push_place.new.timetable c.in_err-push_place-2.field-0.0
     lt c.journey-item.is c.loop-journey.invariant c.in_ok-push_place.ensures.pushed c.in_err-push_place-2.ensures.full)
 
 pub loop-journey-preserved : goal.loop-journey-preserved

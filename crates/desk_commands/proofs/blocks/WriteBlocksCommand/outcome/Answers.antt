@@ -1,6 +1,10 @@
+use Rattle.desk_feed.proofs.PapersLemmas.{has-papers}
 use Rattle.desk_feed.proofs.GivenLemmas.{says-of}
 use Rattle.desk_commands.proofs.Given.{plan-given}
 use Rattle.desk_commands.proofs.blocks.WriteBlocksCommand.outcome.Goals as goal
+
+pub judge_feed-requires : goal.judge_feed-requires
+judge_feed-requires g c = has-papers c.args.read.now.pages c.requires
 
 pub returns-in_ok-matrix-in-Accepted-clause-given : goal.returns-in_ok-matrix-in-Accepted-clause-given
 returns-in_ok-matrix-in-Accepted-clause-given g c =

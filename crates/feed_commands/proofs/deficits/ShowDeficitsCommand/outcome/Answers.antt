@@ -1,9 +1,13 @@
 use Rattle.std.proofs.Common.{◌*◌, length, ap, subst, ◌∙◌}
 use Rattle.desk_feed.specs.Edited.{IsEdited}
 use Rattle.desk_feed.specs.Feed.{Said, standing}
+use Rattle.desk_feed.proofs.PapersLemmas.{has-papers}
 use Rattle.desk_feed.proofs.GivenLemmas.{says-of, shown-given}
 use Rattle.feed_commands.specs.Deficits.{IsDeficits, deficits_text}
 use Rattle.feed_commands.proofs.deficits.ShowDeficitsCommand.outcome.Goals as goal
+
+pub judge_feed-requires : goal.judge_feed-requires
+judge_feed-requires g c = has-papers c.args.read.now.pages c.requires
 
 pub returns-in_ok-text-in-Accepted-clause-given : goal.returns-in_ok-text-in-Accepted-clause-given
 returns-in_ok-text-in-Accepted-clause-given g c =

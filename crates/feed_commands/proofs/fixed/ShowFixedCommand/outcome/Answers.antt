@@ -2,9 +2,13 @@ use Rattle.std.proofs.Common.{subst, ◌∙◌}
 use Rattle.trip_model.specs.Timetable.{TimetableView}
 use Rattle.desk_feed.specs.Edited.{IsEdited}
 use Rattle.desk_feed.specs.Feed.{said_of, standing}
+use Rattle.desk_feed.proofs.PapersLemmas.{has-papers}
 use Rattle.desk_feed.proofs.GivenLemmas.{says-of, shown-given}
 use Rattle.feed_commands.specs.Fixed.{IsFixed, IsFixedText}
 use Rattle.feed_commands.proofs.fixed.ShowFixedCommand.outcome.Goals as goal
+
+pub judge_feed-requires : goal.judge_feed-requires
+judge_feed-requires g c = has-papers c.args.read.now.pages c.requires
 
 pub returns-in_ok-text-in-Accepted-clause-given : goal.returns-in_ok-text-in-Accepted-clause-given
 returns-in_ok-text-in-Accepted-clause-given g c =

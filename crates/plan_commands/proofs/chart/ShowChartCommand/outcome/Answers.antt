@@ -3,9 +3,13 @@ use Rattle.trip_model.specs.Timetable.{TimetableView}
 use Rattle.desk_feed.specs.Edited.{IsEdited}
 use Rattle.desk_feed.specs.Feed.{Said, said_of, standing}
 use Rattle.desk_feed.specs.Schedule.{most_steps}
+use Rattle.desk_feed.proofs.PapersLemmas.{has-papers}
 use Rattle.desk_feed.proofs.GivenLemmas.{says-of, shown-given}
 use Rattle.plan_commands.specs.Chart.{IsChart, IsChartText}
 use Rattle.plan_commands.proofs.chart.ShowChartCommand.outcome.Goals as goal
+
+pub judge_feed-requires : goal.judge_feed-requires
+judge_feed-requires g c = has-papers c.args.read.now.pages c.requires
 
 pub returns-in_ok-text-in-Accepted-clause-given : goal.returns-in_ok-text-in-Accepted-clause-given
 returns-in_ok-text-in-Accepted-clause-given g c =

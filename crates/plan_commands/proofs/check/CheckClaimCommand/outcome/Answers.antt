@@ -6,7 +6,17 @@ use Rattle.desk_feed.specs.Feed.{said_of}
 use Rattle.desk_feed.proofs.GivenLemmas.{says-of}
 use Rattle.plan_commands.specs.Check.{claim_in}
 use Rattle.plan_commands.proofs.Given.{check-given}
+use Rattle.plan_commands.proofs.ClaimPapers.{blocks-among, has-feed_papers, prices-among}
 use Rattle.plan_commands.proofs.check.CheckClaimCommand.outcome.Goals as goal
+
+pub judge_feed-requires : goal.judge_feed-requires
+judge_feed-requires g c = has-feed_papers c.args.read.now.pages c.requires
+
+pub found-blocks-requires : goal.found-blocks-requires
+found-blocks-requires g c = blocks-among c.args.read.now.pages c.requires
+
+pub found-prices-requires : goal.found-prices-requires
+found-prices-requires g c = prices-among c.args.read.now.pages c.requires
 
 pub returns-in_ok-edited-in-Accepted-clause-given : goal.returns-in_ok-edited-in-Accepted-clause-given
 returns-in_ok-edited-in-Accepted-clause-given g c =

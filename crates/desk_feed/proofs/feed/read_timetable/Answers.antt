@@ -1,0 +1,7 @@
+use Rattle.desk_feed.proofs.feed.read_timetable.Goals as goal
+
+pub found-trips-requires : goal.found-trips-requires
+found-trips-requires c = c.requires.1.1.1.1.1.0
+
+pub found-stop_times-requires : goal.found-stop_times-requires
+found-stop_times-requires c = c.requires.1.1.1.1.1.1.0

@@ -1,0 +1,7 @@
+use Rattle.written_feed.proofs.write.read_tables.Goals as goal
+
+pub found-trips-requires : goal.found-trips-requires
+found-trips-requires c = c.requires.1.1.1.1.1.0
+
+pub found-stop_times-requires : goal.found-stop_times-requires
+found-stop_times-requires c = c.requires.1.1.1.1.1.1.0
