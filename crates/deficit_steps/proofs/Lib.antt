@@ -1,4 +1,5 @@
 pub mod DeficitsLemmas
 pub mod Held
+pub mod LeavesLemmas
 pub mod LinesLemmas
 pub mod RowLemmas

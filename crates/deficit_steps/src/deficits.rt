@@ -1,10 +1,11 @@
-ghost use Rattle.std.specs.Prelude.{◌≡◌, ◌+◌, ◌<◌, ◌≤◌, List, [], ◌∷◌, ◌++◌, length, ℤ, pos, neg_ℤ, ◌<ℤ◌, All, IfOk};
+ghost use Rattle.std.specs.Prelude.{◌≡◌, ◌+◌, ◌<◌, ◌≤◌, List, [], ◌∷◌, ◌++◌, length, ℤ, pos, neg_ℤ, ◌<ℤ◌, All, IfOk, IfSome, IfNone};
 ghost use Rattle.trip_model.specs.declared.limits.TheConstants.{LAST_MINUTE};
 ghost use Rattle.trip_model.specs.declared.trip.Move.{Move as ModelMove};
 ghost use Rattle.trip_model.specs.Maximum.{IsFirstMaximum, first_maximum, sum_of_maxima};
 ghost use Rattle.trip_model.specs.Steps.{steps};
 ghost use Rattle.deficit_steps.specs.Changes.{IsDeficits, change_at, value, with_move, without_move};
 ghost use Rattle.deficit_steps.specs.Holds.{Holds};
+ghost use Rattle.deficit_steps.specs.NextMaximum.{IsNextMaximum, NoNextMaximum};
 
 use crate::row::Row;
 use desk_io::{Memory, Steps};
@@ -71,8 +72,8 @@ impl Deficits {
             → Holds self.new (moves ++ added.now ∷ []) }
         ensures counted { steps.new ≤ steps.old + 28 }
     {
-        self.rows[usize::from(added.from)].change(added.leaves, 1);
-        self.rows[usize::from(added.to)].change(added.arrives, -1);
+        self.rows[usize::from(added.from)].change(added.leaves, 1, steps);
+        self.rows[usize::from(added.to)].change(added.arrives, -1, steps);
     }
 
     /// Counts one departure less where the move leaves, and one arrival less where it arrives.
@@ -91,8 +92,8 @@ impl Deficits {
             → Holds self.new (before ++ after) }
         ensures counted { steps.new ≤ steps.old + 28 }
     {
-        self.rows[usize::from(taken.from)].change(taken.leaves, -1);
-        self.rows[usize::from(taken.to)].change(taken.arrives, 1);
+        self.rows[usize::from(taken.from)].change(taken.leaves, -1, steps);
+        self.rows[usize::from(taken.to)].change(taken.arrives, 1, steps);
     }
 
     /// The value of a place at a minute.
@@ -111,6 +112,17 @@ impl Deficits {
         ensures maximum { IsFirstMaximum (value self.now place) (pos result.0) result.1 }
     {
         self.rows[usize::from(place)].max()
+    }
+
+    /// The first minute, not before this one, at which the value of a place is its greatest value, or `None` where it
+    /// is below that from this minute on.
+    pub fn first_max_from(&self, place: u16, minute: u16) -> Option<u16>
+        requires place { place < length self.now }
+        requires minute { minute ≤ LAST_MINUTE }
+        ensures found { IfSome result (IsNextMaximum (value self.now place) minute) }
+        ensures none { IfNone result (NoNextMaximum (value self.now place) minute) }
+    {
+        self.rows[usize::from(place)].first_max_from(minute)
     }
 
     /// The sum of the greatest values of all places.

@@ -1,33 +1,30 @@
-ghost use Rattle.std.specs.Prelude.{◌≡◌, ◌≤◌, ◌+◌, ℕ, ℤ, pos, ◌+ℤ◌, ◌≤ℤ◌, All, IfOk, slice_index_or, vec_len};
+ghost use Rattle.std.specs.Prelude.{◌≡◌, ◌≤◌, ◌+◌, ℕ, ℤ, pos, ◌+ℤ◌, ◌≤ℤ◌, All, IfOk, IfSome, IfNone, slice_index_or};
 ghost use Rattle.trip_model.specs.declared.limits.TheConstants.{LAST_MINUTE};
 ghost use Rattle.trip_model.specs.Maximum.{first_maximum};
 ghost use Rattle.trip_model.specs.Steps.{steps};
 ghost use Rattle.deficit_steps.specs.Changes.{IsChange, AreChanges, value_in, with_change_in};
+ghost use Rattle.deficit_steps.specs.NextMaximum.{IsNextMaximum, NoNextMaximum};
 
-use desk_io::Memory;
-use std::alloc::{AllocError, Global};
+use desk_io::{Memory, Steps};
+use std::alloc::Global;
 use std::marker::Model;
+use std::sync::ledger::Ledger;
+use terminal_maxima::{MaxPrefix, Tree};
 use trip_model::MINUTES;
 
-/// The changes of one place, one for each minute.
+/// The changes of one place, one for each minute, which are the sums of the leaves of a tree.
 #[derive(Drop)]
 pub struct Row {
-    changes: Vec<i32>,
+    tree: Tree<MaxPrefix>,
 }
 
 impl Model for Row {
     ghost use Rattle.std.specs.Prelude.{List, ℤ};
+    ghost use Rattle.deficit_steps.specs.Leaves.{sums};
 
     ghost Value = { List ℤ };
 
-    ghost view = { λ r. r.changes.items };
-}
-
-fn zeros(alloc: Global, len: usize) -> Result<Vec<i32>, AllocError>
-    ensures len { IfOk result (λ v. vec_len v ≡ len) }
-    ensures zero { IfOk result (λ v. All (λ c. c ≡ pos 0) v.items) }
-{
-    vec![in alloc; 0; len]
+    ghost view = { λ r. sums r.tree };
 }
 
 impl Row {
@@ -37,20 +34,26 @@ impl Row {
         ensures valid { IfOk result AreChanges }
     {
         Ok(Row {
-            changes: zeros(alloc, usize::from(MINUTES))?,
+            tree: Tree::open(alloc)?,
         })
     }
 
     /// Raises the change of one minute.
-    pub fn change(&mut self, minute: u16, by: i32)
+    pub fn change<L: Ledger>(&mut self, minute: u16, by: i32, steps: &mut Steps<L>)
         requires valid { AreChanges self.old }
         requires minute { minute ≤ LAST_MINUTE }
         requires bounded { IsChange (slice_index_or self.old minute (pos 0) +ℤ by) }
         requires begins { minute ≡ 0 → pos 0 ≤ℤ (slice_index_or self.old minute (pos 0) +ℤ by) }
         ensures changed { self.new ≡ with_change_in self.old minute by }
         ensures valid { AreChanges self.new }
+        ensures counted { steps.new ≤ steps.old + 14 }
     {
-        self.changes[usize::from(minute)] += by;
+        let sum = self.tree.leaf(minute).sum + by;
+        let leaf = MaxPrefix {
+            sum,
+            high: sum.max(0),
+        };
+        self.tree.set(minute, leaf, steps);
     }
 
     /// The sum of the changes up to and including a minute.
@@ -60,8 +63,8 @@ impl Row {
         ensures { result ≡ value_in self.now minute }
     {
         let mut value = 0;
-        for change in &self.changes[..usize::from(minute) + 1] {
-            value += *change;
+        for m in 0..minute + 1 {
+            value += self.tree.leaf(m).sum;
         }
         value
     }
@@ -71,17 +74,20 @@ impl Row {
         requires { AreChanges self.now }
         ensures { first_maximum (value_in self.now) ≡ (pos result.0, result.1) }
     {
-        let mut current = 0;
-        let mut high = 0;
-        let mut at = 0;
-        for (minute, change) in self.changes.iter().enumerate() {
-            current += *change;
-            if current > high {
-                high = current;
-                at = minute;
-            }
-        }
-        (high as u32, at as u16)
+        let high = self.tree.greatest_prefix();
+        let at = self.tree.first_reaching(high).unwrap();
+        (high as u32, at)
+    }
+
+    /// The first minute, not before this one, that has the greatest value.
+    pub fn first_max_from(&self, minute: u16) -> Option<u16>
+        requires valid { AreChanges self.now }
+        requires minute { minute ≤ LAST_MINUTE }
+        ensures found { IfSome result (IsNextMaximum (value_in self.now) minute) }
+        ensures none { IfNone result (NoNextMaximum (value_in self.now) minute) }
+    {
+        let high = self.tree.greatest_prefix();
+        self.tree.first_from(minute, high)
     }
 
     /// The minutes at which the value changes, each with its new value.
@@ -91,10 +97,11 @@ impl Row {
     {
         let mut list = Vec::new(alloc);
         let mut value = 0;
-        for (minute, change) in self.changes.iter().enumerate() {
-            value += *change;
-            if *change != 0 {
-                list.push((minute as u16, value))?;
+        for minute in 0..MINUTES {
+            let change = self.tree.leaf(minute).sum;
+            value += change;
+            if change != 0 {
+                list.push((minute, value))?;
             }
         }
         Ok(list)

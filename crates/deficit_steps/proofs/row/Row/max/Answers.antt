@@ -1,28 +1,22 @@
-use Rattle.std.proofs.Common.{◌≡◌, ◌<◌, length, ap, ◌∙◌, arith}
-use Rattle.std.specs.Int.Signed.{lt_z_yes}
-use Rattle.std.proofs.lemmas.Float.{T_from_true}
-use Rattle.deficit_steps.proofs.RowLemmas.{next_sum-fits, next_sum-is, IsMaximumSoFar-higher, IsMaximumSoFar-stays, first_maximum-after, pos-nat_abs, le_from_false}
+use Rattle.std.proofs.Common.{w32, to_z, of_z, sym, ap, subst, ◌∙◌, pos}
+use Rattle.std.specs.Prelude.{IfSome}
+use Rattle.std.proofs.lemmas.Int.{to_z-of_z}
+use lib.IntN.{nat_abs}
+use Rattle.terminal_maxima.specs.Reaching.{IsFirstReaching}
+use Rattle.trip_model.specs.Maximum.{first_maximum}
+use Rattle.deficit_steps.specs.Changes.{AreChanges, value_in}
+use Rattle.deficit_steps.proofs.LeavesLemmas.{first_maximum-reaching}
+use Rattle.deficit_steps.proofs.RowLemmas.{pos-nat_abs}
 use Rattle.deficit_steps.proofs.row.Row.max.Goals as goal
-use Rattle.deficit_steps.proofs.row.Row.max.Goals.{then-current-high, else-current-high}
-
-pub overflow_add-current : goal.overflow_add-current
-overflow_add-current c =
-    let items = c.deref-change-items.ensures.value ∙ c.self.view_is in
-    let lt : c.loop-minute.minute < length c.args.self.now = omega (arith, ap length items) in
-    next_sum-fits c.args.self.now c.deref-change-items.result.now c.loop-minute.minute _ items c.requires.bounded (omega arith) lt c.loop-minute.invariant.sum_is
-
-pub loop-minute-preserved : goal.loop-minute-preserved
-loop-minute-preserved c =
-    let items = c.deref-change-items.ensures.value ∙ c.self.view_is in
-    let lt : c.loop-minute.minute < length c.args.self.now = omega (arith, ap length items) in
-    let next = next_sum-is c.args.self.now c.deref-change-items.result.now c.loop-minute.minute _ items c.requires.bounded (omega arith) lt c.loop-minute.invariant.sum_is in
-    elim c.if-current-high.branch [
-      | then-current-high w ↦ rw (w.high-is, w.at-is) (IsMaximumSoFar-higher _ _ _ _ _ _ c.loop-minute.invariant lt next (lt_z_yes (T_from_true _ w.if-current-high.true)))
-      | else-current-high w ↦ rw (w.high-is, w.at-is) (IsMaximumSoFar-stays _ _ _ _ _ _ c.requires c.loop-minute.invariant lt next (le_from_false _ _ w.if-current-high.false))
-    ]
 
 pub returns : goal.returns
 returns c =
-    let items = c.deref-change-items.ensures.value ∙ c.self.view_is in
-    let all : c.loop-minute.minute ≡ length c.args.self.now = omega (arith, ap length items) in
-    first_maximum-after c.args.self.now _ _ _ _ c.requires c.loop-minute.invariant all ∙ (λ i. (pos-nat_abs _ c.loop-minute.invariant.positive i, c.loop-minute.at))
+    let leaves = c.self.inside.tree in
+    let high = c.greatest_prefix-high.result in
+    let at = c.unwrap-at.result in
+    let valid = subst AreChanges (sym c.self.view_is) c.requires in
+    let same = to_z-of_z w32 high (record { sfits = c.greatest_prefix-high.type_inv }) in
+    let found = subst (λ r. IfSome r (IsFirstReaching leaves 0 (to_z w32 (of_z w32 high)))) c.unwrap-at.ensures c.first_reaching.ensures.found in
+    ap (λ xs. first_maximum (value_in xs)) (sym c.self.view_is)
+    ∙ first_maximum-reaching leaves high at valid c.greatest_prefix-high.ensures (subst (λ v. IsFirstReaching leaves 0 v at) same found)
+    ∙ (λ i. ((pos-nat_abs high c.greatest_prefix-high.ensures.from_zero ∙ ap (λ z. pos (nat_abs z)) (sym same)) i, at))

@@ -5,4 +5,7 @@ use Rattle.deficit_steps.proofs.RowLemmas.{sum_of}
 use Rattle.deficit_steps.proofs.row.Row.step_list.Given as goal
 
 abbrev pub invariant-loop-minute : goal.invariant-loop-minute
-invariant-loop-minute l = (l.value ≡ sum_of l.self l.minute) × (l.list.items ≡ steps_before (value_in l.self) l.minute)
+invariant-loop-minute l = record {
+  sum : l.value ≡ sum_of l.self l.minute;
+  steps : l.list.items ≡ steps_before (value_in l.self) l.minute;
+}

@@ -1,20 +1,18 @@
-use Rattle.std.proofs.Common.{◌+◌, ◌≤◌, length, take, All, refl, sym, subst, ◌∙◌, arith}
-use Rattle.std.proofs.lemmas.List.{length-take}
-use Rattle.std.proofs.lemmas.List.Elements.{All-take}
-use Rattle.deficit_steps.specs.Changes.{IsChange}
+use Rattle.std.proofs.Common.{◌+◌, ◌<◌, ◌≤◌, length, arith}
+use Rattle.deficit_steps.proofs.LeavesLemmas.{change_read}
 use Rattle.deficit_steps.proofs.RowLemmas.{next_sum-fits, next_sum-is}
 use Rattle.deficit_steps.proofs.row.Row.value_at.Goals as goal
 
 pub overflow_add-value : goal.overflow_add-value
 overflow_add-value c =
-    let items = take (c.from.result + 1) c.deref.result.now in
-    let bounded : All IsChange items = All-take IsChange (c.from.result + 1) _ (subst (All IsChange) (sym (c.deref.ensures.value ∙ c.self.view_is)) c.requires.valid.bounded) in
-    let short : length items ≤ 8192 = omega (arith, length-take (c.from.result + 1) c.deref.result.now, c.from.ensures, c.requires.minute) in
-    next_sum-fits items items c.loop-change.change-index _ refl bounded short c.loop-change-test.true c.loop-change.invariant
+    let changes = c.args.self.now in
+    let read = change_read c.self.inside.tree changes c.loop-m.m c.leaf-value.result c.self.view_is c.leaf-value.ensures.found in
+    let there : c.loop-m.m < length changes = omega (arith, c.requires.valid.minutes) in
+    next_sum-fits changes c.loop-m.m _ _ read c.requires.valid.bounded (omega (arith, c.requires.valid.minutes)) there c.loop-m.invariant
 
-pub loop-change-preserved : goal.loop-change-preserved
-loop-change-preserved c =
-    let items = take (c.from.result + 1) c.deref.result.now in
-    let bounded : All IsChange items = All-take IsChange (c.from.result + 1) _ (subst (All IsChange) (sym (c.deref.ensures.value ∙ c.self.view_is)) c.requires.valid.bounded) in
-    let short : length items ≤ 8192 = omega (arith, length-take (c.from.result + 1) c.deref.result.now, c.from.ensures, c.requires.minute) in
-    next_sum-is items items c.loop-change.change-index _ refl bounded short c.loop-change-test.true c.loop-change.invariant
+pub loop-m-preserved : goal.loop-m-preserved
+loop-m-preserved c =
+    let changes = c.args.self.now in
+    let read = change_read c.self.inside.tree changes c.loop-m.m c.leaf-value.result c.self.view_is c.leaf-value.ensures.found in
+    let there : c.loop-m.m < length changes = omega (arith, c.requires.valid.minutes) in
+    next_sum-is changes c.loop-m.m _ _ read c.requires.valid.bounded (omega (arith, c.requires.valid.minutes)) there c.loop-m.invariant
