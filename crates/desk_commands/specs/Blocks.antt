@@ -18,7 +18,7 @@ use Rattle.desk_run.specs.Outcome.{OutcomeView}
 use Rattle.desk_run.specs.declared.outcome.Writing.{Writing}
 use Rattle.desk_feed.specs.Edited.{ending_after, standing_after}
 use Rattle.desk_feed.specs.Feed.{Said}
-use Rattle.desk_feed.specs.Judging.{doing}
+use Rattle.desk_feed.specs.Judging.{FeedAsked, doing, of_feed}
 use Rattle.desk_feed.specs.Schedule.{IsMatrixFor, IsScheduled, most_steps}
 use Rattle.desk_feed.specs.Script.{refusal_in, standing_at, state_at, step_at}
 use Rattle.desk_commands.specs.Answers.{answers_to, fixed_number, most_to, numbers_text}
@@ -79,5 +79,8 @@ pub record IsPlan (said : Said) (outcome : OutcomeView) : Type 0 where
 abbrev pub most_steps_of : Said → ℕ
 most_steps_of said = most_steps (length said.base.slots) + most_to said.base said.lines (length said.lines)
 
+abbrev pub blocks_does : FeedAsked
+blocks_does = doing IsPlan most_steps_of
+
 abbrev pub blocks_asked : Asked
-blocks_asked = doing IsPlan most_steps_of
+blocks_asked = of_feed blocks_does

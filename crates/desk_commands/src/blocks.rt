@@ -1,13 +1,10 @@
 ghost use Rattle.std.specs.Prelude.{◌≡◌, ◌+◌, ◌≤◌, ◌++◌, length, None, IfOk, string_bytes};
-ghost use Rattle.gtfs_tables.specs.Papers.{file_name_of};
 ghost use Rattle.desk_commands.specs.Answers.{most_to, numbers_text};
+ghost use Rattle.desk_run.specs.Performs.{Performs};
+ghost use Rattle.desk_run.specs.World.{world};
 ghost use Rattle.desk_commands.specs.Blocks.{IsPlanned, blocks_asked, plan_files};
 ghost use Rattle.desk_feed.specs.Schedule.{most_steps};
 ghost use Rattle.desk_feed.specs.Script.{IsScript};
-ghost use Rattle.desk_run.specs.Causes.{HasCause, IsComplete};
-ghost use Rattle.desk_run.specs.Commands.{IsCounted};
-ghost use Rattle.desk_run.specs.Runs.{RunsAs};
-ghost use Rattle.desk_run.specs.World.{world};
 
 use crate::answers::{Answers, answer_all, blocks_now, push_numbers};
 use block_build::{blocks_text, prices_text};
@@ -15,10 +12,10 @@ use deadhead_matrix::Matrix;
 use deadhead_matrix::laws::plan_law;
 use desk_core::Desk;
 use desk_core::laws::standing_law;
-use desk_feed::{FEED_PAPERS, Judged, judge_feed, matrix_of};
-use desk_io::{Bytes, Memory, Shelf, Sink, Steps, Text};
+use desk_feed::{FEED_PAPERS, Feed, FeedCommand, OnFeed, matrix_of};
+use desk_io::{Memory, Shelf, Sink, Steps, Text};
 use desk_keeper::Keeper;
-use desk_run::{Command, Outcome, Read, Writing, perform};
+use desk_run::{Outcome, Read, Writing, perform};
 use edit_script::{Line, Script};
 use fixed_fleet::laws::plain_blocks_law;
 use gtfs_tables::Paper;
@@ -26,16 +23,6 @@ use std::alloc::Global;
 use std::sync::ledger::Ledger;
 use trip_model::Timetable;
 use trip_model::laws::plain_law;
-
-// A file with a text.
-fn writing(alloc: Global, paper: Paper, text: &Text) -> Result<Writing, Memory>
-    ensures { IfOk result (λ writing. writing ≡ record { name = file_name_of paper; bytes = text.now }) }
-{
-    Ok(Writing {
-        name: Text::of(alloc, paper.file_name())?,
-        bytes: Bytes::of(alloc, text.as_str().as_bytes())?,
-    })
-}
 
 // The files of the last plan, and behind what was put of the records the numbers after them all.
 fn finished(alloc: Global, desk: &Desk, answers: Answers, prefix: &str) -> Result<Outcome, Memory>
@@ -51,8 +38,8 @@ fn finished(alloc: Global, desk: &Desk, answers: Answers, prefix: &str) -> Resul
     let blocks = blocks_now(alloc, desk)?;
     let blocks = blocks_text(alloc, timetable, desk.matrix(), &blocks, prefix)?;
     let prices = prices_text(alloc, timetable, plan.leave(), plan.enter())?;
-    let first = writing(alloc, Paper::Blocks, &blocks)?;
-    let second = writing(alloc, Paper::Prices, &prices)?;
+    let first = Writing::of(alloc, Paper::Blocks.file_name(), &blocks)?;
+    let second = Writing::of(alloc, Paper::Prices.file_name(), &prices)?;
     let writes = vec![in alloc; first, second]?;
     let mut text = answers.text;
     push_numbers(&mut text, desk)?;
@@ -85,12 +72,13 @@ fn planned<L: Ledger>(
     finished(alloc, &desk, answers, prefix)
 }
 
+#[derive(Drop)]
 struct WriteBlocks;
 
-impl Command for WriteBlocks {
-    ghost use Rattle.desk_commands.specs.Blocks.{blocks_asked};
+impl FeedCommand for WriteBlocks {
+    ghost use Rattle.desk_commands.specs.Blocks.{blocks_does};
 
-    ghost asked = { λ _. blocks_asked };
+    ghost asks = { λ _. blocks_does };
 
     fn papers(&self) -> &[Paper] {
         &FEED_PAPERS
@@ -103,19 +91,19 @@ impl Command for WriteBlocks {
     fn outcome<L: Ledger>(
         &self,
         alloc: Global,
-        read: &Read,
+        _read: &Read,
+        feed: Feed,
         steps: &mut Steps<L>,
     ) -> Result<Outcome, Memory> {
-        match judge_feed(alloc, read)? {
-            Judged::Refused(outcome) => Ok(outcome),
-            Judged::Accepted(feed) => {
-                let timetable = feed.timetable;
-                let pulls = feed.pulls;
-                let matrix = matrix_of(alloc, &timetable, &feed.deadheads, pulls)?;
-                let prefix = feed.settings.prefix();
-                planned(alloc, timetable, &feed.lines, matrix, prefix, steps)
-            }
-        }
+        let Feed {
+            settings,
+            timetable,
+            deadheads,
+            pulls,
+            lines,
+        } = feed;
+        let matrix = matrix_of(alloc, &timetable, &deadheads, pulls)?;
+        planned(alloc, timetable, &lines, matrix, settings.prefix(), steps)
     }
 }
 
@@ -129,13 +117,8 @@ pub fn run_blocks<S: Shelf, O: Sink, K: Keeper, L: Ledger>(
     keeper: &mut K,
     steps: &mut Steps<L>,
 ) -> u8
-    ensures run { let at = world S.state O.state K.state in
-        RunsAs blocks_asked (at shelf.old out.old keeper.old) (at shelf.new out.new keeper.new) result }
-    ensures cause { let at = world S.state O.state K.state in
-        HasCause blocks_asked (at shelf.old out.old keeper.old) (at shelf.new out.new keeper.new) result }
-    ensures complete { let at = world S.state O.state K.state in
-        IsComplete blocks_asked (at shelf.old out.old keeper.old) (at shelf.new out.new keeper.new) result }
-    ensures counted { IsCounted blocks_asked (world S.state O.state K.state shelf.old out.old keeper.old) steps.old steps.new }
+    ensures { let at = world S.state O.state K.state in
+        Performs blocks_asked (at shelf.old out.old keeper.old) (at shelf.new out.new keeper.new) result steps.old steps.new }
 {
-    perform(&WriteBlocks, alloc, shelf, out, keeper, steps)
+    perform(&OnFeed(WriteBlocks), alloc, shelf, out, keeper, steps)
 }

@@ -1,5 +1,5 @@
--- What a command gives of an accepted feed is what it asks.
-use Rattle.std.proofs.Common.{◌≡◌, ℕ, List, Result, Ok, Err, sym, ap, subst, ◌∙◌}
+-- What a command gives of an accepted feed is what it asks of a run.
+use Rattle.std.proofs.Common.{◌≡◌, List, ℕ, Result, Ok, Err, sym, ap, subst, ◌∙◌}
 use Rattle.std.specs.Prelude.{IfOk}
 use Rattle.desk_run.specs.Commands.{IsGiven}
 use Rattle.desk_run.specs.Outcome.{OutcomeView}
@@ -10,21 +10,31 @@ use Rattle.desk_feed.specs.declared.judging.Judged.{Judged}
 use Rattle.desk_feed.specs.declared.judging.Judged.TheVariants.{Accepted}
 use Rattle.desk_feed.specs.Edited.{refusing_first}
 use Rattle.desk_feed.specs.Feed.{Said, said_of}
-use Rattle.desk_feed.specs.Judging.{Does, EndsBy, Judges, Puts, ending_of, refused_of, said_in, showing}
+use Rattle.desk_feed.specs.Judging.{Does, EndsBy, FeedAsked, IsGivenOf, Judges, ending_of, of_feed, refused_of, said_in}
+use Rattle.desk_feed.specs.Showing.{TextAsked, showing, stands_after}
 
 -- an accepted feed says what was read
 pub says-of : (read : ReadView) (judged : Judged) (feed : Feed) → judged ≡ Accepted feed → Judges read judged → said_in read ≡ Ok (said_of feed)
 says-of read judged feed is judges = (subst (Judges read) is judges).0
 
--- a text that is shown of it, behind the lines of refused records
-pub shown-given : {E : Type 0} (read : ReadView) (feed : Feed) (Shows : Said → List ℕ → Type 0) (most : Said → ℕ) → said_in read ≡ Ok (said_of feed)
-    → (result : Result OutcomeView E) (text refused : List ℕ) (end : Ending) → refused ≡ refused_of (said_of feed) → end ≡ ending_of (said_of feed)
-    → IfOk result (λ outcome. outcome ≡ refusing_first refused text end) → Shows (said_of feed) text → IfOk result (IsGiven (showing Shows most) read)
-shown-given read feed Shows most says (Err e) text refused end refused_is end_is put shown = tt
-shown-given read feed Shows most says (Ok outcome) text refused end refused_is end_is put shown =
-    let here : outcome ≡ refusing_first (refused_of (said_of feed)) text (ending_of (said_of feed)) = put ∙ (λ i. refusing_first (refused_is i) text (end_is i)) in
+-- what is given of an accepted feed is given of what was read
+pub given-of : {E : Type 0} (asks : FeedAsked) (read : ReadView) (said : Said) → said_in read ≡ Ok said → (result : Result OutcomeView E)
+    → IfOk result (IsGivenOf asks read said) → IfOk result (IsGiven (of_feed asks) read)
+given-of asks read said says (Err e) given = tt
+given-of asks read said says (Ok outcome) given = record {
+  gives = subst (λ s. Does (asks.Gives read) s outcome) (sym says) given.gives;
+  ends = subst (λ s. EndsBy (asks.Ends read) s outcome.ending) (sym says) given.ends;
+  unkept = given.unkept;
+}
+
+-- a text behind the lines of refused records
+pub text-given : {E : Type 0} (asks : TextAsked) (read : ReadView) (said : Said) (text refused : List ℕ) (end : Ending) → refused ≡ refused_of said → end ≡ ending_of said → asks.Shows (stands_after said) text
+    → (result : Result OutcomeView E) → IfOk result (λ outcome. outcome ≡ refusing_first refused text end) → IfOk result (IsGivenOf (showing asks) read said)
+text-given asks read said text refused end refused_is end_is shown (Err e) put = tt
+text-given asks read said text refused end refused_is end_is shown (Ok outcome) put =
+    let here : outcome ≡ refusing_first (refused_of said) text (ending_of said) = put ∙ (λ i. refusing_first (refused_is i) text (end_is i)) in
     record {
-      gives = subst (λ said. Does (Puts Shows) said outcome) (sym says) (record { text = text; shown = shown; alone = here });
-      ends = subst (λ said. EndsBy (λ said end. end ≡ ending_of said) said outcome.ending) (sym says) (ap (λ (o : OutcomeView). o.ending) here);
+      gives = record { text = text; shown = shown; alone = here };
+      ends = ap (λ (o : OutcomeView). o.ending) here;
       unkept = λ _. ap (λ (o : OutcomeView). o.lines) here;
     }

@@ -1,5 +1,5 @@
 -- What is made of an accepted feed and of a refused one.
-use Rattle.std.specs.Prelude.{◌≡◌, ℕ, false, List, Result, Ok, Err}
+use Rattle.std.specs.Prelude.{◌≡◌, ℕ, Bool, false, List, [], ◌++◌, None, Result, Ok, Err}
 use Rattle.gtfs_tables.specs.Faults.{feed_line_of}
 use Rattle.gtfs_tables.specs.declared.fault.FeedFault.{FeedFault}
 use Rattle.gtfs_tables.specs.declared.paper.Paper.{Paper}
@@ -8,7 +8,7 @@ use Rattle.desk_run.specs.Outcome.{OutcomeView, putting}
 use Rattle.desk_run.specs.Reading.{ReadView, found_of}
 use Rattle.desk_run.specs.declared.status.Ending.{Ending}
 use Rattle.desk_run.specs.declared.status.Ending.TheVariants as ending
-use Rattle.desk_feed.specs.Edited.{ending_after, refused_text, refusing_first}
+use Rattle.desk_feed.specs.Edited.{ending_after, refused_text}
 use Rattle.desk_feed.specs.Feed.{Said, HavePulls, feed_papers, said_by, said_of}
 use Rattle.desk_feed.specs.Script.{IsScript}
 use Rattle.desk_feed.specs.declared.judging.Judged.{Judged}
@@ -42,16 +42,30 @@ abbrev pub most_of : (Said → ℕ) → Result Said FeedFault → ℕ
 most_of accepted (Ok said) = accepted said
 most_of accepted (Err refused) = 0
 
--- What a command asks that works on a feed: its papers; then, by what it has read and by what an accepted feed says, how it
--- ends and what it may do; and how many steps it may count.
-abbrev pub of_feed : List Paper → (ReadView → Said → Ending → Type 0) → (ReadView → Said → OutcomeView → Type 0) → (Said → ℕ) → Asked
-of_feed papers accepted Accepts most = record {
-  papers = papers;
-  keeps = false;
-  Ends = λ read end. EndsBy (accepted read) (said_in read) end;
-  Gives = λ read outcome. Does (Accepts read) (said_in read) outcome;
-  most = λ read. most_of most (said_in read);
+-- What a command asks that works on a feed: the papers that it reads beyond those of the feed, and whether it reads the journal;
+-- then, by what it has read and by what an accepted feed says, how it ends, what it may do, and how many steps it may count.
+pub record FeedAsked : Type 1 where
+  pub further : List Paper
+  pub keeps : Bool
+  pub Ends : ReadView → Said → Ending → Type 0
+  pub Gives : ReadView → Said → OutcomeView → Type 0
+  pub most : ReadView → Said → ℕ
+
+-- what it asks of a run: of a refused feed the refusal is put
+abbrev pub of_feed : FeedAsked → Asked
+of_feed asks = record {
+  papers = feed_papers ++ asks.further;
+  keeps = asks.keeps;
+  Ends = λ read end. EndsBy (asks.Ends read) (said_in read) end;
+  Gives = λ read outcome. Does (asks.Gives read) (said_in read) outcome;
+  most = λ read. most_of (asks.most read) (said_in read);
 }
+
+-- an outcome that such a command gives of what it has read and of an accepted feed
+pub record IsGivenOf (asks : FeedAsked) (read : ReadView) (said : Said) (outcome : OutcomeView) : Type 0 where
+  pub gives : asks.Gives read said outcome
+  pub ends : asks.Ends read said outcome.ending
+  pub unkept : asks.keeps ≡ false → outcome.lines ≡ None
 
 -- how a run ends after the script of a feed, and the lines of its refused records
 abbrev pub ending_of : Said → Ending
@@ -61,15 +75,11 @@ abbrev pub refused_of : Said → List ℕ
 refused_of said = refused_text said.base said.lines
 
 -- what a command asks that comes to its end with each accepted feed
-abbrev pub doing : (Said → OutcomeView → Type 0) → (Said → ℕ) → Asked
-doing Accepts most = of_feed feed_papers (λ read said end. end ≡ ending_of said) (λ read. Accepts) most
-
--- an outcome that puts the lines of the refused records and a text that is shown of what is said, and nothing else
-pub record Puts (Shows : Said → List ℕ → Type 0) (said : Said) (outcome : OutcomeView) : Type 0 where
-  pub text : List ℕ
-  pub shown : Shows said text
-  pub alone : outcome ≡ refusing_first (refused_of said) text (ending_of said)
-
--- what a command asks that puts a text of each accepted feed
-abbrev pub showing : (Said → List ℕ → Type 0) → (Said → ℕ) → Asked
-showing Shows most = doing (Puts Shows) most
+abbrev pub doing : (Said → OutcomeView → Type 0) → (Said → ℕ) → FeedAsked
+doing Accepts most = record {
+  further = [];
+  keeps = false;
+  Ends = λ read said end. end ≡ ending_of said;
+  Gives = λ read. Accepts;
+  most = λ read. most;
+}

@@ -3,3 +3,4 @@ pub mod Feed
 pub mod Judging
 pub mod Schedule
 pub mod Script
+pub mod Showing

@@ -53,10 +53,13 @@ trip_text (line.Edit (Restore trip)) = codes ", " ++ trip
 trip_text (line.Edit (Extra trip from to departs arrives)) = codes ", " ++ trip
 trip_text line = []
 
+-- what is put of a refused record behind its number: the trip that it names, and why it is refused
+unfoldable pub reason_text : Line → EditFault → List ℕ
+reason_text line refused = codes ": refused" ++ (trip_text line ++ (codes ": " ++ (fault_text_of refused ++ 10 ∷ [])))
+
 -- the line of a refused record
 unfoldable pub refusal_line : ℕ → Line → EditFault → List ℕ
-refusal_line number line refused =
-    codes "record " ++ (decimal number ++ (codes ": refused" ++ (trip_text line ++ (codes ": " ++ (fault_text_of refused ++ 10 ∷ [])))))
+refusal_line number line refused = codes "record " ++ (decimal number ++ reason_text line refused)
 
 -- why a record is refused, where it is
 abbrev pub refusal_in : Result State EditFault → Option EditFault

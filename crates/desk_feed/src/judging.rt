@@ -1,6 +1,6 @@
-ghost use Rattle.std.specs.Prelude.{IfOk};
+ghost use Rattle.std.specs.Prelude.{◌≡◌, ◌≢◌, IfOk};
 ghost use Rattle.desk_feed.specs.Feed.{HasPapers};
-ghost use Rattle.desk_feed.specs.Judging.{Judges};
+ghost use Rattle.desk_feed.specs.Judging.{Judges, refusing};
 
 use crate::feed::{Feed, read_feed};
 use desk_io::Memory;
@@ -29,6 +29,15 @@ pub enum Judged {
     Refused(Outcome),
 }
 
+/// What is done where a file is refused: the line of the refusal is put.
+pub fn refuse(alloc: Global, refused: &FeedFault) -> Result<Outcome, Memory>
+    requires { refused.now ≢ FeedFault.Memory }
+    ensures { IfOk result (λ outcome. outcome ≡ refusing refused.now) }
+{
+    let line = feed_line(alloc, refused)?;
+    Ok(Outcome::putting(alloc, line, Ending::FeedRefused))
+}
+
 /// Reads the feed of what was read, which has to have all its papers: what it says, or the outcome of its first refusal.
 pub fn judge_feed(alloc: Global, read: &Read) -> Result<Judged, Memory>
     requires { HasPapers read.now.pages }
@@ -37,9 +46,6 @@ pub fn judge_feed(alloc: Global, read: &Read) -> Result<Judged, Memory>
     match read_feed(alloc, read) {
         Ok(feed) => Ok(Judged::Accepted(feed)),
         Err(FeedFault::Memory) => Err(Memory),
-        Err(refused) => {
-            let line = feed_line(alloc, &refused)?;
-            Ok(Judged::Refused(Outcome::putting(alloc, line, Ending::FeedRefused)))
-        }
+        Err(refused) => Ok(Judged::Refused(refuse(alloc, &refused)?)),
     }
 }

@@ -44,7 +44,24 @@ fn push_trip(text: &mut String, line: &Line) -> Result<(), Memory>
     Ok(())
 }
 
-/// Appends the line of a refused record: its number, the trip that it names, and why it is refused.
+/// Appends what stands behind the number of a refused record: the trip that it names, and why it is refused.
+#[tactic(auto, unfolding(crate::specs::Script::reason_text))]
+pub fn push_reason(
+    alloc: Global,
+    text: &mut String,
+    line: &Line,
+    refused: &EditFault,
+) -> Result<(), Memory>
+    requires { refused.now ≢ EditFault.Memory }
+    ensures { OnOk result (string_bytes text.new ≡ string_bytes text.old ++ spec.reason_text line.now refused.now) }
+{
+    text.push_str(": refused")?;
+    push_trip(text, line)?;
+    writeln!(text, ": {}", fault_text(alloc, refused)?.as_str())?;
+    Ok(())
+}
+
+/// Appends the line of a refused record.
 #[tactic(auto, unfolding(crate::specs::Script::refusal_line))]
 pub fn push_refusal(
     alloc: Global,
@@ -56,10 +73,8 @@ pub fn push_refusal(
     requires { refused.now ≢ EditFault.Memory }
     ensures { OnOk result (string_bytes text.new ≡ string_bytes text.old ++ spec.refusal_line number line.now refused.now) }
 {
-    write!(text, "record {number}: refused")?;
-    push_trip(text, line)?;
-    writeln!(text, ": {}", fault_text(alloc, refused)?.as_str())?;
-    Ok(())
+    write!(text, "record {number}")?;
+    push_reason(alloc, text, line, refused)
 }
 
 // Appends the line of a record, where it is refused.
@@ -90,8 +105,12 @@ pub fn ending_by(some: bool) -> Ending
     }
 }
 
-// Steps a script over a record: why that is refused, if it is.
-fn step(script: &mut Script, number: u32, line: &Line) -> Result<Option<EditFault>, Memory>
+/// Steps a script over a record, whose number is greater than all before: why that is refused, if it is.
+pub fn step_script(
+    script: &mut Script,
+    number: u32,
+    line: &Line,
+) -> Result<Option<EditFault>, Memory>
     requires form { IsLineInForm line.now }
     requires next { script.old.last < number }
     ensures stepped { IfOk result (λ refused. IsStepped number line.now refused script.old script.new) }
@@ -124,7 +143,7 @@ pub fn after_script(alloc: Global, timetable: Timetable, lines: &[Line]) -> Resu
     for n in 0..lines.len() {
         let number = n as u32 + 1;
         let line = &lines[n];
-        let refused = step(&mut script, number, line)?;
+        let refused = step_script(&mut script, number, line)?;
         push_if_refused(alloc, &mut text, number, line, &refused)?;
         some |= refused.is_some();
     }

@@ -1,7 +1,7 @@
 ghost use Rattle.std.specs.Prelude.{◌≡◌, [], None};
 
 use crate::Ending;
-use desk_io::{Bytes, Text};
+use desk_io::{Bytes, Memory, Text};
 use desk_keeper::Lines;
 use std::alloc::Global;
 use std::marker::Model;
@@ -11,6 +11,20 @@ use std::marker::Model;
 pub struct Writing {
     pub name: Text,
     pub bytes: Bytes,
+}
+
+impl Writing {
+    ghost use Rattle.std.specs.Prelude.{IfOk};
+
+    /// The file of that name with a text.
+    pub fn of(alloc: Global, name: &str, text: &Text) -> Result<Writing, Memory>
+        ensures { IfOk result (λ writing. writing ≡ record { name = name.now; bytes = text.now }) }
+    {
+        Ok(Writing {
+            name: Text::of(alloc, name)?,
+            bytes: Bytes::of(alloc, text.as_str().as_bytes())?,
+        })
+    }
 }
 
 /// What a run that comes to its end does: it writes files in their order, appends lines to the journal where there are any

@@ -1,5 +1,5 @@
-ghost use Rattle.desk_run.specs.Causes.{HasCause, IsComplete};
 ghost use Rattle.desk_run.specs.Commands.{IsCounted};
+ghost use Rattle.desk_run.specs.Performs.{Performs};
 ghost use Rattle.desk_run.specs.Runs.{Attempts, RunsAs};
 ghost use Rattle.desk_run.specs.World.{world};
 
@@ -33,7 +33,7 @@ fn attempt<C: Command, S: Shelf, O: Sink, K: Keeper, L: Ledger>(
     carry_out(alloc, &outcome, shelf, out, keeper)
 }
 
-// The run of a command, apart from `perform`, whose other two clauses follow from the first of these.
+// The run of a command, apart from `perform`, whose contract follows from these two clauses.
 fn answered<C: Command, S: Shelf, O: Sink, K: Keeper, L: Ledger>(
     command: &C,
     alloc: Global,
@@ -64,17 +64,8 @@ pub fn perform<C: Command, S: Shelf, O: Sink, K: Keeper, L: Ledger>(
     keeper: &mut K,
     steps: &mut Steps<L>,
 ) -> u8
-    // What was written, appended and put under each status.
-    ensures run { let at = world S.state O.state K.state in
-        RunsAs (C.asked command.now) (at shelf.old out.old keeper.old) (at shelf.new out.new keeper.new) result }
-    // When each status comes.
-    ensures cause { let at = world S.state O.state K.state in
-        HasCause (C.asked command.now) (at shelf.old out.old keeper.old) (at shelf.new out.new keeper.new) result }
-    // Which status comes where all is told and no fault was counted.
-    ensures complete { let at = world S.state O.state K.state in
-        IsComplete (C.asked command.now) (at shelf.old out.old keeper.old) (at shelf.new out.new keeper.new) result }
-    // How many steps it counts at the most.
-    ensures counted { IsCounted (C.asked command.now) (world S.state O.state K.state shelf.old out.old keeper.old) steps.old steps.new }
+    ensures { let at = world S.state O.state K.state in
+        Performs (C.asked command.now) (at shelf.old out.old keeper.old) (at shelf.new out.new keeper.new) result steps.old steps.new }
 {
     answered(command, alloc, shelf, out, keeper, steps)
 }

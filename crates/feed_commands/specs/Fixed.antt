@@ -13,8 +13,8 @@ use Rattle.deadhead_matrix.specs.Matrix.{MatrixView, empty_matrix}
 use Rattle.fixed_fleet.specs.Rule.{first_in_first_out}
 use Rattle.block_build.specs.Lines.{block_text}
 use Rattle.desk_run.specs.Commands.{Asked}
-use Rattle.desk_feed.specs.Feed.{Said, standing}
-use Rattle.desk_feed.specs.Judging.{showing}
+use Rattle.desk_feed.specs.Judging.{of_feed}
+use Rattle.desk_feed.specs.Showing.{TextAsked, showing}
 
 -- the matrix without entries that has the pulls: no vehicle runs empty from one trip to the next
 abbrev pub standing_matrix : TimetableView → List Pull → MatrixView
@@ -33,8 +33,8 @@ pub record IsFixedText (timetable : TimetableView) (pulls : List Pull) (prefix :
   pub number : pos (length blocks) ≡ sum_of_maxima (deficit (live_moves timetable.slots)) (length timetable.places)
   pub printed : text ≡ fixed_text timetable pulls prefix blocks
 
-abbrev pub IsFixed : Said → List ℕ → Type 0
-IsFixed said text = IsFixedText (standing said) said.pulls said.settings.prefix text
+abbrev pub fixed_shown : TextAsked
+fixed_shown = record { Shows = λ stands. IsFixedText stands.timetable stands.pulls stands.settings.prefix; most = λ timetable. 0 }
 
 abbrev pub fixed_asked : Asked
-fixed_asked = showing IsFixed (λ said. 0)
+fixed_asked = of_feed (showing fixed_shown)

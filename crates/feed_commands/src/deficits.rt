@@ -1,62 +1,37 @@
-ghost use Rattle.std.specs.Prelude.{◌≡◌, ◌+◌, ◌*◌, ◌≤◌, length, IfOk};
-ghost use Rattle.desk_run.specs.Causes.{HasCause, IsComplete};
-ghost use Rattle.desk_run.specs.Commands.{IsCounted};
-ghost use Rattle.desk_run.specs.Runs.{RunsAs};
+ghost use Rattle.desk_run.specs.Performs.{Performs};
 ghost use Rattle.desk_run.specs.World.{world};
-ghost use Rattle.feed_commands.specs.Deficits.{deficits_asked, deficits_text};
+ghost use Rattle.feed_commands.specs.Deficits.{deficits_asked};
 
+use deadhead_matrix::{Deadheads, Pulls};
 use deficit_steps::{deficit_lines, deficits_of};
-use desk_feed::{FEED_PAPERS, Judged, after_script, judge_feed, putting_after};
+use desk_feed::{AfterScript, OnFeed, TextCommand};
 use desk_io::{Memory, Shelf, Sink, Steps, Text};
 use desk_keeper::Keeper;
-use desk_run::{Command, Outcome, Read, perform};
-use gtfs_tables::Paper;
+use desk_run::perform;
+use desk_settings::Settings;
 use std::alloc::Global;
 use std::sync::ledger::Ledger;
 use trip_model::Timetable;
 
-// The text of the deficits of the trips that run.
-fn deficits_text<L: Ledger>(
-    alloc: Global,
-    timetable: &Timetable,
-    steps: &mut Steps<L>,
-) -> Result<Text, Memory>
-    ensures text { IfOk result (λ text. text ≡ deficits_text timetable.now) }
-    ensures counted { steps.new ≤ steps.old + 28 * length timetable.now.slots }
-{
-    let deficits = deficits_of(alloc, timetable, steps)?;
-    deficit_lines(alloc, timetable, &deficits)
-}
-
+#[derive(Drop)]
 struct ShowDeficits;
 
-impl Command for ShowDeficits {
-    ghost use Rattle.feed_commands.specs.Deficits.{deficits_asked};
+impl TextCommand for ShowDeficits {
+    ghost use Rattle.feed_commands.specs.Deficits.{deficits_shown};
 
-    ghost asked = { λ _. deficits_asked };
+    ghost asks = { λ _. deficits_shown };
 
-    fn papers(&self) -> &[Paper] {
-        &FEED_PAPERS
-    }
-
-    fn keeps(&self) -> bool {
-        false
-    }
-
-    fn outcome<L: Ledger>(
+    fn text<L: Ledger>(
         &self,
         alloc: Global,
-        read: &Read,
+        _settings: &Settings,
+        timetable: &Timetable,
+        _deadheads: &Deadheads,
+        _pulls: Pulls,
         steps: &mut Steps<L>,
-    ) -> Result<Outcome, Memory> {
-        match judge_feed(alloc, read)? {
-            Judged::Refused(outcome) => Ok(outcome),
-            Judged::Accepted(feed) => {
-                let edited = after_script(alloc, feed.timetable, &feed.lines)?;
-                let text = deficits_text(alloc, edited.script.timetable(), steps)?;
-                putting_after(alloc, &edited.refused, &text, edited.ending)
-            }
-        }
+    ) -> Result<Text, Memory> {
+        let deficits = deficits_of(alloc, timetable, steps)?;
+        deficit_lines(alloc, timetable, &deficits)
     }
 }
 
@@ -69,13 +44,15 @@ pub fn run_deficits<S: Shelf, O: Sink, K: Keeper, L: Ledger>(
     keeper: &mut K,
     steps: &mut Steps<L>,
 ) -> u8
-    ensures run { let at = world S.state O.state K.state in
-        RunsAs deficits_asked (at shelf.old out.old keeper.old) (at shelf.new out.new keeper.new) result }
-    ensures cause { let at = world S.state O.state K.state in
-        HasCause deficits_asked (at shelf.old out.old keeper.old) (at shelf.new out.new keeper.new) result }
-    ensures complete { let at = world S.state O.state K.state in
-        IsComplete deficits_asked (at shelf.old out.old keeper.old) (at shelf.new out.new keeper.new) result }
-    ensures counted { IsCounted deficits_asked (world S.state O.state K.state shelf.old out.old keeper.old) steps.old steps.new }
+    ensures { let at = world S.state O.state K.state in
+        Performs deficits_asked (at shelf.old out.old keeper.old) (at shelf.new out.new keeper.new) result steps.old steps.new }
 {
-    perform(&ShowDeficits, alloc, shelf, out, keeper, steps)
+    perform(
+        &OnFeed(AfterScript(ShowDeficits)),
+        alloc,
+        shelf,
+        out,
+        keeper,
+        steps,
+    )
 }

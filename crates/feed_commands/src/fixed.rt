@@ -6,20 +6,18 @@ ghost use Rattle.trip_model.specs.Maximum.{sum_of_maxima};
 ghost use Rattle.trip_model.specs.Order.{by_departure};
 ghost use Rattle.trip_model.specs.Plain.{plain_network, trip_moves};
 ghost use Rattle.fixed_fleet.specs.Rule.{first_in_first_out};
-ghost use Rattle.desk_run.specs.Causes.{HasCause, IsComplete};
-ghost use Rattle.desk_run.specs.Commands.{IsCounted};
-ghost use Rattle.desk_run.specs.Runs.{RunsAs};
+ghost use Rattle.desk_run.specs.Performs.{Performs};
 ghost use Rattle.desk_run.specs.World.{world};
 ghost use Rattle.feed_commands.specs.Fixed.{IsFixedText, fixed_asked};
 
 use block_build::{Blocks, block_lines, blocks_of};
 use deadhead_matrix::{Deadheads, Matrix, Pulls};
-use desk_feed::{FEED_PAPERS, Judged, after_script, judge_feed, putting_after};
+use desk_feed::{AfterScript, OnFeed, TextCommand};
 use desk_io::{Memory, Shelf, Sink, Steps, Text};
 use desk_keeper::Keeper;
-use desk_run::{Command, Outcome, Read, perform};
+use desk_run::perform;
+use desk_settings::Settings;
 use fixed_fleet::fixed_links;
-use gtfs_tables::Paper;
 use std::alloc::Global;
 use std::sync::ledger::Ledger;
 use trip_model::Timetable;
@@ -44,52 +42,39 @@ fn fixed_blocks(alloc: Global, timetable: &Timetable) -> Result<Blocks, Memory>
 // the depot and home.
 fn fixed_text(
     alloc: Global,
+    settings: &Settings,
     timetable: &Timetable,
     pulls: Pulls,
-    prefix: &str,
 ) -> Result<Text, Memory>
     requires { length pulls ≡ length timetable.now.places }
-    ensures { IfOk result (IsFixedText timetable.now pulls prefix.now) }
+    ensures { IfOk result (IsFixedText timetable.now pulls settings.now.prefix) }
 {
     let blocks = fixed_blocks(alloc, timetable)?;
     let mut matrix = Matrix::of(alloc, &Deadheads::none(alloc)?, timetable.places())?;
     matrix.set_pulls(pulls);
-    let lines = block_lines(alloc, timetable, &matrix, &blocks, prefix)?;
+    let lines = block_lines(alloc, timetable, &matrix, &blocks, settings.prefix())?;
     let lines = lines.as_str();
     Ok(Text::wrap(format!(in alloc; "{lines}fixed {}\n", blocks.len())?))
 }
 
+#[derive(Drop)]
 struct ShowFixed;
 
-impl Command for ShowFixed {
-    ghost use Rattle.feed_commands.specs.Fixed.{fixed_asked};
+impl TextCommand for ShowFixed {
+    ghost use Rattle.feed_commands.specs.Fixed.{fixed_shown};
 
-    ghost asked = { λ _. fixed_asked };
+    ghost asks = { λ _. fixed_shown };
 
-    fn papers(&self) -> &[Paper] {
-        &FEED_PAPERS
-    }
-
-    fn keeps(&self) -> bool {
-        false
-    }
-
-    fn outcome<L: Ledger>(
+    fn text<L: Ledger>(
         &self,
         alloc: Global,
-        read: &Read,
+        settings: &Settings,
+        timetable: &Timetable,
+        _deadheads: &Deadheads,
+        pulls: Pulls,
         _steps: &mut Steps<L>,
-    ) -> Result<Outcome, Memory> {
-        match judge_feed(alloc, read)? {
-            Judged::Refused(outcome) => Ok(outcome),
-            Judged::Accepted(feed) => {
-                let pulls = feed.pulls;
-                let edited = after_script(alloc, feed.timetable, &feed.lines)?;
-                let prefix = feed.settings.prefix();
-                let text = fixed_text(alloc, edited.script.timetable(), pulls, prefix)?;
-                putting_after(alloc, &edited.refused, &text, edited.ending)
-            }
-        }
+    ) -> Result<Text, Memory> {
+        fixed_text(alloc, settings, timetable, pulls)
     }
 }
 
@@ -101,13 +86,15 @@ pub fn run_fixed<S: Shelf, O: Sink, K: Keeper, L: Ledger>(
     keeper: &mut K,
     steps: &mut Steps<L>,
 ) -> u8
-    ensures run { let at = world S.state O.state K.state in
-        RunsAs fixed_asked (at shelf.old out.old keeper.old) (at shelf.new out.new keeper.new) result }
-    ensures cause { let at = world S.state O.state K.state in
-        HasCause fixed_asked (at shelf.old out.old keeper.old) (at shelf.new out.new keeper.new) result }
-    ensures complete { let at = world S.state O.state K.state in
-        IsComplete fixed_asked (at shelf.old out.old keeper.old) (at shelf.new out.new keeper.new) result }
-    ensures counted { IsCounted fixed_asked (world S.state O.state K.state shelf.old out.old keeper.old) steps.old steps.new }
+    ensures { let at = world S.state O.state K.state in
+        Performs fixed_asked (at shelf.old out.old keeper.old) (at shelf.new out.new keeper.new) result steps.old steps.new }
 {
-    perform(&ShowFixed, alloc, shelf, out, keeper, steps)
+    perform(
+        &OnFeed(AfterScript(ShowFixed)),
+        alloc,
+        shelf,
+        out,
+        keeper,
+        steps,
+    )
 }

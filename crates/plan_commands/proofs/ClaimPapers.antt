@@ -1,18 +1,10 @@
--- The papers of a feed, and the two files of a claim, are among those that were read for `check`.
+-- The two files of a claim are among the papers that were read for `check`.
 use Rattle.std.proofs.Common.{◌≡◌, List, refl, sym, subst}
-use Rattle.std.specs.List.{AllByRecursion}
 use Rattle.gtfs_tables.specs.declared.paper.Paper.{Paper}
 use Rattle.gtfs_tables.specs.declared.paper.Paper.TheVariants as paper
 use Rattle.desk_run.specs.Reading.{IsAmong, papers_of}
 use Rattle.desk_run.specs.declared.reading.Page.{Page}
-use Rattle.desk_feed.specs.Feed.{HasPapers, feed_papers}
 use Rattle.plan_commands.specs.Check.{claim_papers}
-
-among-claims : AllByRecursion (IsAmong claim_papers) feed_papers
-among-claims = (refl, (refl, (refl, (refl, (refl, (refl, (refl, (refl, (refl, (refl, tt))))))))))
-
-pub has-feed_papers : (pages : List Page) → papers_of pages ≡ claim_papers → HasPapers pages
-has-feed_papers pages read = subst (λ (papers : List Paper). AllByRecursion (IsAmong papers) feed_papers) (sym read) among-claims
 
 pub blocks-among : (pages : List Page) → papers_of pages ≡ claim_papers → IsAmong (papers_of pages) paper.Blocks
 blocks-among pages read = subst (λ (papers : List Paper). IsAmong papers paper.Blocks) (sym read) refl

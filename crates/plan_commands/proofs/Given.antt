@@ -1,5 +1,5 @@
--- What the commands give of an accepted feed is what they ask.
-use Rattle.std.proofs.Common.{◌≡◌, ℕ, List, [], length, None, Result, Ok, Err, refl, sym, ap, subst, ◌∙◌}
+-- What `check` gives of an accepted feed is what it asks.
+use Rattle.std.proofs.Common.{◌≡◌, ℕ, List, [], length, None, Result, Ok, Err, refl, ap, subst, ◌∙◌}
 use Rattle.std.specs.Prelude.{IfOk}
 use Rattle.trip_model.specs.Plain.{trip_moves, AreMoves}
 use Rattle.deadhead_matrix.specs.Matrix.{MatrixView}
@@ -9,14 +9,13 @@ use Rattle.price_check.specs.Claim.{ClaimedView}
 use Rattle.price_check.specs.Reasons.{verdict_of}
 use Rattle.trip_model.specs.Timetable.{TimetableView}
 use Rattle.claim_files.specs.declared.fault.ClaimFault.{ClaimFault}
-use Rattle.desk_run.specs.Commands.{IsGiven}
 use Rattle.desk_run.specs.Outcome.{OutcomeView}
 use Rattle.desk_run.specs.Reading.{ReadView}
 use Rattle.desk_feed.specs.declared.feed.Feed.{Feed}
 use Rattle.desk_feed.specs.Feed.{said_of, standing}
-use Rattle.desk_feed.specs.Judging.{Does, EndsBy, refused_of, said_in}
+use Rattle.desk_feed.specs.Judging.{IsGivenOf, refused_of}
 use Rattle.desk_feed.specs.Schedule.{IsMatrixFor}
-use Rattle.plan_commands.specs.Check.{EndsAs, IsChecked, Proves, check_asked, checked, claim_in, claim_outcome, verdict_outcome}
+use Rattle.plan_commands.specs.Check.{Proves, check_does, checked, claim_in, claim_outcome, verdict_outcome}
 use Rattle.plan_commands.proofs.ScheduleLemmas.{outcome-same}
 
 -- a verdict is put alone: no file is written, and no lines are appended
@@ -29,12 +28,11 @@ put-alone refused timetable matrix (Ok claimed) = by (verdict_of timetable matri
     by (Yes vehicles minutes) = (refl, refl)
     by (No reason) = (refl, refl)
 
-module _ (read : ReadView) (feed : Feed) (timetable : TimetableView) (matrix : MatrixView) (says : said_in read ≡ Ok (said_of feed)) (stands : timetable ≡ standing (said_of feed))
-    (is : IsMatrixFor (said_of feed) matrix) where
+module _ (read : ReadView) (feed : Feed) (timetable : TimetableView) (matrix : MatrixView) (stands : timetable ≡ standing (said_of feed)) (is : IsMatrixFor (said_of feed) matrix) where
   -- the verdict on a claim
   pub check-given : {E : Type 0} (result : Result OutcomeView E) (refused : List ℕ) → refused ≡ refused_of (said_of feed) → AreMoves (length timetable.places) (trip_moves timetable.slots)
       → timetable.places ≡ feed.timetable.places → (claim : Result ClaimedView ClaimFault) → claim ≡ claim_in read (said_of feed) → Proves timetable matrix claim
-      → IfOk result (λ outcome. outcome ≡ claim_outcome refused timetable matrix claim) → IfOk result (IsGiven check_asked read)
+      → IfOk result (λ outcome. outcome ≡ claim_outcome refused timetable matrix claim) → IfOk result (IsGivenOf check_does read (said_of feed))
   check-given (Err e) refused refused_is moves places claim claim_is proved done = tt
   check-given (Ok outcome) refused refused_is moves places claim claim_is proved done =
       let said = said_of feed in
@@ -42,9 +40,7 @@ module _ (read : ReadView) (feed : Feed) (timetable : TimetableView) (matrix : M
       let run : AreMoves (length feed.timetable.places) (trip_moves (standing said).slots) =
       subst (λ (t : TimetableView). AreMoves (length feed.timetable.places) (trip_moves t.slots)) stands (subst (λ ps. AreMoves (length ps) (trip_moves timetable.slots)) places moves) in
       record {
-        gives = subst (λ said. Does (IsChecked read) said outcome) (sym says)
-            (record { matrix = matrix; matrix_is = is; done = here; proved = subst (λ (t : TimetableView). Proves t matrix (claim_in read said)) stands (subst (Proves timetable matrix) claim_is proved) });
-        ends = subst (λ said. EndsBy (EndsAs read) said outcome.ending) (sym says)
-            (λ other other_is. ap (λ (o : OutcomeView). o.ending) (here ∙ outcome-same feed.deadheads feed.pulls (length feed.timetable.places) matrix other is other_is (refused_of said) (standing said) run (claim_in read said)));
+        gives = record { matrix = matrix; matrix_is = is; done = here; proved = subst (λ (t : TimetableView). Proves t matrix (claim_in read said)) stands (subst (Proves timetable matrix) claim_is proved) };
+        ends = λ other other_is. ap (λ (o : OutcomeView). o.ending) (here ∙ outcome-same feed.deadheads feed.pulls (length feed.timetable.places) matrix other is other_is (refused_of said) (standing said) run (claim_in read said));
         unkept = λ _. ap (λ (o : OutcomeView). o.lines) here ∙ (put-alone (refused_of said) (standing said) matrix (claim_in read said)).1;
       }

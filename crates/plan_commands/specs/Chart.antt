@@ -7,9 +7,9 @@ use Rattle.deadhead_matrix.specs.Prices.{Plan}
 use Rattle.chart_text.specs.Blocks.{block_chart_text}
 use Rattle.chart_text.specs.Deficits.{deficit_chart_text}
 use Rattle.desk_run.specs.Commands.{Asked}
-use Rattle.desk_feed.specs.Feed.{Said, standing}
-use Rattle.desk_feed.specs.Judging.{showing}
-use Rattle.desk_feed.specs.Schedule.{IsMatrixFor, IsScheduled, most_steps}
+use Rattle.desk_feed.specs.Judging.{of_feed}
+use Rattle.desk_feed.specs.Schedule.{IsMatrixOf, IsScheduled, most_steps}
+use Rattle.desk_feed.specs.Showing.{Stands, TextAsked, showing}
 
 -- the chart of the deficits, and then that of the blocks
 abbrev pub chart_text : TimetableView → MatrixView → List ℕ → List (List ℕ) → List ℕ
@@ -23,11 +23,14 @@ pub record IsChartText (timetable : TimetableView) (matrix : MatrixView) (prefix
   pub scheduled : IsScheduled timetable matrix plan blocks
   pub printed : text ≡ chart_text timetable matrix prefix blocks
 
--- and that of a feed
-pub record IsChart (said : Said) (text : List ℕ) : Type 0 where
+-- and that of what stands after the script of a feed
+pub record IsChart (stands : Stands) (text : List ℕ) : Type 0 where
   pub matrix : MatrixView
-  pub matrix_is : IsMatrixFor said matrix
-  pub chart : IsChartText (standing said) matrix said.settings.prefix text
+  pub matrix_is : IsMatrixOf stands.entries stands.pulls (length stands.timetable.places) matrix
+  pub chart : IsChartText stands.timetable matrix stands.settings.prefix text
+
+abbrev pub chart_shown : TextAsked
+chart_shown = record { Shows = IsChart; most = λ timetable. most_steps (length timetable.slots) }
 
 abbrev pub chart_asked : Asked
-chart_asked = showing IsChart (λ said. most_steps (length (standing said).slots))
+chart_asked = of_feed (showing chart_shown)

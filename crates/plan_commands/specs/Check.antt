@@ -1,5 +1,5 @@
 -- What `check` asks, and what it puts of a feed and of the two files of a claim.
-use Rattle.std.specs.Prelude.{◌≡◌, ℕ, ◌∷◌, [], List, ◌++◌, length, None, codes, Result, Ok, Err}
+use Rattle.std.specs.Prelude.{◌≡◌, ℕ, false, ◌∷◌, [], List, ◌++◌, length, None, codes, Result, Ok, Err}
 use Rattle.std.specs.Fmt.{decimal}
 use Rattle.gtfs_tables.specs.declared.paper.Paper.{Paper}
 use Rattle.gtfs_tables.specs.declared.paper.Paper.TheVariants as paper
@@ -21,7 +21,7 @@ use Rattle.desk_run.specs.declared.status.Ending.{Ending}
 use Rattle.desk_run.specs.declared.status.Ending.TheVariants as ending
 use Rattle.desk_feed.specs.Edited.{refusing_first}
 use Rattle.desk_feed.specs.Feed.{Said, feed_papers, standing}
-use Rattle.desk_feed.specs.Judging.{of_feed, refused_of}
+use Rattle.desk_feed.specs.Judging.{FeedAsked, of_feed, refused_of}
 use Rattle.desk_feed.specs.Schedule.{IsMatrixFor}
 
 -- the line of a yes, with the vehicles and the empty minutes of the blocks
@@ -63,9 +63,15 @@ pub record IsChecked (read : ReadView) (said : Said) (outcome : OutcomeView) : T
 abbrev pub EndsAs : ReadView → Said → Ending → Type 0
 EndsAs read said end = (matrix : MatrixView) → IsMatrixFor said matrix → end ≡ (checked read said matrix).ending
 
--- the papers of a feed, and then the two files of a claim
+-- the two files of a claim, which are read after the papers of a feed
+abbrev pub own_papers : List Paper
+own_papers = paper.Blocks ∷ paper.Prices ∷ []
+
 abbrev pub claim_papers : List Paper
-claim_papers = feed_papers ++ paper.Blocks ∷ paper.Prices ∷ []
+claim_papers = feed_papers ++ own_papers
+
+abbrev pub check_does : FeedAsked
+check_does = record { further = own_papers; keeps = false; Ends = EndsAs; Gives = IsChecked; most = λ read said. 0 }
 
 abbrev pub check_asked : Asked
-check_asked = of_feed claim_papers EndsAs IsChecked (λ said. 0)
+check_asked = of_feed check_does

@@ -1,20 +1,18 @@
 ghost use Rattle.std.specs.Prelude.{◌≡◌, ◌+◌, ◌≤◌, length, IfOk};
 ghost use Rattle.desk_feed.specs.Schedule.{most_steps};
-ghost use Rattle.desk_run.specs.Causes.{HasCause, IsComplete};
-ghost use Rattle.desk_run.specs.Commands.{IsCounted};
-ghost use Rattle.desk_run.specs.Runs.{RunsAs};
+ghost use Rattle.desk_run.specs.Performs.{Performs};
 ghost use Rattle.desk_run.specs.World.{world};
 ghost use Rattle.plan_commands.specs.Chart.{IsChartText, chart_asked};
 
 use chart_text::{block_chart, deficit_chart};
-use deadhead_matrix::Matrix;
+use deadhead_matrix::{Deadheads, Matrix, Pulls};
 use deficit_steps::deficits_of;
-use desk_feed::{FEED_PAPERS, Judged, after_script, judge_feed, matrix_of, putting_after};
+use desk_feed::{AfterScript, OnFeed, TextCommand, matrix_of};
 use desk_io::{Memory, Shelf, Sink, Steps, Text};
 use desk_keeper::Keeper;
-use desk_run::{Command, Outcome, Read, perform};
+use desk_run::perform;
+use desk_settings::Settings;
 use feed_schedule::schedule_of;
-use gtfs_tables::Paper;
 use std::alloc::Global;
 use std::sync::ledger::Ledger;
 use trip_model::Timetable;
@@ -38,39 +36,25 @@ fn charts<L: Ledger>(
     Ok(Text::wrap(format!(in alloc; "{}{}", above.as_str(), below.as_str())?))
 }
 
+#[derive(Drop)]
 struct ShowChart;
 
-impl Command for ShowChart {
-    ghost use Rattle.plan_commands.specs.Chart.{chart_asked};
+impl TextCommand for ShowChart {
+    ghost use Rattle.plan_commands.specs.Chart.{chart_shown};
 
-    ghost asked = { λ _. chart_asked };
+    ghost asks = { λ _. chart_shown };
 
-    fn papers(&self) -> &[Paper] {
-        &FEED_PAPERS
-    }
-
-    fn keeps(&self) -> bool {
-        false
-    }
-
-    fn outcome<L: Ledger>(
+    fn text<L: Ledger>(
         &self,
         alloc: Global,
-        read: &Read,
+        settings: &Settings,
+        timetable: &Timetable,
+        deadheads: &Deadheads,
+        pulls: Pulls,
         steps: &mut Steps<L>,
-    ) -> Result<Outcome, Memory> {
-        match judge_feed(alloc, read)? {
-            Judged::Refused(outcome) => Ok(outcome),
-            Judged::Accepted(feed) => {
-                let base = feed.timetable;
-                let pulls = feed.pulls;
-                let matrix = matrix_of(alloc, &base, &feed.deadheads, pulls)?;
-                let edited = after_script(alloc, base, &feed.lines)?;
-                let timetable = edited.script.timetable();
-                let text = charts(alloc, timetable, &matrix, feed.settings.prefix(), steps)?;
-                putting_after(alloc, &edited.refused, &text, edited.ending)
-            }
-        }
+    ) -> Result<Text, Memory> {
+        let matrix = matrix_of(alloc, timetable, deadheads, pulls)?;
+        charts(alloc, timetable, &matrix, settings.prefix(), steps)
     }
 }
 
@@ -82,13 +66,15 @@ pub fn run_chart<S: Shelf, O: Sink, K: Keeper, L: Ledger>(
     keeper: &mut K,
     steps: &mut Steps<L>,
 ) -> u8
-    ensures run { let at = world S.state O.state K.state in
-        RunsAs chart_asked (at shelf.old out.old keeper.old) (at shelf.new out.new keeper.new) result }
-    ensures cause { let at = world S.state O.state K.state in
-        HasCause chart_asked (at shelf.old out.old keeper.old) (at shelf.new out.new keeper.new) result }
-    ensures complete { let at = world S.state O.state K.state in
-        IsComplete chart_asked (at shelf.old out.old keeper.old) (at shelf.new out.new keeper.new) result }
-    ensures counted { IsCounted chart_asked (world S.state O.state K.state shelf.old out.old keeper.old) steps.old steps.new }
+    ensures { let at = world S.state O.state K.state in
+        Performs chart_asked (at shelf.old out.old keeper.old) (at shelf.new out.new keeper.new) result steps.old steps.new }
 {
-    perform(&ShowChart, alloc, shelf, out, keeper, steps)
+    perform(
+        &OnFeed(AfterScript(ShowChart)),
+        alloc,
+        shelf,
+        out,
+        keeper,
+        steps,
+    )
 }

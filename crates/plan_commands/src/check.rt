@@ -4,19 +4,17 @@ ghost use Rattle.trip_model.specs.Plain.{trip_moves, AreMoves};
 ghost use Rattle.price_check.specs.Claim.{AreBlockRows, ArePriceRows};
 ghost use Rattle.price_check.specs.Reasons.{verdict_of};
 ghost use Rattle.claim_files.specs.Claims.{claimed_of};
-ghost use Rattle.desk_run.specs.Causes.{HasCause, IsComplete};
-ghost use Rattle.desk_run.specs.Commands.{IsCounted};
-ghost use Rattle.desk_run.specs.Runs.{RunsAs};
+ghost use Rattle.desk_run.specs.Performs.{Performs};
 ghost use Rattle.desk_run.specs.World.{world};
 ghost use Rattle.plan_commands.specs.Check.{Proves, check_asked, claim_outcome, verdict_outcome};
 
 use claim_files::laws::{rows_law, told_law};
 use claim_files::{ClaimFault, claim_line, read_claimed, reason_line};
 use deadhead_matrix::Matrix;
-use desk_feed::{Judged, after_script, judge_feed, matrix_of, putting_after};
+use desk_feed::{Feed, FeedCommand, OnFeed, after_script, matrix_of, putting_after};
 use desk_io::{Found, Memory, Shelf, Sink, Steps, Text};
 use desk_keeper::Keeper;
-use desk_run::{Command, Ending, Outcome, Read, perform};
+use desk_run::{Ending, Outcome, Read, perform};
 use gtfs_tables::Paper;
 use price_check::laws::{certificate_law, least_law};
 use price_check::{Claimed, Verdict, check};
@@ -100,12 +98,13 @@ fn checked(
     }
 }
 
+#[derive(Drop)]
 struct CheckClaim;
 
-impl Command for CheckClaim {
-    ghost use Rattle.plan_commands.specs.Check.{check_asked};
+impl FeedCommand for CheckClaim {
+    ghost use Rattle.plan_commands.specs.Check.{check_does};
 
-    ghost asked = { λ _. check_asked };
+    ghost asks = { λ _. check_does };
 
     fn papers(&self) -> &[Paper] {
         &CLAIM_PAPERS
@@ -119,26 +118,26 @@ impl Command for CheckClaim {
         &self,
         alloc: Global,
         read: &Read,
+        feed: Feed,
         _steps: &mut Steps<L>,
     ) -> Result<Outcome, Memory> {
-        match judge_feed(alloc, read)? {
-            Judged::Refused(outcome) => Ok(outcome),
-            Judged::Accepted(feed) => {
-                let base = feed.timetable;
-                let pulls = feed.pulls;
-                let matrix = matrix_of(alloc, &base, &feed.deadheads, pulls)?;
-                let edited = after_script(alloc, base, &feed.lines)?;
-                let timetable = edited.script.timetable();
-                let blocks = read.found(Paper::Blocks);
-                let prices = read.found(Paper::Prices);
-                checked(alloc, &edited.refused, timetable, &matrix, blocks, prices)
-            }
-        }
+        let Feed {
+            settings: _settings,
+            timetable,
+            deadheads,
+            pulls,
+            lines,
+        } = feed;
+        let matrix = matrix_of(alloc, &timetable, &deadheads, pulls)?;
+        let edited = after_script(alloc, timetable, &lines)?;
+        let timetable = edited.script.timetable();
+        let blocks = read.found(Paper::Blocks);
+        let prices = read.found(Paper::Prices);
+        checked(alloc, &edited.refused, timetable, &matrix, blocks, prices)
     }
 }
 
-/// The command `check`: whether `blocks.csv` and `prices.csv` prove that their blocks are least, and else why not. It answers
-/// the status.
+/// The command `check`: whether `blocks.csv` and `prices.csv` prove that their blocks are least, and else why not. It answers the status.
 pub fn run_check<S: Shelf, O: Sink, K: Keeper, L: Ledger>(
     alloc: Global,
     shelf: &mut S,
@@ -146,13 +145,8 @@ pub fn run_check<S: Shelf, O: Sink, K: Keeper, L: Ledger>(
     keeper: &mut K,
     steps: &mut Steps<L>,
 ) -> u8
-    ensures run { let at = world S.state O.state K.state in
-        RunsAs check_asked (at shelf.old out.old keeper.old) (at shelf.new out.new keeper.new) result }
-    ensures cause { let at = world S.state O.state K.state in
-        HasCause check_asked (at shelf.old out.old keeper.old) (at shelf.new out.new keeper.new) result }
-    ensures complete { let at = world S.state O.state K.state in
-        IsComplete check_asked (at shelf.old out.old keeper.old) (at shelf.new out.new keeper.new) result }
-    ensures counted { IsCounted check_asked (world S.state O.state K.state shelf.old out.old keeper.old) steps.old steps.new }
+    ensures { let at = world S.state O.state K.state in
+        Performs check_asked (at shelf.old out.old keeper.old) (at shelf.new out.new keeper.new) result steps.old steps.new }
 {
-    perform(&CheckClaim, alloc, shelf, out, keeper, steps)
+    perform(&OnFeed(CheckClaim), alloc, shelf, out, keeper, steps)
 }

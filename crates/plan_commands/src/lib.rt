@@ -2,17 +2,16 @@
 //! hands in is least.
 //!
 //! [`run_chart`] draws the deficits and the blocks of a plan, and [`run_check`] judges the two files of a claim. Each is a whole
-//! run over any shelf, sink and keeper, with its `Command` of `desk_run`: what it asks (`chart_asked`, `check_asked`).
+//! run over any shelf, sink and keeper, of a `TextCommand` and of a `FeedCommand` of `desk_feed`.
 //!
-//! The contract that the crates above use: a run is one of what its command asks, with the cause of its status, which status
-//! comes where no fault was counted, and the most steps that it counts.
+//! The contract that the crates above use: a run performs what its command asks (`chart_asked`, `check_asked`).
 //!
 //! ```text
 //! let status = run_check(alloc, shelf, out, keeper, steps);
 //! ```
 //!
-//! The contracts cite `Chart` and `Check` (what each command asks and does); of `desk_run` `Runs`, `Causes` and `Commands`, and
-//! of `desk_feed` `Feed`, `Judging`, `Edited` and `Schedule`.
+//! The contracts cite `Chart` and `Check` (what each command asks and does), of `desk_run` `Performs`, and of `desk_feed` `Feed`,
+//! `Judging`, `Showing`, `Edited` and `Schedule`.
 #![tactic(auto)]
 
 mod chart;

@@ -7,9 +7,7 @@ use Rattle.gtfs_tables.specs.Papers.{file_name_of}
 use Rattle.gtfs_tables.specs.declared.paper.Paper.{Paper}
 use Rattle.gtfs_tables.specs.declared.paper.Paper.TheVariants as paper
 use Rattle.gtfs_tables.specs.declared.paper.TheConstants.{MOST_BYTES}
-use Rattle.desk_run.specs.Causes.{HasCause, IsComplete}
-use Rattle.desk_run.specs.Commands.{IsCounted}
-use Rattle.desk_run.specs.Runs.{RunsAs}
+use Rattle.desk_run.specs.Performs.{Performs}
 use Rattle.desk_run.specs.World.{World}
 use Rattle.desk_run.specs.declared.status.TheConstants.{DONE, EDITS_REFUSED, NO}
 use Rattle.desk_commands.specs.Answers.{numbers_line}
@@ -42,11 +40,5 @@ Confirms before after first second =
 pub record RunsInTurn (before after : World) (first second old new : ℕ) : Type 0 where
   pub between : World
   pub steps : ℕ
-  pub blocks_runs : RunsAs blocks_asked before between first
-  pub blocks_cause : HasCause blocks_asked before between first
-  pub blocks_complete : IsComplete blocks_asked before between first
-  pub blocks_counted : IsCounted blocks_asked before old steps
-  pub check_runs : RunsAs check_asked between after second
-  pub check_cause : HasCause check_asked between after second
-  pub check_complete : IsComplete check_asked between after second
-  pub check_counted : IsCounted check_asked between steps new
+  pub blocks : Performs blocks_asked before between first old steps
+  pub check : Performs check_asked between after second steps new

@@ -7,23 +7,19 @@ use Rattle.gtfs_tables.specs.declared.fault.FeedFault.{FeedFault}
 use Rattle.gtfs_tables.specs.declared.paper.Column.{Column}
 use Rattle.gtfs_tables.specs.declared.paper.Paper.{Paper}
 use Rattle.block_writer.specs.Texts.{AreTexts, IsFirstBad, record_at}
-use Rattle.desk_run.specs.Commands.{IsGiven}
 use Rattle.desk_run.specs.Outcome.{OutcomeView}
 use Rattle.desk_run.specs.Reading.{ReadView}
-use Rattle.desk_feed.specs.declared.feed.Feed.{Feed}
-use Rattle.desk_feed.specs.Feed.{Said, said_of}
-use Rattle.desk_feed.specs.Judging as judging
-use Rattle.desk_feed.specs.Judging.{Does, said_in}
+use Rattle.desk_feed.specs.Feed.{Said}
+use Rattle.desk_feed.specs.Judging.{IsGivenOf}
 use Rattle.desk_settings.specs.Settings.{SettingsView}
 use Rattle.trip_model.specs.Timetable.{TimetableView}
 use Rattle.deadhead_matrix.specs.Matrix.{MatrixView}
-use Rattle.desk_io.specs.declared.memory.Memory.{Memory}
 use Rattle.desk_feed.specs.declared.script.Edited.{Edited}
 use Rattle.desk_feed.specs.Edited.{IsEdited}
 use Rattle.desk_feed.specs.Schedule.{IsMatrixFor, IsScheduled}
 use Rattle.written_feed.specs.declared.write.Writable.TheVariants.{Tables, Refused}
 use Rattle.written_feed.specs.Writable.{IsWritable, IsWrittenOf}
-use Rattle.written_feed.specs.Write.{Ends, EndsBy, EndsOf, IsRefusedTable, IsWritten, Writes, WritesBy, WritesOf, files_of, stop_times_in, trips_in, write_asked, written_line}
+use Rattle.written_feed.specs.Write.{EndsBy, EndsOf, IsRefusedTable, IsWritten, Writes, WritesBy, WritesOf, files_of, stop_times_in, trips_in, write_does, written_line}
 
 -- a table with a field that is not UTF-8 is not one of texts
 bad-table : (table : TableView) (number place : ℕ) → IsFirstBad table number place → ¬ AreTexts table
@@ -63,12 +59,12 @@ unkept-by said (Err refused) stop_times outcome does = ap (λ (o : OutcomeView).
 unkept-by said (Ok trips) (Err refused) outcome does = ap (λ (o : OutcomeView). o.lines) does
 unkept-by said (Ok trips) (Ok stop_times) outcome does = unkept-of said trips stop_times outcome does
 
-pub write-given : {E : Type 0} (read : ReadView) (feed : Feed) → said_in read ≡ Ok (said_of feed) → (result : Result OutcomeView E) → IfOk result (Writes read (said_of feed)) → IfOk result (IsGiven write_asked read)
-write-given read feed says (Err e) does = tt
-write-given read feed says (Ok outcome) does = record {
-  gives = subst (λ said. Does (Writes read) said outcome) (sym says) does;
-  ends = subst (λ said. judging.EndsBy (Ends read) said outcome.ending) (sym says) (ends-by (said_of feed) (trips_in read) (stop_times_in read) outcome does);
-  unkept = λ _. unkept-by (said_of feed) (trips_in read) (stop_times_in read) outcome does;
+pub write-given : {E : Type 0} (read : ReadView) (said : Said) (result : Result OutcomeView E) → IfOk result (Writes read said) → IfOk result (IsGivenOf write_does read said)
+write-given read said (Err e) does = tt
+write-given read said (Ok outcome) does = record {
+  gives = does;
+  ends = ends-by said (trips_in read) (stop_times_in read) outcome does;
+  unkept = λ _. unkept-by said (trips_in read) (stop_times_in read) outcome does;
 }
 
 -- two tables that may be written are those that were read
@@ -79,22 +75,18 @@ tables-of settings (Ok first) (Err refused) trips stop_times is = absurd is
 tables-of settings (Err refused) other trips stop_times is = absurd is
 
 -- the refusal of one is what is written of them
-refused-by : (said : Said) (one other : Result TableView FeedFault) (outcome : OutcomeView) → IsWritable said.settings one other (Refused outcome) → WritesBy said one other outcome
+pub refused-by : (said : Said) (one other : Result TableView FeedFault) (outcome : OutcomeView) → IsWritable said.settings one other (Refused outcome) → WritesBy said one other outcome
 refused-by said (Ok trips) (Ok stop_times) outcome is = ⊎_elim (λ bad. inl bad) (λ bad. inr (inl bad)) is
 refused-by said (Ok trips) (Err refused) outcome is = is
 refused-by said (Err refused) other outcome is = is
 
-pub refused-given : (read : ReadView) (feed : Feed) → said_in read ≡ Ok (said_of feed) → (outcome : OutcomeView) → IsWritable feed.settings (trips_in read) (stop_times_in read) (Refused outcome) → IsGiven write_asked read outcome
-refused-given read feed says outcome is = write-given {E = Memory} read feed says (Ok outcome) (refused-by (said_of feed) (trips_in read) (stop_times_in read) outcome is)
-
 -- and the two files of the timetable after the script
-pub written-given : {E : Type 0} (read : ReadView) (feed : Feed) (matrix : MatrixView) (edited : Edited) (trips stop_times : TableView) → said_in read ≡ Ok (said_of feed) → IsMatrixFor (said_of feed) matrix
-    → IsEdited feed.timetable feed.lines.items edited → IsWritable feed.settings (trips_in read) (stop_times_in read) (Tables trips stop_times)
-    → (result : Result OutcomeView E) (base : ℕ) → base ≡ length feed.timetable.slots → IfOk result (IsWrittenOf feed.settings matrix edited base trips stop_times) → IfOk result (IsGiven write_asked read)
-written-given read feed matrix edited trips stop_times says is stands tables (Err e) base count written = tt
-written-given read feed matrix edited trips stop_times says is stands tables (Ok outcome) base count written =
-    let said = said_of feed in
-    let were = tables-of feed.settings (trips_in read) (stop_times_in read) trips stop_times tables in
+pub written-given : {E : Type 0} (read : ReadView) (said : Said) (matrix : MatrixView) (edited : Edited) (trips stop_times : TableView) → IsMatrixFor said matrix
+    → IsEdited said.base said.lines edited → IsWritable said.settings (trips_in read) (stop_times_in read) (Tables trips stop_times)
+    → (result : Result OutcomeView E) (base : ℕ) → base ≡ length said.base.slots → IfOk result (IsWrittenOf said.settings matrix edited base trips stop_times) → IfOk result (Writes read said)
+written-given read said matrix edited trips stop_times is stands tables (Err e) base count written = tt
+written-given read said matrix edited trips stop_times is stands tables (Ok outcome) base count written =
+    let were = tables-of said.settings (trips_in read) (stop_times_in read) trips stop_times tables in
     let of : IsWritten said trips stop_times outcome = record {
       matrix = matrix;
       matrix_is = is;
@@ -102,11 +94,11 @@ written-given read feed matrix edited trips stop_times says is stands tables (Ok
       blocks = written.blocks;
       scheduled = subst (λ (t : TimetableView). IsScheduled t matrix written.plan written.blocks) stands.timetable written.scheduled;
       done = written.done ∙ (λ i. record {
-        writes = files_of feed.settings (stands.timetable i) (count i) written.blocks trips stop_times;
+        writes = files_of said.settings (stands.timetable i) (count i) written.blocks trips stop_times;
         lines = None;
         text = stands.refused i ++ written_line;
         ending = stands.ending i;
       });
     } in
     let does : WritesBy said (Ok trips) (Ok stop_times) outcome = inr (inr (were.2, were.3, of)) in
-    write-given {E = Memory} read feed says (Ok outcome) (subst (λ one. WritesBy said one (stop_times_in read) outcome) (sym were.0) (subst (λ other. WritesBy said (Ok trips) other outcome) (sym were.1) does))
+    subst (λ one. WritesBy said one (stop_times_in read) outcome) (sym were.0) (subst (λ other. WritesBy said (Ok trips) other outcome) (sym were.1) does)

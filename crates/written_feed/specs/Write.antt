@@ -23,8 +23,8 @@ use Rattle.desk_run.specs.Reading.{ReadView, found_of}
 use Rattle.desk_run.specs.declared.outcome.Writing.{Writing}
 use Rattle.desk_run.specs.declared.status.Ending.{Ending}
 use Rattle.desk_run.specs.declared.status.Ending.TheVariants as ending
-use Rattle.desk_feed.specs.Feed.{Said, feed_papers, standing}
-use Rattle.desk_feed.specs.Judging.{ending_of, of_feed, refused_of, refusing}
+use Rattle.desk_feed.specs.Feed.{Said, standing}
+use Rattle.desk_feed.specs.Judging.{FeedAsked, ending_of, of_feed, refused_of, refusing}
 use Rattle.desk_feed.specs.Schedule.{IsMatrixFor, IsScheduled, most_steps}
 
 -- the tables of the two papers, or why one is none; an accepted feed has both
@@ -128,9 +128,15 @@ EndsBy said (Ok trips) (Ok stop_times) end = EndsOf said trips stop_times end
 abbrev pub Ends : ReadView → Said → Ending → Type 0
 Ends read said end = EndsBy said (trips_in read) (stop_times_in read) end
 
--- the most steps: those of a plan from scratch
-abbrev pub steps_of : Said → ℕ
-steps_of said = most_steps (length (standing said).slots)
+-- with the most steps of a plan from scratch
+abbrev pub write_does : FeedAsked
+write_does = record {
+  further = [];
+  keeps = false;
+  Ends = Ends;
+  Gives = Writes;
+  most = λ read said. most_steps (length (standing said).slots);
+}
 
 abbrev pub write_asked : Asked
-write_asked = of_feed feed_papers Ends Writes steps_of
+write_asked = of_feed write_does

@@ -1,48 +1,29 @@
-ghost use Rattle.std.specs.Prelude.{◌≡◌, ◌≢◌, ◌+◌, ◌<◌, ◌≤◌, length, All, IfOk};
+ghost use Rattle.std.specs.Prelude.{◌≡◌, ◌+◌, ◌<◌, ◌≤◌, length, All, IfOk};
 ghost use Rattle.block_writer.specs.Texts.{AreTexts};
-ghost use Rattle.desk_feed.specs.Feed.{HasPapers};
-ghost use Rattle.desk_feed.specs.Judging.{refusing};
+ghost use Rattle.desk_feed.specs.Edited.{standing_after};
+ghost use Rattle.desk_feed.specs.Feed.{HasPapers, said_with};
 ghost use Rattle.desk_feed.specs.Schedule.{most_steps};
-ghost use Rattle.desk_run.specs.Causes.{HasCause, IsComplete};
-ghost use Rattle.desk_run.specs.Commands.{IsCounted};
-ghost use Rattle.desk_run.specs.Runs.{RunsAs};
+ghost use Rattle.desk_feed.specs.Script.{IsScript};
+ghost use Rattle.desk_run.specs.Performs.{Performs};
 ghost use Rattle.desk_run.specs.World.{world};
-ghost use Rattle.written_feed.specs.Write.{files_of, stop_times_in, trips_in, write_asked};
+ghost use Rattle.written_feed.specs.Write.{Writes, files_of, stop_times_in, trips_in, write_asked};
 ghost use Rattle.written_feed.specs.Writable.{IsWritable, IsWritableOf, IsWrittenOf};
 
 use crate::judging::{STOP_TIME_COLUMNS, chosen_in, refusal, trip_columns};
 use block_build::Blocks;
 use block_writer::{stop_times_text, trips_text};
-use deadhead_matrix::Matrix;
-use desk_feed::{Edited, FEED_PAPERS, Judged, after_script, judge_feed, matrix_of};
-use desk_io::{Bytes, Memory, Shelf, Sink, Steps, Text};
+use deadhead_matrix::{Deadheads, Matrix, Pulls};
+use desk_feed::{Edited, FEED_PAPERS, Feed, FeedCommand, OnFeed, after_script, matrix_of, refuse};
+use desk_io::{Memory, Shelf, Sink, Steps, Text};
 use desk_keeper::Keeper;
-use desk_run::{Command, Ending, Outcome, Read, Writing, perform};
+use desk_run::{Outcome, Read, Writing, perform};
 use desk_settings::Settings;
+use edit_script::Line;
 use feed_schedule::schedule_of;
-use gtfs_tables::{FeedFault, Paper, Table, feed_line, table_in};
+use gtfs_tables::{FeedFault, Paper, Table, table_in};
 use std::alloc::Global;
 use std::sync::ledger::Ledger;
 use trip_model::Timetable;
-
-// A file with a text.
-fn writing(alloc: Global, name: &str, text: &Text) -> Result<Writing, Memory>
-    ensures { IfOk result (λ writing. writing ≡ record { name = name.now; bytes = text.now }) }
-{
-    Ok(Writing {
-        name: Text::of(alloc, name)?,
-        bytes: Bytes::of(alloc, text.as_str().as_bytes())?,
-    })
-}
-
-// What is done of a feed that is refused: the line of its refusal is put.
-fn refused(alloc: Global, refused: &FeedFault) -> Result<Outcome, Memory>
-    requires { refused.now ≢ FeedFault.Memory }
-    ensures { IfOk result (λ outcome. outcome ≡ refusing refused.now) }
-{
-    let line = feed_line(alloc, refused)?;
-    Ok(Outcome::putting(alloc, line, Ending::FeedRefused))
-}
 
 // The two tables of a feed, or what is done where they may not be written.
 #[derive(Drop)]
@@ -61,10 +42,10 @@ fn judged(
     ensures { IfOk result (IsWritableOf settings.now trips stop_times) }
 {
     if let Some(fault) = refusal(Paper::Trips, trip_columns(settings), &trips) {
-        return Ok(Writable::Refused(refused(alloc, &fault)?));
+        return Ok(Writable::Refused(refuse(alloc, &fault)?));
     }
     if let Some(fault) = refusal(Paper::StopTimes, &STOP_TIME_COLUMNS, &stop_times) {
-        return Ok(Writable::Refused(refused(alloc, &fault)?));
+        return Ok(Writable::Refused(refuse(alloc, &fault)?));
     }
     Ok(Writable::Tables(trips, stop_times))
 }
@@ -79,12 +60,12 @@ fn read_tables(alloc: Global, settings: &Settings, read: &Read) -> Result<Writab
     let trips = match table_in(alloc, Paper::Trips, trips) {
         Ok(trips) => trips,
         Err(FeedFault::Memory) => return Err(Memory),
-        Err(fault) => return Ok(Writable::Refused(refused(alloc, &fault)?)),
+        Err(fault) => return Ok(Writable::Refused(refuse(alloc, &fault)?)),
     };
     let stop_times = match table_in(alloc, Paper::StopTimes, stop_times) {
         Ok(stop_times) => stop_times,
         Err(FeedFault::Memory) => return Err(Memory),
-        Err(fault) => return Ok(Writable::Refused(refused(alloc, &fault)?)),
+        Err(fault) => return Ok(Writable::Refused(refuse(alloc, &fault)?)),
     };
     judged(alloc, settings, trips, stop_times)
 }
@@ -109,8 +90,8 @@ fn files(
     let prefix = settings.prefix();
     let first = trips_text(alloc, trips, timetable, &chosen, blocks, prefix)?;
     let second = stop_times_text(alloc, stop_times, timetable, base)?;
-    let first = writing(alloc, "trips_blocks.txt", &first)?;
-    let second = writing(alloc, "stop_times_blocks.txt", &second)?;
+    let first = Writing::of(alloc, "trips_blocks.txt", &first)?;
+    let second = Writing::of(alloc, "stop_times_blocks.txt", &second)?;
     Ok(vec![in alloc; first, second]?)
 }
 
@@ -140,12 +121,49 @@ fn written<L: Ledger>(
     Ok(Outcome::of(writes, None, Text::wrap(text), edited.ending))
 }
 
+// What is written and put of what a feed says.
+fn written_of<L: Ledger>(
+    alloc: Global,
+    read: &Read,
+    settings: &Settings,
+    timetable: Timetable,
+    deadheads: &Deadheads,
+    pulls: Pulls,
+    lines: &[Line],
+    steps: &mut Steps<L>,
+) -> Result<Outcome, Memory>
+    requires papers { HasPapers read.now.pages }
+    requires pulls { length pulls ≡ length timetable.places }
+    requires script { IsScript lines.now }
+    ensures writes { IfOk result (Writes read.now (said_with settings.now timetable deadheads.now pulls lines.now)) }
+    ensures counted { steps.new ≤ steps.old + most_steps (length (standing_after timetable lines.now).slots) }
+{
+    let (trips, stop_times) = match read_tables(alloc, settings, read)? {
+        Writable::Refused(outcome) => return Ok(outcome),
+        Writable::Tables(trips, stop_times) => (trips, stop_times),
+    };
+    let slots = timetable.slots();
+    let matrix = matrix_of(alloc, &timetable, deadheads, pulls)?;
+    let edited = after_script(alloc, timetable, lines)?;
+    written(
+        alloc,
+        settings,
+        &matrix,
+        &edited,
+        slots,
+        &trips,
+        &stop_times,
+        steps,
+    )
+}
+
+#[derive(Drop)]
 struct WriteFeed;
 
-impl Command for WriteFeed {
-    ghost use Rattle.written_feed.specs.Write.{write_asked};
+impl FeedCommand for WriteFeed {
+    ghost use Rattle.written_feed.specs.Write.{write_does};
 
-    ghost asked = { λ _. write_asked };
+    ghost asks = { λ _. write_does };
 
     fn papers(&self) -> &[Paper] {
         &FEED_PAPERS
@@ -159,31 +177,18 @@ impl Command for WriteFeed {
         &self,
         alloc: Global,
         read: &Read,
+        feed: Feed,
         steps: &mut Steps<L>,
     ) -> Result<Outcome, Memory> {
-        let feed = match judge_feed(alloc, read)? {
-            Judged::Refused(outcome) => return Ok(outcome),
-            Judged::Accepted(feed) => feed,
-        };
-        let (trips, stop_times) = match read_tables(alloc, &feed.settings, read)? {
-            Writable::Refused(outcome) => return Ok(outcome),
-            Writable::Tables(trips, stop_times) => (trips, stop_times),
-        };
-        let base = feed.timetable;
-        let pulls = feed.pulls;
-        let slots = base.slots();
-        let matrix = matrix_of(alloc, &base, &feed.deadheads, pulls)?;
-        let edited = after_script(alloc, base, &feed.lines)?;
-        let settings = &feed.settings;
-        written(
-            alloc,
+        let Feed {
             settings,
-            &matrix,
-            &edited,
-            slots,
-            &trips,
-            &stop_times,
-            steps,
+            timetable,
+            deadheads,
+            pulls,
+            lines,
+        } = feed;
+        written_of(
+            alloc, read, &settings, timetable, &deadheads, pulls, &lines, steps,
         )
     }
 }
@@ -197,13 +202,8 @@ pub fn run_write<S: Shelf, O: Sink, K: Keeper, L: Ledger>(
     keeper: &mut K,
     steps: &mut Steps<L>,
 ) -> u8
-    ensures run { let at = world S.state O.state K.state in
-        RunsAs write_asked (at shelf.old out.old keeper.old) (at shelf.new out.new keeper.new) result }
-    ensures cause { let at = world S.state O.state K.state in
-        HasCause write_asked (at shelf.old out.old keeper.old) (at shelf.new out.new keeper.new) result }
-    ensures complete { let at = world S.state O.state K.state in
-        IsComplete write_asked (at shelf.old out.old keeper.old) (at shelf.new out.new keeper.new) result }
-    ensures counted { IsCounted write_asked (world S.state O.state K.state shelf.old out.old keeper.old) steps.old steps.new }
+    ensures { let at = world S.state O.state K.state in
+        Performs write_asked (at shelf.old out.old keeper.old) (at shelf.new out.new keeper.new) result steps.old steps.new }
 {
-    perform(&WriteFeed, alloc, shelf, out, keeper, steps)
+    perform(&OnFeed(WriteFeed), alloc, shelf, out, keeper, steps)
 }

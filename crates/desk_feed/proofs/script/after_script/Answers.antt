@@ -27,10 +27,10 @@ loop-n-preserved c =
     let n = c.loop-n.n in
     let here : c.index-lines-n.result ≡ spec.line_at lines n = get_or_read lines n c.index-lines-n.result c.loop-n-test.true c.index-lines-n.is line.NotAnEdit in
     let step = subst (λ line. (c.in_ok-refused.refused ≡ spec.refusal_in (state_after base (machine base (first_records lines n)) (spec.numbered (n + 1) line)))
-    × IsAt base (machine base (first_records lines n ++ spec.numbered (n + 1) line ∷ [])) c.step.new.script) here
+    × IsAt base (machine base (first_records lines n ++ spec.numbered (n + 1) line ∷ [])) c.step_script.new.script) here
     (c.in_ok-refused.ensures.stepped base (first_records lines n) c.loop-n.invariant.at) in
     record {
-      at = subst (λ records. IsAt base (machine base records) c.step.new.script) (sym (first-next lines n (n + 1) refl)) step.1;
+      at = subst (λ records. IsAt base (machine base records) c.step_script.new.script) (sym (first-next lines n (n + 1) refl)) step.1;
       last = search rules;
       text = c.in_ok-push_if_refused.ensures ∙ (λ i. c.loop-n.invariant.text i ++ refusal_text (n + 1) (here i) (step.0 i)) ∙ sym (refused-next base lines n (n + 1) refl);
       some = (λ i. c.loop-n.invariant.some i || (c.is_some-some.ensures ∙ ap is_some step.0) i) ∙ sym (some-next base lines n (n + 1) refl);

@@ -6,14 +6,8 @@ pub returns-clause-runs : goal.returns-clause-runs
 returns-clause-runs g c = record {
   between = _;
   steps = _;
-  blocks_runs = c.run_blocks-first.ensures.run;
-  blocks_cause = c.run_blocks-first.ensures.cause;
-  blocks_complete = c.run_blocks-first.ensures.complete;
-  blocks_counted = c.run_blocks-first.ensures.counted;
-  check_runs = c.run_check-second.ensures.run;
-  check_cause = c.run_check-second.ensures.cause;
-  check_complete = c.run_check-second.ensures.complete;
-  check_counted = c.run_check-second.ensures.counted;
+  blocks = c.run_blocks-first.ensures;
+  check = c.run_check-second.ensures;
 }
 
 pub returns-clause-confirmed : goal.returns-clause-confirmed

@@ -4,7 +4,7 @@ use Rattle.edit_script.specs.Script.{stepped}
 use Rattle.edit_script.specs.declared.fault.EditFault.TheVariants as fault
 use Rattle.desk_feed.specs.Script.{IsStepped, refusal_in}
 use Rattle.desk_feed.proofs.ScriptLemmas.{none-refused, refusal-named}
-use Rattle.desk_feed.proofs.script.step.Goals as goal
+use Rattle.desk_feed.proofs.script.step_script.Goals as goal
 
 pub returns-in_default-step-clause-stepped : goal.returns-in_default-step-clause-stepped
 returns-in_default-step-clause-stepped c =

@@ -1,0 +1,38 @@
+-- What a command asks that puts a text of the timetable after the script.
+use Rattle.std.specs.Prelude.{◌≡◌, ℕ, List}
+use Rattle.desk_settings.specs.Settings.{SettingsView}
+use Rattle.trip_model.specs.Timetable.{TimetableView}
+use Rattle.deadhead_matrix.specs.declared.entry.Entry.{Entry}
+use Rattle.deadhead_matrix.specs.declared.pulls.Pull.{Pull}
+use Rattle.desk_run.specs.Outcome.{OutcomeView}
+use Rattle.desk_feed.specs.Edited.{refusing_first}
+use Rattle.desk_feed.specs.Feed.{Said, standing}
+use Rattle.desk_feed.specs.Judging.{FeedAsked, doing, ending_of, refused_of}
+
+-- what stands after the script of a feed
+pub record Stands : Type 0 where
+  pub settings : SettingsView
+  pub timetable : TimetableView
+  pub entries : List Entry
+  pub pulls : List Pull
+
+abbrev pub stands_with : SettingsView → TimetableView → List Entry → List Pull → Stands
+stands_with settings timetable entries pulls = record { settings = settings; timetable = timetable; entries = entries; pulls = pulls }
+
+abbrev pub stands_after : Said → Stands
+stands_after said = stands_with said.settings (standing said) said.entries said.pulls
+
+-- which texts a command may put of that, and how many steps it may count
+pub record TextAsked : Type 1 where
+  pub Shows : Stands → List ℕ → Type 0
+  pub most : TimetableView → ℕ
+
+-- an outcome that puts the lines of the refused records and then such a text, and nothing else
+pub record Puts (asks : TextAsked) (said : Said) (outcome : OutcomeView) : Type 0 where
+  pub text : List ℕ
+  pub shown : asks.Shows (stands_after said) text
+  pub alone : outcome ≡ refusing_first (refused_of said) text (ending_of said)
+
+-- what such a command asks of a feed
+abbrev pub showing : TextAsked → FeedAsked
+showing asks = doing (Puts asks) (λ said. asks.most (standing said))
