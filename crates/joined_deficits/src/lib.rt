@@ -1,0 +1,31 @@
+//! Joined deficits and running boards: the moves of the vehicles of blocks, with the deadheads put in.
+//!
+//! [`joined_moves`] lists what the vehicles of blocks do, trip by trip, with the deadheads between the trips that take time.
+//! [`joined_deficits`] holds such moves, [`joined_lines`] prints the deficits beside those without deadheads, and
+//! [`boards_text`] makes the text of `boards.csv`, the running board of each block.
+//!
+//! The contract that the crates above use: of least blocks, the sum of the maxima of the joined moves is the number of the
+//! blocks ([`laws::joined_law`]). So with the deadheads of least blocks put in, every vehicle is seen in the deficits.
+//!
+//! ```text
+//! let moves = joined_moves(alloc, &timetable, &matrix, &blocks)?;
+//! let joined = joined_deficits(alloc, timetable.places(), &moves, &mut steps)?;
+//! let text = joined_lines(alloc, &timetable, &joined, &before, blocks.len())?;
+//! ```
+//!
+//! The contracts cite `Joined` (the joined moves), `Boards` (the written text) and `Lines` (the printed one); of `trip_model`
+//! `Blocking`, `Deficit`, `Maximum`, `Plain` and `Timetable`; of `deadhead_matrix` `Fitting` and `Matrix`; and of
+//! `deficit_steps` `Holds`.
+#![tactic(auto)]
+
+mod boards;
+mod deficits;
+pub mod laws;
+mod legs;
+mod limits;
+mod lines;
+
+pub use boards::boards_text;
+pub use deficits::{joined_deficits, joined_moves};
+pub use limits::MOST_MOVES;
+pub use lines::joined_lines;

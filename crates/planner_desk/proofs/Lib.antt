@@ -1,0 +1,8 @@
+pub mod Accepted
+pub mod Agreement
+pub mod FieldsRead
+pub mod Folding
+pub mod JudgedShift
+pub mod Slots
+pub mod Under
+pub mod UndoLemmas

@@ -1,0 +1,6 @@
+pub mod Forms
+pub mod Judging
+pub mod Laws
+pub mod Machine
+pub mod Planners
+pub mod Standing
