@@ -8,8 +8,13 @@ use Rattle.desk_commands.specs.Blocks.{blocks_asked}
 use Rattle.plan_commands.specs.Chart.{chart_asked}
 use Rattle.plan_commands.specs.Check.{check_asked}
 use Rattle.written_feed.specs.Write.{write_asked}
+use Rattle.lowering_commands.specs.Chains.{chains_asked}
+use Rattle.lowering_commands.specs.Shifts.{shifts_asked}
+use Rattle.board_commands.specs.Joined.{joined_asked}
+use Rattle.journal_commands.specs.Keep.{keep_asked}
+use Rattle.journal_commands.specs.Kept.{kept_asked}
 use Rattle.blockdesk.specs.declared.command.Command.{Command}
-use Rattle.blockdesk.specs.declared.command.Command.TheVariants.{Deficits, Fixed, Blocks, Check, Write, Chart}
+use Rattle.blockdesk.specs.declared.command.Command.TheVariants.{Deficits, Fixed, Blocks, Check, Write, Chart, Chains, Shifts, Keep, Kept, Joined}
 
 -- the command of that name
 abbrev pub command_named : List ℕ → Option Command
@@ -20,6 +25,11 @@ command_named word =
     else if bytes_eq word (codes "check") then Some Check
     else if bytes_eq word (codes "write") then Some Write
     else if bytes_eq word (codes "chart") then Some Chart
+    else if bytes_eq word (codes "chains") then Some Chains
+    else if bytes_eq word (codes "shifts") then Some Shifts
+    else if bytes_eq word (codes "keep") then Some Keep
+    else if bytes_eq word (codes "kept") then Some Kept
+    else if bytes_eq word (codes "joined") then Some Joined
     else None
 
 -- the command that the words name: a command and a folder
@@ -35,6 +45,11 @@ asked_by Blocks = blocks_asked
 asked_by Check = check_asked
 asked_by Write = write_asked
 asked_by Chart = chart_asked
+asked_by Chains = chains_asked
+asked_by Shifts = shifts_asked
+asked_by Keep = keep_asked
+asked_by Kept = kept_asked
+asked_by Joined = joined_asked
 
 -- the folder that is read and written: the second of two words, but for `sample`, which works on none
 abbrev pub folder_of : List (List ℕ) → List ℕ

@@ -12,7 +12,7 @@ use Rattle.blockdesk.specs.declared.command.Command.{Command}
 
 -- the line that is put for words of no form, with its line feed
 abbrev pub usage_line : List ℕ
-usage_line = codes "usage: blockdesk deficits|fixed|blocks|check|write|chart|chains|shifts|keep|kept FOLDER, or blockdesk sample N" ++ 10 ∷ []
+usage_line = codes "usage: blockdesk deficits|fixed|blocks|check|write|chart|chains|shifts|keep|kept|joined FOLDER, or blockdesk sample N" ++ 10 ∷ []
 
 -- the usage line was put, or a front of it; and nothing else changed
 pub record PutsUsage (before after : World) (status : ℕ) : Type 0 where

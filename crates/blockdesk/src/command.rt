@@ -18,6 +18,16 @@ pub enum Command {
     Write,
     /// Charts of deficits and of blocks.
     Chart,
+    /// Chains of deadheads with which one vehicle less suffices each.
+    Chains,
+    /// Shifts within tolerances with which fewer vehicles suffice.
+    Shifts,
+    /// The accepted edits of the script, appended to the journal.
+    Keep,
+    /// The journal as a script.
+    Kept,
+    /// The deficits with the deadheads of blocks put in, and running boards.
+    Joined,
 }
 
 // The command of that name.
@@ -31,6 +41,11 @@ fn command_named(word: &str) -> Option<Command>
         "check" => Some(Command::Check),
         "write" => Some(Command::Write),
         "chart" => Some(Command::Chart),
+        "chains" => Some(Command::Chains),
+        "shifts" => Some(Command::Shifts),
+        "keep" => Some(Command::Keep),
+        "kept" => Some(Command::Kept),
+        "joined" => Some(Command::Joined),
         _ => None,
     }
 }

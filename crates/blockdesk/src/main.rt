@@ -4,8 +4,8 @@
 //! journal and a count of steps. The one contract: by the words, what was written, appended and put, and the status, are
 //! those of the files and the journal.
 //!
-//! The contracts cite `Commands` (what the words ask for) and `Runs` (what a run does, and when each status comes), of
-//! `desk_run`, `feed_commands` and `plan_commands` what each command asks and what becomes of that.
+//! The contracts cite `Commands` (what the words ask for) and `Runs` (what a run does, and when each status comes); of
+//! `desk_run` what becomes of what a command asks, and of the crates of commands what each asks.
 #![tactic(auto)]
 
 mod command;

@@ -57,7 +57,9 @@ fn ran(alloc: Global, command: &str, shelf: &mut NotedReads) -> Result<u8, Memor
 #[test]
 fn each_file_is_read_once_in_the_order_of_judging(rt: HostRuntime) -> Result<(), Fail> {
     let alloc = rt.alloc();
-    for command in ["deficits", "fixed", "blocks", "write", "chart"] {
+    for command in [
+        "deficits", "fixed", "blocks", "write", "chart", "chains", "shifts", "joined",
+    ] {
         let mut shelf = NotedReads {
             names: String::new(alloc),
         };
@@ -72,5 +74,16 @@ fn each_file_is_read_once_in_the_order_of_judging(rt: HostRuntime) -> Result<(),
     };
     assert_eq!(rt; ran(alloc, "check", &mut shelf)?, 3);
     assert!(rt; shelf.names.ends_with(" edits.csv blocks.csv prices.csv "));
+    // The journal comes after all papers, and `kept` reads no paper.
+    let mut shelf = NotedReads {
+        names: String::new(alloc),
+    };
+    assert_eq!(rt; ran(alloc, "keep", &mut shelf)?, 7);
+    assert!(rt; shelf.names.ends_with(" depot.csv edits.csv "));
+    let mut shelf = NotedReads {
+        names: String::new(alloc),
+    };
+    assert_eq!(rt; ran(alloc, "kept", &mut shelf)?, 7);
+    assert_eq!(rt; shelf.names.as_str(), "");
     Ok(())
 }

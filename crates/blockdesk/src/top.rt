@@ -3,10 +3,13 @@ ghost use Rattle.blockdesk.specs.Commands as spec;
 ghost use Rattle.blockdesk.specs.Runs.{IsCaused, IsDue, IsRun, IsWithin};
 
 use crate::{Command, command_of, put_usage};
+use board_commands::run_joined;
 use desk_commands::run_blocks;
 use desk_io::{Shelf, Sink, Steps, Text};
 use desk_keeper::Keeper;
 use feed_commands::{run_deficits, run_fixed};
+use journal_commands::{run_keep, run_kept};
+use lowering_commands::{run_chains, run_shifts};
 use plan_commands::{run_chart, run_check};
 use std::alloc::Global;
 use std::sync::ledger::Ledger;
@@ -41,5 +44,10 @@ pub fn run<S: Shelf, O: Sink, K: Keeper, L: Ledger>(
         Some(Command::Check) => run_check(alloc, shelf, out, keeper, steps),
         Some(Command::Write) => run_write(alloc, shelf, out, keeper, steps),
         Some(Command::Chart) => run_chart(alloc, shelf, out, keeper, steps),
+        Some(Command::Chains) => run_chains(alloc, shelf, out, keeper, steps),
+        Some(Command::Shifts) => run_shifts(alloc, shelf, out, keeper, steps),
+        Some(Command::Keep) => run_keep(alloc, shelf, out, keeper, steps),
+        Some(Command::Kept) => run_kept(alloc, shelf, out, keeper, steps),
+        Some(Command::Joined) => run_joined(alloc, shelf, out, keeper, steps),
     }
 }

@@ -1,0 +1,90 @@
+-- What `joined` gives of an accepted feed is what it asks.
+use Rattle.std.proofs.Common.{◌≡◌, ℕ, List, length, ℤ, pos, Result, Ok, Err, refl, sym, ap, subst, ◌∙◌}
+use Rattle.std.specs.Prelude.{IfOk}
+use Rattle.desk_io.specs.declared.shelf.Found.{Found}
+use Rattle.gtfs_tables.specs.Reading.{◌>>=◌}
+use Rattle.gtfs_tables.specs.declared.fault.FeedFault.{FeedFault}
+use Rattle.gtfs_tables.specs.declared.paper.Paper.{Paper}
+use Rattle.gtfs_tables.specs.declared.paper.Paper.TheVariants as paper
+use Rattle.trip_model.specs.Blocking.{IsLeast}
+use Rattle.trip_model.specs.Deficit.{deficit}
+use Rattle.trip_model.specs.Maximum.{sum_of_maxima}
+use Rattle.trip_model.specs.Plain.{trip_moves}
+use Rattle.trip_model.specs.Timetable.{TimetableView, IsTimetable}
+use Rattle.deadhead_matrix.specs.declared.entry.Entry.{Entry}
+use Rattle.deadhead_matrix.specs.Deadheads.{deadheads_of}
+use Rattle.deadhead_matrix.specs.Fitting.{deadhead_network}
+use Rattle.deadhead_matrix.specs.Matrix.{MatrixView, AreLeastWalks}
+use Rattle.joined_deficits.specs.Joined.{TakeTime, joined_moves}
+use Rattle.desk_run.specs.Outcome.{OutcomeView}
+use Rattle.desk_run.specs.Reading.{ReadView, found_of}
+use Rattle.desk_feed.specs.declared.feed.Feed.{Feed}
+use Rattle.desk_feed.specs.declared.script.Edited.{Edited}
+use Rattle.desk_feed.specs.Edited.{IsEdited}
+use Rattle.desk_feed.specs.Feed.{Said, deadheads_in, lines_in, pulls_in, said_by, said_of, said_with, settings_in, standing, timetable_in}
+use Rattle.desk_feed.specs.Judging.{IsGivenOf, ending_of, refused_of, said_in}
+use Rattle.desk_feed.specs.Schedule.{IsMatrixFor, IsScheduled}
+use Rattle.board_commands.specs.Joined.{IsBoarded, boards_outcome, joined_does}
+
+read-parts : {A B : Type 0} (read : Result A FeedFault) (next : A → Result B FeedFault) (x : B) → (read >>= next) ≡ Ok x → (y : A) × (read ≡ Ok y) × (next y ≡ Ok x)
+read-parts (Ok y) next x e = (y, refl, e)
+read-parts (Err refused) next x e = absurd (no e)
+  where
+    holds : {X : Type 0} → Result X FeedFault → Type 0
+    holds (Ok x) = ⊥
+    holds (Err refused) = Unit {0}
+
+    no : Err refused ≡ Ok x → ⊥
+    no e = subst holds e tt
+
+same_Ok : {X : Type 0} (result : Result X FeedFault) (x y : X) → result ≡ Ok x → result ≡ Ok y → x ≡ y
+same_Ok result x y one other = ap (or x) (sym one ∙ other)
+  where
+    or : {X : Type 0} → X → Result X FeedFault → X
+    or d (Ok x) = x
+    or d (Err refused) = d
+
+-- what is needed of the laws
+abbrev pub EntriesTakeTime : Type 0
+EntriesTakeTime = (found : Found) (timetable after : TimetableView) (entries : List Entry) → deadheads_of found timetable ≡ Ok (after, entries) → TakeTime entries
+
+abbrev pub JoinedIsLeast : Type 0
+JoinedIsLeast = (timetable : TimetableView) (matrix : MatrixView) (blocks : List (List ℕ)) → IsTimetable timetable → AreLeastWalks matrix → length matrix.walks ≡ length timetable.places → TakeTime matrix.entries
+    → IsLeast (deadhead_network (trip_moves timetable.slots) matrix) blocks → sum_of_maxima (deficit (joined_moves timetable matrix blocks)) (length timetable.places) ≡ pos (length blocks)
+
+-- the entries of an accepted feed take time
+entries-said : EntriesTakeTime → (found : Paper → Found) (said : Said) → said_by found ≡ Ok said → TakeTime said.entries
+unfolding said_by
+entries-said law found said e =
+    let settings = read-parts (settings_in found) _ said e in
+    let base = read-parts (timetable_in found settings.0) _ said settings.2 in
+    let entries = read-parts (deadheads_in found base.0) _ said base.2 in
+    let pulls = read-parts (pulls_in found entries.0.0) _ said entries.2 in
+    let lines = read-parts (lines_in found) _ said pulls.2 in
+    let given = said_with settings.0 entries.0.0 entries.0.1 pulls.0 lines.0 in
+    subst (λ (s : Said). TakeTime s.entries) (same_Ok (Ok given) given said refl lines.2) (law (found paper.Deadheads) base.0 entries.0.0 entries.0.1 entries.1)
+
+pub joined-given : {E : Type 0} (read : ReadView) (feed : Feed) (matrix : MatrixView) (edited : Edited) → JoinedIsLeast → EntriesTakeTime → said_in read ≡ Ok (said_of feed)
+    → IsMatrixFor (said_of feed) matrix → IsEdited feed.timetable feed.lines.items edited → IsTimetable edited.script.timetable → edited.script.timetable.places ≡ feed.timetable.places
+    → (result : Result OutcomeView E) → IfOk result (IsBoarded edited.refused edited.ending feed.settings.prefix edited.script.timetable matrix) → IfOk result (IsGivenOf joined_does read (said_of feed))
+joined-given read feed matrix edited least law says is stands valid places (Err e) boarded = tt
+joined-given read feed matrix edited least law says is stands valid places (Ok outcome) boarded =
+    let said = said_of feed in
+    let here : IsBoarded (refused_of said) (ending_of said) said.settings.prefix (standing said) matrix outcome = record {
+      plan = boarded.plan;
+      blocks = boarded.blocks;
+      scheduled = subst (λ (t : TimetableView). IsScheduled t matrix boarded.plan boarded.blocks) stands.timetable boarded.scheduled;
+      done = boarded.done ∙ (λ i. boards_outcome (stands.refused i) (stands.ending i) said.settings.prefix (stands.timetable i) matrix boarded.blocks);
+    } in
+    let count : length matrix.walks ≡ length (standing said).places = is.count ∙ sym (ap length (ap (λ (t : TimetableView). t.places) (sym stands.timetable) ∙ places)) in
+    record {
+      gives = record {
+        matrix = matrix;
+        matrix_is = is;
+        boarded = here;
+        sum = least (standing said) matrix boarded.blocks (subst IsTimetable stands.timetable valid) is.walks count
+            (subst TakeTime (sym is.entries_are) (entries-said law (found_of read.pages) said says)) here.scheduled.least;
+      };
+      ends = ap (λ (o : OutcomeView). o.ending) here.done;
+      unkept = λ _. ap (λ (o : OutcomeView). o.lines) here.done;
+    }

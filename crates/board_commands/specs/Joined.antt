@@ -1,0 +1,52 @@
+-- What `joined` asks, and what it writes and puts of a feed.
+use Rattle.std.specs.Prelude.{◌≡◌, ℕ, ◌+◌, ◌*◌, List, [], ◌∷◌, ◌++◌, length, None, codes, pos}
+use Rattle.trip_model.specs.Deficit.{deficit, live_moves}
+use Rattle.trip_model.specs.Maximum.{sum_of_maxima}
+use Rattle.trip_model.specs.Timetable.{TimetableView, place_names}
+use Rattle.deadhead_matrix.specs.Matrix.{MatrixView}
+use Rattle.deadhead_matrix.specs.Prices.{Plan}
+use Rattle.joined_deficits.specs.Boards.{boards_text}
+use Rattle.joined_deficits.specs.Joined.{joined_moves}
+use Rattle.joined_deficits.specs.Lines.{joined_text}
+use Rattle.joined_deficits.specs.declared.limits.TheConstants.{MOST_MOVES}
+use Rattle.desk_run.specs.Commands.{Asked}
+use Rattle.desk_run.specs.Outcome.{OutcomeView}
+use Rattle.desk_run.specs.declared.status.Ending.{Ending}
+use Rattle.desk_feed.specs.Feed.{Said, standing}
+use Rattle.desk_feed.specs.Judging.{FeedAsked, doing, ending_of, of_feed, refused_of}
+use Rattle.desk_feed.specs.Schedule.{IsMatrixFor, IsScheduled, most_steps}
+
+-- the deficits of all moves of blocks beside those of the trips alone
+abbrev pub joined_of : TimetableView → MatrixView → List (List ℕ) → List ℕ
+joined_of timetable matrix blocks =
+    joined_text (place_names timetable) (deficit (joined_moves timetable matrix blocks)) (deficit (live_moves timetable.slots)) (length blocks)
+
+-- the boards of blocks are written, and behind the lines of refused records their joined deficits are put
+abbrev pub boards_outcome : List ℕ → Ending → List ℕ → TimetableView → MatrixView → List (List ℕ) → OutcomeView
+boards_outcome refused end prefix timetable matrix blocks = record {
+  writes = record { name = codes "boards.csv"; bytes = boards_text timetable matrix prefix blocks } ∷ [];
+  lines = None;
+  text = refused ++ joined_of timetable matrix blocks;
+  ending = end;
+}
+
+-- it is done of the blocks of a certified plan
+pub record IsBoarded (refused : List ℕ) (end : Ending) (prefix : List ℕ) (timetable : TimetableView) (matrix : MatrixView) (outcome : OutcomeView) : Type 0 where
+  pub plan : Plan
+  pub blocks : List (List ℕ)
+  pub scheduled : IsScheduled timetable matrix plan blocks
+  pub done : outcome ≡ boards_outcome refused end prefix timetable matrix blocks
+
+-- and of a feed: the blocks are those of the timetable after the script, and the maxima add up to their number
+pub record IsJoined (said : Said) (outcome : OutcomeView) : Type 0 where
+  pub matrix : MatrixView
+  pub matrix_is : IsMatrixFor said matrix
+  pub boarded : IsBoarded (refused_of said) (ending_of said) said.settings.prefix (standing said) matrix outcome
+  pub sum : sum_of_maxima (deficit (joined_moves (standing said) matrix boarded.blocks)) (length (standing said).places) ≡ pos (length boarded.blocks)
+
+-- the most steps: those of a plan from scratch, and of the deficits of as many moves as there may be
+abbrev pub joined_does : FeedAsked
+joined_does = doing IsJoined (λ said. most_steps (length (standing said).slots) + 28 * MOST_MOVES)
+
+abbrev pub joined_asked : Asked
+joined_asked = of_feed joined_does

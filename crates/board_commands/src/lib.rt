@@ -1,0 +1,19 @@
+//! The command that shows the deficits with the deadheads of blocks put in, and writes the running boards: `joined`.
+//!
+//! [`run_joined`] is a whole run over any shelf, sink and keeper, of a `FeedCommand` of `desk_feed`. It schedules the timetable after
+//! the script, and puts the deficits of all that the vehicles do, trips and deadheads, beside those of the trips alone.
+//!
+//! The contract that the crates above use: a run performs what `joined` asks (`joined_asked`). The maxima of the joined deficits add
+//! up to the number of the blocks, which are least over all blockings.
+//!
+//! ```text
+//! let status = run_joined(alloc, shelf, out, keeper, steps);
+//! ```
+//!
+//! The contracts cite `Joined` (what the command asks and does), of `joined_deficits` `Joined`, `Boards` and `Lines`, of `desk_run`
+//! `Performs`, and of `desk_feed` `Feed`, `Judging` and `Schedule`.
+#![tactic(auto)]
+
+mod joined;
+
+pub use joined::run_joined;

@@ -1,0 +1,5 @@
+pub mod Canonical
+pub mod Dropped
+pub mod KeepLemmas
+pub mod ReplayLemmas
+pub mod Replays

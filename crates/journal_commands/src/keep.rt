@@ -1,0 +1,157 @@
+ghost use Rattle.std.specs.Prelude.{◌≡◌, ◌++◌, IfOk, OnOk, codes, string_bytes};
+ghost use Rattle.gtfs_tables.specs.Reading.{Gives};
+ghost use Rattle.desk_feed.specs.Script.{IsScript, ending_by};
+ghost use Rattle.desk_run.specs.Performs.{Performs};
+ghost use Rattle.desk_run.specs.World.{world};
+ghost use Rattle.journal_commands.specs.Journal as journal_spec;
+ghost use Rattle.journal_commands.specs.Keep as spec;
+ghost use Rattle.journal_commands.specs.Keep.{keep_asked};
+
+use crate::journal::{journal_text, lines_loaded, script_loaded, text_script};
+use crate::replay::{Answers, Source, replay};
+use desk_feed::{FEED_PAPERS, Feed, FeedCommand, OnFeed, ending_by, refuse};
+use desk_io::{Memory, Shelf, Sink, Steps, Text};
+use desk_keeper::{Keeper, Lines};
+use desk_run::{Loaded, Outcome, Read, perform};
+use edit_script::laws::machine_law;
+use edit_script::{Line, Script};
+use gtfs_tables::{FeedFault, MOST_RECORDS, Paper};
+use std::alloc::Global;
+use std::fmt::Write;
+use std::sync::ledger::Ledger;
+use trip_model::Timetable;
+
+// The records of a journal with more lines, which may be no more than a journal may have.
+fn script_with(alloc: Global, stored: &[Text], kept: &[Text]) -> Result<Vec<Line>, FeedFault>
+    ensures { Gives (λ lines. lines.items) result (journal_spec.script_with stored.now kept.now) }
+{
+    if kept.len() > MOST_RECORDS as usize || stored.len() > MOST_RECORDS as usize - kept.len() {
+        return Err(FeedFault::TooManyRecords(Paper::Journal));
+    }
+    let text = journal_text(alloc, stored, kept)?;
+    text_script(alloc, &text)
+}
+
+// What is done of the answers to all records.
+fn appended(alloc: Global, stored: &[Text], answers: Answers) -> Result<Outcome, Memory>
+    ensures { IfOk result (λ outcome. outcome ≡ spec.appending (string_bytes answers.text) answers.kept.items (ending_by answers.some)
+        (journal_spec.script_with stored.now answers.kept.items)) }
+{
+    match script_with(alloc, stored, &answers.kept) {
+        Ok(lines) => {
+            let mut text = answers.text;
+            writeln!(text, "kept {} records", lines.len())?;
+            let kept = Lines::wrap(answers.kept);
+            let ending = ending_by(answers.some);
+            Ok(Outcome::of(Vec::new(alloc), Some(kept), Text::wrap(text), ending))
+        }
+        Err(FeedFault::Memory) => Err(Memory),
+        Err(refused) => refuse(alloc, &refused),
+    }
+}
+
+// What is done of the records of a journal, and then of those of a script.
+fn kept_lines(
+    alloc: Global,
+    timetable: Timetable,
+    stored: &[Text],
+    journal: &[Line],
+    lines: &[Line],
+) -> Result<Outcome, Memory>
+    requires journal { IsScript journal.now }
+    requires lines { IsScript lines.now }
+    ensures { IfOk result (λ outcome. outcome ≡ spec.keeping_lines timetable stored.now journal.now lines.now) }
+{
+    machine_law();
+    let mut script = Script::open(alloc, timetable)?;
+    let mut answers = Answers {
+        text: format!(in alloc; "journal {} records\n", journal.len())?,
+        kept: Vec::new(alloc),
+        some: false,
+    };
+    let count = journal.len() as u32;
+    replay(
+        alloc,
+        &mut script,
+        &mut answers,
+        Source::Journal,
+        0,
+        journal,
+    )?;
+    replay(
+        alloc,
+        &mut script,
+        &mut answers,
+        Source::Edits,
+        count,
+        lines,
+    )?;
+    appended(alloc, stored, answers)
+}
+
+// What is done of a journal as it was loaded, and of a script.
+fn kept(
+    alloc: Global,
+    timetable: Timetable,
+    loaded: &Loaded,
+    lines: &[Line],
+) -> Result<Outcome, Memory>
+    requires { IsScript lines.now }
+    ensures { IfOk result (λ outcome. outcome
+        ≡ spec.keeping_by timetable (journal_spec.lines_loaded loaded.now) lines.now (journal_spec.script_loaded loaded.now)) }
+{
+    match script_loaded(alloc, loaded) {
+        Ok(journal) => kept_lines(alloc, timetable, lines_loaded(loaded), &journal, lines),
+        Err(FeedFault::Memory) => Err(Memory),
+        Err(refused) => refuse(alloc, &refused),
+    }
+}
+
+#[derive(Drop)]
+struct KeepEdits;
+
+impl FeedCommand for KeepEdits {
+    ghost use Rattle.journal_commands.specs.Keep.{keep_does};
+
+    ghost asks = { λ _. keep_does };
+
+    fn papers(&self) -> &[Paper] {
+        &FEED_PAPERS
+    }
+
+    fn keeps(&self) -> bool {
+        true
+    }
+
+    fn outcome<L: Ledger>(
+        &self,
+        alloc: Global,
+        read: &Read,
+        feed: Feed,
+        _steps: &mut Steps<L>,
+    ) -> Result<Outcome, Memory> {
+        let Feed {
+            settings: _settings,
+            timetable,
+            deadheads: _deadheads,
+            pulls: _pulls,
+            lines,
+        } = feed;
+        kept(alloc, timetable, read.journal(), &lines)
+    }
+}
+
+/// The command `keep`: the records of the journal and then those of the script through the edit machine, and the accepted
+/// records of the script, but for shows, appended to the journal. It answers the status.
+pub fn run_keep<S: Shelf, O: Sink, K: Keeper, L: Ledger>(
+    alloc: Global,
+    shelf: &mut S,
+    out: &mut O,
+    keeper: &mut K,
+    steps: &mut Steps<L>,
+) -> u8
+    ensures { let at = world S.state O.state K.state in
+        Performs keep_asked (at shelf.old out.old keeper.old) (at shelf.new out.new keeper.new) result steps.old steps.new }
+{
+    perform(&OnFeed(KeepEdits), alloc, shelf, out, keeper, steps)
+}

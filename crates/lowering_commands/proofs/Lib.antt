@@ -1,0 +1,4 @@
+pub mod ChainsLemmas
+pub mod FleetLemmas
+pub mod ShiftWritten
+pub mod ShiftsLemmas

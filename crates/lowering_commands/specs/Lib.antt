@@ -1,0 +1,4 @@
+pub mod Chains
+pub mod Fleet
+pub mod Shifts
+pub mod Step
