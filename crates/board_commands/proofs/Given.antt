@@ -18,10 +18,9 @@ use Rattle.deadhead_matrix.specs.Matrix.{MatrixView, AreLeastWalks}
 use Rattle.joined_deficits.specs.Joined.{TakeTime, joined_moves}
 use Rattle.desk_run.specs.Outcome.{OutcomeView}
 use Rattle.desk_run.specs.Reading.{ReadView, found_of}
-use Rattle.desk_feed.specs.declared.feed.Feed.{Feed}
 use Rattle.desk_feed.specs.declared.script.Edited.{Edited}
 use Rattle.desk_feed.specs.Edited.{IsEdited}
-use Rattle.desk_feed.specs.Feed.{Said, deadheads_in, lines_in, pulls_in, said_by, said_of, said_with, settings_in, standing, timetable_in}
+use Rattle.desk_feed.specs.Feed.{Said, deadheads_in, lines_in, pulls_in, said_by, said_with, settings_in, standing, timetable_in}
 use Rattle.desk_feed.specs.Judging.{IsGivenOf, ending_of, refused_of, said_in}
 use Rattle.desk_feed.specs.Schedule.{IsMatrixFor, IsScheduled}
 use Rattle.board_commands.specs.Joined.{IsBoarded, boards_outcome, joined_does}
@@ -64,12 +63,11 @@ entries-said law found said e =
     let given = said_with settings.0 entries.0.0 entries.0.1 pulls.0 lines.0 in
     subst (λ (s : Said). TakeTime s.entries) (same_Ok (Ok given) given said refl lines.2) (law (found paper.Deadheads) base.0 entries.0.0 entries.0.1 entries.1)
 
-pub joined-given : {E : Type 0} (read : ReadView) (feed : Feed) (matrix : MatrixView) (edited : Edited) → JoinedIsLeast → EntriesTakeTime → said_in read ≡ Ok (said_of feed)
-    → IsMatrixFor (said_of feed) matrix → IsEdited feed.timetable feed.lines.items edited → IsTimetable edited.script.timetable → edited.script.timetable.places ≡ feed.timetable.places
-    → (result : Result OutcomeView E) → IfOk result (IsBoarded edited.refused edited.ending feed.settings.prefix edited.script.timetable matrix) → IfOk result (IsGivenOf joined_does read (said_of feed))
-joined-given read feed matrix edited least law says is stands valid places (Err e) boarded = tt
-joined-given read feed matrix edited least law says is stands valid places (Ok outcome) boarded =
-    let said = said_of feed in
+pub joined-given : {E : Type 0} (read : ReadView) (said : Said) (matrix : MatrixView) (edited : Edited) → JoinedIsLeast → EntriesTakeTime → said_in read ≡ Ok said
+    → IsMatrixFor said matrix → IsEdited said.base said.lines edited → IsTimetable edited.script.timetable → edited.script.timetable.places ≡ said.base.places
+    → (result : Result OutcomeView E) → IfOk result (IsBoarded edited.refused edited.ending said.settings.prefix edited.script.timetable matrix) → IfOk result (IsGivenOf joined_does read said)
+joined-given read said matrix edited least law says is stands valid places (Err e) boarded = tt
+joined-given read said matrix edited least law says is stands valid places (Ok outcome) boarded =
     let here : IsBoarded (refused_of said) (ending_of said) said.settings.prefix (standing said) matrix outcome = record {
       plan = boarded.plan;
       blocks = boarded.blocks;

@@ -48,5 +48,5 @@ pub record IsJoined (said : Said) (outcome : OutcomeView) : Type 0 where
 abbrev pub joined_does : FeedAsked
 joined_does = doing IsJoined (λ said. most_steps (length (standing said).slots) + 28 * MOST_MOVES)
 
-abbrev pub joined_asked : Asked
+unfoldable pub joined_asked : Asked
 joined_asked = of_feed joined_does

@@ -10,13 +10,14 @@ ghost use Rattle.trip_model.specs.Plain.{trip_moves};
 ghost use Rattle.trip_model.specs.Timetable.{IsTimetable};
 
 use block_build::Blocks;
-use deadhead_matrix::Matrix;
+use deadhead_matrix::{Deadheads, Matrix, Pulls};
 use deficit_steps::deficits_of;
-use desk_feed::{Edited, FEED_PAPERS, Feed, FeedCommand, OnFeed, after_script, matrix_of};
+use desk_feed::{Edited, FEED_PAPERS, FeedCommand, OnFeed, after_script, matrix_of};
 use desk_io::{Memory, Shelf, Sink, Steps, Text};
 use desk_keeper::Keeper;
 use desk_run::{Outcome, Read, Writing, perform};
 use desk_settings::Settings;
+use edit_script::Line;
 use feed_schedule::schedule_of;
 use gtfs_tables::Paper;
 use joined_deficits::laws::{entries_law, joined_law};
@@ -89,26 +90,24 @@ impl FeedCommand for WriteBoards {
         &self,
         alloc: Global,
         _read: &Read,
-        feed: Feed,
+        settings: &Settings,
+        timetable: Timetable,
+        deadheads: &Deadheads,
+        pulls: Pulls,
+        lines: &[Line],
         steps: &mut Steps<L>,
     ) -> Result<Outcome, Memory> {
         entries_law();
         joined_law();
-        let Feed {
-            settings,
-            timetable,
-            deadheads,
-            pulls,
-            lines,
-        } = feed;
-        let matrix = matrix_of(alloc, &timetable, &deadheads, pulls)?;
-        let edited = after_script(alloc, timetable, &lines)?;
-        boarded(alloc, &settings, &matrix, &edited, steps)
+        let matrix = matrix_of(alloc, &timetable, deadheads, pulls)?;
+        let edited = after_script(alloc, timetable, lines)?;
+        boarded(alloc, settings, &matrix, &edited, steps)
     }
 }
 
 /// The command `joined`: the deficits with the deadheads of least blocks put in, whose maxima add up to the number of the blocks,
 /// and the running board of each vehicle in `boards.csv`. It answers the status.
+#[tactic(auto, unfolding(crate::specs::Joined::joined_asked))]
 pub fn run_joined<S: Shelf, O: Sink, K: Keeper, L: Ledger>(
     alloc: Global,
     shelf: &mut S,

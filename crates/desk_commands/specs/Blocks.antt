@@ -82,5 +82,5 @@ most_steps_of said = most_steps (length said.base.slots) + most_to said.base sai
 abbrev pub blocks_does : FeedAsked
 blocks_does = doing IsPlan most_steps_of
 
-abbrev pub blocks_asked : Asked
+unfoldable pub blocks_asked : Asked
 blocks_asked = of_feed blocks_does

@@ -8,14 +8,15 @@ ghost use Rattle.desk_feed.specs.Script.{IsScript};
 
 use crate::answers::{Answers, answer_all, blocks_now, push_numbers};
 use block_build::{blocks_text, prices_text};
-use deadhead_matrix::Matrix;
 use deadhead_matrix::laws::plan_law;
+use deadhead_matrix::{Deadheads, Matrix, Pulls};
 use desk_core::Desk;
 use desk_core::laws::standing_law;
-use desk_feed::{FEED_PAPERS, Feed, FeedCommand, OnFeed, matrix_of};
+use desk_feed::{FEED_PAPERS, FeedCommand, OnFeed, matrix_of};
 use desk_io::{Memory, Shelf, Sink, Steps, Text};
 use desk_keeper::Keeper;
 use desk_run::{Outcome, Read, Writing, perform};
+use desk_settings::Settings;
 use edit_script::{Line, Script};
 use fixed_fleet::laws::plain_blocks_law;
 use gtfs_tables::Paper;
@@ -92,24 +93,22 @@ impl FeedCommand for WriteBlocks {
         &self,
         alloc: Global,
         _read: &Read,
-        feed: Feed,
+        settings: &Settings,
+        timetable: Timetable,
+        deadheads: &Deadheads,
+        pulls: Pulls,
+        lines: &[Line],
         steps: &mut Steps<L>,
     ) -> Result<Outcome, Memory> {
-        let Feed {
-            settings,
-            timetable,
-            deadheads,
-            pulls,
-            lines,
-        } = feed;
-        let matrix = matrix_of(alloc, &timetable, &deadheads, pulls)?;
-        planned(alloc, timetable, &lines, matrix, settings.prefix(), steps)
+        let matrix = matrix_of(alloc, &timetable, deadheads, pulls)?;
+        planned(alloc, timetable, lines, matrix, settings.prefix(), steps)
     }
 }
 
 /// The command `blocks`: after each record of the script the fewest vehicles without deadheads, the fewest with them and their
 /// fewest empty minutes; and after all of them the blocks that reach these in `blocks.csv`, and the dual prices that prove it
 /// in `prices.csv`. It answers the status.
+#[tactic(auto, unfolding(crate::specs::Blocks::blocks_asked))]
 pub fn run_blocks<S: Shelf, O: Sink, K: Keeper, L: Ledger>(
     alloc: Global,
     shelf: &mut S,

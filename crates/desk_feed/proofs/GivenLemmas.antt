@@ -1,17 +1,22 @@
 -- What a command gives of an accepted feed is what it asks of a run.
-use Rattle.std.proofs.Common.{◌≡◌, List, ℕ, Result, Ok, Err, sym, ap, subst, ◌∙◌}
+use Rattle.std.proofs.Common.{◌≡◌, List, Result, Ok, Err, sym, ap, subst, ◌∙◌}
 use Rattle.std.specs.Prelude.{IfOk}
+use Rattle.desk_settings.specs.Settings.{SettingsView}
+use Rattle.trip_model.specs.Timetable.{TimetableView}
+use Rattle.edit_script.specs.declared.edit.Line.{Line}
+use Rattle.deadhead_matrix.specs.declared.entry.Entry.{Entry}
+use Rattle.deadhead_matrix.specs.declared.pulls.Pull.{Pull}
 use Rattle.desk_run.specs.Commands.{IsGiven}
 use Rattle.desk_run.specs.Outcome.{OutcomeView}
 use Rattle.desk_run.specs.Reading.{ReadView}
-use Rattle.desk_run.specs.declared.status.Ending.{Ending}
 use Rattle.desk_feed.specs.declared.feed.Feed.{Feed}
 use Rattle.desk_feed.specs.declared.judging.Judged.{Judged}
 use Rattle.desk_feed.specs.declared.judging.Judged.TheVariants.{Accepted}
-use Rattle.desk_feed.specs.Edited.{refusing_first}
-use Rattle.desk_feed.specs.Feed.{Said, said_of}
+use Rattle.desk_feed.specs.declared.script.Edited.{Edited}
+use Rattle.desk_feed.specs.Edited.{IsEdited, refusing_first}
+use Rattle.desk_feed.specs.Feed.{Said, said_of, said_with}
 use Rattle.desk_feed.specs.Judging.{Does, EndsBy, FeedAsked, IsGivenOf, Judges, ending_of, of_feed, refused_of, said_in}
-use Rattle.desk_feed.specs.Showing.{TextAsked, showing, stands_after}
+use Rattle.desk_feed.specs.Showing.{PutsBehind, TextAsked, showing, stands_with}
 
 -- an accepted feed says what was read
 pub says-of : (read : ReadView) (judged : Judged) (feed : Feed) → judged ≡ Accepted feed → Judges read judged → said_in read ≡ Ok (said_of feed)
@@ -27,14 +32,17 @@ given-of asks read said says (Ok outcome) given = record {
   unkept = given.unkept;
 }
 
--- a text behind the lines of refused records
-pub text-given : {E : Type 0} (asks : TextAsked) (read : ReadView) (said : Said) (text refused : List ℕ) (end : Ending) → refused ≡ refused_of said → end ≡ ending_of said → asks.Shows (stands_after said) text
-    → (result : Result OutcomeView E) → IfOk result (λ outcome. outcome ≡ refusing_first refused text end) → IfOk result (IsGivenOf (showing asks) read said)
-text-given asks read said text refused end refused_is end_is shown (Err e) put = tt
-text-given asks read said text refused end refused_is end_is shown (Ok outcome) put =
-    let here : outcome ≡ refusing_first (refused_of said) text (ending_of said) = put ∙ (λ i. refusing_first (refused_is i) text (end_is i)) in
+-- a text behind the lines of refused records, of a timetable after its script
+pub text-given : {E : Type 0} (asks : TextAsked) (read : ReadView) (settings : SettingsView) (base : TimetableView) (entries : List Entry) (pulls : List Pull) (lines : List Line) (edited : Edited)
+    → IsEdited base lines edited → (result : Result OutcomeView E)
+    → IfOk result (PutsBehind asks edited.refused edited.ending (stands_with settings edited.script.timetable entries pulls))
+    → IfOk result (IsGivenOf (showing asks) read (said_with settings base entries pulls lines))
+text-given asks read settings base entries pulls lines edited is (Err e) put = tt
+text-given asks read settings base entries pulls lines edited is (Ok outcome) put =
+    let said = said_with settings base entries pulls lines in
+    let here : outcome ≡ refusing_first (refused_of said) put.text (ending_of said) = put.alone ∙ (λ i. refusing_first (is.refused i) put.text (is.ending i)) in
     record {
-      gives = record { text = text; shown = shown; alone = here };
+      gives = record { text = put.text; shown = subst (λ (t : TimetableView). asks.Shows (stands_with settings t entries pulls) put.text) is.timetable put.shown; alone = here };
       ends = ap (λ (o : OutcomeView). o.ending) here;
       unkept = λ _. ap (λ (o : OutcomeView). o.lines) here;
     }

@@ -5,6 +5,7 @@ use Rattle.trip_model.specs.Timetable.{TimetableView}
 use Rattle.deadhead_matrix.specs.declared.entry.Entry.{Entry}
 use Rattle.deadhead_matrix.specs.declared.pulls.Pull.{Pull}
 use Rattle.desk_run.specs.Outcome.{OutcomeView}
+use Rattle.desk_run.specs.declared.status.Ending.{Ending}
 use Rattle.desk_feed.specs.Edited.{refusing_first}
 use Rattle.desk_feed.specs.Feed.{Said, standing}
 use Rattle.desk_feed.specs.Judging.{FeedAsked, doing, ending_of, refused_of}
@@ -27,11 +28,15 @@ pub record TextAsked : Type 1 where
   pub Shows : Stands → List ℕ → Type 0
   pub most : TimetableView → ℕ
 
--- an outcome that puts the lines of the refused records and then such a text, and nothing else
-pub record Puts (asks : TextAsked) (said : Said) (outcome : OutcomeView) : Type 0 where
+-- an outcome that puts these lines of refused records and then such a text, and nothing else
+pub record PutsBehind (asks : TextAsked) (refused : List ℕ) (end : Ending) (stands : Stands) (outcome : OutcomeView) : Type 0 where
   pub text : List ℕ
-  pub shown : asks.Shows (stands_after said) text
-  pub alone : outcome ≡ refusing_first (refused_of said) text (ending_of said)
+  pub shown : asks.Shows stands text
+  pub alone : outcome ≡ refusing_first refused text end
+
+-- the lines of the records that were refused, and a text of what stands after the script
+abbrev pub Puts : TextAsked → Said → OutcomeView → Type 0
+Puts asks said = PutsBehind asks (refused_of said) (ending_of said) (stands_after said)
 
 -- what such a command asks of a feed
 abbrev pub showing : TextAsked → FeedAsked

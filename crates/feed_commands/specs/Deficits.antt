@@ -15,5 +15,5 @@ deficits_text timetable = deficit_text (place_names timetable) (deficit (live_mo
 abbrev pub deficits_shown : TextAsked
 deficits_shown = record { Shows = λ stands text. text ≡ deficits_text stands.timetable; most = λ timetable. 28 * length timetable.slots }
 
-abbrev pub deficits_asked : Asked
+unfoldable pub deficits_asked : Asked
 deficits_asked = of_feed (showing deficits_shown)

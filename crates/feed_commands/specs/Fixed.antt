@@ -36,5 +36,5 @@ pub record IsFixedText (timetable : TimetableView) (pulls : List Pull) (prefix :
 abbrev pub fixed_shown : TextAsked
 fixed_shown = record { Shows = λ stands. IsFixedText stands.timetable stands.pulls stands.settings.prefix; most = λ timetable. 0 }
 
-abbrev pub fixed_asked : Asked
+unfoldable pub fixed_asked : Asked
 fixed_asked = of_feed (showing fixed_shown)

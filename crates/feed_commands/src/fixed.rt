@@ -79,6 +79,7 @@ impl TextCommand for ShowFixed {
 }
 
 /// The command `fixed`: blocks without deadheads, as few as there can be, and their number. It answers the status.
+#[tactic(auto, unfolding(crate::specs::Fixed::fixed_asked))]
 pub fn run_fixed<S: Shelf, O: Sink, K: Keeper, L: Ledger>(
     alloc: Global,
     shelf: &mut S,

@@ -68,5 +68,5 @@ keep_does = record {
   most = λ read said. 0;
 }
 
-abbrev pub keep_asked : Asked
+unfoldable pub keep_asked : Asked
 keep_asked = of_feed keep_does

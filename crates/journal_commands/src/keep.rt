@@ -9,10 +9,12 @@ ghost use Rattle.journal_commands.specs.Keep.{keep_asked};
 
 use crate::journal::{journal_text, lines_loaded, script_loaded, text_script};
 use crate::replay::{Answers, Source, replay};
-use desk_feed::{FEED_PAPERS, Feed, FeedCommand, OnFeed, ending_by, refuse};
+use deadhead_matrix::{Deadheads, Pulls};
+use desk_feed::{FEED_PAPERS, FeedCommand, OnFeed, ending_by, refuse};
 use desk_io::{Memory, Shelf, Sink, Steps, Text};
 use desk_keeper::{Keeper, Lines};
 use desk_run::{Loaded, Outcome, Read, perform};
+use desk_settings::Settings;
 use edit_script::laws::machine_law;
 use edit_script::{Line, Script};
 use gtfs_tables::{FeedFault, MOST_RECORDS, Paper};
@@ -127,22 +129,20 @@ impl FeedCommand for KeepEdits {
         &self,
         alloc: Global,
         read: &Read,
-        feed: Feed,
+        _settings: &Settings,
+        timetable: Timetable,
+        _deadheads: &Deadheads,
+        _pulls: Pulls,
+        lines: &[Line],
         _steps: &mut Steps<L>,
     ) -> Result<Outcome, Memory> {
-        let Feed {
-            settings: _settings,
-            timetable,
-            deadheads: _deadheads,
-            pulls: _pulls,
-            lines,
-        } = feed;
-        kept(alloc, timetable, read.journal(), &lines)
+        kept(alloc, timetable, read.journal(), lines)
     }
 }
 
 /// The command `keep`: the records of the journal and then those of the script through the edit machine, and the accepted
 /// records of the script, but for shows, appended to the journal. It answers the status.
+#[tactic(auto, unfolding(crate::specs::Keep::keep_asked))]
 pub fn run_keep<S: Shelf, O: Sink, K: Keeper, L: Ledger>(
     alloc: Global,
     shelf: &mut S,

@@ -44,5 +44,5 @@ pub record IsChains (stands : Stands) (text : List ℕ) : Type 0 where
 abbrev pub chains_shown : TextAsked
 chains_shown = record { Shows = IsChains; most = λ timetable. 28 * length timetable.slots + 84 * (length timetable.slots + 1) }
 
-abbrev pub chains_asked : Asked
+unfoldable pub chains_asked : Asked
 chains_asked = of_feed (showing chains_shown)

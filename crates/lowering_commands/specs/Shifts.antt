@@ -43,5 +43,5 @@ steps_of_search n = 28 * n + 13440 * n + 28 * n
 abbrev pub shifts_shown : TextAsked
 shifts_shown = record { Shows = λ stands. IsShiftsText stands.timetable 0; most = λ timetable. steps_of_search (length timetable.slots) * (length timetable.slots + 1) + 28 * length timetable.slots }
 
-abbrev pub shifts_asked : Asked
+unfoldable pub shifts_asked : Asked
 shifts_asked = of_feed (showing shifts_shown)

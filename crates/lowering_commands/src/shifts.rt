@@ -132,6 +132,7 @@ impl TextCommand for ShowShifts {
 
 /// The command `shifts`: the first shift within tolerances with which fewer vehicles suffice without deadheads is made, and then
 /// the next, until there is none. It answers the status.
+#[tactic(auto, unfolding(crate::specs::Shifts::shifts_asked))]
 pub fn run_shifts<S: Shelf, O: Sink, K: Keeper, L: Ledger>(
     alloc: Global,
     shelf: &mut S,

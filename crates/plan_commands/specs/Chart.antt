@@ -32,5 +32,5 @@ pub record IsChart (stands : Stands) (text : List ℕ) : Type 0 where
 abbrev pub chart_shown : TextAsked
 chart_shown = record { Shows = IsChart; most = λ timetable. most_steps (length timetable.slots) }
 
-abbrev pub chart_asked : Asked
+unfoldable pub chart_asked : Asked
 chart_asked = of_feed (showing chart_shown)

@@ -73,5 +73,5 @@ claim_papers = feed_papers ++ own_papers
 abbrev pub check_does : FeedAsked
 check_does = record { further = own_papers; keeps = false; Ends = EndsAs; Gives = IsChecked; most = λ read said. 0 }
 
-abbrev pub check_asked : Asked
+unfoldable pub check_asked : Asked
 check_asked = of_feed check_does

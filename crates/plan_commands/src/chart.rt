@@ -59,6 +59,7 @@ impl TextCommand for ShowChart {
 }
 
 /// The command `chart`: charts of the deficits and of the blocks of a plan, ten minutes a character. It answers the status.
+#[tactic(auto, unfolding(crate::specs::Chart::chart_asked))]
 pub fn run_chart<S: Shelf, O: Sink, K: Keeper, L: Ledger>(
     alloc: Global,
     shelf: &mut S,

@@ -138,5 +138,5 @@ write_does = record {
   most = λ read said. most_steps (length (standing said).slots);
 }
 
-abbrev pub write_asked : Asked
+unfoldable pub write_asked : Asked
 write_asked = of_feed write_does

@@ -13,7 +13,7 @@ use crate::judging::{STOP_TIME_COLUMNS, chosen_in, refusal, trip_columns};
 use block_build::Blocks;
 use block_writer::{stop_times_text, trips_text};
 use deadhead_matrix::{Deadheads, Matrix, Pulls};
-use desk_feed::{Edited, FEED_PAPERS, Feed, FeedCommand, OnFeed, after_script, matrix_of, refuse};
+use desk_feed::{Edited, FEED_PAPERS, FeedCommand, OnFeed, after_script, matrix_of, refuse};
 use desk_io::{Memory, Shelf, Sink, Steps, Text};
 use desk_keeper::Keeper;
 use desk_run::{Outcome, Read, Writing, perform};
@@ -177,24 +177,22 @@ impl FeedCommand for WriteFeed {
         &self,
         alloc: Global,
         read: &Read,
-        feed: Feed,
+        settings: &Settings,
+        timetable: Timetable,
+        deadheads: &Deadheads,
+        pulls: Pulls,
+        lines: &[Line],
         steps: &mut Steps<L>,
     ) -> Result<Outcome, Memory> {
-        let Feed {
-            settings,
-            timetable,
-            deadheads,
-            pulls,
-            lines,
-        } = feed;
         written_of(
-            alloc, read, &settings, timetable, &deadheads, pulls, &lines, steps,
+            alloc, read, settings, timetable, deadheads, pulls, lines, steps,
         )
     }
 }
 
 /// The command `write`: the agency's trips with the block of each in `trips_blocks.txt`, and its stop times with those of
 /// shifted trips moved in `stop_times_blocks.txt`. It answers the status.
+#[tactic(auto, unfolding(crate::specs::Write::write_asked))]
 pub fn run_write<S: Shelf, O: Sink, K: Keeper, L: Ledger>(
     alloc: Global,
     shelf: &mut S,

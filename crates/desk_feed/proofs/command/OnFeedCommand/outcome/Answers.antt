@@ -6,11 +6,11 @@ use Rattle.desk_feed.proofs.command.OnFeedCommand.outcome.Goals as goal
 pub judge_feed-requires : goal.judge_feed-requires
 judge_feed-requires g c = has-papers (g.C.FeedCommand.asks c.args.self.now.0).further c.args.read.now.pages c.requires
 
-pub outcome-requires-clause-says : goal.outcome-requires-clause-says
-outcome-requires-clause-says g c = says-of c.args.read.now c.in_ok-outcome.field-0 c.in-Accepted.feed c.in-Accepted.is c.in_ok-outcome.ensures
+pub outcome_of-requires-clause-says : goal.outcome_of-requires-clause-says
+outcome_of-requires-clause-says g c = says-of c.args.read.now c.in_ok-outcome.field-0 c.in-Accepted.feed c.in-Accepted.is c.in_ok-outcome.ensures
 
 pub returns-in-Accepted-clause-given : goal.returns-in-Accepted-clause-given
 returns-in-Accepted-clause-given g c =
     let feed = c.in-Accepted.feed in
     given-of (g.C.FeedCommand.asks c.args.self.now.0) c.args.read.now (said_of feed) (says-of c.args.read.now c.in_ok-outcome.field-0 feed c.in-Accepted.is c.in_ok-outcome.ensures)
-    c.outcome.result c.outcome.ensures.given
+    c.outcome_of.result c.outcome_of.ensures.given

@@ -1,8 +1,6 @@
-use Rattle.std.proofs.Common.{[], subst}
-use Rattle.std.specs.Prelude.{IfOk}
-use Rattle.desk_feed.specs.Feed.{said_of, said_with}
+use Rattle.std.proofs.Common.{[]}
+use Rattle.desk_feed.specs.Feed.{said_with}
 use Rattle.desk_feed.proofs.PapersLemmas.{has-papers}
-use Rattle.written_feed.specs.Write.{Writes}
 use Rattle.written_feed.proofs.Given.{write-given}
 use Rattle.written_feed.proofs.write.WriteFeedFeedCommand.outcome.Goals as goal
 
@@ -11,6 +9,4 @@ written_of-requires-clause-papers g c = has-papers [] c.args.read.now.pages c.re
 
 pub returns-clause-given : goal.returns-clause-given
 returns-clause-given g c =
-    let feed = c.args.feed in
-    write-given c.args.read.now (said_of feed) c.written_of.result
-    (subst (λ lines. IfOk c.written_of.result (Writes c.args.read.now (said_with feed.settings feed.timetable feed.deadheads feed.pulls lines))) c.deref.ensures.value c.written_of.ensures.writes)
+    write-given c.args.read.now (said_with c.args.settings.now c.args.timetable c.args.deadheads.now c.args.pulls c.args.lines.now) c.written_of.result c.written_of.ensures.writes
