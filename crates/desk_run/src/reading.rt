@@ -50,6 +50,26 @@ impl Model for Read {
 }
 
 impl Read {
+    ghost use Rattle.std.specs.Prelude.{IfOk};
+    ghost use Rattle.desk_run.specs.Reading.{AreRead};
+    ghost use Rattle.desk_run.specs.declared.reading.Loaded.TheVariants as loaded;
+
+    /// What a shelf has of papers, one after the other, and no journal. The first read that fails ends it.
+    pub fn of_papers<S: Shelf>(
+        alloc: Global,
+        shelf: &mut S,
+        papers: &[Paper],
+    ) -> Result<Read, RunFault>
+        ensures read { IfOk result (λ read. AreRead (S.state shelf.old).files papers.now read.pages) }
+        ensures journal { IfOk result (λ read. read.journal ≡ loaded.Unasked) }
+    {
+        let pages = read_papers(alloc, shelf, papers)?;
+        Ok(Read {
+            pages,
+            journal: Loaded::Unasked,
+        })
+    }
+
     /// What was found of a paper, which has to be one of those that were read.
     pub fn found(&self, paper: Paper) -> &Found
         requires { IsAmong (papers_of self.now.pages) paper }

@@ -43,7 +43,7 @@ use Rattle.desk_feed.specs.Judging.{Does, refused_of, said_in}
 use Rattle.plan_commands.specs.Check.{IsChecked, check_asked, claim_papers, claim_in, claim_outcome, verdict_outcome, yes_line}
 use Rattle.desk_feed.proofs.ScriptLemmas.{standing-places}
 use Rattle.plan_commands.proofs.Given.{put-alone}
-use Rattle.two_runs.proofs.NamesSaid.{said-names}
+use Rattle.feed_names.proofs.NamesSaid.{said-names}
 use Rattle.plan_commands.proofs.ScheduleLemmas.{outcome-same}
 use Rattle.two_runs.specs.Confirmed.{IsShort, IsConfirmed}
 
@@ -102,6 +102,7 @@ module _ (files : Files) (blocks prices : List ℕ) where
 
 -- a run of `blocks` that has done all has done so with an accepted feed
 planned_said : (read : ReadView) (outcome : OutcomeView) → IsGiven blocks_asked read outcome → status_of outcome.ending ≤ EDITS_REFUSED → (said : Said) × (said_in read ≡ Ok said) × IsPlan said outcome
+unfolding blocks_asked
 planned_said read outcome given low = by (said_in read) refl given.gives
   where
     by : (result : Result Said FeedFault) → said_in read ≡ result → Does IsPlan result outcome → (said : Said) × (said_in read ≡ Ok said) × IsPlan said outcome
@@ -110,6 +111,7 @@ planned_said read outcome given low = by (said_in read) refl given.gives
 
 -- a run of `check` writes no file
 writes_none : (read : ReadView) (outcome : OutcomeView) → IsGiven check_asked read outcome → outcome.writes ≡ []
+unfolding check_asked
 writes_none read outcome given = by (said_in read) given.gives
   where
     by : (result : Result Said FeedFault) → Does (IsChecked read) result outcome → outcome.writes ≡ []
@@ -174,9 +176,11 @@ module _ (accepts : AcceptsPlans) (makes : MakesMoves) (before middle after : Wo
     now = files_between ∙ ap (with_texts text_of_blocks text_of_prices) told
 
     read_first : one.chosen.read.pages ≡ pages_in feed_papers files
+    unfolding blocks_asked
     read_first = pages_told files feed_papers one.chosen.read.pages (subst (λ fs. AreRead fs feed_papers one.chosen.read.pages) told one.chosen.told.pages)
 
     read_second : two.chosen.read.pages ≡ pages_in claim_papers (written files text_of_blocks text_of_prices)
+    unfolding check_asked
     read_second = pages_told (written files text_of_blocks text_of_prices) claim_papers two.chosen.read.pages (subst (λ fs. AreRead fs claim_papers two.chosen.read.pages) now two.chosen.told.pages)
 
     says : said_in two.chosen.read ≡ Ok said
@@ -190,6 +194,7 @@ module _ (accepts : AcceptsPlans) (makes : MakesMoves) (before middle after : Wo
         ∙ accepted.1
 
     judged : IsChecked two.chosen.read said two.chosen.outcome
+    unfolding check_asked
     judged = subst (λ said. Does (IsChecked two.chosen.read) said two.chosen.outcome) says two.chosen.given.gives
 
     abbrev vehicles : ℕ

@@ -1,3 +1,1 @@
 pub mod ConfirmedLemmas
-pub mod NamesSaid
-pub mod NamesStanding

@@ -36,7 +36,7 @@ use Rattle.deadhead_matrix.specs.Posts.{Class, classes_of, place_for}
 use Rattle.claim_files.specs.Written.{IsName}
 use Rattle.claim_files.proofs.EachRecord.{each-keeps, provided-parts, read-parts, same_Ok}
 use Rattle.desk_feed.specs.Feed.{Said, deadheads_in, lines_in, pulls_in, said_by, said_with, settings_in, standing, timetable_in}
-use Rattle.two_runs.proofs.NamesStanding.{lines-named, standing-named}
+use Rattle.feed_names.proofs.NamesStanding.{lines-named, standing-named}
 
 -- a text that was read is text
 text-read : (paper : Paper) (number : ℕ) (column : Column) (bytes text : List ℕ) → text_in paper number column bytes ≡ Ok text → IsUtf8 text

@@ -1,0 +1,2 @@
+pub mod NamesSaid
+pub mod NamesStanding
