@@ -1,0 +1,4 @@
+pub mod Given
+pub mod MomentsLemmas
+pub mod NumbersLemmas
+pub mod PlannersLaws

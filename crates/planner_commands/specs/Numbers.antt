@@ -1,0 +1,28 @@
+-- The numbers of a timetable, by a plan from scratch.
+use Rattle.std.specs.Prelude.{◌≡◌, ℕ, List, [], ◌∷◌, ◌++◌, length, codes, pos}
+use Rattle.std.specs.Fmt.{decimal}
+use Rattle.trip_model.specs.Blocking.{IsFewest, empty_minutes}
+use Rattle.trip_model.specs.Deficit.{deficit, live_moves}
+use Rattle.trip_model.specs.Maximum.{sum_of_maxima}
+use Rattle.trip_model.specs.Plain.{plain_network, trip_moves}
+use Rattle.trip_model.specs.Timetable.{TimetableView}
+use Rattle.deadhead_matrix.specs.Fitting.{deadhead_network}
+use Rattle.deadhead_matrix.specs.Matrix.{MatrixView}
+use Rattle.deadhead_matrix.specs.Prices.{Plan}
+use Rattle.desk_feed.specs.Schedule.{IsScheduled}
+
+-- three numbers: the fewest vehicles without deadheads, the vehicles of blocks, and their empty minutes
+unfoldable pub numbers_line : ℕ → ℕ → ℕ → List ℕ
+numbers_line fixed vehicles minutes =
+    codes "fixed " ++ (decimal fixed ++ (codes ", vehicles " ++ (decimal vehicles ++ (codes ", minutes " ++ (decimal minutes ++ 10 ∷ [])))))
+
+-- They are those of a timetable: of the blocks of a plan, which are least over all blockings, and of blocks without deadheads, of
+-- which no others are fewer; these are as many as the sum of the maxima of the deficits.
+pub record IsNumbered (timetable : TimetableView) (matrix : MatrixView) (numbers : List ℕ) : Type 0 where
+  pub plan : Plan
+  pub blocks : List (List ℕ)
+  pub scheduled : IsScheduled timetable matrix plan blocks
+  pub without : List (List ℕ)
+  pub fewest : IsFewest (plain_network (trip_moves timetable.slots)) without
+  pub maxima : pos (length without) ≡ sum_of_maxima (deficit (live_moves timetable.slots)) (length timetable.places)
+  pub put : numbers ≡ numbers_line (length without) (length blocks) (empty_minutes (deadhead_network (trip_moves timetable.slots) matrix) blocks)
