@@ -1,0 +1,4 @@
+pub mod Given
+pub mod JudgedLemmas
+pub mod OneNetwork
+pub mod SelectedLemmas

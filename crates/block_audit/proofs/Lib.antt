@@ -1,0 +1,6 @@
+pub mod AboveLemmas
+pub mod Fitting
+pub mod Grouping
+pub mod Sorted
+pub mod StatedLemmas
+pub mod StepsLemmas

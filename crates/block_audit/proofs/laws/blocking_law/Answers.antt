@@ -1,0 +1,11 @@
+use Rattle.block_audit.proofs.StatedLemmas.{each-stands, are-blocking, have-no-misfit}
+use Rattle.block_audit.proofs.laws.blocking_law.Goals as goal
+
+pub returns-clause-stands : goal.returns-clause-stands
+returns-clause-stands c = each-stands
+
+pub returns-clause-blocking : goal.returns-clause-blocking
+returns-clause-blocking c = are-blocking
+
+pub returns-clause-fitting : goal.returns-clause-fitting
+returns-clause-fitting c = have-no-misfit

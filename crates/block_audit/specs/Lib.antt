@@ -1,0 +1,4 @@
+pub mod Above
+pub mod Laws
+pub mod Misfits
+pub mod Stated

@@ -1,0 +1,44 @@
+-- The pairs of neighbours of stated blocks of which the second trip does not fit after the first.
+use Rattle.std.specs.Prelude.{ℕ, ◌+◌, ◌-◌, List, [], ◌∷◌, ◌++◌, Option, None, Some, is_some, option_map, if◌then◌else◌}
+use Rattle.deadhead_matrix.specs.Matrix.{MatrixView, walk}
+use Rattle.trip_model.specs.Timetable.{TimetableView, slot_at}
+use Rattle.price_check.specs.Claim.{network_of}
+use Rattle.block_build.specs.Lines.{walk_between}
+use Rattle.block_audit.specs.declared.misfit.Misfit.{Misfit}
+use Rattle.block_audit.specs.Stated.{NamedBlock}
+
+-- by how many minutes a vehicle that goes on from the first trip comes too late to the second, by its end, the least walk and
+-- the departure; None where no way leads there
+abbrev pub short_by : TimetableView → MatrixView → ℕ → ℕ → Option ℕ
+short_by timetable matrix i j =
+    option_map (λ minutes. (slot_at timetable i).trip.ends + minutes - (slot_at timetable j).trip.departs) (walk_between timetable (walk matrix) i j)
+
+-- the misfit of two neighbours of the block of that number; None where the second fits after the first
+abbrev pub misfit_between : TimetableView → MatrixView → ℕ → ℕ → ℕ → Option Misfit
+misfit_between timetable matrix block i j =
+    if is_some ((network_of timetable matrix).empty i j) then None
+    else Some (record { block = block; before = i; after = j; short = short_by timetable matrix i j })
+
+-- misfits with one more before them, if there is one
+abbrev pub with_misfit : Option Misfit → List Misfit → List Misfit
+with_misfit None misfits = misfits
+with_misfit (Some misfit) misfits = misfit ∷ misfits
+
+-- the misfits of the trip of i and those after it in a block, in the order of the trips
+abbrev pub misfits_after : TimetableView → MatrixView → ℕ → ℕ → List ℕ → List Misfit
+misfits_after timetable matrix block i [] = []
+misfits_after timetable matrix block i (j ∷ js) = with_misfit (misfit_between timetable matrix block i j) (misfits_after timetable matrix block j js)
+
+-- the misfits of a block
+abbrev pub block_misfits : TimetableView → MatrixView → ℕ → List ℕ → List Misfit
+block_misfits timetable matrix block [] = []
+block_misfits timetable matrix block (i ∷ js) = misfits_after timetable matrix block i js
+
+-- the misfits of blocks, block by block, of which the first has that number
+abbrev pub misfits_from : TimetableView → MatrixView → ℕ → List NamedBlock → List Misfit
+misfits_from timetable matrix number [] = []
+misfits_from timetable matrix number (block ∷ blocks) = block_misfits timetable matrix number block.slots ++ misfits_from timetable matrix (number + 1) blocks
+
+-- all misfits
+abbrev pub misfits_in : TimetableView → MatrixView → List NamedBlock → List Misfit
+misfits_in timetable matrix stated = misfits_from timetable matrix 0 stated

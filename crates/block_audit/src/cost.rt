@@ -1,0 +1,90 @@
+ghost use Rattle.std.specs.Prelude.{◌≡◌, ◌<◌, ◌^◌, true, length, All, unwrap_or};
+ghost use Rattle.trip_model.specs.Blocking as blocking;
+ghost use Rattle.trip_model.specs.Blocking.{IsBlock, IsBlocking};
+ghost use Rattle.trip_model.specs.Network.{Fits};
+ghost use Rattle.trip_model.specs.Timetable.{slot_at};
+ghost use Rattle.price_check.specs.Claim.{network_of};
+ghost use Rattle.block_audit.specs.Above as spec;
+ghost use Rattle.block_audit.specs.Stated.{slots_by};
+
+use crate::stated::Stated;
+use deadhead_matrix::Matrix;
+use deadhead_matrix::laws::deadhead_law;
+use trip_model::Timetable;
+use trip_model::laws::plain_law;
+
+/// By how much blocks are above least ones.
+#[derive(Clone, Copy, Debug, PartialEq, Eq)]
+pub enum Above {
+    /// They are as good.
+    Nothing,
+    /// By so many vehicles.
+    Vehicles(u32),
+    /// They have as few vehicles, and so many empty minutes more.
+    Minutes(u32),
+}
+
+// The empty minutes from the trip of one slot to that of another which fits after it.
+fn minutes_between(timetable: &Timetable, matrix: &Matrix, before: u16, slot: u16) -> u32
+    requires before { before < length timetable.now.slots }
+    requires slot { slot < length timetable.now.slots }
+    requires places { length timetable.now.places ≡ length matrix.now.walks }
+    requires fits { Fits (network_of timetable.now matrix.now) before slot }
+    ensures { result ≡ unwrap_or ((network_of timetable.now matrix.now).empty before slot) 0 }
+{
+    let to = timetable.trip(before).to;
+    let from = timetable.trip(slot).from;
+    matrix.minutes(to, from).unwrap_or(0)
+}
+
+// The empty minutes of a block, which are fewer than 2 to the 32.
+fn block_minutes(timetable: &Timetable, matrix: &Matrix, block: &[u16]) -> u32
+    requires places { length timetable.now.places ≡ length matrix.now.walks }
+    requires block { IsBlock (network_of timetable.now matrix.now) block.now }
+    requires live { All (λ s. (slot_at timetable.now s).trip.live ≡ true) block.now }
+    requires few { blocking.block_minutes (network_of timetable.now matrix.now) block.now < 2 ^ 32 }
+    ensures { result ≡ blocking.block_minutes (network_of timetable.now matrix.now) block.now }
+{
+    let first = timetable.trip(block[0]);
+    let last = timetable.trip(block[block.len() - 1]);
+    let mut minutes = u32::from(matrix.pull_out(first.from));
+    for n in 1..block.len() {
+        minutes += minutes_between(timetable, matrix, block[n - 1], block[n]);
+    }
+    minutes + u32::from(matrix.pull_in(last.to))
+}
+
+/// The vehicles and the empty minutes of stated blocks that have no misfit, so that they are a blocking: the minutes are those out
+/// of the depot, of the walks between their trips, and home.
+pub fn stated_cost(timetable: &Timetable, matrix: &Matrix, stated: &Stated) -> (u32, u32)
+    requires places { length timetable.now.places ≡ length matrix.now.walks }
+    requires blocking { IsBlocking (network_of timetable.now matrix.now) (slots_by stated.now) }
+    ensures vehicles { result.0 ≡ length stated.now }
+    ensures minutes { result.1 ≡ blocking.empty_minutes (network_of timetable.now matrix.now) (slots_by stated.now) }
+{
+    plain_law();
+    deadhead_law();
+    // Their clauses say that the trips are valid and that no pull is longer than a day.
+    let _slots = timetable.slots();
+    let _places = matrix.places();
+    let mut minutes = 0;
+    for b in 0..stated.len() {
+        minutes += block_minutes(timetable, matrix, stated.block(b));
+    }
+    (stated.len() as u32, minutes)
+}
+
+/// By how much a cost, of vehicles and empty minutes, is above the least: by vehicles, or where these are as few by minutes.
+pub fn above_by(cost: (u32, u32), least: (u32, u32)) -> Above
+    ensures { result ≡ spec.above_by cost.0 cost.1 least.0 least.1 }
+{
+    let (vehicles, minutes) = cost;
+    let (least_vehicles, least_minutes) = least;
+    if vehicles > least_vehicles {
+        Above::Vehicles(vehicles - least_vehicles)
+    } else if minutes > least_minutes {
+        Above::Minutes(minutes - least_minutes)
+    } else {
+        Above::Nothing
+    }
+}

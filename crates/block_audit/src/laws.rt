@@ -1,0 +1,27 @@
+//! Laws of the definitions that the contracts cite. Each is the contract of a function that does nothing.
+ghost use Rattle.block_audit.specs.Laws as spec;
+
+use deadhead_matrix::laws::deadhead_law;
+use trip_model::laws::plain_law;
+
+/// Each trip that runs stands in the stated blocks once. They are a blocking exactly where there is no misfit.
+pub fn blocking_law()
+    ensures stands { spec.EachStands }
+    ensures blocking { spec.AreBlocking }
+    ensures fitting { spec.HaveNoMisfit }
+{}
+
+/// Where the trips of a stated block can be made one after the other in some order, that is the order in which they stand.
+pub fn order_law()
+    ensures { spec.StandInOrder }
+{
+    plain_law();
+    deadhead_law();
+}
+
+/// Blocks are above least ones by nothing exactly where they are least; else by how many vehicles they have more, or by how many
+/// empty minutes where they have as few.
+pub fn above_law()
+    ensures says { spec.IsSaid }
+    ensures nothing { spec.IsSaidOfLeast }
+{}

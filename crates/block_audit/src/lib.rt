@@ -1,0 +1,26 @@
+//! The blocks that a feed states by the `block_id` of its trips, and whether vehicles can make them.
+//!
+//! [`stated_blocks`] makes them of the table of `trips.txt` and a timetable. [`misfits`] lists the neighbours that do not fit,
+//! [`stated_cost`] counts vehicles and empty minutes where all fit, and [`above_by`] says by how much these are above the least.
+//!
+//! The contract that the crates above use: the stated blocks are a blocking of the timetable exactly where there is no misfit,
+//! and least exactly where they are above the least by nothing ([`laws`]).
+//!
+//! ```text
+//! let stated = stated_blocks(alloc, &trips, &timetable, &chosen)?;
+//! let misfits = misfits(alloc, &timetable, &matrix, &stated)?;
+//! ```
+//!
+//! The contracts cite `Stated` (the stated blocks), `Misfits` (the pairs that do not fit), `Above` and `Laws`; of `trip_model`
+//! `Blocking`, `Order` and `Timetable`; and of `price_check` the network along which a timetable and a matrix are judged.
+#![tactic(auto)]
+
+mod cost;
+pub mod laws;
+mod misfit;
+mod names;
+mod stated;
+
+pub use cost::{Above, above_by, stated_cost};
+pub use misfit::{Misfit, misfits};
+pub use stated::{Stated, stated_blocks};

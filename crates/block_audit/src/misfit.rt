@@ -1,0 +1,103 @@
+ghost use Rattle.std.specs.Prelude.{◌≡◌, ◌<◌, ◌++◌, length, All, IfOk, OnOk};
+ghost use Rattle.price_check.specs.Claim.{Runs, network_of};
+ghost use Rattle.block_audit.specs.Misfits as spec;
+ghost use Rattle.block_audit.specs.Stated.{slots_by};
+
+use crate::stated::Stated;
+use deadhead_matrix::Matrix;
+use desk_io::Memory;
+use std::alloc::Global;
+use trip_model::Timetable;
+
+/// Two neighbours of a stated block of which the second does not fit after the first.
+#[derive(Clone, Copy, Debug, PartialEq, Eq)]
+pub struct Misfit {
+    /// The number of the block, counted from 0.
+    pub block: u32,
+    /// The slot of the first trip.
+    pub before: u16,
+    /// The slot of the second trip.
+    pub after: u16,
+    /// By how many minutes a vehicle comes too late to the second; None where no way leads there.
+    pub short: Option<u32>,
+}
+
+// By how many minutes a vehicle comes too late from the one trip to the other, 0 where it comes in time; None where no way leads
+// there.
+fn short_by(timetable: &Timetable, matrix: &Matrix, before: u16, after: u16) -> Option<u32>
+    requires places { length timetable.now.places ≡ length matrix.now.walks }
+    requires before { Runs timetable.now before }
+    requires after { Runs timetable.now after }
+    ensures { result ≡ spec.short_by timetable.now matrix.now before after }
+{
+    let first = timetable.trip(before);
+    let second = timetable.trip(after);
+    let minutes = matrix.minutes(first.to, second.from)?;
+    Some((u32::from(first.ends) + minutes).saturating_sub(u32::from(second.departs)))
+}
+
+// The misfit of two neighbours of a block; None where the second fits after the first.
+fn misfit_between(
+    timetable: &Timetable,
+    matrix: &Matrix,
+    block: u32,
+    before: u16,
+    after: u16,
+) -> Option<Misfit>
+    requires places { length timetable.now.places ≡ length matrix.now.walks }
+    requires before { Runs timetable.now before }
+    requires after { Runs timetable.now after }
+    ensures { result ≡ spec.misfit_between timetable.now matrix.now block before after }
+{
+    let short = short_by(timetable, matrix, before, after);
+    if short == Some(0) {
+        return None;
+    }
+    Some(Misfit {
+        block,
+        before,
+        after,
+        short,
+    })
+}
+
+// Appends the misfits of a block.
+fn push_block(
+    misfits: &mut Vec<Misfit>,
+    timetable: &Timetable,
+    matrix: &Matrix,
+    block: u32,
+    slots: &[u16],
+) -> Result<(), Memory>
+    requires places { length timetable.now.places ≡ length matrix.now.walks }
+    requires runs { All (Runs timetable.now) slots.now }
+    ensures { OnOk result (misfits.new.items ≡ misfits.old.items ++ spec.block_misfits timetable.now matrix.now block slots.now) }
+{
+    for n in 1..slots.len() {
+        if let Some(misfit) = misfit_between(timetable, matrix, block, slots[n - 1], slots[n]) {
+            misfits.push(misfit)?;
+        }
+    }
+    Ok(())
+}
+
+/// The pairs of neighbours of stated blocks of which the second trip does not fit after the first, block by block and in the order
+/// of the trips. Each trip of the blocks has to run.
+pub fn misfits(
+    alloc: Global,
+    timetable: &Timetable,
+    matrix: &Matrix,
+    stated: &Stated,
+) -> Result<Vec<Misfit>, Memory>
+    requires places { length timetable.now.places ≡ length matrix.now.walks }
+    requires runs { All (All (Runs timetable.now)) (slots_by stated.now) }
+    ensures misfits { IfOk result (λ misfits. misfits.items ≡ spec.misfits_in timetable.now matrix.now stated.now) }
+    ensures blocks { IfOk result (λ misfits. All (λ misfit. misfit.block < length stated.now) misfits.items) }
+    ensures slots { IfOk result (λ misfits. All (λ misfit. Runs timetable.now misfit.before × Runs timetable.now misfit.after) misfits.items) }
+{
+    let mut misfits = Vec::new(alloc);
+    for b in 0..stated.len() {
+        push_block(&mut misfits, timetable, matrix, b as u32, stated.block(b))?;
+    }
+    Ok(misfits)
+}
