@@ -1,5 +1,5 @@
 -- Which command the words name, and what that asks.
-use Rattle.std.specs.Prelude.{ℕ, List, [], ◌∷◌, Option, None, Some, codes, if◌then◌else◌}
+use Rattle.std.specs.Prelude.{ℕ, ◌≤◌, ◌==◌, ◌&&◌, nat_le, nat_lt, List, [], ◌∷◌, length, Option, None, Some, option_map, codes, if◌then◌else◌, ⊤}
 use Rattle.std.specs.Str.{bytes_eq}
 use Rattle.desk_run.specs.Commands.{Asked}
 use Rattle.feed_commands.specs.Deficits.{deficits_asked}
@@ -11,10 +11,15 @@ use Rattle.written_feed.specs.Write.{write_asked}
 use Rattle.lowering_commands.specs.Chains.{chains_asked}
 use Rattle.lowering_commands.specs.Shifts.{shifts_asked}
 use Rattle.board_commands.specs.Joined.{joined_asked}
+use Rattle.planner_commands.specs.Planners.{planners_asked}
+use Rattle.audit_commands.specs.Audit.{audit_asked}
+use Rattle.feed_sample.specs.declared.sample.TheConstants.{MOST_SAMPLE}
+use Rattle.gtfs_tables.specs.Numbers.{number_of}
+use Rattle.sample_commands.specs.Sample.{sample_asked}
 use Rattle.journal_commands.specs.Keep.{keep_asked}
 use Rattle.journal_commands.specs.Kept.{kept_asked}
 use Rattle.blockdesk.specs.declared.command.Command.{Command}
-use Rattle.blockdesk.specs.declared.command.Command.TheVariants.{Deficits, Fixed, Blocks, Check, Write, Chart, Chains, Shifts, Keep, Kept, Joined}
+use Rattle.blockdesk.specs.declared.command.Command.TheVariants.{Deficits, Fixed, Blocks, Check, Write, Chart, Chains, Shifts, Keep, Kept, Joined, Planners, Audit, Sample}
 
 -- the command of that name
 abbrev pub command_named : List ℕ → Option Command
@@ -30,12 +35,36 @@ command_named word =
     else if bytes_eq word (codes "keep") then Some Keep
     else if bytes_eq word (codes "kept") then Some Kept
     else if bytes_eq word (codes "joined") then Some Joined
+    else if bytes_eq word (codes "planners") then Some Planners
+    else if bytes_eq word (codes "audit") then Some Audit
     else None
 
--- the command that the words name: a command and a folder
+-- how many digits a number below 10,000 has
+abbrev pub digits_of : ℕ → ℕ
+digits_of n = if nat_lt n 10 then 1 else if nat_lt n 100 then 2 else if nat_lt n 1000 then 3 else 4
+
+-- The number of trips that a word has, no more than a sample may have. The word has as many characters as that has digits, so no
+-- sign, no space and no zero in front.
+abbrev pub trips_written : ℕ → Option ℕ → Option ℕ
+trips_written characters None = None
+trips_written characters (Some n) = if (characters == digits_of n) && nat_le n MOST_SAMPLE then Some n else None
+
+abbrev pub trips_in : List ℕ → Option ℕ
+trips_in word = trips_written (length word) (number_of 4 word)
+
+-- the command of a sample, where it has a number of trips
+abbrev pub sample_of : Option ℕ → Option Command
+sample_of trips = option_map Sample trips
+
+-- the command that the words name: a command and a folder, or that of a sample and a number
 abbrev pub command_of : List (List ℕ) → Option Command
-command_of (command ∷ folder ∷ []) = command_named command
+command_of (command ∷ word ∷ []) = if bytes_eq command (codes "sample") then sample_of (trips_in word) else command_named command
 command_of words = None
+
+-- a sample of so many trips can be made
+abbrev pub IsMakeable : Command → Type 0
+IsMakeable (Sample trips) = trips ≤ MOST_SAMPLE
+IsMakeable command = ⊤
 
 -- what a command asks
 abbrev pub asked_by : Command → Asked
@@ -50,6 +79,9 @@ asked_by Shifts = shifts_asked
 asked_by Keep = keep_asked
 asked_by Kept = kept_asked
 asked_by Joined = joined_asked
+asked_by Planners = planners_asked
+asked_by Audit = audit_asked
+asked_by (Sample trips) = sample_asked trips
 
 -- the folder that is read and written: the second of two words, but for `sample`, which works on none
 abbrev pub folder_of : List (List ℕ) → List ℕ

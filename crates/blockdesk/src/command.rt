@@ -1,7 +1,10 @@
-ghost use Rattle.std.specs.Prelude.{◌≡◌};
+ghost use Rattle.std.specs.Prelude.{◌≡◌, ◌≤◌, IfSome};
 ghost use Rattle.blockdesk.specs.Commands as spec;
+ghost use Rattle.feed_sample.specs.declared.sample.TheConstants.{MOST_SAMPLE};
 
 use desk_io::Text;
+use feed_sample::MOST_SAMPLE;
+use gtfs_tables::read_number;
 
 /// What the words after the program's name ask for.
 #[derive(Clone, Copy, Debug, PartialEq, Eq)]
@@ -28,6 +31,12 @@ pub enum Command {
     Kept,
     /// The deficits with the deadheads of blocks put in, and running boards.
     Joined,
+    /// The records of several planners on one timetable.
+    Planners,
+    /// Whether the blocks that the feed has fit, and how far they are from the least.
+    Audit,
+    /// The summary of a generated feed of so many trips.
+    Sample(u32),
 }
 
 // The command of that name.
@@ -46,15 +55,46 @@ fn command_named(word: &str) -> Option<Command>
         "keep" => Some(Command::Keep),
         "kept" => Some(Command::Kept),
         "joined" => Some(Command::Joined),
+        "planners" => Some(Command::Planners),
+        "audit" => Some(Command::Audit),
         _ => None,
     }
 }
 
+// How many digits a number below 10,000 has.
+fn digits_of(number: u64) -> usize
+    ensures { result ≡ spec.digits_of number }
+{
+    match number {
+        ..10 => 1,
+        ..100 => 2,
+        ..1000 => 3,
+        _ => 4,
+    }
+}
+
+// The number of trips that a word has: its digits alone, without a zero in front, and no more than a sample may have.
+fn trips_in(word: &str) -> Option<u32>
+    ensures value { result ≡ spec.trips_in word.now }
+    ensures few { IfSome result (λ trips. trips ≤ MOST_SAMPLE) }
+{
+    let number = read_number(word, 4)?;
+    if word.len() != digits_of(number) || number > u64::from(MOST_SAMPLE) {
+        return None;
+    }
+    Some(number as u32)
+}
+
 /// The command that the words name, and None where they are of no form.
 pub fn command_of(words: &[Text]) -> Option<Command>
-    ensures { result ≡ spec.command_of words.now }
+    ensures command { result ≡ spec.command_of words.now }
+    ensures few { IfSome result spec.IsMakeable }
 {
     match words {
+        [command, trips] if command.as_str() == "sample" => match trips_in(trips.as_str()) {
+            Some(trips) => Some(Command::Sample(trips)),
+            None => None,
+        },
         [command, _folder] => command_named(command.as_str()),
         _ => None,
     }

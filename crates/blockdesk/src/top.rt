@@ -1,8 +1,9 @@
 ghost use Rattle.desk_run.specs.World.{world};
 ghost use Rattle.blockdesk.specs.Commands as spec;
-ghost use Rattle.blockdesk.specs.Runs.{IsCaused, IsDue, IsRun, IsWithin};
+ghost use Rattle.blockdesk.specs.Runs.{IsRun};
 
 use crate::{Command, command_of, put_usage};
+use audit_commands::run_audit;
 use board_commands::run_joined;
 use desk_commands::run_blocks;
 use desk_io::{Shelf, Sink, Steps, Text};
@@ -11,6 +12,8 @@ use feed_commands::{run_deficits, run_fixed};
 use journal_commands::{run_keep, run_kept};
 use lowering_commands::{run_chains, run_shifts};
 use plan_commands::{run_chart, run_check};
+use planner_commands::run_planners;
+use sample_commands::run_sample;
 use std::alloc::Global;
 use std::sync::ledger::Ledger;
 use written_feed::run_write;
@@ -24,17 +27,8 @@ pub fn run<S: Shelf, O: Sink, K: Keeper, L: Ledger>(
     keeper: &mut K,
     steps: &mut Steps<L>,
 ) -> u8
-    // What was written, appended and put under each status.
-    ensures run { let at = world S.state O.state K.state in
-        IsRun (spec.command_of words.now) (at shelf.old out.old keeper.old) (at shelf.new out.new keeper.new) result }
-    // When each status comes.
-    ensures cause { let at = world S.state O.state K.state in
-        IsCaused (spec.command_of words.now) (at shelf.old out.old keeper.old) (at shelf.new out.new keeper.new) result }
-    // Which status comes where all is told and no fault was counted.
-    ensures complete { let at = world S.state O.state K.state in
-        IsDue (spec.command_of words.now) (at shelf.old out.old keeper.old) (at shelf.new out.new keeper.new) result }
-    // How many steps are counted at the most.
-    ensures counted { IsWithin (spec.command_of words.now) (world S.state O.state K.state shelf.old out.old keeper.old) steps.old steps.new }
+    ensures { let at = world S.state O.state K.state in
+        IsRun (spec.command_of words.now) (at shelf.old out.old keeper.old) (at shelf.new out.new keeper.new) result steps.old steps.new }
 {
     match command_of(words) {
         None => put_usage(shelf, out, keeper),
@@ -49,5 +43,8 @@ pub fn run<S: Shelf, O: Sink, K: Keeper, L: Ledger>(
         Some(Command::Keep) => run_keep(alloc, shelf, out, keeper, steps),
         Some(Command::Kept) => run_kept(alloc, shelf, out, keeper, steps),
         Some(Command::Joined) => run_joined(alloc, shelf, out, keeper, steps),
+        Some(Command::Planners) => run_planners(alloc, shelf, out, keeper, steps),
+        Some(Command::Audit) => run_audit(alloc, shelf, out, keeper, steps),
+        Some(Command::Sample(trips)) => run_sample(alloc, trips, shelf, out, keeper, steps),
     }
 }

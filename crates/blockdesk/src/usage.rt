@@ -7,7 +7,7 @@ use desk_run::{USAGE, WRITE_FAULT};
 
 /// What is put for words of no form.
 pub const USAGE_LINE: &str =
-    "usage: blockdesk deficits|fixed|blocks|check|write|chart|chains|shifts|keep|kept|joined FOLDER, or blockdesk sample N\n";
+    "usage: blockdesk deficits|fixed|blocks|check|write|chart|chains|shifts|keep|kept|joined|planners|audit FOLDER, or blockdesk sample N\n";
 
 /// The run of words of no form: it puts the usage line and answers 2, or 6 where the sink has counted a fault. It takes no
 /// memory, and the shelf and the keeper only so that its clauses can say that they stay as they are.
