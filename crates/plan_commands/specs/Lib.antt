@@ -1,3 +1,2 @@
 pub mod Chart
 pub mod Check
-pub mod Checked

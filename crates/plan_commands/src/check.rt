@@ -1,16 +1,17 @@
 ghost use Rattle.std.specs.Prelude.{◌≡◌, length, IfOk};
 ghost use Rattle.gtfs_tables.specs.Papers.{IsWithinLimit};
+ghost use Rattle.trip_model.specs.Plain.{trip_moves, AreMoves};
 ghost use Rattle.price_check.specs.Claim.{AreBlockRows, ArePriceRows};
 ghost use Rattle.price_check.specs.Reasons.{verdict_of};
+ghost use Rattle.claim_files.specs.Claims.{claimed_of};
 ghost use Rattle.desk_run.specs.Performs.{Performs};
 ghost use Rattle.desk_run.specs.World.{world};
-ghost use Rattle.plan_commands.specs.Check.{check_asked, verdict_outcome};
-ghost use Rattle.plan_commands.specs.Checked.{IsCheckedOf};
+ghost use Rattle.plan_commands.specs.Check.{Proves, check_asked, claim_outcome, verdict_outcome};
 
 use claim_files::laws::{rows_law, told_law};
 use claim_files::{ClaimFault, claim_line, read_claimed, reason_line};
 use deadhead_matrix::{Deadheads, Matrix, Pulls};
-use desk_feed::{Edited, FeedCommand, OnFeed, after_script, matrix_of, putting_after};
+use desk_feed::{FeedCommand, OnFeed, after_script, matrix_of, putting_after};
 use desk_io::{Found, Memory, Shelf, Sink, Steps, Text};
 use desk_keeper::Keeper;
 use desk_run::{Ending, Outcome, Read, perform};
@@ -66,25 +67,26 @@ fn judged(
     }
 }
 
-// What is put of the two files of a claim on a timetable after its script.
+// What is put of the two files of a claim, behind the lines of refused records.
 fn checked(
     alloc: Global,
-    edited: &Edited,
+    refused: &Text,
+    timetable: &Timetable,
     matrix: &Matrix,
     blocks: &Found,
     prices: &Found,
 ) -> Result<Outcome, Memory>
-    requires places { length edited.now.script.timetable.places ≡ length matrix.now.walks }
+    requires places { length timetable.now.places ≡ length matrix.now.walks }
     requires blocks { IsWithinLimit blocks.now }
     requires prices { IsWithinLimit prices.now }
-    ensures checked { IfOk result (IsCheckedOf edited.now matrix.now blocks.now prices.now) }
+    ensures done { IfOk result (λ outcome. outcome ≡ claim_outcome refused.now timetable.now matrix.now (claimed_of timetable.now blocks.now prices.now)) }
+    ensures proved { Proves timetable.now matrix.now (claimed_of timetable.now blocks.now prices.now) }
+    ensures moves { AreMoves (length timetable.now.places) (trip_moves timetable.now.slots) }
 {
     plain_law();
     rows_law();
     certificate_law();
     least_law();
-    let refused = &edited.refused;
-    let timetable = edited.script.timetable();
     // Their clauses say that the timetable is valid and that no pull is longer than a day.
     let _slots = timetable.slots();
     let _places = matrix.places();
@@ -127,9 +129,10 @@ impl FeedCommand for CheckClaim {
     ) -> Result<Outcome, Memory> {
         let matrix = matrix_of(alloc, &timetable, deadheads, pulls)?;
         let edited = after_script(alloc, timetable, lines)?;
+        let timetable = edited.script.timetable();
         let blocks = read.found(Paper::Blocks);
         let prices = read.found(Paper::Prices);
-        checked(alloc, &edited, &matrix, blocks, prices)
+        checked(alloc, &edited.refused, timetable, &matrix, blocks, prices)
     }
 }
 

@@ -1,4 +1,8 @@
+use Rattle.std.proofs.Common.{◌≡◌, ap, ◌∙◌}
+use Rattle.trip_model.specs.Timetable.{TimetableView}
+use Rattle.claim_files.specs.Claims.{claimed_of}
 use Rattle.desk_feed.specs.Feed.{said_with}
+use Rattle.plan_commands.specs.Check.{claim_in}
 use Rattle.plan_commands.proofs.Given.{check-given}
 use Rattle.plan_commands.proofs.ClaimPapers.{blocks-among, prices-among}
 use Rattle.plan_commands.proofs.check.CheckClaimFeedCommand.outcome.Goals as goal
@@ -11,6 +15,14 @@ found-prices-requires g c = prices-among c.args.read.now.pages c.requires.papers
 
 pub returns-clause-given : goal.returns-clause-given
 returns-clause-given g c =
-    check-given c.args.read.now (said_with c.args._settings.now c.args.timetable c.args.deadheads.now c.args.pulls c.args.lines.now) c.in_ok-edited.edited c.in_ok-matrix.matrix
-    c.in_ok-edited.ensures.edited c.in_ok-matrix.ensures c.checked.result c.found-blocks.result.now c.found-prices.result.now c.found-blocks.ensures.found c.found-prices.ensures.found
-    c.in_ok-edited.ensures.places c.checked.ensures
+    let read = c.args.read.now in
+    let said = said_with c.args._settings.now c.args.timetable c.args.deadheads.now c.args.pulls c.args.lines.now in
+    let edited = c.in_ok-edited.edited in
+    let is = c.in_ok-edited.ensures.edited in
+    let timetable = c.timetable-timetable.result.now in
+    let stands = c.timetable-timetable.ensures ∙ is.timetable in
+    let read_claim = claimed_of timetable c.found-blocks.result.now c.found-prices.result.now in
+    let claim : read_claim ≡ claim_in read said = λ i. claimed_of (stands i) (c.found-blocks.ensures.found i) (c.found-prices.ensures.found i) in
+    check-given read said timetable c.in_ok-matrix.matrix stands c.in_ok-matrix.ensures
+    c.checked.result edited.refused is.refused c.checked.ensures.moves (ap (λ (t : TimetableView). t.places) c.timetable-timetable.ensures ∙ c.in_ok-edited.ensures.places)
+    read_claim claim c.checked.ensures.proved c.checked.ensures.done
