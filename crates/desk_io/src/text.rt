@@ -43,6 +43,14 @@ impl Text {
     {
         self.text.as_str()
     }
+
+    /// Its bytes, and takes no memory.
+    pub fn into_bytes(self) -> Bytes
+        ensures { result ≡ self }
+    {
+        let Text { text } = self;
+        Bytes::wrap(text.into_bytes())
+    }
 }
 
 impl PartialEq for Text {

@@ -145,6 +145,23 @@ pub fn read_records<R: RecordReader>(
     }
 }
 
+/// The header of a paper that is a table, by itself.
+pub fn read_header(alloc: Global, paper: Paper, found: &Found) -> Result<Row, FeedFault>
+    ensures { (table : TableView) → table_in paper found.now ≡ Ok table → Gives (λ header. header) result (Ok table.header) }
+{
+    let bytes = match found {
+        Found::Missing => return Err(FeedFault::Missing(paper)),
+        Found::TooLong => return Err(FeedFault::TooLong(paper)),
+        Found::File(bytes) => bytes,
+    };
+    let mut reader = reader_over(alloc, bytes.as_slice());
+    let mut header = Row::new(alloc);
+    if !header.read(&mut reader, 0)? {
+        return Err(FeedFault::NoHeader(paper));
+    }
+    Ok(header)
+}
+
 // Takes in no record, and refuses none.
 #[derive(Drop)]
 struct AnyRecord;

@@ -37,7 +37,7 @@ mod times;
 mod writing;
 
 pub use fault::{FeedFault, feed_line};
-pub use fold::{RecordReader, judge_table, read_records};
+pub use fold::{RecordReader, judge_table, read_header, read_records};
 pub use numbers::read_number;
 pub use paper::{Column, MOST_BYTES, MOST_RECORDS, Paper};
 pub use reading::{column_in, filled_in, number_in, table_in, text_in, time_in};
