@@ -63,7 +63,7 @@ fn boarded<L: Ledger>(
     let schedule = schedule_of(alloc, timetable, matrix, steps)?;
     let blocks = &schedule.blocks;
     let boards = boards_text(alloc, timetable, matrix, blocks, settings.prefix())?;
-    let writing = Writing::of(alloc, "boards.csv", &boards)?;
+    let writing = Writing::of(alloc, "boards.csv", boards)?;
     let writes = vec![in alloc; writing]?;
     let text = joined_text(alloc, timetable, matrix, blocks, steps)?;
     let text = format!(in alloc; "{}{}", edited.refused.as_str(), text.as_str())?;

@@ -39,8 +39,8 @@ fn finished(alloc: Global, desk: &Desk, answers: Answers, prefix: &str) -> Resul
     let blocks = blocks_now(alloc, desk)?;
     let blocks = blocks_text(alloc, timetable, desk.matrix(), &blocks, prefix)?;
     let prices = prices_text(alloc, timetable, plan.leave(), plan.enter())?;
-    let first = Writing::of(alloc, Paper::Blocks.file_name(), &blocks)?;
-    let second = Writing::of(alloc, Paper::Prices.file_name(), &prices)?;
+    let first = Writing::of(alloc, Paper::Blocks.file_name(), blocks)?;
+    let second = Writing::of(alloc, Paper::Prices.file_name(), prices)?;
     let writes = vec![in alloc; first, second]?;
     let mut text = answers.text;
     push_numbers(&mut text, desk)?;

@@ -16,13 +16,13 @@ pub struct Writing {
 impl Writing {
     ghost use Rattle.std.specs.Prelude.{IfOk};
 
-    /// The file of that name with a text.
-    pub fn of(alloc: Global, name: &str, text: &Text) -> Result<Writing, Memory>
-        ensures { IfOk result (λ writing. writing ≡ record { name = name.now; bytes = text.now }) }
+    /// The file of that name with a text, which is taken over.
+    pub fn of(alloc: Global, name: &str, text: Text) -> Result<Writing, Memory>
+        ensures { IfOk result (λ writing. writing ≡ record { name = name.now; bytes = text }) }
     {
         Ok(Writing {
             name: Text::of(alloc, name)?,
-            bytes: Bytes::of(alloc, text.as_str().as_bytes())?,
+            bytes: text.into_bytes(),
         })
     }
 }

@@ -51,7 +51,7 @@ impl Model for Read {
 
 impl Read {
     ghost use Rattle.std.specs.Prelude.{IfOk};
-    ghost use Rattle.desk_run.specs.Reading.{AreRead};
+    ghost use Rattle.desk_run.specs.Reading.{AreRead, ReadsPapers};
     ghost use Rattle.desk_run.specs.declared.reading.Loaded.TheVariants as loaded;
 
     /// What a shelf has of papers, one after the other, and no journal. The first read that fails ends it.
@@ -62,6 +62,7 @@ impl Read {
     ) -> Result<Read, RunFault>
         ensures read { IfOk result (λ read. AreRead (S.state shelf.old).files papers.now read.pages) }
         ensures journal { IfOk result (λ read. read.journal ≡ loaded.Unasked) }
+        ensures state { ReadsPapers result (S.state shelf.old) (S.state shelf.new) }
     {
         let pages = read_papers(alloc, shelf, papers)?;
         Ok(Read {

@@ -19,7 +19,7 @@ fn written(alloc: Global, lines: &[Text], records: usize) -> Result<Outcome, Mem
     ensures { IfOk result (λ outcome. outcome ≡ spec.writing_lines lines.now records) }
 {
     let text = journal_text(alloc, lines, &[])?;
-    let writing = Writing::of(alloc, Paper::Edits.file_name(), &text)?;
+    let writing = Writing::of(alloc, Paper::Edits.file_name(), text)?;
     let writes = vec![in alloc; writing]?;
     let line = format!(in alloc; "kept {records} records\n")?;
     Ok(Outcome::of(writes, None, Text::wrap(line), Ending::Done))

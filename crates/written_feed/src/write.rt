@@ -90,8 +90,8 @@ fn files(
     let prefix = settings.prefix();
     let first = trips_text(alloc, trips, timetable, &chosen, blocks, prefix)?;
     let second = stop_times_text(alloc, stop_times, timetable, base)?;
-    let first = Writing::of(alloc, "trips_blocks.txt", &first)?;
-    let second = Writing::of(alloc, "stop_times_blocks.txt", &second)?;
+    let first = Writing::of(alloc, "trips_blocks.txt", first)?;
+    let second = Writing::of(alloc, "stop_times_blocks.txt", second)?;
     Ok(vec![in alloc; first, second]?)
 }
 
