@@ -29,7 +29,7 @@ use Rattle.desk_feed.specs.Script.{some_refused}
 use Rattle.audit_commands.specs.declared.audit.Auditable.TheVariants.{Trips, Refused}
 use Rattle.audit_commands.specs.Audit.{AuditsBy, EndsBy, IsAudited, IsJudged, IsRefusedName, audit_does, chosen_in, ending_by, is_selected, stated_of, trips_in}
 use Rattle.audit_commands.specs.Auditable.{IsAuditable, Judges}
-use Rattle.audit_commands.proofs.OneNetwork.{network-same}
+use Rattle.desk_feed.proofs.OneNetwork.{network-same}
 
 -- a record is not judged where its `block_id` is refused
 refused-names : (trips : TableView) (chosen : List Bool) (outcome : OutcomeView) → IsRefusedName trips chosen outcome → ¬ AreNames trips chosen

@@ -1,4 +1,3 @@
 pub mod Given
 pub mod JudgedLemmas
-pub mod OneNetwork
 pub mod SelectedLemmas

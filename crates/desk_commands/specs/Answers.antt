@@ -13,12 +13,8 @@ use Rattle.deadhead_matrix.specs.Prices.{Plan}
 use Rattle.block_build.specs.Lines.{block_text, price_text}
 use Rattle.desk_core.specs.Counts.{blocks_in, minutes_in}
 use Rattle.desk_core.specs.Desk as desk
+use Rattle.desk_feed.specs.Numbers.{numbers_line}
 use Rattle.desk_feed.specs.Script.{line_at, refusal_in, refusal_line, standing_at, step_at}
-
--- three numbers: the fewest vehicles without deadheads, the vehicles of blocks, and their empty minutes
-unfoldable pub numbers_line : ℕ → ℕ → ℕ → List ℕ
-numbers_line fixed vehicles minutes =
-    codes "fixed " ++ (decimal fixed ++ (codes ", vehicles " ++ (decimal vehicles ++ (codes ", minutes " ++ (decimal minutes ++ 10 ∷ [])))))
 
 -- the sum of the maxima of the deficits
 abbrev pub fixed_number : TimetableView → ℕ

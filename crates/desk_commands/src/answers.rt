@@ -9,7 +9,7 @@ ghost use Rattle.edit_script.specs.Edits.{IsLineInForm};
 
 use block_build::{Blocks, block_lines, blocks_of, price_lines};
 use desk_core::Desk;
-use desk_feed::{ending_by, push_refusal};
+use desk_feed::{ending_by, push_numbers_line, push_refusal};
 use desk_io::{Memory, Steps, Text};
 use desk_run::Ending;
 use edit_script::laws::machine_law;
@@ -64,18 +64,12 @@ pub(crate) fn blocks_now(alloc: Global, desk: &Desk) -> Result<Blocks, Memory>
 }
 
 /// Appends the three numbers of a desk.
-#[tactic(auto, unfolding(crate::specs::Answers::numbers_line))]
 pub(crate) fn push_numbers(text: &mut String, desk: &Desk) -> Result<(), Memory>
     ensures { OnOk result (string_bytes text.new ≡ string_bytes text.old ++ spec.numbers_text desk.now.script.timetable desk.now.matrix desk.now.plan) }
 {
-    let fixed = desk.fixed();
-    let vehicles = desk.vehicles();
-    let minutes = desk.minutes();
-    writeln!(
-        text,
-        "fixed {fixed}, vehicles {vehicles}, minutes {minutes}"
-    )?;
-    Ok(())
+    let fixed = u64::from(desk.fixed());
+    let vehicles = desk.vehicles() as usize;
+    push_numbers_line(text, fixed, vehicles, desk.minutes())
 }
 
 // Appends the plan of a desk: the lines of its blocks and of its prices.

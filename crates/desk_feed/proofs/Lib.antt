@@ -1,4 +1,5 @@
 pub mod GivenLemmas
+pub mod OneNetwork
 pub mod PapersLemmas
 pub mod SaidLemmas
 pub mod ScriptLemmas

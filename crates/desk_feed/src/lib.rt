@@ -6,7 +6,8 @@
 //! none. So no command judges a feed itself.
 //!
 //! What such commands need besides: [`after_script`] is the timetable after the script, [`matrix_of`] the matrix of its places,
-//! [`putting_after`] puts a text behind the lines of the records that were refused, and [`refuse`] puts a refusal.
+//! [`putting_after`] puts a text behind the lines of the records that were refused, [`push_numbers_line`] is the line of the
+//! three numbers of a timetable, and [`refuse`] puts a refusal.
 //!
 //! The contract that the crates above use: an accepted feed says what its papers say; of a refused one the line of the
 //! first refusal in the order of judging is put, and the run ends as refused. The timetable after the script is that of the
@@ -19,7 +20,7 @@
 //!
 //! The contracts cite `Feed` (what the papers say, or their first refusal), `Judging` (what is made of that, and what a
 //! command asks that works on a feed), `Showing` (and one that puts a text), `Script` (the moments of a script, and what is
-//! printed of refused records) and `Edited`; of `desk_run` what is read and what an outcome is. `Schedule` has the plan of a
+//! printed of refused records), `Numbers` and `Edited`; of `desk_run` what is read and what an outcome is. `Schedule` has the plan of a
 //! feed and its blocks, which commands draw, write or list.
 #![tactic(auto)]
 
@@ -27,12 +28,14 @@ mod command;
 mod feed;
 mod judging;
 mod matrix;
+mod numbers;
 mod script;
 
 pub use command::{AfterScript, FeedCommand, OnFeed, TextCommand};
 pub use feed::Feed;
 pub use judging::{FEED_PAPERS, Judged, judge_feed, refuse};
 pub use matrix::matrix_of;
+pub use numbers::push_numbers_line;
 pub use script::{
     Edited, after_script, ending_by, push_reason, push_refusal, putting_after, step_script,
 };

@@ -1,8 +1,10 @@
 //! A timetable scheduled from scratch: its plan, and the blocks of that.
 //!
-//! [`schedule_of`] makes the plan of a timetable and its matrix and the blocks along its links.
+//! [`schedule_of`] makes the plan of a timetable and its matrix and the blocks along its links, and [`fixed_of`] the fewest
+//! vehicles without deadheads.
 //!
-//! The contract that the crates above use: the plan is certified, and its blocks are least over all blockings.
+//! The contract that the crates above use: the plan is certified, and its blocks are least over all blockings; the fewest
+//! vehicles without deadheads are the sum of the maxima.
 //!
 //! ```text
 //! let schedule = schedule_of(alloc, timetable, &matrix, steps)?;
@@ -14,4 +16,4 @@
 
 mod schedule;
 
-pub use schedule::{Schedule, schedule_of};
+pub use schedule::{Schedule, fixed_of, schedule_of};

@@ -14,7 +14,7 @@ use Rattle.deadhead_matrix.specs.Matrix.{MatrixView}
 use Rattle.deadhead_matrix.specs.Prices.{Plan}
 use Rattle.fixed_fleet.specs.Rule.{first_in_first_out}
 use Rattle.desk_feed.specs.Schedule.{IsScheduled}
-use Rattle.planner_commands.specs.Numbers.{numbers_line}
+use Rattle.desk_feed.specs.Numbers.{numbers_line}
 use Rattle.planner_commands.specs.Stepped.{HasNumbers}
 
 -- what is needed of the laws

@@ -1,6 +1,5 @@
 -- The numbers of a timetable, by a plan from scratch.
-use Rattle.std.specs.Prelude.{◌≡◌, ℕ, List, [], ◌∷◌, ◌++◌, length, codes, pos}
-use Rattle.std.specs.Fmt.{decimal}
+use Rattle.std.specs.Prelude.{◌≡◌, ℕ, List, length, pos}
 use Rattle.trip_model.specs.Blocking.{IsFewest, empty_minutes}
 use Rattle.trip_model.specs.Deficit.{deficit, live_moves}
 use Rattle.trip_model.specs.Maximum.{sum_of_maxima}
@@ -9,12 +8,8 @@ use Rattle.trip_model.specs.Timetable.{TimetableView}
 use Rattle.deadhead_matrix.specs.Fitting.{deadhead_network}
 use Rattle.deadhead_matrix.specs.Matrix.{MatrixView}
 use Rattle.deadhead_matrix.specs.Prices.{Plan}
+use Rattle.desk_feed.specs.Numbers.{numbers_line}
 use Rattle.desk_feed.specs.Schedule.{IsScheduled}
-
--- three numbers: the fewest vehicles without deadheads, the vehicles of blocks, and their empty minutes
-unfoldable pub numbers_line : ℕ → ℕ → ℕ → List ℕ
-numbers_line fixed vehicles minutes =
-    codes "fixed " ++ (decimal fixed ++ (codes ", vehicles " ++ (decimal vehicles ++ (codes ", minutes " ++ (decimal minutes ++ 10 ∷ [])))))
 
 -- They are those of a timetable: of the blocks of a plan, which are least over all blockings, and of blocks without deadheads, of
 -- which no others are fewer; these are as many as the sum of the maxima of the deficits.

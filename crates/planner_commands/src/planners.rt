@@ -7,35 +7,29 @@ ghost use Rattle.desk_run.specs.Performs.{Performs};
 ghost use Rattle.desk_run.specs.World.{world};
 ghost use Rattle.desk_settings.specs.Settings.{SettingsView};
 ghost use Rattle.planner_commands.specs.Moments.{timetable_after};
-ghost use Rattle.planner_commands.specs.Numbers.{numbers_line};
 ghost use Rattle.planner_commands.specs.Planners as spec;
 ghost use Rattle.planner_commands.specs.Planners.{IsPlanned, IsPlanners, planners_asked};
 ghost use Rattle.planner_commands.specs.Reading.{IsPlannerScript};
 ghost use Rattle.planner_commands.specs.Stepped.{HasNumbers};
-ghost use Rattle.trip_model.specs.Deficit.{deficit, live_moves};
-ghost use Rattle.trip_model.specs.Maximum.{sum_of_maxima};
 
 use crate::answers::{answer_all, push_standing};
 use crate::reading::read_lines;
 use block_build::empty_minutes;
 use deadhead_matrix::{Deadheads, Matrix, Pulls};
-use deficit_steps::deficits_of;
-use deficit_steps::laws::held_law;
 use desk_feed::{
-    Edited, Feed, FeedCommand, OnFeed, after_script, matrix_of, putting_after, refuse,
+    Edited, FeedCommand, OnFeed, after_script, matrix_of, push_numbers_line, putting_after, refuse,
 };
 use desk_io::{Memory, Shelf, Sink, Steps, Text};
 use desk_keeper::Keeper;
 use desk_run::{Ending, Outcome, Read, perform};
 use desk_settings::Settings;
 use edit_script::Line;
-use feed_schedule::schedule_of;
+use feed_schedule::{fixed_of, schedule_of};
 use fixed_fleet::laws::plain_blocks_law;
 use gtfs_tables::{FeedFault, Paper};
 use planner_desk::laws::{folding_law, machine_law, undo_law};
 use planner_desk::{PlannerLine, Planners};
 use std::alloc::Global;
-use std::fmt::Write;
 use std::sync::ledger::Ledger;
 use trip_model::Timetable;
 use trip_model::laws::plain_law;
@@ -54,33 +48,6 @@ const PLANNER_PAPERS: [Paper; 11] = [
     Paper::Edits,
     Paper::PlannerEdits,
 ];
-
-// The fewest vehicles without deadheads.
-fn fixed_of<L: Ledger>(
-    alloc: Global,
-    timetable: &Timetable,
-    steps: &mut Steps<L>,
-) -> Result<u64, Memory>
-    ensures sum { IfOk result (λ fixed. pos fixed ≡ sum_of_maxima (deficit (live_moves timetable.now.slots)) (length timetable.now.places)) }
-    ensures counted { steps.new ≤ steps.old + 28 * length timetable.now.slots }
-{
-    held_law();
-    let deficits = deficits_of(alloc, timetable, steps)?;
-    let _places = deficits.places();
-    Ok(deficits.total())
-}
-
-// Appends the line of three numbers.
-#[tactic(auto, unfolding(crate::specs::Numbers::numbers_line))]
-fn push_line(text: &mut String, fixed: u64, vehicles: usize, minutes: u32) -> Result<(), Memory>
-    ensures { OnOk result (string_bytes text.new ≡ string_bytes text.old ++ numbers_line fixed vehicles minutes) }
-{
-    writeln!(
-        text,
-        "fixed {fixed}, vehicles {vehicles}, minutes {minutes}"
-    )?;
-    Ok(())
-}
 
 // Appends the numbers of a timetable: the fewest vehicles without deadheads, and of the blocks of a plan from scratch.
 fn push_numbers<L: Ledger>(
@@ -102,7 +69,7 @@ fn push_numbers<L: Ledger>(
     let schedule = schedule_of(alloc, timetable, matrix, steps)?;
     let vehicles = schedule.blocks.len();
     let minutes = empty_minutes(timetable, matrix, &schedule.blocks);
-    push_line(text, fixed, vehicles, minutes)
+    push_numbers_line(text, fixed, vehicles, minutes)
 }
 
 // How a run ends: as one with refused edits where a record of a planner is refused, and else as after the script.

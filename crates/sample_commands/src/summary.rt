@@ -3,8 +3,6 @@ ghost use Rattle.claim_files.specs.Written.{IsAccepted, IsName, written};
 ghost use Rattle.desk_feed.specs.Schedule.{most_steps};
 ghost use Rattle.desk_io.specs.declared.shelf.Found.TheVariants.{File};
 ghost use Rattle.gtfs_tables.specs.Papers.{IsWithinLimit};
-ghost use Rattle.trip_model.specs.Deficit.{deficit, live_moves};
-ghost use Rattle.trip_model.specs.Maximum.{sum_of_maxima};
 ghost use Rattle.price_check.specs.Claim.{AreBlockRows, ArePriceRows};
 ghost use Rattle.sample_commands.specs.Sample.{HasSummary};
 ghost use Rattle.sample_commands.specs.Summed.{IsSummedOf};
@@ -13,15 +11,13 @@ use block_build::{Blocks, blocks_text, prices_text};
 use claim_files::laws::accepted_law;
 use claim_files::{ClaimFault, read_claimed};
 use deadhead_matrix::{Deadheads, Matrix, Pulls};
-use deficit_steps::deficits_of;
-use deficit_steps::laws::held_law;
 use desk_feed::{Edited, FEED_PAPERS, FeedCommand, after_script, matrix_of, putting_after};
 use desk_io::{Bytes, Found, Memory, Steps, Text};
 use desk_run::{Outcome, Read};
 use desk_settings::Settings;
 use edit_script::Line;
 use feed_names::laws::names_law;
-use feed_schedule::schedule_of;
+use feed_schedule::{fixed_of, schedule_of};
 use gtfs_tables::{MOST_BYTES, Paper};
 use price_assign::Plan;
 use price_check::{Claimed, Verdict, check};
@@ -78,22 +74,6 @@ fn claim_of(
         Err(ClaimFault::Memory) => Err(Memory),
         Err(_) => unreachable!(),
     }
-}
-
-// The sum of the maxima of the deficits of a timetable.
-fn fixed_of<L: Ledger>(
-    alloc: Global,
-    timetable: &Timetable,
-    steps: &mut Steps<L>,
-) -> Result<u64, Memory>
-    ensures fixed { IfOk result (λ fixed. pos fixed ≡ sum_of_maxima (deficit (live_moves timetable.now.slots)) (length timetable.now.places)) }
-    ensures counted { steps.new ≤ steps.old + 28 * length timetable.now.slots }
-{
-    held_law();
-    let deficits = deficits_of(alloc, timetable, steps)?;
-    // Its clause says that they are valid.
-    let _places = deficits.places();
-    Ok(deficits.total())
 }
 
 // The three numbers of a timetable, on whose plan `check` says yes.

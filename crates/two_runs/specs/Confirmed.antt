@@ -10,7 +10,7 @@ use Rattle.gtfs_tables.specs.declared.paper.TheConstants.{MOST_BYTES}
 use Rattle.desk_run.specs.Performs.{Performs}
 use Rattle.desk_run.specs.World.{World}
 use Rattle.desk_run.specs.declared.status.TheConstants.{DONE, EDITS_REFUSED, NO}
-use Rattle.desk_commands.specs.Answers.{numbers_line}
+use Rattle.desk_feed.specs.Numbers.{numbers_line}
 use Rattle.desk_commands.specs.Blocks.{blocks_asked}
 use Rattle.plan_commands.specs.Check.{check_asked, yes_line}
 

@@ -58,7 +58,7 @@ returns-clause-summary g c =
       blocks = blocks;
       scheduled = c.in_ok-schedule.ensures.scheduled;
       accepted = accepted;
-      fixed_is = c.in_ok-fixed.ensures.fixed;
+      fixed_is = c.in_ok-fixed.ensures.sum;
       vehicles_is = same-vehicles _ _ _ _ yes;
       minutes_is = same-minutes _ _ _ _ yes;
     }
