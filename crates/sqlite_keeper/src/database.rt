@@ -3,9 +3,6 @@ use sqlite::{Alter, Connection, Error, ErrorCode, File, FileStore, Transaction, 
 use std::alloc::Global;
 use std::path::Path;
 
-#[cfg(test)]
-mod tests;
-
 const MAKE_TABLE: &str =
     "CREATE TABLE IF NOT EXISTS journal(seq INTEGER PRIMARY KEY, line TEXT NOT NULL)";
 

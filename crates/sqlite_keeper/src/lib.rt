@@ -20,6 +20,3 @@ mod database;
 mod sqlite_keeper;
 
 pub use sqlite_keeper::SqliteKeeper;
-
-#[cfg(test)]
-mod tests;
