@@ -1,0 +1,138 @@
+"""Blockdesk's questions answered with pandas, numpy and scipy: peer.py deficits|fixed|walks|plan|check FEED.
+
+It puts the seconds of the step alone, after the feed was read where it is not reading that counts, and then the answer as
+blockdesk puts it.
+"""
+import pathlib
+import sys
+import time
+import tomllib
+
+import numpy as np
+import pandas as pd
+from scipy.optimize import linear_sum_assignment
+from scipy.sparse.csgraph import shortest_path
+
+VEHICLE, NONE = 67_108_864, 1 << 20
+
+
+def table(folder, name, columns):
+    return pd.read_csv(folder / name, dtype=str, usecols=columns, keep_default_na=False)
+
+
+def seconds(times):
+    return pd.to_timedelta(times).dt.total_seconds().astype(int)
+
+
+def trips_of(folder):
+    """The trips that run, in their order: the terminals between which they run, and the minutes at which they depart and end."""
+    desk = tomllib.loads((folder / "desk.toml").read_text()) if (folder / "desk.toml").exists() else {}
+    trips = table(folder, "trips.txt", ["service_id", "trip_id"])
+    if "services" in desk:
+        trips = trips[trips.service_id.isin(desk["services"])]
+    rows = table(folder, "stop_times.txt", ["trip_id", "arrival_time", "departure_time", "stop_id", "stop_sequence"])
+    rows = rows[rows.trip_id.isin(trips.trip_id)]
+    rows = rows.assign(stop_sequence=rows.stop_sequence.astype(int)).sort_values("stop_sequence", kind="stable")
+    ends = rows.groupby("trip_id", sort=False)
+    first, last = (end.set_index("trip_id").loc[trips.trip_id] for end in (ends.head(1), ends.tail(1)))
+    named = {}
+    if (folder / "terminals.csv").exists():
+        named = dict(table(folder, "terminals.csv", ["stop_id", "terminal"]).itertuples(index=False))
+    start, end = (stops.map(lambda stop: named.get(stop, stop)) for stops in (first.stop_id, last.stop_id))
+    departs = seconds(first.departure_time.where(first.departure_time != "", first.arrival_time)) // 60
+    arrives = -(-seconds(last.arrival_time.where(last.arrival_time != "", last.departure_time)) // 60)
+    own, layover = desk.get("layovers", {}), desk.get("layover", 0)
+    layovers = end.map(lambda terminal: own.get(terminal, layover))
+    return pd.DataFrame({"start": start, "end": end, "departs": departs, "ends": arrives + layovers})
+
+
+def deficits(trips):
+    """The sum of the maxima of the deficit functions."""
+    changes = pd.concat([
+        pd.DataFrame({"place": trips.start, "minute": trips.departs, "change": 1}),
+        pd.DataFrame({"place": trips.end, "minute": trips.ends, "change": -1}),
+    ])
+    changes = changes.groupby(["place", "minute"], sort=True).change.sum()
+    return f"sum {changes.groupby(level='place').cumsum().groupby(level='place').max().clip(lower=0).sum()}"
+
+
+def fixed(trips):
+    """The blocks without deadheads, first in first out: as many as trips that no vehicle waits for."""
+    links = 0
+    waits = {place: sorted(ends) for place, ends in trips.groupby("end").ends}
+    for place, departs in trips.groupby("start").departs:
+        ends, taken = waits.get(place, []), 0
+        for departure in sorted(departs):
+            if taken < len(ends) and ends[taken] <= departure:
+                taken += 1
+        links += taken
+    return f"fixed {len(trips) - links}"
+
+
+def walks_of(folder, trips):
+    """The numbers of the places, and the least minutes between each two of them."""
+    entries = table(folder, "deadheads.csv", ["from", "to", "minutes"])
+    names = pd.unique(pd.concat([trips.start, trips.end, entries["from"], entries["to"]]))
+    number = dict(zip(names, range(len(names))))
+    ways = np.full((len(names), len(names)), np.inf)
+    ways[entries["from"].map(number), entries["to"].map(number)] = entries["minutes"].astype(int)
+    began = time.perf_counter()
+    walks = shortest_path(ways, method="D")
+    took = time.perf_counter() - began
+    return number, np.where(np.isinf(walks), NONE, walks).astype(int), took
+
+
+def weights_of(folder, trips):
+    """What each pair saves: a vehicle less the deadhead, and nothing where it does not fit. And the seconds of the walks."""
+    number, walks, took = walks_of(folder, trips)
+    start, end = trips.start.map(number).to_numpy(), trips.end.map(number).to_numpy()
+    minutes = walks[end[:, None], start[None, :]]
+    fits = trips.ends.to_numpy()[:, None] + minutes <= trips.departs.to_numpy()[None, :]
+    return np.where(fits, VEHICLE - minutes, 0), took
+
+
+def numbers(weights, before, after):
+    """The vehicles and the deadhead minutes where each of these trips is followed by the other."""
+    saved = weights[before, after]
+    linked = saved > 0
+    return f"vehicles {len(weights) - linked.sum()}, minutes {(VEHICLE - saved)[linked].sum()}"
+
+
+def check(folder, weights):
+    """Whether the prices of a feed prove its blocks."""
+    names = table(folder, "trips.txt", ["trip_id"]).trip_id
+    slot = dict(zip(names, range(len(names))))
+    blocks = table(folder, "blocks.csv", ["block_id", "trip_id"])
+    slots, same = blocks.trip_id.map(slot).to_numpy(), blocks.block_id.to_numpy()
+    follows = same[1:] == same[:-1]
+    before, after = slots[:-1][follows], slots[1:][follows]
+    prices = table(folder, "prices.csv", ["trip_id", "leave", "enter"]).set_index("trip_id").loc[names].astype(int)
+    leave, enter = prices.leave.to_numpy(), prices.enter.to_numpy()
+    holds = (weights <= leave[:, None] + enter[None, :]).all() and (weights[before, after] > 0).all()
+    tight = leave.sum() + enter.sum() == weights[before, after].sum()
+    return f"{'yes' if holds and tight else 'no'}, {numbers(weights, before, after)}"
+
+
+def main(command, folder):
+    began = time.perf_counter()
+    trips = trips_of(folder)
+    if command == "deficits":
+        answer = deficits(trips)
+        took = time.perf_counter() - began
+    elif command == "fixed":
+        began = time.perf_counter()
+        answer = fixed(trips)
+        took = time.perf_counter() - began
+    else:
+        weights, walking = weights_of(folder, trips)
+        began = time.perf_counter()
+        if command == "check":
+            answer = check(folder, weights)
+        else:
+            answer = numbers(weights, *linear_sum_assignment(weights.astype(float), maximize=True))
+        took = walking if command == "walks" else time.perf_counter() - began
+    print(took, answer, sep="\n")
+
+
+if __name__ == "__main__":
+    main(sys.argv[1], pathlib.Path(sys.argv[2]))
