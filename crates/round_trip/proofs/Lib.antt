@@ -1,0 +1,9 @@
+pub mod Base
+pub mod Columns
+pub mod Edits
+pub mod Journeys
+pub mod ReadBack
+pub mod Records
+pub mod Times
+pub mod Trips
+pub mod Visits

@@ -1,0 +1,50 @@
+-- What is written of a feed reads back as its timetable.
+use Rattle.std.specs.Prelude.{◌≡◌, Bool, List, length, ℕ, Ok}
+use Rattle.csv.specs.Reading.{strip_bom}
+use Rattle.desk_io.specs.declared.shelf.Found.TheVariants.{File}
+use Rattle.gtfs_tables.specs.Table.{TableView, IsTable, table_of}
+use Rattle.desk_settings.specs.Settings.{SettingsView}
+use Rattle.trip_model.specs.Timetable.{TimetableView}
+use Rattle.edit_script.specs.Machine.{Numbered, machine, timetable_at}
+use Rattle.feed_read.specs.Base.{base_of}
+use Rattle.block_writer.specs.StopTimes.{stop_times_written}
+use Rattle.block_writer.specs.Trips.{trips_written}
+use Rattle.round_trip.specs.Follows.{AreForward, Follows}
+use Rattle.round_trip.specs.Written.{AreWritable, as_written}
+
+-- The two files that are written of a timetable which follows that of a feed read as the timetable of the feed with its trips
+-- at the minutes at which they stand, unless a file begins with a byte-order mark or a time is moved to 100:00:00 or later. So
+-- it is whichever trips are said to be selected, and whatever the blocks are and are called.
+abbrev pub WrittenFeedReadsBack : Type 0
+WrittenFeedReadsBack =
+    (settings : SettingsView) (trips_bytes stop_times_bytes : List ℕ) (trips stop_times : TableView) (base standing : TimetableView) (chosen : List Bool) (blocks : List (List ℕ)) (prefix : List ℕ)
+    → table_of trips_bytes ≡ Ok trips
+    → table_of stop_times_bytes ≡ Ok stop_times
+    → IsTable trips
+    → IsTable stop_times
+    → base_of settings (File trips_bytes) (File stop_times_bytes) ≡ Ok base
+    → Follows base standing
+    → AreWritable stop_times standing (length base.slots)
+    → strip_bom (trips_written trips standing chosen blocks prefix) ≡ trips_written trips standing chosen blocks prefix
+    → strip_bom (stop_times_written stop_times standing (length base.slots)) ≡ stop_times_written stop_times standing (length base.slots)
+    → base_of settings (File (trips_written trips standing chosen blocks prefix)) (File (stop_times_written stop_times standing (length base.slots))) ≡ Ok (as_written base standing)
+
+-- what stands after a script over a timetable whose trips end after they depart follows it
+abbrev pub StandingFollows : Type 0
+StandingFollows = (base : TimetableView) (records : List Numbered) → AreForward base → Follows base (timetable_at base (machine base records))
+
+-- What is written of a feed after its script reads back in the same way, with the trips at the minutes at which they stand
+-- then: one that is cancelled as it was published, and none that is an extra.
+abbrev pub FeedAfterScriptReadsBack : Type 0
+FeedAfterScriptReadsBack =
+    (settings : SettingsView) (trips_bytes stop_times_bytes : List ℕ) (trips stop_times : TableView) (base : TimetableView) (records : List Numbered) (chosen : List Bool) (blocks : List (List ℕ)) (prefix : List ℕ)
+    → table_of trips_bytes ≡ Ok trips
+    → table_of stop_times_bytes ≡ Ok stop_times
+    → IsTable trips
+    → IsTable stop_times
+    → base_of settings (File trips_bytes) (File stop_times_bytes) ≡ Ok base
+    → let standing = timetable_at base (machine base records) in
+    AreWritable stop_times standing (length base.slots)
+    → strip_bom (trips_written trips standing chosen blocks prefix) ≡ trips_written trips standing chosen blocks prefix
+    → strip_bom (stop_times_written stop_times standing (length base.slots)) ≡ stop_times_written stop_times standing (length base.slots)
+    → base_of settings (File (trips_written trips standing chosen blocks prefix)) (File (stop_times_written stop_times standing (length base.slots))) ≡ Ok (as_written base standing)

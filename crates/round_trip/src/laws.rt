@@ -1,0 +1,18 @@
+//! The laws of a feed that is written and read again.
+ghost use Rattle.round_trip.specs.Laws as spec;
+
+/// The two files that are written of a timetable which follows that of a feed read as the timetable of the feed, with its
+/// trips at the minutes at which they stand.
+pub fn written_law()
+    ensures { spec.WrittenFeedReadsBack }
+{}
+
+/// What stands after a script over a timetable whose trips end after they depart follows it.
+pub fn follows_law()
+    ensures { spec.StandingFollows }
+{}
+
+/// So the two files that are written of a feed after its script read as its timetable with its trips as they stand then.
+pub fn script_law()
+    ensures { spec.FeedAfterScriptReadsBack }
+{}

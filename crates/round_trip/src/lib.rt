@@ -1,0 +1,10 @@
+//! What is written of a feed reads back as its timetable, with the trips at the minutes at which they stand.
+//!
+//! [`laws::written_law`] says so of each timetable that follows that of the feed, [`laws::follows_law`] that what stands after
+//! a script does, and [`laws::script_law`] joins them. A law is the contract of a function that does nothing.
+//!
+//! The contracts cite `Laws`, which stands on `Follows` and `Written`; of `feed_read` `Base`, of `block_writer` `Trips` and
+//! `StopTimes`, and of `edit_script` `Machine`.
+#![tactic(auto)]
+
+pub mod laws;
