@@ -1,5 +1,6 @@
 pub mod Base
 pub mod Columns
+pub mod Early
 pub mod Edits
 pub mod Journeys
 pub mod ReadBack

@@ -140,7 +140,7 @@ same-field offset field none = record { text = λ text. text; time = λ paper nu
     same (Some n) = ap Some (sym (moved-none offset n none))
 
 -- of a departure that is moved to midnight or later, and of an arrival after it, both round to minutes that are moved alike
-moved-later : (n s : ℕ) → moved (pos n) s ≡ s + 60 * n
+pub moved-later : (n s : ℕ) → moved (pos n) s ≡ s + 60 * n
 moved-later n s = ap (λ b. cond b (s - 60 * n) (s + 60 * n)) (le-ltb n 0 (omega arith))
 
 pub moved-down : (by : ℤ) (departure : ℕ) → pos 0 ≤ℤ (pos (rounded_down departure) +ℤ by) → rounded_down (moved by departure) ≡ unsigned_abs (pos (rounded_down departure) +ℤ by)

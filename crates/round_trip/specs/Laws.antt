@@ -4,13 +4,13 @@ use Rattle.csv.specs.Reading.{strip_bom}
 use Rattle.desk_io.specs.declared.shelf.Found.TheVariants.{File}
 use Rattle.gtfs_tables.specs.Table.{TableView, IsTable, table_of}
 use Rattle.desk_settings.specs.Settings.{SettingsView}
-use Rattle.trip_model.specs.Timetable.{TimetableView}
+use Rattle.trip_model.specs.Timetable.{TimetableView, IsTimetable}
 use Rattle.edit_script.specs.Machine.{Numbered, machine, timetable_at}
 use Rattle.feed_read.specs.Base.{base_of}
 use Rattle.block_writer.specs.StopTimes.{stop_times_written}
 use Rattle.block_writer.specs.Trips.{trips_written}
 use Rattle.round_trip.specs.Follows.{AreForward, Follows}
-use Rattle.round_trip.specs.Written.{AreWritable, as_written}
+use Rattle.round_trip.specs.Written.{AreEarly, AreWritable, as_written}
 
 -- The two files that are written of a timetable which follows that of a feed read as the timetable of the feed with its trips
 -- at the minutes at which they stand, unless a file begins with a byte-order mark or a time is moved to 100:00:00 or later. So
@@ -48,3 +48,7 @@ FeedAfterScriptReadsBack =
     → strip_bom (trips_written trips standing chosen blocks prefix) ≡ trips_written trips standing chosen blocks prefix
     → strip_bom (stop_times_written stop_times standing (length base.slots)) ≡ stop_times_written stop_times standing (length base.slots)
     → base_of settings (File (trips_written trips standing chosen blocks prefix)) (File (stop_times_written stop_times standing (length base.slots))) ≡ Ok (as_written base standing)
+
+-- times before 99:00:00 can be written wherever their trips stand, since no trip is moved by more than an hour
+abbrev pub EarlyTimesAreWritable : Type 0
+EarlyTimesAreWritable = (table : TableView) (standing : TimetableView) (base : ℕ) → IsTimetable standing → AreEarly table → AreWritable table standing base

@@ -37,3 +37,11 @@ AreWritable table standing base =
     All
     (λ row. IsRowWritable (offset_of standing base (slot_in standing (place_of column.TripId table.header) row)) (field_at row (place_of column.ArrivalTime table.header)) (field_at row (place_of column.DepartureTime table.header)))
     table.rows
+
+-- the time of a field, if it has one, is before 99:00:00
+abbrev pub IsEarly : List ℕ → Type 0
+IsEarly field = IfSome (seconds_of field) (λ seconds. seconds < 356400)
+
+-- so are both times of each record of stop times
+abbrev pub AreEarly : TableView → Type 0
+AreEarly table = All (λ row. IsEarly (field_at row (place_of column.ArrivalTime table.header)) × IsEarly (field_at row (place_of column.DepartureTime table.header))) table.rows

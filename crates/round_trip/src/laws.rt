@@ -16,3 +16,8 @@ pub fn follows_law()
 pub fn script_law()
     ensures { spec.FeedAfterScriptReadsBack }
 {}
+
+/// All times can be written where those of the feed are before 99:00:00.
+pub fn early_law()
+    ensures { spec.EarlyTimesAreWritable }
+{}
