@@ -40,9 +40,10 @@ module _ (standing : TimetableView) (base : ℕ) where
   pub each-stands : (s : ℕ) (d : Slot) (slots : List Slot) → ((i : ℕ) → i < length slots → IsSameTrip (get_or slots i d).trip (slot_at standing (s + i)).trip) → EachStands s slots
   each-stands s d [] each = tt
   each-stands s d (slot ∷ slots) each =
-      let here : s + 0 ≡ s = omega arith in
-      (subst (λ n. IsSameTrip slot.trip (slot_at standing n).trip) here (each 0 (omega arith)),
-      each-stands (s + 1) d slots (λ i within. let next : s + suc i ≡ s + 1 + i = omega arith in subst (λ n. IsSameTrip (get_or slots i d).trip (slot_at standing n).trip) next (each (suc i) (omega arith))))
+      let here : s + 0 ≡ s = omega arith in (
+        subst (λ n. IsSameTrip slot.trip (slot_at standing n).trip) here (each 0 (omega arith)),
+        each-stands (s + 1) d slots (λ i within. let next : s + suc i ≡ s + 1 + i = omega arith in subst (λ n. IsSameTrip (get_or slots i d).trip (slot_at standing n).trip) next (each (suc i) (omega arith))),
+      )
 
   -- of a trip as published and the trip that stands in its slot
   may-move : (journey : Journey) (from to s : ℕ) (live : Bool) → (slot_at standing s).trip.live ≡ live → s < base → IsSameTrip (trip_between from to journey) (slot_at standing s).trip → MayMove (offsets s) journey
@@ -74,9 +75,10 @@ module _ (standing : TimetableView) (base : ℕ) where
   module _ (settings : SettingsView) (places : List Place) where
     pub may-each-move : (s : ℕ) (journeys : List Journey) → s + length journeys ≤ base → EachStands s (map (slot_of settings places) journeys) → MayEachMove offsets s journeys
     may-each-move s [] few each = tt
-    may-each-move s (j ∷ journeys) few each =
-        (may-move j (number_in places (start_of settings j)) (number_in places (end_of settings j)) s (slot_at standing s).trip.live refl (omega (arith, few)) each.0,
-        may-each-move (s + 1) journeys (omega (arith, few)) each.1)
+    may-each-move s (j ∷ journeys) few each = (
+      may-move j (number_in places (start_of settings j)) (number_in places (end_of settings j)) s (slot_at standing s).trip.live refl (omega (arith, few)) each.0,
+      may-each-move (s + 1) journeys (omega (arith, few)) each.1,
+    )
 
     slots-moved : (s : ℕ) (journeys : List Journey) → s + length journeys ≤ base → EachStands s (map (slot_of settings places) journeys)
         → map (slot_of settings places) (moved_journeys offsets s journeys) ≡ slots_written standing s (map (slot_of settings places) journeys)
@@ -106,7 +108,8 @@ unfolding timetable_of
 slots-of settings journeys made e =
     let places = places_met (ends_of settings journeys) in
     let parts = provided-parts (nat_le (length places) MOST_PLACES) (fault.TooManyPlaces paper.StopTimes) (Ok (timetable_over settings places journeys)) made e in
-    let same : timetable_over settings places journeys ≡ made = same_Ok (timetable_over settings places journeys) made parts.1 in
-    (ap slot_names (sym same) ∙ slot_names-over settings places journeys,
-    ap (λ (t : TimetableView). length t.slots) (sym same) ∙ length-map journeys (slot_of settings places),
-    ap (λ (t : TimetableView). t.slots) (sym same))
+    let same : timetable_over settings places journeys ≡ made = same_Ok (timetable_over settings places journeys) made parts.1 in (
+      ap slot_names (sym same) ∙ slot_names-over settings places journeys,
+      ap (λ (t : TimetableView). length t.slots) (sym same) ∙ length-map journeys (slot_of settings places),
+      ap (λ (t : TimetableView). t.slots) (sym same),
+    )

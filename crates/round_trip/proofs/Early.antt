@@ -1,5 +1,5 @@
 -- No trip is moved by more than an hour, so a time before 99:00:00 is moved to one before 100:00:00.
-use Rattle.std.proofs.Common.{◌≡◌, ℕ, ◌+◌, ◌*◌, ◌<◌, ◌≤◌, ◌&&◌, Bool, true, false, cond, List, get_or, length, Option, Some, None, ℤ, pos, negsuc, ◌≤ℤ◌, nat_lt, refl, sym, ap, subst, arith, inl, inr}
+use Rattle.std.proofs.Common.{ℕ, ◌<◌, ◌≤◌, ◌&&◌, Bool, true, false, cond, List, get_or, length, Option, Some, None, ℤ, pos, negsuc, ◌≤ℤ◌, nat_lt, sym, subst, arith, inl, inr}
 use Rattle.std.specs.Option.{IfSome}
 use Rattle.std.proofs.lemmas.Bool.{cases_lt}
 use Rattle.std.proofs.lemmas.Int.{ints}

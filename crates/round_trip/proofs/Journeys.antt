@@ -153,10 +153,11 @@ module _ (settings : SettingsView) (classes : List Name) where
   names-read visits slot before after (name ∷ names) e =
       let step = read-parts (with_journey settings classes visits slot before name) (λ more. each_record (with_journey settings classes visits) (slot + 1) more names) after e in
       let here = read-parts (journey_of settings name (get_or classes slot []) (visits_of slot visits)) (λ journey. Ok (before ++ journey ∷ [])) step.0 step.1 in
-      let rest = names-read visits (slot + 1) step.0 after names step.2 in
-      (here.0 ∷ rest.0,
-      sym (append_assoc before (here.0 ∷ []) rest.0) ∙ ap (λ front. front ++ rest.0) (same_Ok (before ++ here.0 ∷ []) step.0 here.2) ∙ rest.1,
-      (here.1, rest.2))
+      let rest = names-read visits (slot + 1) step.0 after names step.2 in (
+        here.0 ∷ rest.0,
+        sym (append_assoc before (here.0 ∷ []) rest.0) ∙ ap (λ front. front ++ rest.0) (same_Ok (before ++ here.0 ∷ []) step.0 here.2) ∙ rest.1,
+        (here.1, rest.2),
+      )
 
   names-give : (visits : List VisitView) (slot : ℕ) (before : List Journey) (names : List Name) (journeys : List Journey) → AreRead visits slot names journeys
       → each_record (with_journey settings classes visits) slot before names ≡ Ok (before ++ journeys)
@@ -174,9 +175,10 @@ module _ (settings : SettingsView) (classes : List Name) where
   each-moved offsets visits slot [] [] may are = tt
   each-moved offsets visits slot [] (journey ∷ journeys) may are = absurd are
   each-moved offsets visits slot (name ∷ names) [] may are = absurd are
-  each-moved offsets visits slot (name ∷ names) (journey ∷ journeys) may are =
-      (ap (journey_of settings name (get_or classes slot [])) (visits_of-moved offsets slot visits) ∙ of-moved (offsets slot) settings name (get_or classes slot []) (visits_of slot visits) journey may.0 are.0,
-      each-moved offsets visits (slot + 1) names journeys may.1 are.1)
+  each-moved offsets visits slot (name ∷ names) (journey ∷ journeys) may are = (
+    ap (journey_of settings name (get_or classes slot [])) (visits_of-moved offsets slot visits) ∙ of-moved (offsets slot) settings name (get_or classes slot []) (visits_of slot visits) journey may.0 are.0,
+    each-moved offsets visits (slot + 1) names journeys may.1 are.1,
+  )
 
   pub journeys-back : (offsets : ℕ → ℤ) (visits : List VisitView) (names : List Name) (journeys : List Journey) → MayEachMove offsets 0 journeys
       → each_record (with_journey settings classes visits) 0 [] names ≡ Ok journeys

@@ -66,9 +66,9 @@ module _ (offset : ℤ) (trip arrival departure stop sequence : ℕ) (row : List
   moved-row : IsMovedRow offset trip arrival departure stop sequence row (moved_row offset arrival departure row)
   moved-row =
       let at_arrival : field_at (moved_row offset arrival departure row) arrival ≡ moved_field offset (field_at row arrival) =
-          get_or-set_other early departure arrival (moved_field offset (field_at row departure)) [] apart.times ∙ get_or-set_same row arrival (moved_field offset (field_at row arrival)) [] arrival_in in
+      get_or-set_other early departure arrival (moved_field offset (field_at row departure)) [] apart.times ∙ get_or-set_same row arrival (moved_field offset (field_at row arrival)) [] arrival_in in
       let at_departure : field_at (moved_row offset arrival departure row) departure ≡ moved_field offset (field_at row departure) =
-          get_or-set_same early departure (moved_field offset (field_at row departure)) [] (omega (arith, departure_in, length-set row arrival (moved_field offset (field_at row arrival)))) in
+      get_or-set_same early departure (moved_field offset (field_at row departure)) [] (omega (arith, departure_in, length-set row arrival (moved_field offset (field_at row arrival)))) in
       record {
         trip_same = other-stays trip apart.trip_arrival apart.trip_departure;
         arrives = subst (IsMovedField offset (field_at row arrival)) (sym at_arrival) (moved-field offset (field_at row arrival) writable.arrival);
@@ -160,18 +160,19 @@ visit-moved columns number trip row other offset visit e is =
     let arrival_text = text-parts paper.StopTimes number column.ArrivalTime (field_at row columns.arrival) a.0 a.1 in
     let departure_text = text-parts paper.StopTimes number column.DepartureTime (field_at row columns.departure) d.0 d.1 in
     let arrival_read = subst (λ text. time_in paper.StopTimes number column.ArrivalTime text ≡ Ok b.0) (sym arrival_text.1) b.1 in
-    let departure_read = subst (λ text. time_in paper.StopTimes number column.DepartureTime text ≡ Ok c.0) (sym departure_text.1) c.1 in
-    (then (text_in paper.StopTimes number column.ArrivalTime (field_at other columns.arrival)) (field_at other columns.arrival) _ _ (text-reads paper.StopTimes number column.ArrivalTime (field_at other columns.arrival) (is.arrives.text arrival_text.0))
-    (then (text_in paper.StopTimes number column.DepartureTime (field_at other columns.departure)) (field_at other columns.departure) _ _ (text-reads paper.StopTimes number column.DepartureTime (field_at other columns.departure) (is.departs.text departure_text.0))
-    (then (text_in paper.StopTimes number column.StopId (field_at other columns.stop)) s.0 _ _ (ap (text_in paper.StopTimes number column.StopId) is.stop_same ∙ s.1)
-    (then (text_in paper.StopTimes number column.StopSequence (field_at other columns.sequence)) q.0 _ _ (ap (text_in paper.StopTimes number column.StopSequence) is.sequence_same ∙ q.1)
-    (then (filled_in paper.StopTimes number column.StopId s.0) f.0 _ _ f.1
-    (then (filled_in paper.StopTimes number column.StopSequence q.0) g.0 _ _ g.1
-    (then (number_in paper.StopTimes number column.StopSequence 9 999999999 q.0) n.0 _ _ n.1
-    (then (time_in paper.StopTimes number column.ArrivalTime (field_at other columns.arrival)) (option_map (moved offset) b.0) _ _ (is.arrives.time paper.StopTimes number column.ArrivalTime b.0 arrival_read)
-    (then (time_in paper.StopTimes number column.DepartureTime (field_at other columns.departure)) (option_map (moved offset) c.0) _ _ (is.departs.time paper.StopTimes number column.DepartureTime c.0 departure_read)
-    (ap (λ visit. Ok (moved_visit offset visit)) same))))))))),
-    ap (λ (visit : VisitView). visit.trip) same)
+    let departure_read = subst (λ text. time_in paper.StopTimes number column.DepartureTime text ≡ Ok c.0) (sym departure_text.1) c.1 in (
+      then (text_in paper.StopTimes number column.ArrivalTime (field_at other columns.arrival)) (field_at other columns.arrival) _ _ (text-reads paper.StopTimes number column.ArrivalTime (field_at other columns.arrival) (is.arrives.text arrival_text.0))
+          (then (text_in paper.StopTimes number column.DepartureTime (field_at other columns.departure)) (field_at other columns.departure) _ _ (text-reads paper.StopTimes number column.DepartureTime (field_at other columns.departure) (is.departs.text departure_text.0))
+          (then (text_in paper.StopTimes number column.StopId (field_at other columns.stop)) s.0 _ _ (ap (text_in paper.StopTimes number column.StopId) is.stop_same ∙ s.1)
+          (then (text_in paper.StopTimes number column.StopSequence (field_at other columns.sequence)) q.0 _ _ (ap (text_in paper.StopTimes number column.StopSequence) is.sequence_same ∙ q.1)
+          (then (filled_in paper.StopTimes number column.StopId s.0) f.0 _ _ f.1
+          (then (filled_in paper.StopTimes number column.StopSequence q.0) g.0 _ _ g.1
+          (then (number_in paper.StopTimes number column.StopSequence 9 999999999 q.0) n.0 _ _ n.1
+          (then (time_in paper.StopTimes number column.ArrivalTime (field_at other columns.arrival)) (option_map (moved offset) b.0) _ _ (is.arrives.time paper.StopTimes number column.ArrivalTime b.0 arrival_read)
+          (then (time_in paper.StopTimes number column.DepartureTime (field_at other columns.departure)) (option_map (moved offset) c.0) _ _ (is.departs.time paper.StopTimes number column.DepartureTime c.0 departure_read)
+          (ap (λ visit. Ok (moved_visit offset visit)) same))))))))),
+      ap (λ (visit : VisitView). visit.trip) same,
+    )
 
 -- the visits with that of a record that says the same, moved with the trip that it names
 step-moved : (offsets : ℕ → ℤ) (names : List Name) (columns : Columns) (number : ℕ) (before after : List VisitView) (row other : List (List ℕ)) (offset : ℤ) → with_visit names columns number before row ≡ Ok after
@@ -221,9 +222,9 @@ module _ (standing : TimetableView) (base : ℕ) (names : List Name) (table : Ta
       → IsMovedRow (offset_of standing base (slot_in standing trip row)) trip arrival departure stop sequence row (change row)
   row-moved row trip arrival departure stop sequence are fit =
       let writable : IsRowWritable (offset_of standing base (slot_in standing trip row)) (field_at row arrival) (field_at row departure) =
-          subst (λ at. IsRowWritable (offset_of standing base (slot_in standing at row)) (field_at row arrival) (field_at row departure)) are.trip_is
-          (subst (λ at. IsRowWritable (offset_of standing base (slot_in standing (place_of column.TripId table.header) row)) (field_at row at) (field_at row departure)) are.arrival_is
-          (subst (λ at. IsRowWritable (offset_of standing base (slot_in standing (place_of column.TripId table.header) row)) (field_at row (place_of column.ArrivalTime table.header)) (field_at row at)) are.departure_is fit.writable)) in
+      subst (λ at. IsRowWritable (offset_of standing base (slot_in standing at row)) (field_at row arrival) (field_at row departure)) are.trip_is
+      (subst (λ at. IsRowWritable (offset_of standing base (slot_in standing (place_of column.TripId table.header) row)) (field_at row at) (field_at row departure)) are.arrival_is
+      (subst (λ at. IsRowWritable (offset_of standing base (slot_in standing (place_of column.TripId table.header) row)) (field_at row (place_of column.ArrivalTime table.header)) (field_at row at)) are.departure_is fit.writable)) in
       subst (λ other. IsMovedRow (offset_of standing base (slot_in standing trip row)) trip arrival departure stop sequence row other)
       (λ i. stop_time_written standing base (sym are.trip_is i) (sym are.arrival_is i) (sym are.departure_is i) row)
       (written-row (offset_of standing base (slot_in standing trip row)) trip arrival departure stop sequence row are.apart (omega (arith, are.arrival_in, fit.wide)) (omega (arith, are.departure_in, fit.wide)) writable)
