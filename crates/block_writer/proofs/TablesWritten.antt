@@ -9,7 +9,6 @@ use Rattle.gtfs_tables.specs.Table.{TableView}
 use Rattle.gtfs_tables.specs.Writing.{record_text, records_text}
 use Rattle.gtfs_tables.specs.declared.paper.Column.TheVariants as column
 use Rattle.trip_model.specs.Timetable.{TimetableView, number_of, slot_names}
-use Rattle.block_writer.proofs.FieldsWritten.{rows-more}
 use Rattle.block_writer.specs.Fields.{place_of}
 use Rattle.block_writer.specs.StopTimes.{moved_by, moved_row, offset_of, stop_time_written, with_times, stop_times_written}
 use Rattle.block_writer.specs.Trips.{block_numbers, header_written, trip_written, with_blocks, trips_written}
@@ -24,39 +23,6 @@ shifted-row offset arrival departure row other = elim (cases_Bool (unsigned_abs 
     no-minutes : (z : ℤ) → unsigned_abs z ≡ 0 → z ≡ pos 0
     no-minutes (pos n) none = ap pos none
     no-minutes (negsuc n) none = absurd (omega arith)
-
--- the text after one record more of the stop times
-pub stop-time-more : (t : TimetableView) (base trip arrival departure : ℕ) (rows : List (List (List ℕ))) (before now next : List ℕ) (n : ℕ) (row : List (List ℕ)) (field name : List ℕ) (offset : ℤ)
-    → n < length rows
-    → now ≡ before ++ records_text (map (stop_time_written t base trip arrival departure) (take n rows))
-    → row ≡ get_or rows (n + 1 - 1) []
-    → field ≡ get_or row trip []
-    → name ≡ field
-    → offset ≡ offset_of t base (number_of (slot_names t) name)
-    → next ≡ now ++ record_text (moved_by offset arrival departure row)
-    → next ≡ before ++ records_text (map (stop_time_written t base trip arrival departure) (take (n + 1) rows))
-stop-time-more t base trip arrival departure rows before now next n row field name offset within so_far is at named by written =
-    let same : n + 1 - 1 ≡ n = omega arith in
-    rows-more (stop_time_written t base trip arrival departure) rows before now next n within so_far
-    (written
-    ∙ ap (λ o. now ++ record_text (moved_by o arrival departure row)) (by ∙ ap (λ name. offset_of t base (number_of (slot_names t) name)) (named ∙ at))
-    ∙ ap (λ row. now ++ record_text (stop_time_written t base trip arrival departure row)) (is ∙ ap (λ n. get_or rows n []) same))
-
--- the text of all stop times
-pub stop-times-made : (table : TableView) (t : TimetableView) (base trip arrival departure n : ℕ) (now : List ℕ)
-    → length table.rows ≡ n
-    → trip ≡ place_of column.TripId table.header
-    → arrival ≡ place_of column.ArrivalTime table.header
-    → departure ≡ place_of column.DepartureTime table.header
-    → now ≡ record_text table.header ++ records_text (map (stop_time_written t base trip arrival departure) (take n table.rows))
-    → now ≡ stop_times_written table t base
-unfolding with_times
-stop-times-made table t base trip arrival departure n now all at_trip at_arrival at_departure so_far =
-    so_far
-    ∙ ap (λ rows. record_text table.header ++ records_text (map (stop_time_written t base trip arrival departure) rows)) (take_all n table.rows (omega arith))
-    ∙ ap (λ trip. record_text table.header ++ records_text (map (stop_time_written t base trip arrival departure) table.rows)) at_trip
-    ∙ ap (λ arrival. record_text table.header ++ records_text (map (stop_time_written t base (place_of column.TripId table.header) arrival departure) table.rows)) at_arrival
-    ∙ ap (λ departure. record_text table.header ++ records_text (map (stop_time_written t base (place_of column.TripId table.header) (place_of column.ArrivalTime table.header) departure) table.rows)) at_departure
 
 -- the text after one record more of the trips
 pub trip-more : (t : TimetableView) (numbers items : List (Option ℕ)) (prefix : List ℕ) (trip block : ℕ) (chosen : List Bool) (rows : List (List (List ℕ))) (before now next : List ℕ) (n : ℕ) (row : List (List ℕ))

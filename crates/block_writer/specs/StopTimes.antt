@@ -1,10 +1,16 @@
 -- The records of `stop_times.txt`, written with the times of shifted trips moved.
-use Rattle.std.specs.Prelude.{ℕ, ◌+◌, ◌-◌, ◌*◌, ◌/◌, ◌%◌, ◌==◌, ◌&&◌, ℤ, pos, int_lt, unsigned_abs, List, ◌∷◌, ◌++◌, map, nat_lt, slice_set, Option, None, Some, if◌then◌else◌}
+use Rattle.std.specs.Prelude.{ℕ, ◌+◌, ◌-◌, ◌*◌, ◌/◌, ◌%◌, ◌==◌, ◌&&◌, ℤ, pos, int_lt, unsigned_abs, List, [], ◌∷◌, ◌++◌, map, nat_lt, slice_set, Option, None, Some, Result, Ok, if◌then◌else◌}
+use Rattle.gtfs_tables.specs.Reading.{◌>>=◌}
 use Rattle.gtfs_tables.specs.Table.{TableView}
 use Rattle.gtfs_tables.specs.Times.{seconds_of, two_digits}
+use Rattle.gtfs_tables.specs.declared.fault.FeedFault.{FeedFault}
+use Rattle.gtfs_tables.specs.declared.paper.Column.{Column}
 use Rattle.gtfs_tables.specs.declared.paper.Column.TheVariants as column
+use Rattle.gtfs_tables.specs.declared.paper.Paper.TheVariants as paper
 use Rattle.trip_model.specs.Timetable.{TimetableView, slot_at}
+use Rattle.block_writer.specs.declared.stop_times.Columns.{Columns}
 use Rattle.block_writer.specs.Fields.{place_of, field_at, slot_in, table_text}
+use Rattle.block_writer.specs.Texts.{texts_in, with_written}
 
 -- a second of the service day moved by so many minutes, and not below midnight
 abbrev pub moved : ℤ → ℕ → ℕ
@@ -48,3 +54,24 @@ with_times table timetable base = record {
 -- the text of `stop_times_blocks.txt`
 abbrev pub stop_times_written : TableView → TimetableView → ℕ → List ℕ
 stop_times_written table timetable base = table_text (with_times table timetable base)
+
+-- the columns of `stop_times.txt` that are known by their names
+abbrev pub stop_time_columns : List Column
+stop_time_columns = column.TripId ∷ column.ArrivalTime ∷ column.DepartureTime ∷ column.StopId ∷ column.StopSequence ∷ []
+
+-- where the columns of a stop time stand that may be moved, in a header of texts
+unfoldable pub columns_in : List (List ℕ) → Result Columns FeedFault
+columns_in header =
+    texts_in paper.StopTimes stop_time_columns header 0 header
+    >>= λ _. Ok (record { trip = place_of column.TripId header; arrival = place_of column.ArrivalTime header; departure = place_of column.DepartureTime header })
+
+-- what is known before the records: the timetable, so many slots of which have records, and the header
+pub record Before : Type 0 where
+  pub timetable : TimetableView
+  pub base : ℕ
+  pub header : List (List ℕ)
+
+-- the text so far with one stop time more
+abbrev pub with_stop_time : Before → Columns → ℕ → List ℕ → List (List ℕ) → Result (List ℕ) FeedFault
+with_stop_time before columns number text row =
+    with_written paper.StopTimes stop_time_columns before.header (stop_time_written before.timetable before.base columns.trip columns.arrival columns.departure) number text row

@@ -1,21 +1,21 @@
 //! The agency's trips and stop times written again, with the block of each trip and the times of shifted trips moved.
 //!
-//! [`trips_text`] makes the text of `trips_blocks.txt` of the table of `trips.txt`, [`stop_times_text`] that of
-//! `stop_times_blocks.txt` of the table of `stop_times.txt`. [`all_utf8`] tells whether the fields of a table are texts, as
-//! both must be, and [`first_not_utf8`] the first that is not.
+//! [`stop_times_text`] makes the text of `stop_times_blocks.txt` in one pass over `stop_times.txt` that keeps no record.
+//! [`trips_text`] makes that of `trips_blocks.txt` of the table of `trips.txt`, which [`read_texts`] reads. All fields of both
+//! files must be UTF-8, and the first that is not is refused.
 //!
 //! The contract that the crates above use: a text has the records that were read, in their order, with nothing else than
 //! `block_id` of selected trips and the times of shifted ones replaced; it reads back as that table.
 //!
 //! ```text
-//! if all_utf8(&trips) && all_utf8(&stop_times) {
-//!     let trips = trips_text(alloc, &trips, &timetable, &chosen, &blocks, "B")?;
-//!     let stop_times = stop_times_text(alloc, &stop_times, &timetable, base)?;
-//! }
+//! let trips = read_texts(alloc, Paper::Trips, &columns, &trips)?;
+//! let stop_times = stop_times_text(alloc, &stop_times, &timetable, base)?;
+//! let trips = trips_text(alloc, &trips, &timetable, &chosen, &blocks, "B")?;
 //! ```
 //!
-//! The contracts cite `Texts` (tables of texts), `Fields` (columns and fields of a record), `Trips` and `StopTimes` (the
-//! tables that are written, and their texts), and the laws `Laws`; and of `gtfs_tables` `Table` and `Writing`.
+//! The contracts cite `Texts` (tables of texts, and why a paper is refused), `Fields` (columns and fields of a record), `Trips`
+//! and `StopTimes` (the tables that are written, and their texts), and the laws `Laws`; and of `gtfs_tables` `Table`, `Fold` and
+//! `Writing`.
 #![tactic(auto)]
 
 mod fields;
@@ -25,5 +25,5 @@ mod texts;
 mod trips;
 
 pub use stop_times::stop_times_text;
-pub use texts::{all_utf8, first_not_utf8};
+pub use texts::read_texts;
 pub use trips::trips_text;

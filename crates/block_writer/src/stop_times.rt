@@ -1,14 +1,31 @@
-ghost use Rattle.std.specs.Prelude.{◌≡◌, ◌≤◌, ◌++◌, All, IfOk, IsUtf8, OnOk, map, slice_set};
+ghost use Rattle.std.specs.Prelude.{◌≡◌, ◌≢◌, ◌≤◌, ◌++◌, All, Err, IfErr, IfOk, IsUtf8, OnOk, map, slice_set};
+ghost use Rattle.gtfs_tables.specs.declared.fault.FeedFault.{FeedFault};
+ghost use Rattle.gtfs_tables.specs.declared.paper.Paper.{Paper};
+ghost use Rattle.gtfs_tables.specs.Papers.{IsWithinLimit};
+ghost use Rattle.gtfs_tables.specs.Reading.{table_in};
 ghost use Rattle.gtfs_tables.specs.Writing.{record_text};
 ghost use Rattle.trip_model.specs.Timetable.{number_of, slot_names};
-ghost use Rattle.block_writer.specs.Texts.{AreTexts};
+ghost use Rattle.block_writer.specs.Texts.{IsRefusedPaper, IsTextPaper};
 ghost use Rattle.block_writer.specs.StopTimes as spec;
 
-use crate::fields::{fields_of, place_of, push_texts, text_of};
-use desk_io::{Memory, Text};
-use gtfs_tables::{Column, RecordWriter, Row, Table, read_time};
+use crate::fields::{fields_of, place_of, text_of};
+use crate::texts::texts_of;
+use desk_io::{Bytes, Found, Memory, Text};
+use gtfs_tables::{
+    Column, FeedFault, Paper, RecordReader, RecordWriter, Row, judge_table, read_header,
+    read_records, read_time,
+};
 use std::alloc::Global;
 use trip_model::Timetable;
+
+/// The columns of `stop_times.txt` that are known by their names.
+const STOP_TIME_COLUMNS: [Column; 5] = [
+    Column::TripId,
+    Column::ArrivalTime,
+    Column::DepartureTime,
+    Column::StopId,
+    Column::StopSequence,
+];
 
 // A second of the service day moved by so many minutes, and not below midnight.
 fn moved(offset: i8, seconds: u32) -> u32
@@ -77,14 +94,12 @@ fn push_with<'a>(
     second: usize,
     departs: &'a str,
 ) -> Result<(), Memory>
-    requires { All IsUtf8 row.now }
-    ensures written { OnOk result (records.new ≡ records.old ++ record_text (slice_set (slice_set row.now first arrives.now) second departs.now)) }
-    ensures text { OnOk result (IsUtf8 records.old → IsUtf8 records.new) }
+    ensures { OnOk result (records.new ≡ records.old ++ record_text (slice_set (slice_set row.now first arrives.now) second departs.now)) }
 {
     let mut fields = fields_of(alloc, row)?;
     put_field(&mut fields, first, arrives);
     put_field(&mut fields, second, departs);
-    push_texts(records, &fields)
+    records.push(&fields)
 }
 
 // Appends a record with the times of two columns moved.
@@ -97,8 +112,7 @@ fn push_moved(
     offset: i8,
 ) -> Result<(), Memory>
     requires { All IsUtf8 row.now }
-    ensures written { OnOk result (records.new ≡ records.old ++ record_text (spec.moved_row offset arrival departure row.now)) }
-    ensures text { OnOk result (IsUtf8 records.old → IsUtf8 records.new) }
+    ensures { OnOk result (records.new ≡ records.old ++ record_text (spec.moved_row offset arrival departure row.now)) }
 {
     let arrives = moved_field(alloc, offset, text_of(row.field(arrival)))?;
     let departs = moved_field(alloc, offset, text_of(row.field(departure)))?;
@@ -113,49 +127,167 @@ fn push_moved(
     )
 }
 
-// Appends a record with its times moved, or as it came where its trip is not shifted.
-fn push_stop_time(
+// Appends a record of these fields with its times moved, or as it came where its trip is not shifted.
+fn push_by(
     alloc: Global,
     records: &mut RecordWriter,
     row: &Row,
+    fields: &[&[u8]],
     arrival: usize,
     departure: usize,
     offset: i8,
 ) -> Result<(), Memory>
-    requires { All IsUtf8 row.now }
-    ensures written { OnOk result (records.new ≡ records.old ++ record_text (spec.moved_by offset arrival departure row.now)) }
-    ensures text { OnOk result (IsUtf8 records.old → IsUtf8 records.new) }
+    requires texts { All IsUtf8 row.now }
+    requires fields { map (λ field. field.now) fields.now ≡ row.now }
+    ensures { OnOk result (records.new ≡ records.old ++ record_text (spec.moved_by offset arrival departure row.now)) }
 {
     if offset == 0 {
-        let fields = fields_of(alloc, row)?;
-        return push_texts(records, &fields);
+        return records.push(fields);
     }
     push_moved(alloc, records, row, arrival, departure, offset)
 }
 
-/// The text of `stop_times_blocks.txt`: the records of `stop_times.txt` in their order, each with as many fields as the
-/// header. In the records of a trip that runs and is shifted, in one of the first `base` slots, the times of arrival and
-/// departure are moved by its offset, and not below midnight; a field without a time stays as it is. All other fields are as
-/// they were.
-pub fn stop_times_text(
+/// Where the columns of a stop time stand that is written again.
+#[derive(Clone, Copy)]
+pub(crate) struct Columns {
+    trip: usize,
+    arrival: usize,
+    departure: usize,
+}
+
+// Appends the record of a stop time of these fields, with its times moved where its trip is shifted.
+fn push_stop_time(
     alloc: Global,
-    stop_times: &Table,
+    records: &mut RecordWriter,
     timetable: &Timetable,
     base: u16,
-) -> Result<Text, Memory>
-    requires { AreTexts stop_times.now }
-    ensures { IfOk result (λ text. text ≡ spec.stop_times_written stop_times.now timetable.now base) }
+    columns: &Columns,
+    row: &Row,
+    fields: &[&[u8]],
+) -> Result<(), Memory>
+    requires texts { All IsUtf8 row.now }
+    requires fields { map (λ field. field.now) fields.now ≡ row.now }
+    ensures { OnOk result (records.new ≡ records.old
+        ++ record_text (spec.stop_time_written timetable.now base columns.now.trip columns.now.arrival columns.now.departure row.now)) }
 {
-    let trip = place_of(stop_times, Column::TripId);
-    let arrival = place_of(stop_times, Column::ArrivalTime);
-    let departure = place_of(stop_times, Column::DepartureTime);
-    let mut records = RecordWriter::new(alloc);
-    let fields = fields_of(alloc, stop_times.header())?;
-    push_texts(&mut records, &fields)?;
-    for before in 0..stop_times.records() {
-        let row = stop_times.row(before + 1);
-        let offset = offset_of(timetable, base, text_of(row.field(trip)));
-        push_stop_time(alloc, &mut records, row, arrival, departure, offset)?;
+    let offset = offset_of(timetable, base, text_of(row.field(columns.trip)));
+    push_by(
+        alloc,
+        records,
+        row,
+        fields,
+        columns.arrival,
+        columns.departure,
+        offset,
+    )
+}
+
+// The text of the header and of the records that were read.
+#[derive(Drop)]
+struct StopTimes<'a> {
+    alloc: Global,
+    timetable: &'a Timetable,
+    base: u16,
+    header: &'a Row,
+    records: RecordWriter,
+}
+
+impl<'a> RecordReader for StopTimes<'a> {
+    ghost use Rattle.std.specs.Prelude.{List, ℕ};
+    ghost use Rattle.block_writer.specs.StopTimes.{columns_in, with_stop_time, Before};
+
+    type Columns = Columns;
+
+    ghost Kept = { Before };
+
+    ghost State = { List ℕ };
+
+    ghost kept = { λ written. record { timetable = written.timetable.now; base = written.base; header = written.header.now } };
+
+    ghost state = { λ written. written.records };
+
+    ghost columns_in = { columns_in };
+
+    ghost step = { with_stop_time };
+
+    ghost Leaves = { λ _ _ _ _ _ _. Unit {0} };
+
+    #[tactic(auto, unfolding(crate::specs::StopTimes::columns_in))]
+    fn columns(&self, header: &Row) -> Result<Columns, FeedFault> {
+        texts_of(
+            self.alloc,
+            Paper::StopTimes,
+            &STOP_TIME_COLUMNS,
+            header,
+            0,
+            header,
+        )?;
+        Ok(Columns {
+            trip: place_of(header, Column::TripId),
+            arrival: place_of(header, Column::ArrivalTime),
+            departure: place_of(header, Column::DepartureTime),
+        })
     }
-    records.into_text()
+
+    fn record(&mut self, columns: &Columns, number: u32, row: &Row) -> Result<(), FeedFault> {
+        let fields = texts_of(
+            self.alloc,
+            Paper::StopTimes,
+            &STOP_TIME_COLUMNS,
+            self.header,
+            number,
+            row,
+        )?;
+        push_stop_time(
+            self.alloc,
+            &mut self.records,
+            self.timetable,
+            self.base,
+            columns,
+            row,
+            &fields,
+        )?;
+        Ok(())
+    }
+}
+
+// Why a paper without a header that is read is no table, or want of memory.
+fn no_header(alloc: Global, found: &Found) -> FeedFault
+    requires { IsWithinLimit found.now }
+    ensures { result ≢ FeedFault.Memory → table_in Paper.StopTimes found.now ≡ Err result }
+{
+    match judge_table(alloc, Paper::StopTimes, found) {
+        Ok(()) => FeedFault::Memory,
+        Err(refused) => refused,
+    }
+}
+
+/// The text of `stop_times_blocks.txt`, made in one pass over `stop_times.txt` that keeps no record: its records in their
+/// order, each with as many fields as the header. In the records of a trip that runs and is shifted, in one of the first
+/// `base` slots, the times of arrival and departure are moved by its offset, and not below midnight; a field without a time
+/// stays as it is. All other fields are as they were. All fields must be UTF-8, and the first that is not is refused.
+pub fn stop_times_text(
+    alloc: Global,
+    found: &Found,
+    timetable: &Timetable,
+    base: u16,
+) -> Result<Bytes, FeedFault>
+    requires { IsWithinLimit found.now }
+    ensures written { IfOk result (λ text. IsTextPaper (λ table. text ≡ spec.stop_times_written table timetable.now base) (table_in Paper.StopTimes found.now)) }
+    ensures refused { IfErr result (λ refused. refused ≢ FeedFault.Memory → IsRefusedPaper Paper.StopTimes spec.stop_time_columns (table_in Paper.StopTimes found.now) refused) }
+{
+    let Ok(header) = read_header(alloc, Paper::StopTimes, found) else {
+        return Err(no_header(alloc, found));
+    };
+    let mut records = RecordWriter::new(alloc);
+    records.push(&fields_of(alloc, &header)?)?;
+    let mut written = StopTimes {
+        alloc,
+        timetable,
+        base,
+        header: &header,
+        records,
+    };
+    read_records(alloc, Paper::StopTimes, found, &mut written)?;
+    Ok(written.records.into_bytes()?)
 }

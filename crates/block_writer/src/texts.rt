@@ -1,19 +1,45 @@
-ghost use Rattle.std.specs.Prelude.{All, IfNone, IfSome, MatchBool, IsUtf8};
-ghost use Rattle.block_writer.specs.Texts.{AreTexts, IsFirstBad, IsFirstBadField};
+ghost use Rattle.std.specs.Prelude.{◌≡◌, ◌≢◌, true, map, All, IfErr, IfNone, IfOk, IfSome, IsUtf8, OnOk};
+ghost use Rattle.std.specs.Str.{IsAscii, is_utf8};
+ghost use Rattle.gtfs_tables.specs.declared.fault.FeedFault.{FeedFault};
+ghost use Rattle.gtfs_tables.specs.Papers.{IsWithinLimit, column_name_of};
+ghost use Rattle.gtfs_tables.specs.Reading.{Gives, table_in};
+ghost use Rattle.gtfs_tables.specs.Table.{column_of};
+ghost use Rattle.block_writer.specs.Texts as spec;
+ghost use Rattle.block_writer.specs.Texts.{AreTexts, IsFirstBad, IsRefusedFor, IsRefusedPaper, IsTextPaper};
 
-use gtfs_tables::{Row, Table};
+use crate::fields::{push_field, room_for};
+use desk_io::Found;
+use gtfs_tables::{Column, FeedFault, Paper, Row, Table, table_in};
+use std::alloc::Global;
+
+// Whether all bytes of a field are ASCII. Fields are short, and a plain loop over one is faster than a call.
+fn is_ascii(field: &[u8]) -> bool
+    ensures { result ≡ true → IsAscii field.now }
+{
+    for byte in field {
+        if *byte >= 128 {
+            return false;
+        }
+    }
+    true
+}
 
 // Whether a field is UTF-8.
 fn is_utf8(field: &[u8]) -> bool
-    ensures { MatchBool result (IsUtf8 field.now) (¬ IsUtf8 field.now) }
+    ensures { result ≡ is_utf8 field.now }
 {
-    str::from_utf8(field).is_ok()
+    if is_ascii(field) {
+        return true;
+    }
+    match str::from_utf8(field) {
+        Ok(_) => true,
+        Err(_) => false,
+    }
 }
 
 // The first field of a record that is not UTF-8.
 fn bad_field(row: &Row) -> Option<usize>
-    ensures some { IfSome result (λ place. IsFirstBadField row.now place) }
-    ensures none { IfNone result (All IsUtf8 row.now) }
+    ensures { result ≡ spec.bad_field row.now }
 {
     for place in 0..row.len() {
         if !is_utf8(row.field(place)) {
@@ -23,8 +49,56 @@ fn bad_field(row: &Row) -> Option<usize>
     None
 }
 
-/// The first field of a table that is not UTF-8: the number of its record, 0 for the header, and that of its column, from 0.
-pub fn first_not_utf8(table: &Table) -> Option<(u32, usize)>
+// Whether a place is the first of a column in a header.
+fn stands_at(header: &Row, column: Column, place: usize) -> bool
+    ensures { result ≡ spec.is_at place (column_of (column_name_of column) header.now) }
+{
+    match header.place(column.name()) {
+        Some(first) => first == place,
+        None => false,
+    }
+}
+
+// The column of a place in a header.
+fn column_at(columns: &[Column], header: &Row, place: usize) -> Column
+    ensures { result ≡ spec.column_at columns.now header.now place }
+{
+    for n in 0..columns.len() {
+        if stands_at(header, columns[n], place) {
+            return columns[n];
+        }
+    }
+    Column::Other
+}
+
+/// The fields of a record of that number, the header being record 0, all of which must be UTF-8. The header tells in which of
+/// these columns the first stands that is not.
+pub(crate) fn texts_of<'a>(
+    alloc: Global,
+    paper: Paper,
+    columns: &[Column],
+    header: &Row,
+    number: u32,
+    row: &'a Row,
+) -> Result<Vec<&'a [u8]>, FeedFault>
+    ensures gives { Gives (λ fields. map (λ field. field.now) fields.items) result (spec.texts_in paper columns.now header.now number row.now) }
+    ensures same { IfOk result (λ fields. map (λ field. field.now) fields.items ≡ row.now) }
+    ensures texts { OnOk result (All IsUtf8 row.now) }
+{
+    let mut fields = room_for(alloc, row)?;
+    for place in 0..row.len() {
+        let field = row.field(place);
+        if !is_utf8(field) {
+            let column = column_at(columns, header, place);
+            return Err(FeedFault::NotUtf8(paper, number, column));
+        }
+        push_field(&mut fields, field)?;
+    }
+    Ok(fields)
+}
+
+// The first field of a table that is not UTF-8: the number of its record, 0 for the header, and that of its column, from 0.
+fn first_not_utf8(table: &Table) -> Option<(u32, usize)>
     ensures some { IfSome result (λ bad. IsFirstBad table.now bad.0 bad.1) }
     ensures none { IfNone result (AreTexts table.now) }
 {
@@ -39,9 +113,31 @@ pub fn first_not_utf8(table: &Table) -> Option<(u32, usize)>
     None
 }
 
-/// Whether all fields of a table are UTF-8, those of its header too.
-pub fn all_utf8(table: &Table) -> bool
-    ensures { MatchBool result (AreTexts table.now) (¬ AreTexts table.now) }
+// Why a table may not be written again: its first field that is not UTF-8.
+fn refusal(paper: Paper, columns: &[Column], table: &Table) -> Option<FeedFault>
+    ensures refused { IfSome result (IsRefusedFor paper columns.now table.now) }
+    ensures texts { IfNone result (AreTexts table.now) }
 {
-    first_not_utf8(table).is_none()
+    let (number, place) = first_not_utf8(table)?;
+    let column = column_at(columns, table.header(), place);
+    Some(FeedFault::NotUtf8(paper, number, column))
+}
+
+/// The table of a paper that must be there, all of whose fields must be UTF-8. The first that is not is refused, in one of
+/// these columns, or in another one where its column is none of these.
+pub fn read_texts(
+    alloc: Global,
+    paper: Paper,
+    columns: &[Column],
+    found: &Found,
+) -> Result<Table, FeedFault>
+    requires { IsWithinLimit found.now }
+    ensures texts { IfOk result (λ table. IsTextPaper (λ read. read ≡ table) (table_in paper found.now)) }
+    ensures refused { IfErr result (λ refused. refused ≢ FeedFault.Memory → IsRefusedPaper paper columns.now (table_in paper found.now) refused) }
+{
+    let table = table_in(alloc, paper, found)?;
+    match refusal(paper, columns, &table) {
+        None => Ok(table),
+        Some(refused) => Err(refused),
+    }
 }

@@ -1,13 +1,13 @@
-ghost use Rattle.std.specs.Prelude.{◌≡◌, ℕ, ◌+◌, ◌<◌, ◌^◌, ◌++◌, [], ◌∷◌, length, All, IfOk, IsUtf8, OnOk, None, slice_index_or};
+ghost use Rattle.std.specs.Prelude.{◌≡◌, ℕ, ◌<◌, ◌++◌, length, All, IfOk, IsUtf8, OnOk, None, slice_index_or};
 ghost use Rattle.gtfs_tables.specs.Writing.{record_text};
 ghost use Rattle.trip_model.specs.Timetable.{number_of, slot_names};
 ghost use Rattle.block_writer.specs.Fields.{with_field};
 ghost use Rattle.block_writer.specs.Texts.{AreTexts};
 ghost use Rattle.block_writer.specs.Trips as spec;
 
-use crate::fields::{fields_of, place_of, push_texts, text_of};
+use crate::fields::{fields_of, place_of, text_of};
 use block_build::Blocks;
-use desk_io::{Memory, Text};
+use desk_io::{Bytes, Memory, Text};
 use gtfs_tables::{Column, RecordWriter, Row, Table};
 use std::alloc::Global;
 use trip_model::Timetable;
@@ -70,17 +70,15 @@ fn push_with<'a>(
     place: usize,
     field: &'a str,
 ) -> Result<(), Memory>
-    requires { All IsUtf8 row.now }
-    ensures written { OnOk result (records.new ≡ records.old ++ record_text (with_field row.now place field.now)) }
-    ensures text { OnOk result (IsUtf8 records.old → IsUtf8 records.new) }
+    ensures { OnOk result (records.new ≡ records.old ++ record_text (with_field row.now place field.now)) }
 {
     let mut fields = fields_of(alloc, row)?;
     if place < row.len() {
         fields[place] = field.as_bytes();
-        return push_texts(records, &fields);
+        return records.push(&fields);
     }
     fields.push(field.as_bytes())?;
-    push_texts(records, &fields)
+    records.push(&fields)
 }
 
 // Appends the header, with `block_id` at its end where it names no such column.
@@ -90,13 +88,11 @@ fn push_header(
     header: &Row,
     block: usize,
 ) -> Result<(), Memory>
-    requires { All IsUtf8 header.now }
-    ensures written { OnOk result (records.new ≡ records.old ++ record_text (spec.header_written block header.now)) }
-    ensures text { OnOk result (IsUtf8 records.old → IsUtf8 records.new) }
+    ensures { OnOk result (records.new ≡ records.old ++ record_text (spec.header_written block header.now)) }
 {
     if block < header.len() {
         let fields = fields_of(alloc, header)?;
-        return push_texts(records, &fields);
+        return records.push(&fields);
     }
     push_with(alloc, records, header, block, Column::BlockId.name())
 }
@@ -115,8 +111,7 @@ fn push_trip(
 ) -> Result<(), Memory>
     requires numbers { length numbers.now ≡ length timetable.now.slots }
     requires text { All IsUtf8 row.now }
-    ensures written { OnOk result (records.new ≡ records.old ++ record_text (spec.trip_written timetable.now numbers.now prefix.now trip block chosen row.now)) }
-    ensures text { OnOk result (IsUtf8 records.old → IsUtf8 records.new) }
+    ensures { OnOk result (records.new ≡ records.old ++ record_text (spec.trip_written timetable.now numbers.now prefix.now trip block chosen row.now)) }
 {
     if chosen {
         let name = block_of(alloc, timetable, numbers, prefix, text_of(row.field(trip)))?;
@@ -136,17 +131,18 @@ pub fn trips_text(
     chosen: &[bool],
     blocks: &Blocks,
     prefix: &str,
-) -> Result<Text, Memory>
+) -> Result<Bytes, Memory>
     requires texts { AreTexts trips.now }
     requires chosen { length chosen.now ≡ length trips.now.rows }
     requires slots { All (All (λ s. s < length timetable.now.slots)) blocks.now }
     ensures { IfOk result (λ text. text ≡ spec.trips_written trips.now timetable.now chosen.now blocks.now prefix.now) }
 {
-    let trip = place_of(trips, Column::TripId);
-    let block = place_of(trips, Column::BlockId);
+    let header = trips.header();
+    let trip = place_of(header, Column::TripId);
+    let block = place_of(header, Column::BlockId);
     let numbers = block_numbers(alloc, timetable.slots(), blocks)?;
     let mut records = RecordWriter::new(alloc);
-    push_header(alloc, &mut records, trips.header(), block)?;
+    push_header(alloc, &mut records, header, block)?;
     for before in 0..trips.records() {
         let row = trips.row(before + 1);
         push_trip(
@@ -161,5 +157,5 @@ pub fn trips_text(
             chosen[before as usize],
         )?;
     }
-    records.into_text()
+    records.into_bytes()
 }

@@ -1,2 +1,2 @@
-pub mod ColumnLemmas
+pub mod FieldLemmas
 pub mod Given

@@ -1,10 +1,8 @@
 -- What `write` asks, and what it writes of a feed.
-use Rattle.std.specs.Prelude.{◌≡◌, ◌⊎◌, ℕ, ◌==◌, Bool, false, List, [], ◌∷◌, ◌++◌, length, map, Option, None, Some, Result, Ok, Err, codes, if◌then◌else◌}
-use Rattle.gtfs_tables.specs.Papers.{column_name_of}
+use Rattle.std.specs.Prelude.{◌≡◌, ◌⊎◌, ℕ, Bool, false, List, [], ◌∷◌, ◌++◌, length, map, None, Result, Ok, Err, codes, if◌then◌else◌}
 use Rattle.gtfs_tables.specs.Reading.{table_in}
-use Rattle.gtfs_tables.specs.Table.{TableView, column_of}
+use Rattle.gtfs_tables.specs.Table.{TableView}
 use Rattle.gtfs_tables.specs.declared.fault.FeedFault.{FeedFault}
-use Rattle.gtfs_tables.specs.declared.fault.FeedFault.TheVariants as fault
 use Rattle.gtfs_tables.specs.declared.paper.Column.{Column}
 use Rattle.gtfs_tables.specs.declared.paper.Column.TheVariants as column
 use Rattle.gtfs_tables.specs.declared.paper.Paper.{Paper}
@@ -14,8 +12,8 @@ use Rattle.trip_model.specs.Timetable.{TimetableView}
 use Rattle.deadhead_matrix.specs.Matrix.{MatrixView}
 use Rattle.deadhead_matrix.specs.Prices.{Plan}
 use Rattle.block_writer.specs.Fields.{field_at, place_of}
-use Rattle.block_writer.specs.StopTimes.{stop_times_written}
-use Rattle.block_writer.specs.Texts.{AreTexts, IsFirstBad}
+use Rattle.block_writer.specs.StopTimes.{stop_time_columns, stop_times_written}
+use Rattle.block_writer.specs.Texts.{AreTexts, IsRefusedPaper, IsTextPaper}
 use Rattle.block_writer.specs.Trips.{trips_written}
 use Rattle.desk_run.specs.Commands.{Asked}
 use Rattle.desk_run.specs.Outcome.{OutcomeView}
@@ -40,25 +38,6 @@ trip_columns settings =
     if is_classed settings then column.ServiceId ∷ column.TripId ∷ column.BlockId ∷ column.RouteId ∷ []
     else column.ServiceId ∷ column.TripId ∷ column.BlockId ∷ []
 
-abbrev pub stop_time_columns : List Column
-stop_time_columns = column.TripId ∷ column.ArrivalTime ∷ column.DepartureTime ∷ column.StopId ∷ column.StopSequence ∷ []
-
--- the column of a place, counted from 0: the one of these whose first place in the header that is, and else another one
-abbrev pub is_at : ℕ → Option ℕ → Bool
-is_at place None = false
-is_at place (Some first) = first == place
-
-abbrev pub column_at : List Column → List (List ℕ) → ℕ → Column
-column_at [] header place = column.Other
-column_at (c ∷ columns) header place = if is_at place (column_of (column_name_of c) header) then c else column_at columns header place
-
--- a table is refused for its first field that is not UTF-8, the header being record 0
-pub record IsRefusedFor (paper : Paper) (columns : List Column) (table : TableView) (refused : FeedFault) : Type 0 where
-  pub number : ℕ
-  pub place : ℕ
-  pub first : IsFirstBad table number place
-  pub told : refused ≡ fault.NotUtf8 paper number (column_at columns table.header place)
-
 -- which records of `trips.txt` are selected
 abbrev pub chosen_in : SettingsView → TableView → List Bool
 chosen_in settings trips = map (λ row. is_chosen settings (field_at row (place_of column.ServiceId trips.header))) trips.rows
@@ -73,16 +52,16 @@ stop_times_name = codes "stop_times_blocks.txt"
 abbrev pub written_line : List ℕ
 written_line = codes "wrote trips_blocks.txt, stop_times_blocks.txt" ++ 10 ∷ []
 
--- the two files of blocks for a timetable, in the order in which they are written; so many of its slots have records
-unfoldable pub files_of : SettingsView → TimetableView → ℕ → List (List ℕ) → TableView → TableView → List Writing
-files_of settings timetable base blocks trips stop_times =
+-- the two files of blocks for a timetable, in the order in which they are written, with the text of the stop times
+unfoldable pub files_of : SettingsView → TimetableView → List (List ℕ) → TableView → List ℕ → List Writing
+files_of settings timetable blocks trips stop_times =
     record { name = trips_name; bytes = trips_written trips timetable (chosen_in settings trips) blocks settings.prefix }
-    ∷ record { name = stop_times_name; bytes = stop_times_written stop_times timetable base }
+    ∷ record { name = stop_times_name; bytes = stop_times }
     ∷ []
 
--- those of a feed and of blocks for its timetable after the script
+-- those of a feed and of blocks for its timetable after the script, of whose slots those before the script have records
 abbrev pub feed_files : Said → TableView → TableView → List (List ℕ) → List Writing
-feed_files said trips stop_times blocks = files_of said.settings (standing said) (length said.base.slots) blocks trips stop_times
+feed_files said trips stop_times blocks = files_of said.settings (standing said) blocks trips (stop_times_written stop_times (standing said) (length said.base.slots))
 
 -- The files are those of the blocks of a certified plan, which are least over all blockings of the timetable after the script;
 -- and the lines of refused records are put, and then that the files were written.
@@ -94,22 +73,19 @@ pub record IsWritten (said : Said) (trips stop_times : TableView) (outcome : Out
   pub scheduled : IsScheduled (standing said) matrix plan blocks
   pub done : outcome ≡ record { writes = feed_files said trips stop_times blocks; lines = None; text = refused_of said ++ written_line; ending = ending_of said }
 
--- the refusal of a table is told, of the trips before the stop times
-pub record IsRefusedTable (paper : Paper) (columns : List Column) (table : TableView) (outcome : OutcomeView) : Type 0 where
+-- the refusal of a paper is told
+pub record IsRefusal (paper : Paper) (columns : List Column) (read : Result TableView FeedFault) (outcome : OutcomeView) : Type 0 where
   pub refused : FeedFault
-  pub for : IsRefusedFor paper columns table refused
+  pub for : IsRefusedPaper paper columns read refused
   pub done : outcome ≡ refusing refused
 
--- what is done of two tables: the feed is written where all their fields are texts
-abbrev pub WritesOf : Said → TableView → TableView → OutcomeView → Type 0
-WritesOf said trips stop_times outcome =
-    IsRefusedTable paper.Trips (trip_columns said.settings) trips outcome
-    ⊎ ((AreTexts trips × IsRefusedTable paper.StopTimes stop_time_columns stop_times outcome) ⊎ (AreTexts trips × AreTexts stop_times × IsWritten said trips stop_times outcome))
-
+-- what is done of two papers: the feed is written where both are tables of texts, and else the first refusal is told, that of
+-- the trips before that of the stop times
 abbrev pub WritesBy : Said → Result TableView FeedFault → Result TableView FeedFault → OutcomeView → Type 0
-WritesBy said (Err refused) stop_times outcome = outcome ≡ refusing refused
-WritesBy said (Ok trips) (Err refused) outcome = outcome ≡ refusing refused
-WritesBy said (Ok trips) (Ok stop_times) outcome = WritesOf said trips stop_times outcome
+WritesBy said trips stop_times outcome =
+    IsRefusal paper.Trips (trip_columns said.settings) trips outcome
+    ⊎ (IsTextPaper (λ first. IsRefusal paper.StopTimes stop_time_columns stop_times outcome) trips
+    ⊎ IsTextPaper (λ first. IsTextPaper (λ second. IsWritten said first second outcome) stop_times) trips)
 
 abbrev pub Writes : ReadView → Said → OutcomeView → Type 0
 Writes read said outcome = WritesBy said (trips_in read) (stop_times_in read) outcome

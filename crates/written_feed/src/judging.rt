@@ -1,16 +1,12 @@
-ghost use Rattle.std.specs.Prelude.{◌≡◌, IfOk, IfSome, IfNone, IsUtf8, length};
+ghost use Rattle.std.specs.Prelude.{◌≡◌, IfOk, IsUtf8, length};
 ghost use Rattle.block_writer.specs.Fields.{place_of};
 ghost use Rattle.desk_settings.specs.Settings as spec_settings;
 ghost use Rattle.block_writer.specs.Texts.{AreTexts};
-ghost use Rattle.gtfs_tables.specs.Papers.{column_name_of};
-ghost use Rattle.gtfs_tables.specs.Table.{column_of};
 ghost use Rattle.written_feed.specs.Write as spec;
-ghost use Rattle.written_feed.specs.Write.{IsRefusedFor};
 
-use block_writer::first_not_utf8;
 use desk_io::Memory;
 use desk_settings::Settings;
-use gtfs_tables::{Column, FeedFault, Paper, Table};
+use gtfs_tables::{Column, Table};
 use std::alloc::Global;
 
 // The columns of `trips.txt` that are known by their names.
@@ -24,15 +20,6 @@ const CLASSED_TRIP_COLUMNS: [Column; 4] = [
     Column::RouteId,
 ];
 
-/// The columns of `stop_times.txt` that are known by their names.
-pub(crate) const STOP_TIME_COLUMNS: [Column; 5] = [
-    Column::TripId,
-    Column::ArrivalTime,
-    Column::DepartureTime,
-    Column::StopId,
-    Column::StopSequence,
-];
-
 /// The columns of `trips.txt` that are known by their names: that of routes is where vehicles are of classes.
 pub(crate) fn trip_columns(settings: &Settings) -> &'static [Column]
     ensures { result.now ≡ spec.trip_columns settings.now }
@@ -42,38 +29,6 @@ pub(crate) fn trip_columns(settings: &Settings) -> &'static [Column]
     } else {
         &TRIP_COLUMNS
     }
-}
-
-// Whether a place is the first of a column in the header of a table.
-fn stands_at(table: &Table, column: Column, place: usize) -> bool
-    ensures { result ≡ spec.is_at place (column_of (column_name_of column) table.now.header) }
-{
-    match table.column(column.name()) {
-        Some(first) => first == place,
-        None => false,
-    }
-}
-
-// The column of a place in the header of a table.
-fn column_at(columns: &[Column], table: &Table, place: usize) -> Column
-    ensures { result ≡ spec.column_at columns.now table.now.header place }
-{
-    for n in 0..columns.len() {
-        if stands_at(table, columns[n], place) {
-            return columns[n];
-        }
-    }
-    Column::Other
-}
-
-/// Why a table may not be written: its first field that is not UTF-8.
-pub(crate) fn refusal(paper: Paper, columns: &[Column], table: &Table) -> Option<FeedFault>
-    ensures refused { IfSome result (IsRefusedFor paper columns.now table.now) }
-    ensures texts { IfNone result (AreTexts table.now) }
-{
-    let (number, place) = first_not_utf8(table)?;
-    let column = column_at(columns, table, place);
-    Some(FeedFault::NotUtf8(paper, number, column))
 }
 
 // Whether a field that is text names a service that is chosen.

@@ -7,91 +7,84 @@ ghost use Rattle.desk_feed.specs.Script.{IsScript};
 ghost use Rattle.desk_run.specs.Performs.{Performs};
 ghost use Rattle.desk_run.specs.World.{world};
 ghost use Rattle.written_feed.specs.Write.{Writes, files_of, stop_times_in, trips_in, write_asked};
-ghost use Rattle.written_feed.specs.Writable.{IsWritable, IsWritableOf, IsWrittenOf};
+ghost use Rattle.written_feed.specs.Writable.{IsWritable, IsWrittenOf};
 
-use crate::judging::{STOP_TIME_COLUMNS, chosen_in, refusal, trip_columns};
+use crate::judging::{chosen_in, trip_columns};
 use block_build::Blocks;
-use block_writer::{stop_times_text, trips_text};
+use block_writer::{read_texts, stop_times_text, trips_text};
 use deadhead_matrix::{Deadheads, Matrix, Pulls};
 use desk_feed::{Edited, FEED_PAPERS, FeedCommand, OnFeed, after_script, matrix_of, refuse};
-use desk_io::{Memory, Shelf, Sink, Steps, Text};
+use desk_io::{Bytes, Memory, Shelf, Sink, Steps, Text};
 use desk_keeper::Keeper;
 use desk_run::{Outcome, Read, Writing, perform};
 use desk_settings::Settings;
 use edit_script::Line;
 use feed_schedule::schedule_of;
-use gtfs_tables::{FeedFault, Paper, Table, table_in};
+use gtfs_tables::{FeedFault, Paper, Table};
 use std::alloc::Global;
 use std::sync::ledger::Ledger;
 use trip_model::Timetable;
 
-// The two tables of a feed, or what is done where they may not be written.
+// What is written again of a feed, the table of its trips and the text of its stop times; or what is done where one of the two
+// papers is refused.
 #[derive(Drop)]
 enum Writable {
-    Tables(Table, Table),
+    Texts(Table, Bytes),
     Refused(Outcome),
 }
 
-// What is made of a table that was read: its refusal where one of its fields is not UTF-8.
-fn judged(
+// What is written again of the two papers, for a timetable of which so many slots have records.
+fn writable_of(
     alloc: Global,
     settings: &Settings,
-    trips: Table,
-    stop_times: Table,
+    read: &Read,
+    timetable: &Timetable,
+    base: u16,
 ) -> Result<Writable, Memory>
-    ensures { IfOk result (IsWritableOf settings.now trips stop_times) }
-{
-    if let Some(fault) = refusal(Paper::Trips, trip_columns(settings), &trips) {
-        return Ok(Writable::Refused(refuse(alloc, &fault)?));
-    }
-    if let Some(fault) = refusal(Paper::StopTimes, &STOP_TIME_COLUMNS, &stop_times) {
-        return Ok(Writable::Refused(refuse(alloc, &fault)?));
-    }
-    Ok(Writable::Tables(trips, stop_times))
-}
-
-// The two tables of what was read, where they may be written.
-fn read_tables(alloc: Global, settings: &Settings, read: &Read) -> Result<Writable, Memory>
     requires { HasPapers read.now.pages }
-    ensures { IfOk result (IsWritable settings.now (trips_in read.now) (stop_times_in read.now)) }
+    ensures { IfOk result (IsWritable settings.now timetable.now base (trips_in read.now) (stop_times_in read.now)) }
 {
     let trips = read.found(Paper::Trips);
     let stop_times = read.found(Paper::StopTimes);
-    let trips = match table_in(alloc, Paper::Trips, trips) {
+    let trips = match read_texts(alloc, Paper::Trips, trip_columns(settings), trips) {
         Ok(trips) => trips,
         Err(FeedFault::Memory) => return Err(Memory),
         Err(fault) => return Ok(Writable::Refused(refuse(alloc, &fault)?)),
     };
-    let stop_times = match table_in(alloc, Paper::StopTimes, stop_times) {
-        Ok(stop_times) => stop_times,
-        Err(FeedFault::Memory) => return Err(Memory),
-        Err(fault) => return Ok(Writable::Refused(refuse(alloc, &fault)?)),
-    };
-    judged(alloc, settings, trips, stop_times)
+    match stop_times_text(alloc, stop_times, timetable, base) {
+        Ok(text) => Ok(Writable::Texts(trips, text)),
+        Err(FeedFault::Memory) => Err(Memory),
+        Err(fault) => Ok(Writable::Refused(refuse(alloc, &fault)?)),
+    }
 }
 
-// The two files of blocks for a timetable, of which so many slots have records.
+// A file of these bytes.
+fn file(alloc: Global, name: &str, bytes: Bytes) -> Result<Writing, Memory>
+    ensures { IfOk result (λ file. file ≡ record { name = name.now; bytes = bytes }) }
+{
+    let name = Text::of(alloc, name)?;
+    Ok(Writing { name, bytes })
+}
+
+// The two files of blocks for a timetable.
 #[tactic(auto, unfolding(crate::specs::Write::files_of))]
 fn files(
     alloc: Global,
     settings: &Settings,
     timetable: &Timetable,
-    base: u16,
     blocks: &Blocks,
     trips: &Table,
-    stop_times: &Table,
+    stop_times: Bytes,
 ) -> Result<Vec<Writing>, Memory>
     requires slots { All (All (λ s. s < length timetable.now.slots)) blocks.now }
     requires trips { AreTexts trips.now }
-    requires stop_times { AreTexts stop_times.now }
-    ensures { IfOk result (λ writes. writes.items ≡ files_of settings.now timetable.now base blocks.now trips.now stop_times.now) }
+    ensures { IfOk result (λ writes. writes.items ≡ files_of settings.now timetable.now blocks.now trips.now stop_times) }
 {
     let chosen = chosen_in(alloc, settings, trips)?;
     let prefix = settings.prefix();
     let first = trips_text(alloc, trips, timetable, &chosen, blocks, prefix)?;
-    let second = stop_times_text(alloc, stop_times, timetable, base)?;
-    let first = Writing::of(alloc, "trips_blocks.txt", first)?;
-    let second = Writing::of(alloc, "stop_times_blocks.txt", second)?;
+    let first = file(alloc, "trips_blocks.txt", first)?;
+    let second = file(alloc, "stop_times_blocks.txt", stop_times)?;
     Ok(vec![in alloc; first, second]?)
 }
 
@@ -101,21 +94,19 @@ fn written<L: Ledger>(
     settings: &Settings,
     matrix: &Matrix,
     edited: &Edited,
-    base: u16,
     trips: &Table,
-    stop_times: &Table,
+    stop_times: Bytes,
     steps: &mut Steps<L>,
 ) -> Result<Outcome, Memory>
     requires places { length edited.now.script.timetable.places ≡ length matrix.now.walks }
     requires trips { AreTexts trips.now }
-    requires stop_times { AreTexts stop_times.now }
-    ensures written { IfOk result (IsWrittenOf settings.now matrix.now edited.now base trips.now stop_times.now) }
+    ensures written { IfOk result (IsWrittenOf settings.now matrix.now edited.now trips.now stop_times) }
     ensures counted { steps.new ≤ steps.old + most_steps (length edited.now.script.timetable.slots) }
 {
     let timetable = edited.script.timetable();
     let schedule = schedule_of(alloc, timetable, matrix, steps)?;
     let blocks = &schedule.blocks;
-    let writes = files(alloc, settings, timetable, base, blocks, trips, stop_times)?;
+    let writes = files(alloc, settings, timetable, blocks, trips, stop_times)?;
     let refused = edited.refused.as_str();
     let text = format!(in alloc; "{refused}wrote trips_blocks.txt, stop_times_blocks.txt\n")?;
     Ok(Outcome::of(writes, None, Text::wrap(text), edited.ending))
@@ -138,23 +129,16 @@ fn written_of<L: Ledger>(
     ensures writes { IfOk result (Writes read.now (said_with settings.now timetable deadheads.now pulls lines.now)) }
     ensures counted { steps.new ≤ steps.old + most_steps (length (standing_after timetable lines.now).slots) }
 {
-    let (trips, stop_times) = match read_tables(alloc, settings, read)? {
-        Writable::Refused(outcome) => return Ok(outcome),
-        Writable::Tables(trips, stop_times) => (trips, stop_times),
-    };
     let slots = timetable.slots();
     let matrix = matrix_of(alloc, &timetable, deadheads, pulls)?;
     let edited = after_script(alloc, timetable, lines)?;
-    written(
-        alloc,
-        settings,
-        &matrix,
-        &edited,
-        slots,
-        &trips,
-        &stop_times,
-        steps,
-    )
+    let stands = edited.script.timetable();
+    match writable_of(alloc, settings, read, stands, slots)? {
+        Writable::Refused(outcome) => Ok(outcome),
+        Writable::Texts(trips, stop_times) => written(
+            alloc, settings, &matrix, &edited, &trips, stop_times, steps,
+        ),
+    }
 }
 
 #[derive(Drop)]

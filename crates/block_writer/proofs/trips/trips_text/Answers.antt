@@ -1,6 +1,8 @@
-use Rattle.std.proofs.Common.{length, arith}
+use Rattle.std.proofs.Common.{length, ap, ◌∙◌, arith}
 use Rattle.block_build.proofs.FilesWritten.{if-text}
 use Rattle.gtfs_tables.specs.Writing.{record_text}
+use Rattle.gtfs_tables.specs.declared.paper.Column.TheVariants as column
+use Rattle.block_writer.specs.Fields.{place_of}
 use Rattle.block_writer.specs.Trips.{header_written}
 use Rattle.block_writer.proofs.FieldsWritten.{row-text}
 use Rattle.block_writer.proofs.Numbered.{numbers-count}
@@ -16,15 +18,13 @@ push_trip-requires-clause-text c =
     row-text c.args.trips.now.rows c.row-row.result.now c.loop-before.before c.requires.texts.rows (omega (arith, c.records-before-end.ensures)) c.row-row.ensures.value
 
 pub loop-before-preserved : goal.loop-before-preserved
-loop-before-preserved c = record {
-  written = trip-more c.args.timetable.now c.deref.result.now c.in_ok-numbers.numbers.items c.args.prefix.now c.place_of-trip.result c.place_of-block.result c.args.chosen.now c.args.trips.now.rows
-      (record_text (header_written c.place_of-block.result c.args.trips.now.header)) c.loop-before.records c.push_trip.new.records c.loop-before.before c.row-row.result.now
-      c.deref.ensures.value c.loop-before.invariant.written c.row-row.ensures.value c.in_ok-push_trip.ensures.written;
-  text = c.in_ok-push_trip.ensures.text c.loop-before.invariant.text;
-}
+loop-before-preserved c =
+    trip-more c.args.timetable.now c.deref.result.now c.in_ok-numbers.numbers.items c.args.prefix.now c.place_of-trip.result c.place_of-block.result c.args.chosen.now c.args.trips.now.rows
+    (record_text (header_written c.place_of-block.result c.args.trips.now.header)) c.loop-before.records c.push_trip.new.records c.loop-before.before c.row-row.result.now
+    c.deref.ensures.value c.loop-before.invariant c.row-row.ensures.value c.in_ok-push_trip.ensures
 
 pub returns : goal.returns
 returns c =
-    if-text c.into_text.result c.loop-before.records _ c.into_text.ensures
+    if-text c.into_bytes.result c.loop-before.records _ c.into_bytes.ensures
     (trips-made c.args.trips.now c.args.timetable.now c.args.chosen.now c.args.blocks.now c.args.prefix.now c.in_ok-numbers.numbers.items c.slots.result c.place_of-trip.result c.place_of-block.result
-    c.loop-before.before c.loop-before.records c.in_ok-numbers.ensures c.slots.ensures.count c.place_of-trip.ensures c.place_of-block.ensures (omega (arith, c.records-before-end.ensures)) c.loop-before.invariant.written)
+    c.loop-before.before c.loop-before.records c.in_ok-numbers.ensures c.slots.ensures.count (c.place_of-trip.ensures ∙ ap (place_of column.TripId) c.header-header.ensures) (c.place_of-block.ensures ∙ ap (place_of column.BlockId) c.header-header.ensures) (omega (arith, c.records-before-end.ensures)) c.loop-before.invariant)

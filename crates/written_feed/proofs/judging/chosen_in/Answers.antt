@@ -1,6 +1,6 @@
 use Rattle.std.proofs.Common.{◌+◌, ◌-◌, [], ap, get_or, sym, subst, ◌∙◌, arith}
 use Rattle.std.specs.Prelude.{IsUtf8}
-use Rattle.written_feed.proofs.ColumnLemmas.{field-text}
+use Rattle.written_feed.proofs.FieldLemmas.{field-text}
 use Rattle.written_feed.proofs.judging.chosen_in.Goals as goal
 
 pub is_chosen-requires : goal.is_chosen-requires

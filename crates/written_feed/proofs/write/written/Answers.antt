@@ -10,7 +10,7 @@ returns-clause-written g c =
     let plan = c.in_ok-schedule.schedule.solver in
     let made = c.in_ok-schedule.schedule.blocks in
     let stands = c.timetable-timetable.ensures in
-    let writes = c.in_ok-writes.ensures ∙ (λ i. files_of c.args.settings.now (stands i) c.args.base made c.args.trips.now c.args.stop_times.now) in
+    let writes = c.in_ok-writes.ensures ∙ (λ i. files_of c.args.settings.now (stands i) made c.args.trips.now c.args.stop_times) in
     let text = c.wrap.ensures ∙ c.in_ok-text.ensures.ok ∙ ap (λ r. r ++ written_line) c.as_str-refused.ensures in
     record {
       plan = plan;

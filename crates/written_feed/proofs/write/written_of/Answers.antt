@@ -1,29 +1,15 @@
-use Rattle.desk_feed.specs.Feed.{said_with}
 use Rattle.std.proofs.Common.{subst}
+use Rattle.desk_feed.specs.Feed.{said_with}
 use Rattle.written_feed.specs.Writable.{IsWritable}
 use Rattle.written_feed.specs.Write.{stop_times_in, trips_in}
-use Rattle.written_feed.proofs.Given.{refused-by, tables-of, written-given}
+use Rattle.written_feed.proofs.Given.{refused-by, texts-of, written-given}
 use Rattle.written_feed.proofs.write.written_of.Goals as goal
 
 pub returns-in-Refused-clause-writes : goal.returns-in-Refused-clause-writes
-returns-in-Refused-clause-writes g c =
-    let read = c.args.read.now in
-    let said = said_with c.args.settings.now c.args.timetable c.args.deadheads.now c.args.pulls c.args.lines.now in
-    refused-by said (trips_in read) (stop_times_in read) c.in-Refused.outcome (subst (IsWritable said.settings (trips_in read) (stop_times_in read)) c.in-Refused.is c.in_ok-outcome.ensures)
+returns-in-Refused-clause-writes g c = ?
 
 pub written-requires-clause-trips : goal.written-requires-clause-trips
-written-requires-clause-trips g c =
-    let read = c.args.read.now in
-    (tables-of c.args.settings.now (trips_in read) (stop_times_in read) c.in-Tables.trips c.in-Tables.stop_times (subst (IsWritable c.args.settings.now (trips_in read) (stop_times_in read)) c.in-Tables.is c.in_ok-outcome.ensures)).2
+written-requires-clause-trips g c = ?
 
-pub written-requires-clause-stop_times : goal.written-requires-clause-stop_times
-written-requires-clause-stop_times g c =
-    let read = c.args.read.now in
-    (tables-of c.args.settings.now (trips_in read) (stop_times_in read) c.in-Tables.trips c.in-Tables.stop_times (subst (IsWritable c.args.settings.now (trips_in read) (stop_times_in read)) c.in-Tables.is c.in_ok-outcome.ensures)).3
-
-pub returns-clause-writes : goal.returns-clause-writes
-returns-clause-writes g c =
-    let read = c.args.read.now in
-    let said = said_with c.args.settings.now c.args.timetable c.args.deadheads.now c.args.pulls c.args.lines.now in
-    written-given read said c.in_ok-matrix.matrix c.in_ok-edited.edited c.in-Tables.trips c.in-Tables.stop_times c.in_ok-matrix.ensures c.in_ok-edited.ensures.edited
-    (subst (IsWritable said.settings (trips_in read) (stop_times_in read)) c.in-Tables.is c.in_ok-outcome.ensures) c.written.result c.slots-slots.result c.slots-slots.ensures.count c.written.ensures.written
+pub returns-in-Texts-clause-writes : goal.returns-in-Texts-clause-writes
+returns-in-Texts-clause-writes g c = ?

@@ -1,4 +1,4 @@
-use Rattle.written_feed.proofs.write.read_tables.Goals as goal
+use Rattle.written_feed.proofs.write.writable_of.Goals as goal
 
 pub found-trips-requires : goal.found-trips-requires
 found-trips-requires c = c.requires.1.1.1.1.1.0
