@@ -6,7 +6,7 @@ use gtfs_tables::{Column, Row};
 use std::alloc::Global;
 
 /// The number, from 0, of the first column of that name in a header; where there is none, of the next column.
-pub(crate) fn place_of(header: &Row, column: Column) -> usize
+pub fn place_of(header: &Row, column: Column) -> usize
     ensures { result ≡ spec.place_of column header.now }
 {
     match header.place(column.name()) {
@@ -16,7 +16,7 @@ pub(crate) fn place_of(header: &Row, column: Column) -> usize
 }
 
 /// The text of a field that is UTF-8.
-pub(crate) fn text_of(field: &[u8]) -> &str
+pub fn text_of(field: &[u8]) -> &str
     requires { IsUtf8 field.now }
     ensures { result.now ≡ field.now }
 {

@@ -2,16 +2,18 @@
 use Rattle.std.proofs.Common.{◌≡◌, inl, inr, ℕ, zero, suc, ◌≤◌, List, [], ◌++◌, length, None, Result, Ok, Err, sym, ap, subst, ◌∙◌, arith}
 use Rattle.std.specs.Prelude.{All, IfOk, IsUtf8}
 use Rattle.std.proofs.lemmas.List.Elements.{All-get_or}
+use Rattle.desk_io.specs.declared.shelf.Found.{Found}
+use Rattle.gtfs_tables.specs.Reading.{table_in}
 use Rattle.gtfs_tables.specs.Table.{TableView}
 use Rattle.gtfs_tables.specs.declared.fault.FeedFault.{FeedFault}
 use Rattle.gtfs_tables.specs.declared.paper.Column.{Column}
 use Rattle.gtfs_tables.specs.declared.paper.Paper.{Paper}
 use Rattle.block_writer.specs.StopTimes.{stop_times_written}
-use Rattle.block_writer.specs.Texts.{AreTexts, IsFirstBad, IsTextPaper, record_at}
+use Rattle.block_writer.specs.Texts.{AreTexts, IsFirstBad, IsRefusedPaper, IsTextPaper, record_at}
 use Rattle.desk_run.specs.Outcome.{OutcomeView}
 use Rattle.desk_run.specs.Reading.{ReadView}
 use Rattle.desk_feed.specs.Feed.{Said, standing}
-use Rattle.desk_feed.specs.Judging.{IsGivenOf}
+use Rattle.desk_feed.specs.Judging.{IsGivenOf, refusing}
 use Rattle.desk_settings.specs.Settings.{SettingsView}
 use Rattle.trip_model.specs.Timetable.{TimetableView}
 use Rattle.deadhead_matrix.specs.Matrix.{MatrixView}
@@ -36,11 +38,11 @@ refused-ends paper columns table outcome is = bad-table table is.for.number is.f
 -- how a run ends that does this
 ends-by : (said : Said) (trips stop_times : Result TableView FeedFault) (outcome : OutcomeView) → WritesBy said trips stop_times outcome → EndsBy said trips stop_times outcome.ending
 ends-by said (Err due) stop_times outcome (inl bad) = ap (λ (o : OutcomeView). o.ending) bad.done
-ends-by said (Err due) stop_times outcome (inr (inl no)) = absurd no
-ends-by said (Err due) stop_times outcome (inr (inr no)) = absurd no
+ends-by said (Err due) stop_times outcome (inr (inl none)) = absurd none
+ends-by said (Err due) stop_times outcome (inr (inr none)) = absurd none
 ends-by said (Ok trips) (Err due) outcome (inl bad) = ap (λ (o : OutcomeView). o.ending) bad.done
 ends-by said (Ok trips) (Err due) outcome (inr (inl bad)) = ap (λ (o : OutcomeView). o.ending) bad.1.done
-ends-by said (Ok trips) (Err due) outcome (inr (inr no)) = absurd no.1
+ends-by said (Ok trips) (Err due) outcome (inr (inr (texts, none))) = absurd none
 ends-by said (Ok trips) (Ok stop_times) outcome (inl bad) =
     let end = ap (λ (o : OutcomeView). o.ending) bad.done in
     record { texts = λ one other. absurd (refused-ends _ _ trips outcome bad one); trips_refused = λ no. end; stop_times_refused = λ no. end }
@@ -53,10 +55,10 @@ ends-by said (Ok trips) (Ok stop_times) outcome (inr (inr does)) =
 -- and no line is kept
 unkept-by : (said : Said) (trips stop_times : Result TableView FeedFault) (outcome : OutcomeView) → WritesBy said trips stop_times outcome → outcome.lines ≡ None
 unkept-by said trips stop_times outcome (inl bad) = ap (λ (o : OutcomeView). o.lines) bad.done
-unkept-by said (Err due) stop_times outcome (inr (inl no)) = absurd no
-unkept-by said (Err due) stop_times outcome (inr (inr no)) = absurd no
+unkept-by said (Err due) stop_times outcome (inr (inl none)) = absurd none
+unkept-by said (Err due) stop_times outcome (inr (inr none)) = absurd none
 unkept-by said (Ok trips) stop_times outcome (inr (inl bad)) = ap (λ (o : OutcomeView). o.lines) bad.1.done
-unkept-by said (Ok trips) (Err due) outcome (inr (inr no)) = absurd no.1
+unkept-by said (Ok trips) (Err due) outcome (inr (inr (texts, none))) = absurd none
 unkept-by said (Ok trips) (Ok stop_times) outcome (inr (inr does)) = ap (λ (o : OutcomeView). o.lines) does.1.1.done
 
 pub write-given : {E : Type 0} (read : ReadView) (said : Said) (result : Result OutcomeView E) → IfOk result (Writes read said) → IfOk result (IsGivenOf write_does read said)
@@ -66,6 +68,24 @@ write-given read said (Ok outcome) does = record {
   ends = ends-by said (trips_in read) (stop_times_in read) outcome does;
   unkept = λ _. unkept-by said (trips_in read) (stop_times_in read) outcome does;
 }
+
+-- a refusal of what was found of a paper is told
+pub told-refusal : (paper : Paper) (columns known : List Column) (found there : Found) (refused : FeedFault) (outcome : OutcomeView) → columns ≡ known → found ≡ there
+    → IsRefusedPaper paper columns (table_in paper found) refused → outcome ≡ refusing refused → IsRefusal paper known (table_in paper there) outcome
+told-refusal paper columns known found there refused outcome same at is told = record {
+  refused = refused;
+  for = subst (λ columns. IsRefusedPaper paper columns (table_in paper there) refused) same (subst (λ found. IsRefusedPaper paper columns (table_in paper found) refused) at is);
+  done = told;
+}
+
+-- what is said beside a paper of texts
+pub beside-texts : {Beside : Type 0} (paper_table there : Result TableView FeedFault) (table : TableView) → paper_table ≡ there → IsTextPaper (λ read. read ≡ table) paper_table → Beside
+    → IsTextPaper (λ read. Beside) there
+beside-texts {Beside} paper_table there table same is beside = subst (IsTextPaper (λ read. Beside)) same (by paper_table is)
+  where
+    by : (paper_table : Result TableView FeedFault) → IsTextPaper (λ read. read ≡ table) paper_table → IsTextPaper (λ read. Beside) paper_table
+    by (Ok read) is = (is.0, beside)
+    by (Err due) is = absurd is
 
 -- the table of a paper of texts has texts
 pub texts-of : (paper_table : Result TableView FeedFault) (table : TableView) → IsTextPaper (λ read. read ≡ table) paper_table → AreTexts table

@@ -1,9 +1,10 @@
 ghost use Rattle.std.specs.Prelude.{◌≡◌, IfOk, IsUtf8, length};
-ghost use Rattle.block_writer.specs.Fields.{place_of};
 ghost use Rattle.desk_settings.specs.Settings as spec_settings;
+ghost use Rattle.block_writer.specs.Fields.{place_of};
 ghost use Rattle.block_writer.specs.Texts.{AreTexts};
 ghost use Rattle.written_feed.specs.Write as spec;
 
+use block_writer::{place_of, text_of};
 use desk_io::Memory;
 use desk_settings::Settings;
 use gtfs_tables::{Column, Table};
@@ -36,20 +37,14 @@ fn is_chosen(settings: &Settings, field: &[u8]) -> bool
     requires { IsUtf8 field.now }
     ensures { result ≡ spec_settings.is_chosen settings.now field.now }
 {
-    match str::from_utf8(field) {
-        Ok(service) => settings.chosen(service),
-        Err(_) => unreachable!(),
-    }
+    settings.chosen(text_of(field))
 }
 
 // The number, from 0, of the column of services; where there is none, of the next column.
 fn service_place(trips: &Table) -> usize
     ensures { result ≡ place_of Column.ServiceId trips.now.header }
 {
-    match trips.column(Column::ServiceId.name()) {
-        Some(place) => place,
-        None => trips.header().len(),
-    }
+    place_of(trips.header(), Column::ServiceId)
 }
 
 /// Which records of `trips.txt` are selected.

@@ -1,7 +1,7 @@
 //! The command that writes the feed again: `write`.
 //!
-//! [`run_write`] is a whole run over any shelf, sink and keeper, of a `FeedCommand` of `desk_feed`. It makes the text of the stop
-//! times of the timetable after the script, schedules that, and makes the text of the trips by its blocks.
+//! [`run_write`] is a whole run over any shelf, sink and keeper, of a `FeedCommand` of `desk_feed`. It makes the text of the
+//! stop times for the timetable after the script, schedules that, and makes the text of the trips by its blocks.
 //!
 //! The contract that the crates above use: a run performs what `write` asks (`write_asked`).
 //!
