@@ -12,9 +12,8 @@ use Rattle.block_writer.specs.StopTimes.{stop_times_written}
 use Rattle.block_writer.specs.Texts.{AreTexts, IsFirstBad, IsRefusedPaper, IsTextPaper, record_at}
 use Rattle.desk_run.specs.Outcome.{OutcomeView}
 use Rattle.desk_run.specs.Reading.{ReadView}
-use Rattle.desk_feed.specs.Feed.{Said, standing}
+use Rattle.desk_feed.specs.Feed.{Said}
 use Rattle.desk_feed.specs.Judging.{IsGivenOf, refusing}
-use Rattle.desk_settings.specs.Settings.{SettingsView}
 use Rattle.trip_model.specs.Timetable.{TimetableView}
 use Rattle.deadhead_matrix.specs.Matrix.{MatrixView}
 use Rattle.desk_feed.specs.declared.script.Edited.{Edited}

@@ -4,7 +4,7 @@ use Rattle.gtfs_tables.specs.declared.fault.FeedFault.TheVariants as fault
 use Rattle.gtfs_tables.specs.declared.paper.Paper.TheVariants as paper
 use Rattle.block_writer.specs.StopTimes.{stop_time_columns}
 use Rattle.desk_run.specs.Reading.{found_of}
-use Rattle.written_feed.specs.Write.{stop_times_in, trip_columns, trips_in}
+use Rattle.written_feed.specs.Write.{trip_columns, trips_in}
 use Rattle.written_feed.proofs.Given.{beside-texts, told-refusal}
 use Rattle.written_feed.proofs.write.writable_of.Goals as goal
 
