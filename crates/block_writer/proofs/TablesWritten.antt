@@ -1,16 +1,15 @@
 -- The records of a table, as they are written one after the other.
-use Rattle.std.proofs.Common.{◌≡◌, ℕ, inl, inr, ◌+◌, ◌-◌, ◌<◌, List, [], ◌++◌, length, get_or, take, map, Bool, false, Option, ◌≢◌, refl, sym, ap, ◌∙◌, arith}
+use Rattle.std.proofs.Common.{◌≡◌, ℕ, inl, inr, ◌+◌, ◌-◌, List, [], ◌++◌, length, get_or, map, Bool, false, Option, ◌≢◌, refl, sym, ap, ◌∙◌, arith}
 use Rattle.std.specs.Prelude.{ℤ, pos, negsuc, unsigned_abs, ◌==◌}
 use Rattle.std.specs.List.{range_with_len}
 use Rattle.std.proofs.lemmas.Bool.{cases_Bool, eqb-true}
-use Rattle.std.proofs.lemmas.List.{take_all}
 use Rattle.block_build.proofs.FilesWritten.{record-more}
 use Rattle.gtfs_tables.specs.Table.{TableView}
 use Rattle.gtfs_tables.specs.Writing.{record_text, records_text}
 use Rattle.gtfs_tables.specs.declared.paper.Column.TheVariants as column
-use Rattle.trip_model.specs.Timetable.{TimetableView, number_of, slot_names}
+use Rattle.trip_model.specs.Timetable.{TimetableView}
 use Rattle.block_writer.specs.Fields.{place_of}
-use Rattle.block_writer.specs.StopTimes.{moved_by, moved_row, offset_of, stop_time_written, with_times, stop_times_written}
+use Rattle.block_writer.specs.StopTimes.{moved_by, moved_row}
 use Rattle.block_writer.specs.Trips.{block_numbers, header_written, trip_written, with_blocks, trips_written}
 
 -- the fields of a trip that is shifted
