@@ -1,0 +1,4 @@
+pub mod Grouped
+pub mod Moves
+pub mod Named
+pub mod Stated

@@ -1,0 +1,33 @@
+//! The laws of the blocks that a written feed states.
+ghost use Rattle.stated_again.specs.Laws as spec;
+
+use deadhead_matrix::laws::deadhead_law;
+use trip_model::laws::plain_law;
+
+/// Where no trip is cancelled and there are no extras, the trips of the feed that is written make the moves that were planned,
+/// so blocks are least of the one where they are of the other.
+pub fn moves_law()
+    ensures same { spec.SameMoves }
+    ensures least { spec.LeastAgain }
+{}
+
+/// Where all trips run, the `block_id` of each selected record that is written is the name of the block of its trip.
+pub fn names_law()
+    ensures { spec.NamesAreStated }
+{}
+
+/// So the blocks that it states are those of the plan, in their order and each with its trips in theirs.
+pub fn blocks_law()
+    ensures { spec.BlocksAreStated }
+{
+    plain_law();
+    deadhead_law();
+}
+
+/// And where the plan's blocks are least, those that the written feed states are least of its own timetable.
+pub fn least_law()
+    ensures { spec.WrittenBlocksAreLeast }
+{
+    plain_law();
+    deadhead_law();
+}
