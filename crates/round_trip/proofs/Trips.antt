@@ -48,7 +48,7 @@ header-kept name block header k at = by (nat_lt block (length header))
     by true = at
     by false = column-kept name header (column_name_of column.BlockId ∷ []) k at
 
-asked-kept : (asked : Column) (block : ℕ) (header : List (List ℕ)) (k : ℕ) → column_in paper.Trips asked header ≡ Ok k → column_in paper.Trips asked (header_written block header) ≡ Ok k
+pub asked-kept : (asked : Column) (block : ℕ) (header : List (List ℕ)) (k : ℕ) → column_in paper.Trips asked header ≡ Ok k → column_in paper.Trips asked (header_written block header) ≡ Ok k
 asked-kept asked block header k at =
     ap (λ found. ok_or found (fault.NoColumn paper.Trips asked)) (header-kept (column_name_of asked) block header k (column_in-found paper.Trips asked header k at))
 
@@ -81,7 +81,7 @@ module _ (header row : List (List ℕ)) (block : List ℕ) (wide : length row �
   abbrev other : List (List ℕ)
   other = with_field row (place_of column.BlockId header) block
 
-  asked-field : (asked : Column) (k : ℕ) → bytes_eq (column_name_of asked) (column_name_of column.BlockId) ≡ false → column_in paper.Trips asked header ≡ Ok k → field_at other k ≡ field_at row k
+  pub asked-field : (asked : Column) (k : ℕ) → bytes_eq (column_name_of asked) (column_name_of column.BlockId) ≡ false → column_in paper.Trips asked header ≡ Ok k → field_at other k ≡ field_at row k
   asked-field asked k differ at =
       let found = column_in-found paper.Trips asked header k at in
       let within = (column-found (column_name_of asked) header k found).0 in

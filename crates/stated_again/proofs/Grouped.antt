@@ -69,7 +69,7 @@ stands-at (x ∷ xs) zero within = let one : ◌≡◌ {A = ℕ} (cond (x == x) 
 stands-at (x ∷ xs) (suc i) within = omega (arith, times-cons (get_or xs i 0) x xs, stands-at xs i (omega (arith, within)))
 
 -- tests that agree on each slot keep the same ones
-filter-same : (p q : ℕ → Bool) (xs : List ℕ) → All (λ x. p x ≡ q x) xs → filter p xs ≡ filter q xs
+pub filter-same : (p q : ℕ → Bool) (xs : List ℕ) → All (λ x. p x ≡ q x) xs → filter p xs ≡ filter q xs
 filter-same p q [] same = refl
 filter-same p q (x ∷ xs) same =
     let rest = filter-same p q xs (All-tail (λ x. p x ≡ q x) x xs same) in

@@ -1,3 +1,5 @@
+pub mod Again
+pub mod Chosen
 pub mod Grouped
 pub mod Moves
 pub mod Named

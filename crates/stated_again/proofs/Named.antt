@@ -68,7 +68,7 @@ field-written row place field within = ⊎_elim
     (cases_lt place (length row))
 
 module _ (trips : TableView) (standing : TimetableView) (chosen : List Bool) (blocks : List (List ℕ)) (prefix : List ℕ) where
-  abbrev row_written : ℕ → List (List ℕ)
+  abbrev pub row_written : ℕ → List (List ℕ)
   row_written r =
       trip_written standing (block_numbers (length standing.slots) blocks) prefix (place_of column.TripId trips.header) (place_of column.BlockId trips.header) (get_or chosen r false) (get_or trips.rows r [])
 

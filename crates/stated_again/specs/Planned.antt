@@ -1,8 +1,10 @@
 -- A timetable in which all trips of a feed run and no others, and which records of `trips.txt` are those of its slots.
-use Rattle.std.specs.Prelude.{◌≡◌, ℕ, Bool, true, List, [], length, map, slice_index_or, All}
+use Rattle.std.specs.Prelude.{◌≡◌, ℕ, ◌<◌, Bool, true, false, List, [], length, map, slice_index_or, All}
 use Rattle.std.specs.List.{range_with_len}
+use Rattle.std.specs.Str.{is_utf8}
 use Rattle.gtfs_tables.specs.Table.{TableView}
 use Rattle.gtfs_tables.specs.declared.paper.Column.TheVariants as column
+use Rattle.desk_settings.specs.Settings.{SettingsView, is_chosen}
 use Rattle.trip_model.specs.Blocking.{IsLeast}
 use Rattle.trip_model.specs.Network.{Network}
 use Rattle.trip_model.specs.Timetable.{TimetableView, slot_names}
@@ -31,6 +33,15 @@ trip_field trips r = field_at (slice_index_or trips.rows r []) (place_of column.
 -- the selected records name the trips of the slots, the n-th that of the n-th slot
 abbrev pub NameSlots : TableView → List Bool → TimetableView → Type 0
 NameSlots trips chosen timetable = map (trip_field trips) (selected trips chosen) ≡ slot_names timetable
+
+-- the `service_id` of a record
+abbrev pub service_field : TableView → ℕ → List ℕ
+service_field trips r = field_at (slice_index_or trips.rows r []) (place_of column.ServiceId trips.header)
+
+-- of each record whose service is text, it is said whether this is one of those that are chosen
+abbrev pub AreChosen : SettingsView → TableView → List Bool → Type 0
+AreChosen settings trips chosen =
+    (r : ℕ) → r < length trips.rows → is_utf8 (service_field trips r) ≡ true → slice_index_or chosen r false ≡ is_chosen settings (service_field trips r)
 
 -- for each of so many slots the name of the block in which it stands
 abbrev pub block_names : List ℕ → List (List ℕ) → ℕ → List (List ℕ)

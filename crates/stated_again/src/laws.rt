@@ -31,3 +31,17 @@ pub fn least_law()
     plain_law();
     deadhead_law();
 }
+
+/// The records of an accepted feed whose services are chosen name the trips of its slots, each in its turn.
+pub fn slots_law()
+    ensures { spec.FeedNamesSlots }
+{}
+
+/// So the files that are written of an accepted feed, in which all trips run and no others, state the blocks of the plan when they
+/// are read again, and these are least of the timetable that is read.
+pub fn plan_law()
+    ensures { spec.WrittenFeedStatesPlan }
+{
+    plain_law();
+    deadhead_law();
+}
