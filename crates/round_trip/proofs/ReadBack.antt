@@ -54,7 +54,7 @@ written-back settings trips_bytes stop_times_bytes trips stop_times base standin
     zero-more i = omega arith
 
 -- each trip of a feed ends after it departs
-base-forward : (settings : SettingsView) (trips_found stop_times_found : Found) (base : TimetableView) → base_of settings trips_found stop_times_found ≡ Ok base → AreForward base
+pub base-forward : (settings : SettingsView) (trips_found stop_times_found : Found) (base : TimetableView) → base_of settings trips_found stop_times_found ≡ Ok base → AreForward base
 unfolding base_of
 base-forward settings trips_found stop_times_found base said =
     let selected = read-parts (trips_in settings trips_found) _ base said in

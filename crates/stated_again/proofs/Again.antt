@@ -1,45 +1,39 @@
 -- What is read of the written feed states the blocks of the plan.
-use Rattle.std.proofs.Common.{◌≡◌, ℕ, ◌<◌, Bool, true, false, List, [], length, filter, get_or, map, Option, Result, Ok, refl, sym, ap, subst, ◌∙◌, arith}
-use Rattle.std.specs.Prelude.{All}
+use Rattle.std.proofs.Common.{◌≡◌, ℕ, ◌<◌, Bool, true, false, List, [], length, get_or, map, Result, Ok, refl, sym, ap, subst, ◌∙◌, arith}
 use Rattle.std.specs.List.{range_with_len}
 use Rattle.std.specs.Str.{is_utf8}
 use Rattle.std.proofs.lemmas.List.{length-map, take_all}
 use Rattle.std.proofs.lemmas.List.Elements.{All-from_get_or}
-use Rattle.std.proofs.lemmas.List.FromFn.{get_or-map-range_with_len, get_or-range_with_len, length-map-range_with_len, length-range_with_len}
+use Rattle.std.proofs.lemmas.List.FromFn.{get_or-map-range_with_len, get_or-range_with_len, length-range_with_len}
 use Rattle.desk_io.specs.declared.shelf.Found.TheVariants.{File}
 use Rattle.gtfs_tables.specs.declared.paper.Column.TheVariants as column
 use Rattle.gtfs_tables.specs.declared.table.TableFault.{TableFault}
-use Rattle.gtfs_tables.specs.declared.fault.FeedFault.{FeedFault}
 use Rattle.gtfs_tables.specs.Table.{TableView, IsTable}
 use Rattle.desk_settings.specs.Settings.{SettingsView, is_chosen}
-use Rattle.trip_model.specs.Blocking.{IsLeast}
 use Rattle.trip_model.specs.Links.{blocks_along}
 use Rattle.trip_model.specs.Order.{by_departure}
 use Rattle.trip_model.specs.Plain.{trip_moves}
 use Rattle.trip_model.specs.Timetable.{TimetableView, Slot, slot_names}
 use Rattle.deadhead_matrix.specs.Matrix.{MatrixView}
-use Rattle.price_check.specs.Claim.{network_of}
 use Rattle.block_writer.specs.Fields.{field_at, place_of}
 use Rattle.block_writer.specs.Trips.{header_written, trips_rows, with_blocks}
-use Rattle.block_writer.proofs.ReadAgain as written
-use Rattle.block_audit.specs.Stated.{blocks_by, block_field, selected, slots_by, stated_in}
+use Rattle.block_writer.proofs.ReadAgain as writer
+use Rattle.block_audit.specs.Stated.{blocks_by, block_field, selected, stated_in}
 use Rattle.claim_files.proofs.EachRecord.{same_Ok}
 use Rattle.round_trip.specs.Follows.{Follows}
 use Rattle.round_trip.specs.Written.{as_written}
-use Rattle.round_trip.proofs.ReadBack.{written-back}
+use Rattle.round_trip.proofs.Edits.{standing-follows}
+use Rattle.round_trip.proofs.ReadBack.{base-forward, written-back}
 use Rattle.round_trip.proofs.Trips.{asked-field, asked-kept}
+use Rattle.stated_again.specs.Found.{AreOfPlan, StatesPlan}
 use Rattle.stated_again.specs.Laws as spec
-use Rattle.stated_again.specs.Planned.{AreChosen, AreLeastStated, IsWhole, NameSlots, service_field}
+use Rattle.stated_again.specs.Planned.{AreChosen, NameSlots, service_field}
 use Rattle.stated_again.proofs.Chosen.{HasServices, feed-names-slots, feed-services, of-feed, place-asked}
 use Rattle.stated_again.proofs.Grouped.{filter-same}
-use Rattle.stated_again.proofs.Named.{row_written}
-use Rattle.stated_again.proofs.Stated.{Clock, blocks-are-stated, written-are-least}
+use Rattle.stated_again.proofs.Named.{count-rows, row_written}
+use Rattle.stated_again.proofs.Stated.{Clock, least-are-stated}
 
 module _ (trips : TableView) (standing : TimetableView) (chosen : List Bool) (blocks : List (List ℕ)) (prefix : List ℕ) where
-  count-rows : length (with_blocks trips standing chosen blocks prefix).rows ≡ length trips.rows
-  unfolding with_blocks
-  count-rows = length-map-range_with_len (row_written trips standing chosen blocks prefix) 0 (length trips.rows)
-
   -- the service of each record is that of before
   service-kept : IsTable trips → HasServices trips → (r : ℕ) → r < length trips.rows → service_field (with_blocks trips standing chosen blocks prefix) r ≡ service_field trips r
   unfolding with_blocks
@@ -57,7 +51,7 @@ module _ (trips : TableView) (standing : TimetableView) (chosen : List Bool) (bl
   chosen-again settings again is has are are_again r within =
       let same = service-kept is has r within in
       let text : is_utf8 (service_field (with_blocks trips standing chosen blocks prefix) r) ≡ true = ap is_utf8 same ∙ has.text r within in
-      are_again r (omega (arith, within, count-rows)) text ∙ ap (is_chosen settings) same ∙ sym (are r within (has.text r within))
+      are_again r (omega (arith, within, count-rows trips standing chosen blocks prefix)) text ∙ ap (is_chosen settings) same ∙ sym (are r within (has.text r within))
 
   selected-again : (again : List Bool) → ((r : ℕ) → r < length trips.rows → get_or again r false ≡ get_or chosen r false)
       → selected (with_blocks trips standing chosen blocks prefix) again ≡ selected (with_blocks trips standing chosen blocks prefix) chosen
@@ -70,7 +64,7 @@ module _ (trips : TableView) (standing : TimetableView) (chosen : List Bool) (bl
       each i within =
           let rows = length (with_blocks trips standing chosen blocks prefix).rows in
           let inside : i < length (with_blocks trips standing chosen blocks prefix).rows = omega (arith, within, length-range_with_len 0 (length (with_blocks trips standing chosen blocks prefix).rows)) in
-          same (get_or (range_with_len 0 (length (with_blocks trips standing chosen blocks prefix).rows)) i 0) (omega (arith, inside, count-rows, get_or-range_with_len 0 (length (with_blocks trips standing chosen blocks prefix).rows) i 0 inside))
+          same (get_or (range_with_len 0 (length (with_blocks trips standing chosen blocks prefix).rows)) i 0) (omega (arith, inside, count-rows trips standing chosen blocks prefix, get_or-range_with_len 0 (length (with_blocks trips standing chosen blocks prefix).rows) i 0 inside))
 
   stated-again : (timetable : TimetableView) (again : List Bool) → ((r : ℕ) → r < length trips.rows → get_or again r false ≡ get_or chosen r false)
       → stated_in (with_blocks trips standing chosen blocks prefix) timetable again ≡ stated_in (with_blocks trips standing chosen blocks prefix) timetable chosen
@@ -85,26 +79,37 @@ names-kept : (base standing : TimetableView) → Follows base standing → lengt
 names-kept base standing follows count =
     sym follows.names ∙ take_all (length base.slots) (slot_names standing) (omega (arith, count, length-map standing.slots (λ (s : Slot). s.name)))
 
--- what is stated and least of the tables that were written is so of those that are read
-read-again : (matrix : MatrixView) (blocks : List (List ℕ)) (again : List Bool) (written trips_again : TableView) (timetable base_again : TimetableView) → written ≡ trips_again → timetable ≡ base_again
-    → slots_by (stated_in written timetable again) ≡ blocks → AreLeastStated (network_of timetable matrix) (slots_by (stated_in written timetable again))
-    → (slots_by (stated_in trips_again base_again again) ≡ blocks) × AreLeastStated (network_of base_again matrix) (slots_by (stated_in trips_again base_again again))
-read-again matrix blocks again written trips_again timetable base_again table same states least = (
-  subst (λ t. slots_by (stated_in trips_again t again) ≡ blocks) same (subst (λ w. slots_by (stated_in w timetable again) ≡ blocks) table states),
-  subst (λ t. AreLeastStated (network_of t matrix) (slots_by (stated_in trips_again t again))) same (subst (λ w. AreLeastStated (network_of timetable matrix) (slots_by (stated_in w timetable again))) table least),
-)
+-- a plan that a table states is stated however it is said which of its records are selected
+said-again : (trips : TableView) (timetable : TimetableView) (chosen again : List Bool) (matrix : MatrixView) (prefix : List ℕ) (blocks : List (List ℕ))
+    → ((r : ℕ) → r < length trips.rows → get_or again r false ≡ get_or chosen r false) → stated_in trips timetable again ≡ stated_in trips timetable chosen
+    → StatesPlan trips timetable chosen matrix prefix blocks → StatesPlan trips timetable again matrix prefix blocks
+said-again trips timetable chosen again matrix prefix blocks same stated states = record {
+  text = λ text r within is. states.text text r within (sym (same r within) ∙ is);
+  stated = subst (AreOfPlan timetable matrix prefix blocks) (sym stated) states.stated;
+}
 
 pub written-states-plan : Clock → spec.WrittenFeedStatesPlan
-written-states-plan clock settings trips_bytes stop_times_bytes trips stop_times base standing chosen matrix next prefix trips_are stop_times_are is_trips is_stop_times said are valid follows count runs writable trips_unmarked stop_times_unmarked least trips_again base_again again trips_read base_read are_again =
+written-states-plan clock settings trips_bytes stop_times_bytes trips stop_times base standing chosen matrix next prefix feed are valid whole readable least trips_again base_again again trips_read base_read are_again =
     let blocks = blocks_along next (by_departure (trip_moves standing.slots)) in
-    let table : with_blocks trips standing chosen blocks prefix ≡ trips_again = same-table _ trips_again (sym (written.trips-back trips standing chosen blocks prefix is_trips trips_unmarked) ∙ trips_read) in
-    let timetable : as_written base standing ≡ base_again = same_Ok _ base_again (sym (written-back settings trips_bytes stop_times_bytes trips stop_times base standing chosen blocks prefix trips_are stop_times_are is_trips is_stop_times said follows writable trips_unmarked stop_times_unmarked) ∙ base_read) in
-    let has = feed-services settings trips_bytes (File stop_times_bytes) trips base trips_are said in
-    let whole : IsWhole base standing = record { follows = follows; no_extras = count; published = (of-feed settings (File trips_bytes) (File stop_times_bytes) base said).runs; runs = runs } in
-    let name : NameSlots trips chosen standing = feed-names-slots settings trips_bytes (File stop_times_bytes) trips base chosen trips_are said are ∙ names-kept base standing follows count in
-    let agree = chosen-again trips standing chosen blocks prefix settings again is_trips has are (subst (λ t. AreChosen settings t again) (sym table) are_again) in
-    let states : slots_by (stated_in (with_blocks trips standing chosen blocks prefix) (as_written base standing) again) ≡ slots_by (stated_in (with_blocks trips standing chosen blocks prefix) (as_written base standing) chosen) =
-    ap slots_by (stated-again trips standing chosen blocks prefix (as_written base standing) again agree) in
-    read-again matrix blocks again (with_blocks trips standing chosen blocks prefix) trips_again (as_written base standing) base_again table timetable
-    (states ∙ blocks-are-stated clock trips base standing chosen matrix next prefix is_trips valid whole name least.fewest.blocking)
-    (subst (AreLeastStated (network_of (as_written base standing) matrix)) (sym states) (written-are-least clock trips base standing chosen matrix next prefix is_trips valid whole name least))
+    let written = with_blocks trips standing chosen blocks prefix in
+    let timetable = as_written base standing in
+    let table : written ≡ trips_again = same-table _ trips_again (sym (writer.trips-back trips standing chosen blocks prefix feed.trips_table readable.trips_unmarked) ∙ trips_read) in
+    let same : timetable ≡ base_again = same_Ok _ base_again (sym
+    (written-back settings trips_bytes stop_times_bytes trips stop_times base standing chosen blocks prefix feed.trips_are feed.stop_times_are feed.trips_table feed.stop_times_table feed.read whole.follows readable.times
+    readable.trips_unmarked readable.stop_times_unmarked)
+    ∙ base_read) in
+    let has = feed-services settings trips_bytes (File stop_times_bytes) trips base feed.trips_are feed.read in
+    let published = (of-feed settings (File trips_bytes) (File stop_times_bytes) base feed.read).runs in
+    let name : NameSlots trips chosen standing = feed-names-slots settings trips_bytes (File stop_times_bytes) trips base chosen feed.trips_are feed.read are ∙ names-kept base standing whole.follows whole.no_extras in
+    let agree = chosen-again trips standing chosen blocks prefix settings again feed.trips_table has are (subst (λ t. AreChosen settings t again) (sym table) are_again) in
+    let states = said-again written timetable chosen again matrix prefix blocks (λ r within. agree r (omega (arith, within, count-rows trips standing chosen blocks prefix)))
+    (stated-again trips standing chosen blocks prefix timetable again agree)
+    (least-are-stated clock trips base standing chosen matrix next prefix feed.trips_table valid published whole name least) in
+    subst (λ t. StatesPlan trips_again t again matrix prefix blocks) same (subst (λ w. StatesPlan w timetable again matrix prefix blocks) table states)
+
+pub script-leaves-whole : spec.ScriptLeavesWhole
+script-leaves-whole settings trips_found stop_times_found base records said count runs = record {
+  follows = standing-follows base records (base-forward settings trips_found stop_times_found base said);
+  no_extras = count;
+  runs = runs;
+}

@@ -1,9 +1,9 @@
 -- The records of an accepted feed whose services are chosen name the trips of its slots.
-use Rattle.std.proofs.Common.{◌≡◌, ℕ, suc, ◌+◌, ◌<◌, ◌≤◌, Bool, true, false, cond, List, [], ◌∷◌, ◌++◌, length, filter, get_or, map, append_assoc, zero, Option, None, Some, Result, Ok, nat_lt, not, unwrap_or, refl, sym, ap, subst, ◌∙◌, arith}
+use Rattle.std.proofs.Common.{◌≡◌, ℕ, suc, ◌+◌, ◌<◌, ◌≤◌, ◌&&◌, Bool, true, false, cond, List, [], ◌∷◌, ◌++◌, length, filter, get_or, map, append_assoc, zero, Option, None, Some, Result, Ok, not, unwrap_or, refl, sym, ap, subst, ◌∙◌, arith}
 use Rattle.std.specs.Prelude.{All}
 use Rattle.std.specs.List.{range_with_len}
 use Rattle.std.specs.Str.{is_utf8}
-use Rattle.std.proofs.lemmas.List.{append-nil}
+use Rattle.std.proofs.lemmas.List.{append-nil, get_or-map}
 use Rattle.std.proofs.lemmas.List.Elements.{All-map}
 use Rattle.desk_io.specs.declared.shelf.Found.{Found}
 use Rattle.desk_io.specs.declared.shelf.Found.TheVariants.{File}
@@ -13,7 +13,7 @@ use Rattle.gtfs_tables.specs.declared.paper.Column.{Column}
 use Rattle.gtfs_tables.specs.declared.paper.Column.TheVariants as column
 use Rattle.gtfs_tables.specs.declared.paper.Paper.TheVariants as paper
 use Rattle.gtfs_tables.specs.Fold.{Step, paper_read}
-use Rattle.gtfs_tables.specs.Reading.{◌>>=◌, column_in, each_record, filled_in, provided, text_in}
+use Rattle.gtfs_tables.specs.Reading.{◌>>=◌, column_in, each_record, filled_in, text_in}
 use Rattle.gtfs_tables.specs.Table.{TableView, table_of}
 use Rattle.desk_settings.specs.Entries.{Name}
 use Rattle.desk_settings.specs.Names.{is_among}
@@ -266,3 +266,15 @@ pub feed-services : (settings : SettingsView) (trips_bytes : List ℕ) (stop_tim
 feed-services settings trips_bytes stop_times trips base from said =
     let is = of-feed settings (File trips_bytes) stop_times base said in
     services-text settings trips_bytes trips is.chosen from is.read
+
+-- the services that are chosen are those that are looked up, also where what is no text is taken for none
+pub services-are-chosen : spec.ServicesAreChosen
+services-are-chosen settings trips = (looked_up, texts)
+  where
+    looked_up : AreChosen settings trips (map (λ row. is_chosen settings (get_or row (place_of column.ServiceId trips.header) [])) trips.rows)
+    looked_up r within text = get_or-map (λ row. is_chosen settings (get_or row (place_of column.ServiceId trips.header) [])) trips.rows r [] false within
+
+    texts : AreChosen settings trips (map (λ row. is_utf8 (get_or row (place_of column.ServiceId trips.header) []) && is_chosen settings (get_or row (place_of column.ServiceId trips.header) [])) trips.rows)
+    texts r within text =
+        get_or-map (λ row. is_utf8 (get_or row (place_of column.ServiceId trips.header) []) && is_chosen settings (get_or row (place_of column.ServiceId trips.header) [])) trips.rows r [] false within
+        ∙ ap (λ b. b && is_chosen settings (service_field trips r)) text

@@ -2,10 +2,12 @@
 use Rattle.std.proofs.Common.{◌≡◌, ℕ, zero, suc, ◌+◌, ◌<◌, ◌≤◌, ◌==◌, ◌||◌, ⊎_elim, Bool, true, false, cond, List, [], ◌∷◌, length, length-append, filter, get_or, map, Option, if◌then◌else◌, refl, sym, ap, ◌∙◌, arith}
 use Rattle.std.specs.Prelude.{All}
 use Rattle.std.specs.Fmt.{decimal}
+use Rattle.std.specs.List.{range_with_len}
 use Rattle.std.proofs.lemmas.Bool.{cases_Bool, eq-eqb, eqb-true, false≢true, ne_eqb}
 use Rattle.std.proofs.lemmas.Fmt.{decimal_injective, decimal_nonempty}
 use Rattle.std.proofs.lemmas.List.{append_cancel_left, ext_get_or, get_or-map, length-map}
 use Rattle.std.proofs.lemmas.List.Elements.{All-filter, All-from_get_or, All-from_recursion, All-head, All-tail, filter_passes}
+use Rattle.std.proofs.lemmas.List.FromFn.{get_or-map-range_with_len, length-map-range_with_len}
 use Rattle.std.proofs.lemmas.List.Sums.{count_by-le-length, length-filter, sum_by-append}
 use Rattle.std.proofs.lemmas.Slice.Eq.{bytes_eq-Decides}
 use Rattle.trip_model.specs.Blocking.{times, StandsOnce, IsBlock, IsBlocking, slots_in}
@@ -109,11 +111,11 @@ module _ (network : Network) (key : ℕ → ℕ) (next : List (Option ℕ)) (ord
   abbrev firsts : List ℕ
   firsts = filter (links.is_first next) order
 
-  few-blocks : length (blocks_along next order) ≤ 4096
+  pub few-blocks : length (blocks_along next order) ≤ 4096
   few-blocks = omega (arith, length-map (filter (links.is_first next) order) (links.block_from next), length-filter (links.is_first next) order, count_by-le-length (links.is_first next) order, are.few)
 
   -- a live slot stands in the block of whose name it is
-  in-block : (s : ℕ) → network.live s ≡ true → (b : ℕ) × IsBlockOf (blocks_along next order) s b × (name_at names s ≡ block_name prefix b)
+  pub in-block : (s : ℕ) → network.live s ≡ true → (b : ℕ) × IsBlockOf (blocks_along next order) s b × (name_at names s ≡ block_name prefix b)
   in-block s live =
       let at = block-named (blocks_along next order) s prefix (are.blocking.stands.once s ∙ ap (λ b. cond b 1 0) live) in
       (at.0, at.1, are.named s live ∙ at.2)
@@ -262,3 +264,35 @@ module _ (network : Network) (key : ℕ → ℕ) (next : List (Option ℕ)) (ord
           ∙ ap (λ b. if b then s ∷ [] else filter (is_of names (name_at names s)) order) (not-alone s live)
           ∙ group-is s live
           ∙ ap (λ b. get_or (blocks_along next order) b []) (sym (first-alone s live k within refl))
+
+  -- and under the names of these
+  pub names-back : map (λ (b : NamedBlock). b.name) (blocks_by names order) ≡ map (block_name prefix) (range_with_len 0 (length (blocks_along next order)))
+  names-back =
+      ap (λ xs. map (λ (b : NamedBlock). b.name) (map (block_from names order) xs)) begin-alike
+      ∙ ext_get_or [] (map (λ (b : NamedBlock). b.name) (map (block_from names order) (filter (links.is_first next) order))) (map (block_name prefix) (range_with_len 0 (length (blocks_along next order)))) count each
+    where
+      short : length (map (λ (b : NamedBlock). b.name) (map (block_from names order) (filter (links.is_first next) order))) ≡ length (blocks_along next order)
+      short =
+          length-map (map (block_from names order) (filter (links.is_first next) order)) (λ (b : NamedBlock). b.name)
+          ∙ length-map (filter (links.is_first next) order) (block_from names order)
+          ∙ sym count-firsts
+
+      count : length (map (λ (b : NamedBlock). b.name) (map (block_from names order) (filter (links.is_first next) order))) ≡ length (map (block_name prefix) (range_with_len 0 (length (blocks_along next order))))
+      count = short ∙ sym (length-map-range_with_len (block_name prefix) 0 (length (blocks_along next order)))
+
+      none : NamedBlock
+      none = record { name = []; slots = [] }
+
+      each : (k : ℕ) → k < length (map (λ (b : NamedBlock). b.name) (map (block_from names order) (filter (links.is_first next) order)))
+          → get_or (map (λ (b : NamedBlock). b.name) (map (block_from names order) (filter (links.is_first next) order))) k [] ≡ get_or (map (block_name prefix) (range_with_len 0 (length (blocks_along next order)))) k []
+      each k lt =
+          let within : k < length (blocks_along next order) = omega (arith, lt, short) in
+          let inside : k < length (filter (links.is_first next) order) = omega (arith, within, count-firsts) in
+          let s = get_or (filter (links.is_first next) order) k 0 in
+          let live : network.live s ≡ true = All-filter (links.is_first next) (λ s. network.live s ≡ true) order all-live k 0 inside in
+          let made : k < length (map (block_from names order) (filter (links.is_first next) order)) = omega (arith, inside, length-map (filter (links.is_first next) order) (block_from names order)) in
+          get_or-map (λ (b : NamedBlock). b.name) (map (block_from names order) (filter (links.is_first next) order)) k none [] made
+          ∙ ap (λ (b : NamedBlock). b.name) (get_or-map (block_from names order) (filter (links.is_first next) order) k 0 none inside)
+          ∙ (in-block s live).2
+          ∙ ap (block_name prefix) (sym (first-alone s live k within refl))
+          ∙ sym (get_or-map-range_with_len (block_name prefix) 0 (length (blocks_along next order)) k k [] within (omega arith))

@@ -35,7 +35,7 @@ move-written slot stands live runs same =
     ∙ (λ i. move_of_slot (record slot { trip = record slot.trip { from = sym same.from i; to = sym same.to i; departs = stands.trip.departs; ends = stands.trip.ends; live = (live ∙ sym runs) i } }))
 
 pub same-moves : spec.SameMoves
-same-moves base standing whole =
+same-moves base standing published whole =
     ext_get_or None (trip_moves written.slots) (trip_moves standing.slots) count each
   where
     written : TimetableView
@@ -51,9 +51,9 @@ same-moves base standing whole =
         slot-move (as_written base standing) s
         ∙ ap move_of_slot (slot-written standing _ 0 s base.slots inside)
         ∙ ap (λ n. move_of_slot (record (slot_at base s) { trip = trip_written (slot_at base s).trip (slot_at standing n).trip })) here
-        ∙ move-written (slot_at base s) (slot_at standing s) (whole.published s _ inside) (whole.runs s _ (omega (arith, inside, whole.no_extras))) (whole.follows.trips s inside)
+        ∙ move-written (slot_at base s) (slot_at standing s) (published s _ inside) (whole.runs s _ (omega (arith, inside, whole.no_extras))) (whole.follows.trips s inside)
         ∙ sym (slot-move standing s)
 
 pub least-again : spec.LeastAgain
-least-again base standing matrix blocks whole least =
-    subst (λ moves. IsLeast (deadhead_network moves matrix) blocks) (sym (same-moves base standing whole)) least
+least-again base standing matrix blocks published whole least =
+    subst (λ moves. IsLeast (deadhead_network moves matrix) blocks) (sym (same-moves base standing published whole)) least

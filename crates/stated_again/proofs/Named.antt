@@ -18,7 +18,7 @@ use Rattle.block_audit.specs.Stated.{block_field, selected, stated_names}
 use Rattle.claim_files.proofs.NamesFound.{number-distinct}
 use Rattle.round_trip.proofs.Columns.{column-found}
 use Rattle.stated_again.specs.Laws as spec
-use Rattle.stated_again.specs.Planned.{AllRun, block_names, trip_field}
+use Rattle.stated_again.specs.Planned.{AllRun, names_by_slot, trip_field}
 
 -- a column that passes is found behind columns of which none does
 place-new : (p : List ℕ → Bool) (i : ℕ) (header : List (List ℕ)) (name : List ℕ) → position_from p i header ≡ None → p name ≡ true → position_from p i (header ++ name ∷ []) ≡ Some (i + length header)
@@ -72,13 +72,17 @@ module _ (trips : TableView) (standing : TimetableView) (chosen : List Bool) (bl
   row_written r =
       trip_written standing (block_numbers (length standing.slots) blocks) prefix (place_of column.TripId trips.header) (place_of column.BlockId trips.header) (get_or chosen r false) (get_or trips.rows r [])
 
+  -- there are as many records
+  pub count-rows : length (with_blocks trips standing chosen blocks prefix).rows ≡ length trips.rows
+  unfolding with_blocks
+  count-rows = length-map-range_with_len row_written 0 (length trips.rows)
+
   -- the selected records are those of before
   pub selected-same : selected (with_blocks trips standing chosen blocks prefix) chosen ≡ selected trips chosen
-  unfolding with_blocks
-  selected-same = ap (λ n. filter (λ r. get_or chosen r false) (range_with_len 0 n)) (length-map-range_with_len row_written 0 (length trips.rows))
+  selected-same = ap (λ n. filter (λ r. get_or chosen r false) (range_with_len 0 n)) count-rows
 
   -- a selected record has the block of the slot that it names
-  written-field : IsTable trips → (r : ℕ) → r < length trips.rows → get_or chosen r false ≡ true
+  pub written-field : IsTable trips → (r : ℕ) → r < length trips.rows → get_or chosen r false ≡ true
       → block_field (with_blocks trips standing chosen blocks prefix) r ≡ block_of standing (block_numbers (length standing.slots) blocks) prefix (number_of (slot_names standing) (trip_field trips r))
   unfolding with_blocks
   written-field is r within chosen_is =
@@ -89,7 +93,7 @@ module _ (trips : TableView) (standing : TimetableView) (chosen : List Bool) (bl
       ∙ ap (λ b. cond b (block_of standing (block_numbers (length standing.slots) blocks) prefix (slot_in standing (place_of column.TripId trips.header) (get_or trips.rows r []))) (field_at (get_or trips.rows r []) block)) chosen_is
 
   -- the block of a slot whose trip runs
-  slot-block : AllRun standing → (s : ℕ) → s < length standing.slots → block_of standing (block_numbers (length standing.slots) blocks) prefix (Some s) ≡ name_of prefix (number_in blocks s)
+  pub slot-block : AllRun standing → (s : ℕ) → s < length standing.slots → block_of standing (block_numbers (length standing.slots) blocks) prefix (Some s) ≡ name_of prefix (number_in blocks s)
   slot-block runs s within =
       ap (λ b. cond b (name_of prefix (get_or (block_numbers (length standing.slots) blocks) s None)) []) (runs s _ within)
       ∙ ap (name_of prefix) (get_or-map-range_with_len (number_in blocks) 0 (length standing.slots) s s None within (omega arith))
@@ -106,7 +110,7 @@ selected-within trips chosen =
 
 pub names-are-stated : spec.NamesAreStated
 names-are-stated trips standing chosen blocks prefix is distinct runs name =
-    ext_get_or [] (stated_names (with_blocks trips standing chosen blocks prefix) chosen) (block_names prefix blocks (length standing.slots)) count each
+    ext_get_or [] (stated_names (with_blocks trips standing chosen blocks prefix) chosen) (names_by_slot prefix blocks (length standing.slots)) count each
   where
     slots : length (selected trips chosen) ≡ length standing.slots
     slots = sym (length-map (selected trips chosen) (trip_field trips)) ∙ ap length name ∙ length-map standing.slots (λ (s : Slot). s.name)
@@ -114,11 +118,11 @@ names-are-stated trips standing chosen blocks prefix is distinct runs name =
     short : length (stated_names (with_blocks trips standing chosen blocks prefix) chosen) ≡ length standing.slots
     short = length-map (selected (with_blocks trips standing chosen blocks prefix) chosen) (block_field (with_blocks trips standing chosen blocks prefix)) ∙ ap length (selected-same trips standing chosen blocks prefix) ∙ slots
 
-    count : length (stated_names (with_blocks trips standing chosen blocks prefix) chosen) ≡ length (block_names prefix blocks (length standing.slots))
+    count : length (stated_names (with_blocks trips standing chosen blocks prefix) chosen) ≡ length (names_by_slot prefix blocks (length standing.slots))
     count = short ∙ sym (length-map-range_with_len (λ s. name_of prefix (number_in blocks s)) 0 (length standing.slots))
 
     each : (s : ℕ) → s < length (stated_names (with_blocks trips standing chosen blocks prefix) chosen)
-        → get_or (stated_names (with_blocks trips standing chosen blocks prefix) chosen) s [] ≡ get_or (block_names prefix blocks (length standing.slots)) s []
+        → get_or (stated_names (with_blocks trips standing chosen blocks prefix) chosen) s [] ≡ get_or (names_by_slot prefix blocks (length standing.slots)) s []
     each s lt =
         let within : s < length standing.slots = omega (arith, lt, short) in
         let inside : s < length (selected trips chosen) = omega (arith, within, slots) in

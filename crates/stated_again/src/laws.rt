@@ -16,32 +16,32 @@ pub fn names_law()
     ensures { spec.NamesAreStated }
 {}
 
-/// So the blocks that it states are those of the plan, in their order and each with its trips in theirs.
+/// So the blocks that it states are those of the plan, in their order and each with its trips in theirs; and where those are
+/// least, it states the plan.
 pub fn blocks_law()
-    ensures { spec.BlocksAreStated }
+    ensures blocks { spec.BlocksAreStated }
+    ensures least { spec.LeastAreStated }
 {
     plain_law();
     deadhead_law();
 }
 
-/// And where the plan's blocks are least, those that the written feed states are least of its own timetable.
-pub fn least_law()
-    ensures { spec.WrittenBlocksAreLeast }
-{
-    plain_law();
-    deadhead_law();
-}
-
-/// The records of an accepted feed whose services are chosen name the trips of its slots, each in its turn.
-pub fn slots_law()
-    ensures { spec.FeedNamesSlots }
+/// The records of a feed whose services are chosen name the trips of its slots, each in its turn, however it is said which
+/// these are.
+pub fn services_law()
+    ensures chosen { spec.ServicesAreChosen }
+    ensures slots { spec.FeedNamesSlots }
 {}
 
-/// So the files that are written of an accepted feed, in which all trips run and no others, state the blocks of the plan when they
-/// are read again, and these are least of the timetable that is read.
+/// So the files that are written of a feed in which all trips run and no others, read again, state the plan.
 pub fn plan_law()
     ensures { spec.WrittenFeedStatesPlan }
 {
     plain_law();
     deadhead_law();
 }
+
+/// All trips run and no others after a script that leaves as many, and leaves none cancelled.
+pub fn script_law()
+    ensures { spec.ScriptLeavesWhole }
+{}
