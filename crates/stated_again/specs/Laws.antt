@@ -36,7 +36,7 @@ LeastAgain =
     → IsLeast (network_of standing matrix) blocks
     → IsLeast (network_of (as_written base standing) matrix) blocks
 
--- where all trips run, the `block_id` of the n-th selected record that is written is the name of the block in which slot n stands
+-- where all trips run, the `block_id` of the n-th selected record that is written is the name of the block of slot n
 abbrev pub NamesAreStated : Type 0
 NamesAreStated =
     (trips : TableView) (timetable : TimetableView) (chosen : List Bool) (blocks : List (List ℕ)) (prefix : List ℕ)
@@ -46,8 +46,8 @@ NamesAreStated =
     → NameSlots trips chosen timetable
     → stated_names (with_blocks trips timetable chosen blocks prefix) chosen ≡ names_by_slot prefix blocks (length timetable.slots)
 
--- The plan's blocks are a blocking of the timetable that stands, along links from slot to slot; then the blocks that the written
--- table states are these blocks, in their order and each with its trips in their order.
+-- The plan's blocks are a blocking of the timetable that stands, along links from slot to slot; then the blocks that the
+-- written table states are these blocks, in their order and each with its trips in their order.
 abbrev pub BlocksAreStated : Type 0
 BlocksAreStated =
     (trips : TableView) (base standing : TimetableView) (chosen : List Bool) (matrix : MatrixView) (next : List (Option ℕ)) (prefix : List ℕ)
@@ -89,8 +89,8 @@ FeedNamesSlots =
     → AreChosen settings trips chosen
     → NameSlots trips chosen base
 
--- Of a feed in which no trip is cancelled and to which none is added, the two texts that are written of a plan whose blocks are
--- least, read again with the same settings, state this plan.
+-- Of a feed in which no trip is cancelled and to which none is added, the two texts that are written of a plan whose blocks
+-- are least, read again with the same settings, state this plan.
 abbrev pub WrittenFeedStatesPlan : Type 0
 WrittenFeedStatesPlan =
     (settings : SettingsView) (trips_bytes stop_times_bytes : List ℕ) (trips stop_times : TableView) (base standing : TimetableView) (chosen : List Bool) (matrix : MatrixView) (next : List (Option ℕ)) (prefix : List ℕ)

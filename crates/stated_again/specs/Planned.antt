@@ -54,7 +54,7 @@ pub record IsFeed (settings : SettingsView) (trips_bytes stop_times_bytes : List
   pub stop_times_table : IsTable stop_times
   pub read : base_of settings (File trips_bytes) (File stop_times_bytes) ≡ Ok base
 
--- the files of blocks can be read again: no time is moved to 100:00:00 or later, and none of them begins with a byte-order mark
+-- the files of blocks can be read again: no time is moved to 100:00:00 or later, and none begins with a byte-order mark
 pub record AreReadable (trips stop_times : TableView) (standing : TimetableView) (base : ℕ) (chosen : List Bool) (blocks : List (List ℕ)) (prefix : List ℕ) : Type 0 where
   pub times : AreWritable stop_times standing base
   pub trips_unmarked : strip_bom (trips_written trips standing chosen blocks prefix) ≡ trips_written trips standing chosen blocks prefix
