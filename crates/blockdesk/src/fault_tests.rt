@@ -135,9 +135,18 @@ fn blocks_stand_up_to_the_call_that_fails(rt: HostRuntime) -> Result<(), Fail> {
     assert!(rt; stands(&first, 6, 21, 0, 0));
     let second = ran(alloc, "blocks", Faults { write: 2, ..NONE })?;
     assert!(rt; stands(&second, 6, 43, 20, 0));
-    for put in 1..9 {
+    for (put, text) in [
+        (1, 0),
+        (2, 16),
+        (3, 32),
+        (4, 48),
+        (5, 64),
+        (6, 80),
+        (7, 96),
+        (8, 112),
+    ] {
         let stood = ran(alloc, "blocks", Faults { put, ..NONE })?;
-        assert!(rt; stands(&stood, 6, 43, 41, 16 * (put as usize - 1)));
+        assert!(rt; stands(&stood, 6, 43, 41, text));
     }
     let short = ran(alloc, "blocks", Faults { room: 50, ..NONE })?;
     assert!(rt; stands(&short, 6, 43, 41, 50));
