@@ -12,10 +12,15 @@ use std::marker::Model;
 use trip_model::{Timetable, by_departure};
 
 /// A stated block: its name, and the slots of its trips.
-#[derive(Drop)]
 pub struct StatedBlock {
     name: Text,
     slots: Vec<u16>,
+}
+
+impl Drop for StatedBlock {
+    fn drop(self) {
+        let Self { name: _, slots: _ } = self;
+    }
 }
 
 impl Model for StatedBlock {
@@ -28,9 +33,14 @@ impl Model for StatedBlock {
 
 /// The blocks that a feed states, in the order of their first trips. Each has a name, which is empty for a trip without one, and
 /// at least one trip.
-#[derive(Drop)]
 pub struct Stated {
     blocks: Vec<StatedBlock>,
+}
+
+impl Drop for Stated {
+    fn drop(self) {
+        let Self { blocks: _ } = self;
+    }
 }
 
 impl Model for Stated {

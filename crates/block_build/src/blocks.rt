@@ -3,9 +3,14 @@ ghost use Rattle.std.specs.Prelude.{◌≡◌, ◌<◌, [], length, All, slice_i
 use std::marker::Model;
 
 /// The slots of the trips that one vehicle makes one after the other.
-#[derive(Drop)]
 pub struct Block {
     pub(crate) slots: Vec<u16>,
+}
+
+impl Drop for Block {
+    fn drop(self) {
+        let Self { slots: _ } = self;
+    }
 }
 
 impl Model for Block {
@@ -17,9 +22,14 @@ impl Model for Block {
 }
 
 /// The blocks of a timetable, each the slots of the trips that one vehicle makes one after the other, one trip at least.
-#[derive(Drop)]
 pub struct Blocks {
     pub(crate) blocks: Vec<Block>,
+}
+
+impl Drop for Blocks {
+    fn drop(self) {
+        let Self { blocks: _ } = self;
+    }
 }
 
 impl Model for Blocks {

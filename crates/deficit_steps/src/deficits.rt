@@ -17,9 +17,14 @@ use trip_model::Move;
 /// The deficits of all places, in vehicles, over the minutes 0 to 8,191 of the service day.
 ///
 /// Memory is taken by [`Deficits::open`] and [`Deficits::step_list`] alone.
-#[derive(Drop)]
 pub struct Deficits {
     rows: Vec<Row>,
+}
+
+impl Drop for Deficits {
+    fn drop(self) {
+        let Self { rows: _ } = self;
+    }
 }
 
 impl Model for Deficits {

@@ -13,9 +13,14 @@ use terminal_maxima::{MaxPrefix, Tree};
 use trip_model::MINUTES;
 
 /// The changes of one place, one for each minute, which are the sums of the leaves of a tree.
-#[derive(Drop)]
 pub struct Row {
     tree: Tree<MaxPrefix>,
+}
+
+impl Drop for Row {
+    fn drop(self) {
+        let Self { tree: _ } = self;
+    }
 }
 
 impl Model for Row {

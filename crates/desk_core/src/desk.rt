@@ -26,12 +26,22 @@ use std::sync::ledger::Ledger;
 use trip_model::Timetable;
 
 /// A timetable under edits, with the deficits of its trips and a plan that is certified for it.
-#[derive(Drop)]
 pub struct Desk {
     script: Script,
     matrix: Matrix,
     deficits: Deficits,
     history: PlanHistory,
+}
+
+impl Drop for Desk {
+    fn drop(self) {
+        let Self {
+            script: _,
+            matrix: _,
+            deficits: _,
+            history: _,
+        } = self;
+    }
 }
 
 impl Model for Desk {

@@ -13,11 +13,20 @@ use std::fmt::Write;
 use trip_model::Timetable;
 
 /// A timetable after the script of its feed, the lines of the records that were refused, and how a run ends by them.
-#[derive(Drop)]
 pub struct Edited {
     pub script: Script,
     pub refused: Text,
     pub ending: Ending,
+}
+
+impl Drop for Edited {
+    fn drop(self) {
+        let Self {
+            script: _,
+            refused: _,
+            ending: _,
+        } = self;
+    }
 }
 
 // Appends the trip that the edit of a line names.

@@ -8,9 +8,14 @@ use std::hash::{Hash, Hasher};
 use std::marker::Model;
 
 /// A text in UTF-8, seen as the list of its bytes. Its order is that of the bytes.
-#[derive(Drop)]
 pub struct Text {
     text: String,
+}
+
+impl Drop for Text {
+    fn drop(self) {
+        let Self { text: _ } = self;
+    }
 }
 
 impl Model for Text {
@@ -130,9 +135,15 @@ impl fmt::Debug for Text {
 }
 
 /// The bytes of a file, seen as their list.
-#[derive(Debug, Drop)]
+#[derive(Debug)]
 pub struct Bytes {
     bytes: Vec<u8>,
+}
+
+impl Drop for Bytes {
+    fn drop(self) {
+        let Self { bytes: _ } = self;
+    }
 }
 
 impl Model for Bytes {

@@ -4,9 +4,15 @@ use desk_io::Text;
 use std::marker::Model;
 
 /// The lines of a journal in their order, seen as the list of their bytes.
-#[derive(Debug, Drop)]
+#[derive(Debug)]
 pub struct Lines {
     lines: Vec<Text>,
+}
+
+impl Drop for Lines {
+    fn drop(self) {
+        let Self { lines: _ } = self;
+    }
 }
 
 impl Model for Lines {

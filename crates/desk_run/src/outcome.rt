@@ -29,12 +29,23 @@ impl Writing {
 
 /// What a run that comes to its end does: it writes files in their order, appends lines to the journal where there are any
 /// to append, puts a text, and ends with a status.
-#[derive(Debug, Drop)]
+#[derive(Debug)]
 pub struct Outcome {
     pub(crate) writes: Vec<Writing>,
     pub(crate) lines: Option<Lines>,
     pub(crate) text: Text,
     pub(crate) ending: Ending,
+}
+
+impl Drop for Outcome {
+    fn drop(self) {
+        let Self {
+            writes: _,
+            lines: _,
+            text: _,
+            ending: _,
+        } = self;
+    }
 }
 
 impl Model for Outcome {

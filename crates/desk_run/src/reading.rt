@@ -31,10 +31,19 @@ pub enum Loaded {
 
 /// What a command has read: the papers that it asks for, in their order, and the journal. No paper is longer than a file
 /// may be.
-#[derive(Debug, Drop)]
+#[derive(Debug)]
 pub struct Read {
     pub(crate) pages: Vec<Page>,
     pub(crate) journal: Loaded,
+}
+
+impl Drop for Read {
+    fn drop(self) {
+        let Self {
+            pages: _,
+            journal: _,
+        } = self;
+    }
 }
 
 impl Model for Read {

@@ -8,9 +8,14 @@ use std::alloc::Global;
 use std::marker::Model;
 
 /// Names, each once, in the order in which they first stand; one is found without going over the others.
-#[derive(Drop)]
 pub struct Names {
     set: IndexSet<String>,
+}
+
+impl Drop for Names {
+    fn drop(self) {
+        let Self { set: _ } = self;
+    }
 }
 
 impl Model for Names {

@@ -25,11 +25,20 @@ use std::marker::Model;
 /// which the services that run are to be selected, where there is one; the classes of routes; the minutes of layover, with a list of places that have their own; the minutes of tolerance early and late; what the
 /// names of blocks begin with; and the lists of stops with their terminals and of trips with their tolerances.
 /// Entries for places, stops and trips that no feed names are kept.
-#[derive(Drop)]
 pub struct Settings {
     desk: Desk,
     terminals: Entries<Text>,
     tolerances: Entries<(Tolerance, Tolerance)>,
+}
+
+impl Drop for Settings {
+    fn drop(self) {
+        let Self {
+            desk: _,
+            terminals: _,
+            tolerances: _,
+        } = self;
+    }
 }
 
 impl Model for Settings {

@@ -9,7 +9,6 @@ use trip_model::Timetable;
 use undo_log::Log;
 
 /// A timetable under edits, of which the last 256 can be undone.
-#[derive(Drop)]
 pub struct Script {
     alloc: Global,
     timetable: Timetable,
@@ -17,6 +16,19 @@ pub struct Script {
     standing: Vec<u32>,
     last: u32,
     shows: u32,
+}
+
+impl Drop for Script {
+    fn drop(self) {
+        let Self {
+            alloc: _,
+            timetable: _,
+            log: _,
+            standing: _,
+            last: _,
+            shows: _,
+        } = self;
+    }
 }
 
 impl Model for Script {

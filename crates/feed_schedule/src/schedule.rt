@@ -17,10 +17,18 @@ use std::sync::ledger::Ledger;
 use trip_model::Timetable;
 
 /// A plan, and the blocks along its links.
-#[derive(Drop)]
 pub struct Schedule {
     pub solver: Solver,
     pub blocks: Blocks,
+}
+
+impl Drop for Schedule {
+    fn drop(self) {
+        let Self {
+            solver: _,
+            blocks: _,
+        } = self;
+    }
 }
 
 // A plan for a timetable and the matrix over its places, which its prices prove.

@@ -12,10 +12,19 @@ use std::alloc::{AllocError, Global};
 use std::marker::Model;
 
 /// One record of a file, seen as the list of its fields, each a list of bytes.
-#[derive(Debug, Drop)]
+#[derive(Debug)]
 pub struct Row {
     fields: ByteRecord,
     width: usize,
+}
+
+impl Drop for Row {
+    fn drop(self) {
+        let Self {
+            fields: _,
+            width: _,
+        } = self;
+    }
 }
 
 impl Model for Row {

@@ -55,10 +55,16 @@ impl<T: Drop> From<AllocFailed<T>> for TableFault {
 }
 
 /// A file with a header: its rows are padded with empty fields to the header's length.
-#[derive(Debug, Drop)]
+#[derive(Debug)]
 pub struct Table {
     header: Row,
     rows: Vec<Row>,
+}
+
+impl Drop for Table {
+    fn drop(self) {
+        let Self { header: _, rows: _ } = self;
+    }
 }
 
 impl Model for Table {

@@ -8,10 +8,18 @@ use std::marker::Model;
 
 /// Comma-separated text to which records are appended, a line feed at the end of each; seen as the bytes so far. Where no
 /// memory was found for a record, there is none for any other.
-#[derive(Drop)]
 pub struct RecordWriter {
     writer: Writer<Vec<u8>>,
     failed: bool,
+}
+
+impl Drop for RecordWriter {
+    fn drop(self) {
+        let Self {
+            writer: _,
+            failed: _,
+        } = self;
+    }
 }
 
 impl Model for RecordWriter {

@@ -21,13 +21,24 @@ use trip_model::MOST_SLOTS;
 use undo_log::Log;
 
 /// A plan under edits, with what leads back to the plans before it and forth to those that were undone.
-#[derive(Drop)]
 pub struct PlanHistory {
     alloc: Global,
     solver: Solver,
     log: Log<Item>,
     was: Vec<Stand>,
     spare: Vec<Changed>,
+}
+
+impl Drop for PlanHistory {
+    fn drop(self) {
+        let Self {
+            alloc: _,
+            solver: _,
+            log: _,
+            was: _,
+            spare: _,
+        } = self;
+    }
 }
 
 impl Model for PlanHistory {

@@ -16,13 +16,24 @@ use std::marker::Model;
 use trip_model::Timetable;
 
 /// A timetable under the edits of several planners, of which each can take back the last of its own.
-#[derive(Drop)]
 pub struct Planners {
     alloc: Global,
     base: Timetable,
     script: Script,
     numbers: Vec<u32>,
     standing: Vec<Standing>,
+}
+
+impl Drop for Planners {
+    fn drop(self) {
+        let Self {
+            alloc: _,
+            base: _,
+            script: _,
+            numbers: _,
+            standing: _,
+        } = self;
+    }
 }
 
 impl Model for Planners {

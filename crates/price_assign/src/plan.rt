@@ -19,11 +19,20 @@ use std::sync::ledger::Ledger;
 use trip_model::{Links, MOST_SLOTS};
 
 /// For each slot the trip that its vehicle makes next, the price of leaving its trip and the price of entering it.
-#[derive(Drop)]
 pub struct Plan {
     links: Links,
     leave: Vec<u64>,
     enter: Vec<u64>,
+}
+
+impl Drop for Plan {
+    fn drop(self) {
+        let Self {
+            links: _,
+            leave: _,
+            enter: _,
+        } = self;
+    }
 }
 
 impl Model for Plan {

@@ -15,13 +15,24 @@ use std::sync::ledger::Ledger;
 use trip_model::MOST_SLOTS;
 
 /// A plan, with the memory for making and repairing one of as many slots as there may be.
-#[derive(Drop)]
 pub struct Solver {
     plan: Plan,
     next: Vec<Option<u16>>,
     turned: Vec<Option<u16>>,
     order: Order,
     lists: Lists,
+}
+
+impl Drop for Solver {
+    fn drop(self) {
+        let Self {
+            plan: _,
+            next: _,
+            turned: _,
+            order: _,
+            lists: _,
+        } = self;
+    }
 }
 
 impl Model for Solver {

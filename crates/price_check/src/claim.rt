@@ -54,10 +54,19 @@ impl Record for PriceRow {
 }
 
 /// What is claimed of a timetable: the records of both files, each in its order.
-#[derive(Debug, Drop)]
+#[derive(Debug)]
 pub struct Claimed {
     blocks: Vec<BlockRow>,
     prices: Vec<PriceRow>,
+}
+
+impl Drop for Claimed {
+    fn drop(self) {
+        let Self {
+            blocks: _,
+            prices: _,
+        } = self;
+    }
 }
 
 impl Model for Claimed {

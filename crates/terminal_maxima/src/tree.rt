@@ -10,9 +10,14 @@ use std::sync::ledger::Ledger;
 /// A summary for each of the 8,192 minutes of a service day, seen as the list of these, the leaves.
 ///
 /// A place is the number of a leaf, from 0 to 8,191.
-#[derive(Drop)]
 pub struct Tree<S: Summary> {
     pub(crate) nodes: Vec<S>,
+}
+
+impl<S: Summary + Drop> Drop for Tree<S> {
+    fn drop(self) {
+        let Self { nodes: _ } = self;
+    }
 }
 
 impl<S: Summary> Model for Tree<S> {

@@ -8,9 +8,14 @@ use std::alloc::Global;
 use std::marker::Model;
 
 /// For each slot the trip that its vehicle makes next, by the number of its slot.
-#[derive(Drop)]
 pub struct Links {
     nexts: Vec<Option<u16>>,
+}
+
+impl Drop for Links {
+    fn drop(self) {
+        let Self { nexts: _ } = self;
+    }
 }
 
 impl Model for Links {

@@ -15,13 +15,24 @@ struct Post {
 }
 
 /// The places and the trip slots of one service day, each numbered from 0 and found by name.
-#[derive(Drop)]
 pub struct Timetable {
     places: IndexMap<String, Post>,
     trips: IndexMap<String, Trip>,
     classed: bool,
     early: u8,
     late: u8,
+}
+
+impl Drop for Timetable {
+    fn drop(self) {
+        let Self {
+            places: _,
+            trips: _,
+            classed: _,
+            early: _,
+            late: _,
+        } = self;
+    }
 }
 
 impl Model for Timetable {

@@ -10,10 +10,15 @@ const DEPTH: usize = 256;
 
 /// The items that can be undone, the kept ones, and those that can be redone, the undone ones. The last of each list is
 /// the newest.
-#[derive(Drop)]
 pub struct Log<T> {
     kept: HeapCircularBuffer<T>,
     undone: HeapCircularBuffer<T>,
+}
+
+impl<T: Drop> Drop for Log<T> {
+    fn drop(self) {
+        let Self { kept: _, undone: _ } = self;
+    }
 }
 
 impl<T> Model for Log<T> {

@@ -41,5 +41,5 @@ returns-clause-planned g c =
     c.in_ok-push_standing.ensures
     c.in_ok-push_numbers.ensures.numbers
     (c.ending_with-ending.ensures ∙ ap (λ some. ending_with some edited.ending) (given.some ∙ ap (λ b. some_refused b lines (length lines)) base))
-    c.putting_after-2.result
-    (subst (λ text. IfOk c.putting_after-2.result (λ outcome. outcome ≡ refusing_first edited.refused text c.ending_with-ending.result)) c.wrap.ensures c.putting_after-2.ensures)
+    c.putting_after.result
+    (subst (λ text. IfOk c.putting_after.result (λ outcome. outcome ≡ refusing_first edited.refused text c.ending_with-ending.result)) c.wrap.ensures c.putting_after.ensures)
