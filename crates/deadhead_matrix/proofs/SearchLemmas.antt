@@ -8,7 +8,7 @@ use Rattle.std.proofs.lemmas.Option.{none-some, same_Some}
 use Rattle.deadhead_matrix.proofs.Closed.{IsWithin, AreClosed}
 use Rattle.deadhead_matrix.specs.declared.entry.Entry.{Entry}
 use Rattle.deadhead_matrix.specs.Walks.{IsWalk, walk_minutes}
-use Rattle.deadhead_matrix.specs.Search.{far, dist_at, is_done, AreLedOn, IsNearest, way, AreWays, AreShort, IsSearch, IsBounded, found_at}
+use Rattle.deadhead_matrix.specs.Search.{far, dist_at, is_done, AreRelaxed, IsNearest, way, AreWays, AreShort, IsSearch, IsBounded, found_at}
 
 -- a walk with one entry more
 walk-more : (entries es : List Entry) (a b : ℕ) (e : Entry) → IsWalk entries a es b → Contains entries e → e.from ≡ b → IsWalk entries a (es ++ e ∷ []) e.to
@@ -21,7 +21,7 @@ minutes-more es e = let last = sum_by-cons (λ (e : Entry). e.minutes) e [] in l
 -- what is known of a step from the place u
 record IsStep (ways : List (List ℕ)) (u : ℕ) (done : List Bool) (dist new : List ℕ) : Type 0 where
   nearest : IsNearest done dist (length dist) u
-  led : AreLedOn (get_or ways u []) (dist_at dist u) (length dist) dist new
+  led : AreRelaxed (get_or ways u []) (dist_at dist u) (length dist) dist new
 
 -- a place is as far as it was, or led to
 as_far : (ways : List (List ℕ)) (u : ℕ) (done : List Bool) (dist new : List ℕ) → IsStep ways u done dist new → (j : ℕ)
@@ -40,7 +40,7 @@ stays ways u done dist new step j near = ⊎_elim
 
 -- the search after a step
 pub IsSearch-step : (ways : List (List ℕ)) (start reach u : ℕ) (done : List Bool) (dist new : List ℕ) → IsSearch ways start reach done dist → AreShort ways
-    → IsNearest done dist (length dist) u → AreLedOn (get_or ways u []) (dist_at dist u) (length dist) dist new → length dist ≤ 512
+    → IsNearest done dist (length dist) u → AreRelaxed (get_or ways u []) (dist_at dist u) (length dist) dist new → length dist ≤ 512
     → IsSearch ways start (dist_at dist u) (set done u true) new
 IsSearch-step ways start reach u done dist new search short nearest led few = record {
   len = length-set done u true ∙ search.len ∙ sym led.len;

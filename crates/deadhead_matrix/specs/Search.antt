@@ -24,7 +24,7 @@ is_done done place = slice_index_or done place true
 
 -- the places below a number were looked at from a place that is so far: each is no farther than before and than by the
 -- entry to it, and as far as one of these; the others are as they were
-pub record AreLedOn (row : List ℕ) (from upto : ℕ) (before after : List ℕ) : Type 0 where
+pub record AreRelaxed (row : List ℕ) (from upto : ℕ) (before after : List ℕ) : Type 0 where
   pub len : length after ≡ length before
   pub nearer : (j : ℕ) → dist_at after j ≤ dist_at before j
   pub closed : (j : ℕ) → j < upto → way_to row j ≢ 0 → dist_at after j ≤ from + way_to row j

@@ -20,10 +20,18 @@ use trip_model::{MOST_PLACES, Timetable};
 
 /// The entries of `deadheads.csv` in the order of its records, at most one from each place to each; a single one is found
 /// without going over the others.
-#[derive(Drop)]
 pub struct Deadheads {
     entries: Vec<Entry>,
     ways: Vec<Ways>,
+}
+
+impl Drop for Deadheads {
+    fn drop(self) {
+        let Self {
+            entries: _,
+            ways: _,
+        } = self;
+    }
 }
 
 impl Model for Deadheads {

@@ -24,11 +24,20 @@ use trip_model::Timetable;
 
 /// For each two places the minutes in which a vehicle can run empty from the one to the other, along the entries of the
 /// planner, and for each place those in which it comes from the depot and goes back.
-#[derive(Drop)]
 pub struct Matrix {
     entries: Vec<Entry>,
     rows: Vec<Distances>,
     pulls: Pulls,
+}
+
+impl Drop for Matrix {
+    fn drop(self) {
+        let Self {
+            entries: _,
+            rows: _,
+            pulls: _,
+        } = self;
+    }
 }
 
 impl Model for Matrix {

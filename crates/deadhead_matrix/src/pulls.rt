@@ -26,9 +26,14 @@ pub const NO_PULL: Pull = Pull {
 };
 
 /// The pulls of places in the order of their numbers, none of more than 1,440 minutes.
-#[derive(Drop)]
 pub struct Pulls {
     pulls: Vec<Pull>,
+}
+
+impl Drop for Pulls {
+    fn drop(self) {
+        let Self { pulls: _ } = self;
+    }
 }
 
 impl Model for Pulls {

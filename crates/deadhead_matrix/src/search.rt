@@ -1,6 +1,6 @@
 ghost use Rattle.std.specs.Prelude.{◌≡◌, ℕ, ◌+◌, ◌<◌, ◌≤◌, false, List, length, IfSome, IfNone, IfOk};
 ghost use Rattle.trip_model.specs.declared.limits.TheConstants.{MOST_PLACES};
-ghost use Rattle.deadhead_matrix.specs.Search.{far, dist_at, is_done, AreLedOn, IsNearest, AreShort, AreRows, IsSearch, IsBounded, AreLeastFrom};
+ghost use Rattle.deadhead_matrix.specs.Search.{far, dist_at, is_done, AreRelaxed, IsNearest, AreShort, AreRows, IsSearch, IsBounded, AreLeastFrom};
 
 use crate::distances::FAR;
 use crate::ways::Ways;
@@ -12,7 +12,7 @@ fn lead_to(row: &[u16], from: u32, dist: &mut [u32], to: usize)
     requires len { length row.now ≡ length dist.old }
     requires from { from ≤ 1048576 }
     requires to { to < length dist.old }
-    ensures { (before : List ℕ) → AreLedOn row.now from to before dist.old → AreLedOn row.now from (to + 1) before dist.new }
+    ensures { (before : List ℕ) → AreRelaxed row.now from to before dist.old → AreRelaxed row.now from (to + 1) before dist.new }
 {
     let minutes = u32::from(row[to]);
     if minutes != 0 && from + minutes < dist[to] {
@@ -21,10 +21,10 @@ fn lead_to(row: &[u16], from: u32, dist: &mut [u32], to: usize)
 }
 
 // The entries of a row, from a place that is so far.
-fn lead_on(row: &[u16], from: u32, dist: &mut [u32])
+fn relax(row: &[u16], from: u32, dist: &mut [u32])
     requires len { length row.now ≡ length dist.old }
     requires from { from ≤ 1048576 }
-    ensures { AreLedOn row.now from (length dist.old) dist.old dist.new }
+    ensures { AreRelaxed row.now from (length dist.old) dist.old dist.new }
 {
     for to in 0..dist.len() {
         lead_to(row, from, dist, to);
@@ -62,7 +62,7 @@ fn search_on(ways: &[Ways], start: usize, done: &mut [bool], dist: &mut [u32])
         done[place] = true;
         let from = dist[place];
         let row = &ways[place];
-        lead_on(row.minutes(), from, dist);
+        relax(row.minutes(), from, dist);
     }
 }
 
