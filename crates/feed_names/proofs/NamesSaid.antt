@@ -25,10 +25,10 @@ use Rattle.trip_model.specs.declared.limits.TheConstants.{MOST_PLACES, MOST_SLOT
 use Rattle.trip_model.specs.Place.{Place}
 use Rattle.trip_model.specs.Timetable.{TimetableView, Slot, number_of, place_names}
 use Rattle.feed_read.specs.Base.{base_of, ends_of, places_met, slot_of, timetable_of, timetable_over}
-use Rattle.feed_read.specs.Journeys.{first_visit, has_repeat, journey_between, journey_from, journey_of, journeys_in, last_visit, sequences, time_or, visits_of, with_journey}
+use Rattle.feed_read.specs.FeedTrips.{first_stop_time, has_repeat, feed_trip_between, feed_trip_from, feed_trip_of, feed_trips_in, last_stop_time, sequences, time_or, stop_times_of, with_feed_trip}
 use Rattle.feed_read.specs.Trips as trips
 use Rattle.feed_read.specs.Trips.{Selected, chosen_in, trips_in, with_chosen, with_chosen_class, with_classed_trip, with_selected, with_trip}
-use Rattle.feed_read.specs.Visits.{VisitView, visits_in}
+use Rattle.feed_read.specs.StopTimes.{StopTimeView, stop_times_for}
 use Rattle.deadhead_matrix.specs.declared.entry.Entry.{Entry}
 use Rattle.deadhead_matrix.specs.Deadheads as deadheads
 use Rattle.deadhead_matrix.specs.Deadheads.{ReadingView, begun, deadhead_in, deadheads_of, or_new_place, with_deadhead, with_entries, with_place, with_places, with_unplaced}
@@ -120,54 +120,54 @@ trips-named settings found selected e = by (is_classed settings) e
     by false e = file-named trips.columns_in (with_trip settings) found selected (step-named settings) e
 
 -- a trip keeps its name
-between-name : (settings : SettingsView) (name class : Name) (first last : VisitView) (journey : _) → journey_between settings name class first last ≡ Ok journey → name ≡ (slot_of settings [] journey).name
-unfolding journey_between
-between-name settings name class first last journey e =
-    let departure = read-parts (ok_or (time_or first.departure first.arrival) (fault.NoTime name)) _ journey e in
-    let arrival = read-parts (ok_or (time_or last.arrival last.departure) (fault.NoTime name)) _ journey departure.2 in
-    let forward = provided-parts (nat_lt departure.0 arrival.0) (fault.NotForward name) _ journey arrival.2 in
-    ap (λ j. (slot_of settings [] j).name) (same_Ok _ journey forward.1)
+between-name : (settings : SettingsView) (name class : Name) (first last : StopTimeView) (feed_trip : _) → feed_trip_between settings name class first last ≡ Ok feed_trip → name ≡ (slot_of settings [] feed_trip).name
+unfolding feed_trip_between
+between-name settings name class first last feed_trip e =
+    let departure = read-parts (ok_or (time_or first.departure first.arrival) (fault.NoTime name)) _ feed_trip e in
+    let arrival = read-parts (ok_or (time_or last.arrival last.departure) (fault.NoTime name)) _ feed_trip departure.2 in
+    let forward = provided-parts (nat_lt departure.0 arrival.0) (fault.NotForward name) _ feed_trip arrival.2 in
+    ap (λ j. (slot_of settings [] j).name) (same_Ok _ feed_trip forward.1)
 
-from-name : (settings : SettingsView) (name class : Name) (first last : Option VisitView) (journey : _) → journey_from settings name class first last ≡ Ok journey → name ≡ (slot_of settings [] journey).name
-from-name settings name class (Some first) (Some last) journey e = between-name settings name class first last journey e
-from-name settings name class None last journey e = absurd (cc)
-from-name settings name class (Some first) None journey e = absurd (cc)
+from-name : (settings : SettingsView) (name class : Name) (first last : Option StopTimeView) (feed_trip : _) → feed_trip_from settings name class first last ≡ Ok feed_trip → name ≡ (slot_of settings [] feed_trip).name
+from-name settings name class (Some first) (Some last) feed_trip e = between-name settings name class first last feed_trip e
+from-name settings name class None last feed_trip e = absurd (cc)
+from-name settings name class (Some first) None feed_trip e = absurd (cc)
 
-journey-name : (settings : SettingsView) (name class : Name) (visits : List VisitView) (journey : _) → journey_of settings name class visits ≡ Ok journey → name ≡ (slot_of settings [] journey).name
-unfolding journey_of
-journey-name settings name class visits journey e =
-    let two = provided-parts (nat_le 2 (length visits)) (fault.TooFewStops name) _ journey e in
-    let once = provided-parts (not (has_repeat (sequences visits))) (fault.DuplicateSequence name) _ journey two.1 in
-    from-name settings name class (first_visit visits) (last_visit visits) journey once.1
+feed_trip-name : (settings : SettingsView) (name class : Name) (stop_times : List StopTimeView) (feed_trip : _) → feed_trip_of settings name class stop_times ≡ Ok feed_trip → name ≡ (slot_of settings [] feed_trip).name
+unfolding feed_trip_of
+feed_trip-name settings name class stop_times feed_trip e =
+    let two = provided-parts (nat_le 2 (length stop_times)) (fault.TooFewStops name) _ feed_trip e in
+    let once = provided-parts (not (has_repeat (sequences stop_times))) (fault.DuplicateSequence name) _ feed_trip two.1 in
+    from-name settings name class (first_stop_time stop_times) (last_stop_time stop_times) feed_trip once.1
 
-each-named : (settings : SettingsView) (classes : List Name) (visits : List VisitView) (number : ℕ) (before after : List _) (names : List Name) → All IsName names
-    → All (λ j. IsName (slot_of settings [] j).name) before → each_record (with_journey settings classes visits) number before names ≡ Ok after → All (λ j. IsName (slot_of settings [] j).name) after
-each-named settings classes visits number before after [] named are e = subst (All (λ j. IsName (slot_of settings [] j).name)) (same_Ok before after e) are
-each-named settings classes visits number before after (name ∷ names) named are e =
-    let parts = read-parts (with_journey settings classes visits number before name) (λ more. each_record (with_journey settings classes visits) (number + 1) more names) after e in
+each-named : (settings : SettingsView) (classes : List Name) (stop_times : List StopTimeView) (number : ℕ) (before after : List _) (names : List Name) → All IsName names
+    → All (λ j. IsName (slot_of settings [] j).name) before → each_record (with_feed_trip settings classes stop_times) number before names ≡ Ok after → All (λ j. IsName (slot_of settings [] j).name) after
+each-named settings classes stop_times number before after [] named are e = subst (All (λ j. IsName (slot_of settings [] j).name)) (same_Ok before after e) are
+each-named settings classes stop_times number before after (name ∷ names) named are e =
+    let parts = read-parts (with_feed_trip settings classes stop_times number before name) (λ more. each_record (with_feed_trip settings classes stop_times) (number + 1) more names) after e in
     let class = slice_index_or classes number [] in
-    let journey = read-parts (journey_of settings name class (visits_of number visits)) _ parts.0 parts.1 in
-    let here = subst IsName (journey-name settings name class (visits_of number visits) journey.0 journey.1) (All-head IsName name names named) in
-    let more = subst (All (λ j. IsName (slot_of settings [] j).name)) (same_Ok (before ++ journey.0 ∷ []) parts.0 journey.2) (All-push (λ j. IsName (slot_of settings [] j).name) before journey.0 are here) in
-    each-named settings classes visits (number + 1) parts.0 after names (All-tail IsName name names named) more parts.2
+    let feed_trip = read-parts (feed_trip_of settings name class (stop_times_of number stop_times)) _ parts.0 parts.1 in
+    let here = subst IsName (feed_trip-name settings name class (stop_times_of number stop_times) feed_trip.0 feed_trip.1) (All-head IsName name names named) in
+    let more = subst (All (λ j. IsName (slot_of settings [] j).name)) (same_Ok (before ++ feed_trip.0 ∷ []) parts.0 feed_trip.2) (All-push (λ j. IsName (slot_of settings [] j).name) before feed_trip.0 are here) in
+    each-named settings classes stop_times (number + 1) parts.0 after names (All-tail IsName name names named) more parts.2
 
 -- the slots of the base timetable
-over-named : (settings : SettingsView) (journeys : List _) (t : TimetableView) → All (λ j. IsName (slot_of settings [] j).name) journeys → timetable_of settings journeys ≡ Ok t → All (λ (slot : Slot). IsName slot.name) t.slots
+over-named : (settings : SettingsView) (feed_trips : List _) (t : TimetableView) → All (λ j. IsName (slot_of settings [] j).name) feed_trips → timetable_of settings feed_trips ≡ Ok t → All (λ (slot : Slot). IsName slot.name) t.slots
 unfolding timetable_of
-over-named settings journeys t are e =
-    let places = places_met (ends_of settings journeys) in
-    let few = provided-parts (nat_le (length places) MOST_PLACES) (fault.TooManyPlaces paper.StopTimes) (Ok (timetable_over settings places journeys)) t e in
-    subst (λ (t : TimetableView). All (λ (slot : Slot). IsName slot.name) t.slots) (same_Ok (timetable_over settings places journeys) t few.1)
-    (All-map (λ (slot : Slot). IsName slot.name) (slot_of settings places) journeys are)
+over-named settings feed_trips t are e =
+    let places = places_met (ends_of settings feed_trips) in
+    let few = provided-parts (nat_le (length places) MOST_PLACES) (fault.TooManyPlaces paper.StopTimes) (Ok (timetable_over settings places feed_trips)) t e in
+    subst (λ (t : TimetableView). All (λ (slot : Slot). IsName slot.name) t.slots) (same_Ok (timetable_over settings places feed_trips) t few.1)
+    (All-map (λ (slot : Slot). IsName slot.name) (slot_of settings places) feed_trips are)
 
 base-named : (settings : SettingsView) (trips_found stop_times_found : Found) (t : TimetableView) → base_of settings trips_found stop_times_found ≡ Ok t → All (λ (slot : Slot). IsName slot.name) t.slots
 unfolding base_of
 base-named settings trips_found stop_times_found t e =
     let selected = read-parts (trips_in settings trips_found) _ t e in
-    let journeys = read-parts (journeys_in settings selected.0 stop_times_found) _ t selected.2 in
-    let visits = read-parts (visits_in selected.0.names stop_times_found) _ journeys.0 journeys.1 in
-    let named = each-named settings selected.0.classes visits.0 0 [] journeys.0 selected.0.names (trips-named settings trips_found selected.0 selected.1) (All-nil (λ j. IsName (slot_of settings [] j).name)) visits.2 in
-    over-named settings journeys.0 t named journeys.2
+    let feed_trips = read-parts (feed_trips_in settings selected.0 stop_times_found) _ t selected.2 in
+    let stop_times = read-parts (stop_times_for selected.0.names stop_times_found) _ feed_trips.0 feed_trips.1 in
+    let named = each-named settings selected.0.classes stop_times.0 0 [] feed_trips.0 selected.0.names (trips-named settings trips_found selected.0 selected.1) (All-nil (λ j. IsName (slot_of settings [] j).name)) stop_times.2 in
+    over-named settings feed_trips.0 t named feed_trips.2
 
 -- the places of terminals leave the slots as they are
 place-slots : (t : TimetableView) (place : Place) (found : Option ℕ) (after : TimetableView × ℕ) → or_new_place t place found ≡ Ok after → t.slots ≡ after.0.slots

@@ -15,9 +15,9 @@ use Rattle.desk_settings.specs.Settings.{SettingsView, is_classed, layover_at}
 use Rattle.trip_model.specs.Place.{Place, IsPostOrTerminal, class_of, has_slash, place_in, post_place, terminal_place}
 use Rattle.trip_model.specs.Trip.{IsValidTrip}
 use Rattle.trip_model.specs.Timetable.{TimetableView, number_of, place_names}
-use Rattle.feed_read.specs.declared.journey.Journey.{Journey}
+use Rattle.feed_read.specs.declared.feed_trip.FeedTrip.{FeedTrip}
 use Rattle.feed_read.specs.Base.{end_of, ends_of, names_of, place_of, places_met, start_of, timetable_over, trip_between, with_place}
-use Rattle.feed_read.specs.Journeys.{IsJourney}
+use Rattle.feed_read.specs.FeedTrips.{IsFeedTrip}
 
 -- a text that ends with `/` and a class has a `/`
 has_slash-class : (before class : List ℕ) → has_slash (before ++ 47 ∷ class) ≡ true
@@ -68,13 +68,13 @@ place_of-class settings a b class =
     ]
 
 -- the places at which trips begin and end are posts or terminals
-ends-are : (settings : SettingsView) (journeys : List Journey) → All IsJourney journeys → All (IsPostOrTerminal (is_classed settings)) (ends_of settings journeys)
+ends-are : (settings : SettingsView) (feed_trips : List FeedTrip) → All IsFeedTrip feed_trips → All (IsPostOrTerminal (is_classed settings)) (ends_of settings feed_trips)
 ends-are settings [] valid = All-nil (IsPostOrTerminal (is_classed settings))
 ends-are settings (j ∷ js) valid =
     let is = IsPostOrTerminal (is_classed settings) in
-    let plain = (All-head IsJourney j js valid).class in
+    let plain = (All-head IsFeedTrip j js valid).class in
     All-cons is (start_of settings j) (end_of settings j ∷ ends_of settings js) (place_of-is settings j.from j.class plain)
-    (All-cons is (end_of settings j) (ends_of settings js) (place_of-is settings j.to j.class plain) (ends-are settings js (All-tail IsJourney j js valid)))
+    (All-cons is (end_of settings j) (ends_of settings js) (place_of-is settings j.to j.class plain) (ends-are settings js (All-tail IsFeedTrip j js valid)))
 
 -- and the places that are met
 met-are : (P : Place → Type 0) (places more : List Place) → All P places → All P more → All P (fold with_place places more)
@@ -97,23 +97,23 @@ class-found classed places place n are is found =
     same-class classed (place_in places n) place (are n (terminal_place [] 0) lt) is (sym name)
 
 -- the places between which a trip runs are of one class
-pub trip_of_one_class : (settings : SettingsView) (journeys before : List Journey) (i : ℕ) (journey : Journey) (timetable : TimetableView) (from to : ℕ) → All IsJourney journeys → i < length journeys
-    → journey ≡ get_or journeys i journey → timetable ≡ timetable_over settings (places_met (ends_of settings journeys)) before
-    → number_of (place_names timetable) (start_of settings journey).name ≡ Some from → number_of (place_names timetable) (end_of settings journey).name ≡ Some to
+pub trip_of_one_class : (settings : SettingsView) (feed_trips before : List FeedTrip) (i : ℕ) (feed_trip : FeedTrip) (timetable : TimetableView) (from to : ℕ) → All IsFeedTrip feed_trips → i < length feed_trips
+    → feed_trip ≡ get_or feed_trips i feed_trip → timetable ≡ timetable_over settings (places_met (ends_of settings feed_trips)) before
+    → number_of (place_names timetable) (start_of settings feed_trip).name ≡ Some from → number_of (place_names timetable) (end_of settings feed_trip).name ≡ Some to
     → class_of timetable.places from ≡ class_of timetable.places to
-trip_of_one_class settings journeys before i journey timetable from to valid lt is so_far from_is to_is =
+trip_of_one_class settings feed_trips before i feed_trip timetable from to valid lt is so_far from_is to_is =
     let classed = is_classed settings in
     let places = ap (λ (t : TimetableView). t.places) so_far in
-    let are = subst (All (IsPostOrTerminal classed)) (sym places) (met-are (IsPostOrTerminal classed) [] (ends_of settings journeys) (All-nil (IsPostOrTerminal classed)) (ends-are settings journeys valid)) in
-    let plain = subst (λ (j : Journey). has_slash j.class ≡ false) (sym is) (valid i journey lt).class in
-    class-found classed timetable.places (start_of settings journey) from are (place_of-is settings journey.from journey.class plain) from_is
-    ∙ place_of-class settings journey.from journey.to journey.class
-    ∙ sym (class-found classed timetable.places (end_of settings journey) to are (place_of-is settings journey.to journey.class plain) to_is)
+    let are = subst (All (IsPostOrTerminal classed)) (sym places) (met-are (IsPostOrTerminal classed) [] (ends_of settings feed_trips) (All-nil (IsPostOrTerminal classed)) (ends-are settings feed_trips valid)) in
+    let plain = subst (λ (j : FeedTrip). has_slash j.class ≡ false) (sym is) (valid i feed_trip lt).class in
+    class-found classed timetable.places (start_of settings feed_trip) from are (place_of-is settings feed_trip.from feed_trip.class plain) from_is
+    ∙ place_of-class settings feed_trip.from feed_trip.to feed_trip.class
+    ∙ sym (class-found classed timetable.places (end_of settings feed_trip) to are (place_of-is settings feed_trip.to feed_trip.class plain) to_is)
 
 -- a trip between two places of one class is valid
-pub trip_is_valid : (places : List Place) (from to : ℕ) (journey : Journey) → from < length places → to < length places → class_of places from ≡ class_of places to → IsJourney journey
-    → IsValidTrip places (trip_between from to journey)
-trip_is_valid places from to journey from_in to_in one_class is = record {
+pub trip_is_valid : (places : List Place) (from to : ℕ) (feed_trip : FeedTrip) → from < length places → to < length places → class_of places from ≡ class_of places to → IsFeedTrip feed_trip
+    → IsValidTrip places (trip_between from to feed_trip)
+trip_is_valid places from to feed_trip from_in to_in one_class is = record {
   from = from_in;
   to = to_in;
   one_class = one_class;

@@ -1,4 +1,4 @@
--- What is kept slot by slot as visits are met one after the other.
+-- What is kept slot by slot as stop times are met one after the other.
 use Rattle.std.proofs.Common.{◌≡◌, ◌≢◌, ℕ, zero, suc, ◌+◌, ◌<◌, true, false, cond, ◌==◌, List, [], ◌∷◌, ◌++◌, length, map, slice_get, get_or, set, Some, None, Result, Ok, Err, refl, sym, ap, subst, ◌∙◌, ⊎_elim, ◌⊎◌, inl, inr, arith}
 use Rattle.std.proofs.lemmas.Bool.{cases_eq}
 use Rattle.std.proofs.lemmas.Bool.Decides.{eqb_tells}
@@ -16,93 +16,93 @@ use Rattle.gtfs_tables.specs.Fold.{paper_read}
 use Rattle.gtfs_tables.specs.Reading.{◌>>=◌, each_record, field_at, table_in, text_in, Fails, Gives}
 use Rattle.desk_settings.specs.Entries.{Name}
 use Rattle.feed_read.specs.declared.stops.Stops.{Stops}
-use Rattle.feed_read.specs.declared.visits.Columns.{Columns}
-use Rattle.feed_read.specs.Journeys.{visits_of}
+use Rattle.feed_read.specs.declared.stop_times.Columns.{Columns}
+use Rattle.feed_read.specs.FeedTrips.{stop_times_of}
 use Rattle.feed_read.specs.Kept.{Kept, nothing_kept, stops_seen, with_kept, with_kept_of, with_record_kept, AreKept, AreStops, Keeps}
-use Rattle.feed_read.specs.Visits.{VisitView, columns_in, visit_in, visits_in, with_visit, with_visit_of}
+use Rattle.feed_read.specs.StopTimes.{StopTimeView, columns_in, stop_time_in, stop_times_for, with_stop_time, with_stop_time_of}
 use Rattle.feed_read.proofs.StopsLemmas.{AreStops-add, AreStops-none}
 
--- the visits of a slot with one more of that slot, and of another
-visits_of-same : (before : List VisitView) (visit : VisitView) (slot : ℕ) → slot ≡ visit.trip → visits_of slot (before ++ visit ∷ []) ≡ visits_of slot before ++ visit ∷ []
-visits_of-same before visit slot same =
-    filter-append (λ v. v.trip == slot) before (visit ∷ [])
-    ∙ ap (λ b. visits_of slot before ++ cond b (visit ∷ []) [])
-    (⊎_elim (λ (is : ((visit.trip == slot) ≡ true) × (visit.trip ≡ slot)). is.0) (λ (is : ((visit.trip == slot) ≡ false) × (visit.trip ≢ slot)). absurd (is.1 (sym same))) (eqb_tells visit.trip slot))
+-- the stop times of a slot with one more of that slot, and of another
+stop_times_of-same : (before : List StopTimeView) (stop_time : StopTimeView) (slot : ℕ) → slot ≡ stop_time.trip → stop_times_of slot (before ++ stop_time ∷ []) ≡ stop_times_of slot before ++ stop_time ∷ []
+stop_times_of-same before stop_time slot same =
+    filter-append (λ v. v.trip == slot) before (stop_time ∷ [])
+    ∙ ap (λ b. stop_times_of slot before ++ cond b (stop_time ∷ []) [])
+    (⊎_elim (λ (is : ((stop_time.trip == slot) ≡ true) × (stop_time.trip ≡ slot)). is.0) (λ (is : ((stop_time.trip == slot) ≡ false) × (stop_time.trip ≢ slot)). absurd (is.1 (sym same))) (eqb_tells stop_time.trip slot))
 
-visits_of-other : (before : List VisitView) (visit : VisitView) (slot : ℕ) → slot ≢ visit.trip → visits_of slot (before ++ visit ∷ []) ≡ visits_of slot before
-visits_of-other before visit slot differs =
-    filter-append (λ v. v.trip == slot) before (visit ∷ [])
-    ∙ ap (λ b. visits_of slot before ++ cond b (visit ∷ []) [])
-    (⊎_elim (λ (is : ((visit.trip == slot) ≡ true) × (visit.trip ≡ slot)). absurd (differs (sym is.1))) (λ (is : ((visit.trip == slot) ≡ false) × (visit.trip ≢ slot)). is.0) (eqb_tells visit.trip slot))
-    ∙ append-nil (visits_of slot before)
+stop_times_of-other : (before : List StopTimeView) (stop_time : StopTimeView) (slot : ℕ) → slot ≢ stop_time.trip → stop_times_of slot (before ++ stop_time ∷ []) ≡ stop_times_of slot before
+stop_times_of-other before stop_time slot differs =
+    filter-append (λ v. v.trip == slot) before (stop_time ∷ [])
+    ∙ ap (λ b. stop_times_of slot before ++ cond b (stop_time ∷ []) [])
+    (⊎_elim (λ (is : ((stop_time.trip == slot) ≡ true) × (stop_time.trip ≡ slot)). absurd (differs (sym is.1))) (λ (is : ((stop_time.trip == slot) ≡ false) × (stop_time.trip ≢ slot)). is.0) (eqb_tells stop_time.trip slot))
+    ∙ append-nil (stop_times_of slot before)
 
--- one more visit is kept at its slot
-kept_more : (before : List VisitView) (kept : List Kept) (visit : VisitView) → AreKept before kept
-    → AreKept (before ++ visit ∷ []) (set kept visit.trip (with_kept (get_or kept visit.trip nothing_kept) visit))
-kept_more before kept visit are = λ slot own is. by slot own is (cases_eq slot visit.trip)
+-- one more stop time is kept at its slot
+kept_more : (before : List StopTimeView) (kept : List Kept) (stop_time : StopTimeView) → AreKept before kept
+    → AreKept (before ++ stop_time ∷ []) (set kept stop_time.trip (with_kept (get_or kept stop_time.trip nothing_kept) stop_time))
+kept_more before kept stop_time are = λ slot own is. by slot own is (cases_eq slot stop_time.trip)
   where
     new : Kept
-    new = with_kept (get_or kept visit.trip nothing_kept) visit
+    new = with_kept (get_or kept stop_time.trip nothing_kept) stop_time
 
-    by : (slot : ℕ) (own : Kept) → slice_get (set kept visit.trip new) slot ≡ Some own → (slot ≡ visit.trip) ⊎ (slot ≢ visit.trip) → AreStops (visits_of slot (before ++ visit ∷ [])) own
+    by : (slot : ℕ) (own : Kept) → slice_get (set kept stop_time.trip new) slot ≡ Some own → (slot ≡ stop_time.trip) ⊎ (slot ≢ stop_time.trip) → AreStops (stop_times_of slot (before ++ stop_time ∷ [])) own
     by slot own is (inl same) =
-        let within : slot < length kept = omega (arith, slice_get_within (set kept visit.trip new) slot own is, length-set kept visit.trip new) in
-        let trip_within : visit.trip < length kept = omega (arith, same, within) in
+        let within : slot < length kept = omega (arith, slice_get_within (set kept stop_time.trip new) slot own is, length-set kept stop_time.trip new) in
+        let trip_within : stop_time.trip < length kept = omega (arith, same, within) in
         let now : new ≡ own =
-        sym (get_or-set_same kept visit.trip new new trip_within) ∙ ap (λ n. get_or (set kept visit.trip new) n new) (sym same) ∙ get_or_from_slice_get (set kept visit.trip new) slot own new is in
-        let was : slice_get kept slot ≡ Some (get_or kept visit.trip nothing_kept) = ap (slice_get kept) same ∙ slice_get-get_or kept visit.trip nothing_kept trip_within in
-        subst (λ visits. AreStops visits own) (sym (visits_of-same before visit slot same))
-        (subst (AreStops (visits_of slot before ++ visit ∷ [])) now (AreStops-add (visits_of slot before) visit (get_or kept visit.trip nothing_kept) (are slot (get_or kept visit.trip nothing_kept) was)))
+        sym (get_or-set_same kept stop_time.trip new new trip_within) ∙ ap (λ n. get_or (set kept stop_time.trip new) n new) (sym same) ∙ get_or_from_slice_get (set kept stop_time.trip new) slot own new is in
+        let was : slice_get kept slot ≡ Some (get_or kept stop_time.trip nothing_kept) = ap (slice_get kept) same ∙ slice_get-get_or kept stop_time.trip nothing_kept trip_within in
+        subst (λ stop_times. AreStops stop_times own) (sym (stop_times_of-same before stop_time slot same))
+        (subst (AreStops (stop_times_of slot before ++ stop_time ∷ [])) now (AreStops-add (stop_times_of slot before) stop_time (get_or kept stop_time.trip nothing_kept) (are slot (get_or kept stop_time.trip nothing_kept) was)))
     by slot own is (inr differs) =
-        let within : slot < length kept = omega (arith, slice_get_within (set kept visit.trip new) slot own is, length-set kept visit.trip new) in
+        let within : slot < length kept = omega (arith, slice_get_within (set kept stop_time.trip new) slot own is, length-set kept stop_time.trip new) in
         let was : slice_get kept slot ≡ Some own =
-        slice_get-get_or kept slot new within ∙ ap Some (sym (get_or-set_other kept visit.trip slot new new differs) ∙ get_or_from_slice_get (set kept visit.trip new) slot own new is) in
-        subst (λ visits. AreStops visits own) (sym (visits_of-other before visit slot differs)) (are slot own was)
+        slice_get-get_or kept slot new within ∙ ap Some (sym (get_or-set_other kept stop_time.trip slot new new differs) ∙ get_or_from_slice_get (set kept stop_time.trip new) slot own new is) in
+        subst (λ stop_times. AreStops stop_times own) (sym (stop_times_of-other before stop_time slot differs)) (are slot own was)
 
--- what is kept follows the visits: of as many slots, or refused alike
-abbrev pub Follows : Result (List VisitView) FeedFault → Result (List Kept) FeedFault → Type 0
-Follows (Ok visits) (Ok kept) = AreKept visits kept
-Follows (Ok visits) (Err refused) = ⊥
+-- what is kept follows the stop times: of as many slots, or refused alike
+abbrev pub Follows : Result (List StopTimeView) FeedFault → Result (List Kept) FeedFault → Type 0
+Follows (Ok stop_times) (Ok kept) = AreKept stop_times kept
+Follows (Ok stop_times) (Err refused) = ⊥
 Follows (Err refused) (Ok kept) = ⊥
 Follows (Err refused) (Err told) = refused ≡ told
 
 -- one part after another
-follows-bind : (visits : Result (List VisitView) FeedFault) (kept : Result (List Kept) FeedFault) (next : List VisitView → Result (List VisitView) FeedFault) (keep : List Kept → Result (List Kept) FeedFault)
-    → Follows visits kept → ((v : List VisitView) (k : List Kept) → AreKept v k → Follows (next v) (keep k)) → Follows (visits >>= next) (kept >>= keep)
-follows-bind (Ok visits) (Ok kept) next keep are each = each visits kept are
-follows-bind (Ok visits) (Err refused) next keep are each = absurd are
+follows-bind : (stop_times : Result (List StopTimeView) FeedFault) (kept : Result (List Kept) FeedFault) (next : List StopTimeView → Result (List StopTimeView) FeedFault) (keep : List Kept → Result (List Kept) FeedFault)
+    → Follows stop_times kept → ((v : List StopTimeView) (k : List Kept) → AreKept v k → Follows (next v) (keep k)) → Follows (stop_times >>= next) (kept >>= keep)
+follows-bind (Ok stop_times) (Ok kept) next keep are each = each stop_times kept are
+follows-bind (Ok stop_times) (Err refused) next keep are each = absurd are
 follows-bind (Err refused) (Ok kept) next keep are each = absurd are
 follows-bind (Err refused) (Err told) next keep are each = are
 
 -- a part that both read, and then one each
-follows-after : {X : Type 0} (read : Result X FeedFault) (next : X → Result (List VisitView) FeedFault) (keep : X → Result (List Kept) FeedFault)
+follows-after : {X : Type 0} (read : Result X FeedFault) (next : X → Result (List StopTimeView) FeedFault) (keep : X → Result (List Kept) FeedFault)
     → ((x : X) → Follows (next x) (keep x)) → Follows (read >>= next) (read >>= keep)
 follows-after (Ok x) next keep each = each x
 follows-after (Err refused) next keep each = refl
 
 module _ (names : List Name) (columns : Columns) where
   -- a record of the trip of a slot, or of no selected trip
-  follows-of : (number : ℕ) (visits : List VisitView) (kept : List Kept) (fields : List (List ℕ)) (found : Option ℕ) → AreKept visits kept
-      → Follows (with_visit_of columns number visits fields found) (with_kept_of columns number kept fields found)
-  follows-of number visits kept fields None are = are
-  follows-of number visits kept fields (Some trip) are = follows-after (visit_in columns number trip fields) _ _ (λ visit. kept_more visits kept visit are)
+  follows-of : (number : ℕ) (stop_times : List StopTimeView) (kept : List Kept) (fields : List (List ℕ)) (found : Option ℕ) → AreKept stop_times kept
+      → Follows (with_stop_time_of columns number stop_times fields found) (with_kept_of columns number kept fields found)
+  follows-of number stop_times kept fields None are = are
+  follows-of number stop_times kept fields (Some trip) are = follows-after (stop_time_in columns number trip fields) _ _ (λ stop_time. kept_more stop_times kept stop_time are)
 
-  follows-record : (number : ℕ) (visits : List VisitView) (kept : List Kept) (fields : List (List ℕ)) → AreKept visits kept
-      → Follows (with_visit names columns number visits fields) (with_record_kept names columns number kept fields)
-  unfolding with_visit with_record_kept
-  follows-record number visits kept fields are =
-      follows-after (text_in paper.StopTimes number column.TripId (field_at fields columns.trip)) _ _ (λ name. follows-of number visits kept fields (position (bytes_eq name) names) are)
+  follows-record : (number : ℕ) (stop_times : List StopTimeView) (kept : List Kept) (fields : List (List ℕ)) → AreKept stop_times kept
+      → Follows (with_stop_time names columns number stop_times fields) (with_record_kept names columns number kept fields)
+  unfolding with_stop_time with_record_kept
+  follows-record number stop_times kept fields are =
+      follows-after (text_in paper.StopTimes number column.TripId (field_at fields columns.trip)) _ _ (λ name. follows-of number stop_times kept fields (position (bytes_eq name) names) are)
 
-  follows-each : (number : ℕ) (visits : List VisitView) (kept : List Kept) (rows : List (List (List ℕ))) → AreKept visits kept
-      → Follows (each_record (with_visit names columns) number visits rows) (each_record (with_record_kept names columns) number kept rows)
-  follows-each number visits kept [] are = are
-  follows-each number visits kept (fields ∷ rows) are =
-      follows-bind (with_visit names columns number visits fields) (with_record_kept names columns number kept fields) _ _ (follows-record number visits kept fields are)
+  follows-each : (number : ℕ) (stop_times : List StopTimeView) (kept : List Kept) (rows : List (List (List ℕ))) → AreKept stop_times kept
+      → Follows (each_record (with_stop_time names columns) number stop_times rows) (each_record (with_record_kept names columns) number kept rows)
+  follows-each number stop_times kept [] are = are
+  follows-each number stop_times kept (fields ∷ rows) are =
+      follows-bind (with_stop_time names columns number stop_times fields) (with_record_kept names columns number kept fields) _ _ (follows-record number stop_times kept fields are)
       (λ v k now. follows-each (number + 1) v k rows now)
 
--- what is kept of the file follows its visits
+-- what is kept of the file follows its stop times
 pub follows-paper : (names : List Name) (kept : List Kept) (found : Found) → AreKept [] kept
-    → Follows (visits_in names found) (paper_read paper.StopTimes columns_in (with_record_kept names) kept found)
+    → Follows (stop_times_for names found) (paper_read paper.StopTimes columns_in (with_record_kept names) kept found)
 follows-paper names kept found are =
     follows-after (table_in paper.StopTimes found) _ _ (λ table. follows-after (columns_in table.header) _ _ (λ columns. follows-each names columns 1 [] kept table.rows are))
 
@@ -112,7 +112,7 @@ get-nothing [] slot within none = absurd (omega arith)
 get-nothing (s ∷ stops) zero within none = none 0 s (omega arith)
 get-nothing (s ∷ stops) (suc slot) within none = get-nothing stops slot (omega arith) (λ k d lt. none (suc k) d (omega arith))
 
--- what is kept of no visits
+-- what is kept of no stop times
 pub AreKept-none : (stops : List Stops) → All (λ kept. stops_seen kept ≡ nothing_kept) stops → AreKept [] (map stops_seen stops)
 AreKept-none stops none = λ slot own is.
     let within : slot < length stops = omega (arith, slice_get_within (map stops_seen stops) slot own is, length-map stops stops_seen) in
@@ -120,35 +120,35 @@ AreKept-none stops none = λ slot own is.
     subst (AreStops []) (sym nothing) AreStops-none
 
 -- a refusal fails whatever was to be read
-err-fails : (refused told : FeedFault) → Fails {A = List Kept} refused (Err told) → Fails {A = List VisitView} refused (Err told)
+err-fails : (refused told : FeedFault) → Fails {A = List Kept} refused (Err told) → Fails {A = List StopTimeView} refused (Err told)
 err-fails fault.Memory told fails = tt
 err-fails refused told fails = cc fails
 
-ok-fails : (refused : FeedFault) (kept : List Kept) (visits : List VisitView) → Fails refused (Ok kept) → Fails refused (Ok visits)
-ok-fails fault.Memory kept visits fails = tt
-ok-fails refused kept visits fails = cc fails
+ok-fails : (refused : FeedFault) (kept : List Kept) (stop_times : List StopTimeView) → Fails refused (Ok kept) → Fails refused (Ok stop_times)
+ok-fails fault.Memory kept stop_times fails = tt
+ok-fails refused kept stop_times fails = cc fails
 
-follows-fails : (refused : FeedFault) (read : Result (List VisitView) FeedFault) (keep : Result (List Kept) FeedFault) → Follows read keep → Fails refused keep → Fails refused read
-follows-fails refused (Ok visits) (Ok kept) follows fails = ok-fails refused kept visits fails
-follows-fails refused (Ok visits) (Err told) follows fails = absurd follows
+follows-fails : (refused : FeedFault) (read : Result (List StopTimeView) FeedFault) (keep : Result (List Kept) FeedFault) → Follows read keep → Fails refused keep → Fails refused read
+follows-fails refused (Ok stop_times) (Ok kept) follows fails = ok-fails refused kept stop_times fails
+follows-fails refused (Ok stop_times) (Err told) follows fails = absurd follows
 follows-fails refused (Err due) (Ok kept) follows fails = absurd follows
-follows-fails refused (Err due) (Err told) follows fails = subst (λ f. Fails {A = List VisitView} refused (Err f)) (sym follows) (err-fails refused told fails)
+follows-fails refused (Err due) (Err told) follows fails = subst (λ f. Fails {A = List StopTimeView} refused (Err f)) (sym follows) (err-fails refused told fails)
 
 -- a call that gives what is kept of the file keeps what there is to keep
 pub keeps-file : {X : Type 0} (view : X → List Stops) (result : Result X FeedFault) (names : List Name) (kept : List Kept) (found : Found) → AreKept [] kept
-    → Gives (λ x. map stops_seen (view x)) result (paper_read paper.StopTimes columns_in (with_record_kept names) kept found) → Keeps view result (visits_in names found)
-keeps-file view (Ok x) names kept found are gives = by (visits_in names found) (subst (Follows (visits_in names found)) gives (follows-paper names kept found are))
+    → Gives (λ x. map stops_seen (view x)) result (paper_read paper.StopTimes columns_in (with_record_kept names) kept found) → Keeps view result (stop_times_for names found)
+keeps-file view (Ok x) names kept found are gives = by (stop_times_for names found) (subst (Follows (stop_times_for names found)) gives (follows-paper names kept found are))
   where
-    by : (read : Result (List VisitView) FeedFault) → Follows read (Ok (map stops_seen (view x))) → Keeps view (Ok x) read
-    by (Ok visits) follows = follows
+    by : (read : Result (List StopTimeView) FeedFault) → Follows read (Ok (map stops_seen (view x))) → Keeps view (Ok x) read
+    by (Ok stop_times) follows = follows
     by (Err refused) follows = follows
 keeps-file view (Err refused) names kept found are fails =
-    follows-fails refused (visits_in names found) (paper_read paper.StopTimes columns_in (with_record_kept names) kept found) (follows-paper names kept found are) fails
+    follows-fails refused (stop_times_for names found) (paper_read paper.StopTimes columns_in (with_record_kept names) kept found) (follows-paper names kept found are) fails
 
--- what follows on the visits, where it is given of all visits of which this is kept
-pub gives-kept : {X Y : Type 0} (view : X → Y) (result : Result X FeedFault) (stops : List Stops) (read : Result (List VisitView) FeedFault) (next : List VisitView → Result Y FeedFault)
-    → Keeps (λ (s : List Stops). s) (Ok stops) read → ((visits : List VisitView) → AreKept visits (map stops_seen stops) → Gives view result (next visits)) → Gives view result (read >>= next)
-gives-kept view result stops (Ok visits) next keeps gives = gives visits keeps
+-- what follows on the stop times, where it is given of all stop times of which this is kept
+pub gives-kept : {X Y : Type 0} (view : X → Y) (result : Result X FeedFault) (stops : List Stops) (read : Result (List StopTimeView) FeedFault) (next : List StopTimeView → Result Y FeedFault)
+    → Keeps (λ (s : List Stops). s) (Ok stops) read → ((stop_times : List StopTimeView) → AreKept stop_times (map stops_seen stops) → Gives view result (next stop_times)) → Gives view result (read >>= next)
+gives-kept view result stops (Ok stop_times) next keeps gives = gives stop_times keeps
 gives-kept view result stops (Err refused) next keeps gives = absurd keeps
 
 -- what holds where a call gave something
@@ -156,9 +156,9 @@ pub on-ok : {X E P Q : Type 0} (result : Result X E) → (P → Q) → OnOk resu
 on-ok (Ok x) gives holds = gives holds
 on-ok (Err e) gives holds = tt
 
--- what a visit changes at its slot
-pub kept-set : (stops : List Stops) (visit : VisitView) (d new : Stops) → visit.trip < length stops → stops_seen new ≡ with_kept (stops_seen (get_or stops visit.trip d)) visit
-    → map stops_seen (set stops visit.trip new) ≡ set (map stops_seen stops) visit.trip (with_kept (get_or (map stops_seen stops) visit.trip nothing_kept) visit)
-kept-set stops visit d new within adds =
-    map-set stops_seen stops visit.trip new
-    ∙ ap (set (map stops_seen stops) visit.trip) (adds ∙ ap (λ kept. with_kept kept visit) (sym (get_or-map stops_seen stops visit.trip d nothing_kept within)))
+-- what a stop time changes at its slot
+pub kept-set : (stops : List Stops) (stop_time : StopTimeView) (d new : Stops) → stop_time.trip < length stops → stops_seen new ≡ with_kept (stops_seen (get_or stops stop_time.trip d)) stop_time
+    → map stops_seen (set stops stop_time.trip new) ≡ set (map stops_seen stops) stop_time.trip (with_kept (get_or (map stops_seen stops) stop_time.trip nothing_kept) stop_time)
+kept-set stops stop_time d new within adds =
+    map-set stops_seen stops stop_time.trip new
+    ∙ ap (set (map stops_seen stops) stop_time.trip) (adds ∙ ap (λ kept. with_kept kept stop_time) (sym (get_or-map stops_seen stops stop_time.trip d nothing_kept within)))

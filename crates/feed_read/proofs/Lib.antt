@@ -1,6 +1,6 @@
 mod Classes
 mod EndsLemmas
-mod JourneyLemmas
+mod FeedTripLemmas
 mod KeptLemmas
 mod Places
 mod Slots

@@ -17,7 +17,7 @@ use Rattle.desk_settings.specs.Names.{is_among}
 use Rattle.desk_settings.specs.Settings.{SettingsView}
 use Rattle.trip_model.specs.Place.{Place}
 use Rattle.trip_model.specs.Timetable.{TimetableView}
-use Rattle.feed_read.specs.declared.journey.Journey.{Journey}
+use Rattle.feed_read.specs.declared.feed_trip.FeedTrip.{FeedTrip}
 use Rattle.feed_read.specs.Base.{end_of, ends_of, names_of, places_met, start_of, timetable_over, with_place, IsFullOrMemory}
 
 -- a name that the names do not contain is not among them
@@ -78,85 +78,85 @@ pushed : (settings : SettingsView) (places : List Place) (place : Place) (before
     → before ≡ timetable_over settings places [] → after ≡ record before { places = with_place before.places place } → after ≡ timetable_over settings (with_place places place) []
 pushed settings places place before after so_far put = put ∙ ap (λ (t : TimetableView). record t { places = with_place t.places place }) so_far
 
-module _ (settings : SettingsView) (journeys : List Journey) where
+module _ (settings : SettingsView) (feed_trips : List FeedTrip) where
   -- the places that the trips before one meet
   abbrev met_before : ℕ → List Place
-  met_before i = places_met (ends_of settings (take i journeys))
+  met_before i = places_met (ends_of settings (take i feed_trips))
 
   -- those, and the place from which that trip runs
-  abbrev met_from : ℕ → Journey → List Place
-  met_from i journey = with_place (met_before i) (start_of settings journey)
+  abbrev met_from : ℕ → FeedTrip → List Place
+  met_from i feed_trip = with_place (met_before i) (start_of settings feed_trip)
 
   -- those, and the place to which it runs
-  abbrev met_to : ℕ → Journey → List Place
-  met_to i journey = with_place (met_from i journey) (end_of settings journey)
+  abbrev met_to : ℕ → FeedTrip → List Place
+  met_to i feed_trip = with_place (met_from i feed_trip) (end_of settings feed_trip)
 
   -- the places that are met are those up to a trip, and then those of the trips after it
-  met-split : (i : ℕ) (d : Journey) → i < length journeys → places_met (ends_of settings journeys) ≡ fold with_place (met_to i (get_or journeys i d)) (ends_of settings (drop (suc i) journeys))
+  met-split : (i : ℕ) (d : FeedTrip) → i < length feed_trips → places_met (ends_of settings feed_trips) ≡ fold with_place (met_to i (get_or feed_trips i d)) (ends_of settings (drop (suc i) feed_trips))
   met-split i d lt =
-      ap (λ js. places_met (ends_of settings js)) (sym (take-append-drop i journeys) ∙ ap (λ rest. take i journeys ++ rest) (drop-cons journeys i d lt))
-      ∙ ap places_met (flat_map-append (λ (journey : Journey). start_of settings journey ∷ end_of settings journey ∷ []) (take i journeys) (get_or journeys i d ∷ drop (suc i) journeys))
-      ∙ fold-append with_place [] (ends_of settings (take i journeys)) _
+      ap (λ js. places_met (ends_of settings js)) (sym (take-append-drop i feed_trips) ∙ ap (λ rest. take i feed_trips ++ rest) (drop-cons feed_trips i d lt))
+      ∙ ap places_met (flat_map-append (λ (feed_trip : FeedTrip). start_of settings feed_trip ∷ end_of settings feed_trip ∷ []) (take i feed_trips) (get_or feed_trips i d ∷ drop (suc i) feed_trips))
+      ∙ fold-append with_place [] (ends_of settings (take i feed_trips)) _
 
   -- the places that are met before the next trip
-  met-more : (i : ℕ) (d : Journey) → i < length journeys → met_before (i + 1) ≡ met_to i (get_or journeys i d)
+  met-more : (i : ℕ) (d : FeedTrip) → i < length feed_trips → met_before (i + 1) ≡ met_to i (get_or feed_trips i d)
   met-more i d lt =
-      ap (λ js. places_met (ends_of settings js)) (take_more journeys i d lt)
-      ∙ ap places_met (flat_map-append (λ (journey : Journey). start_of settings journey ∷ end_of settings journey ∷ []) (take i journeys) (get_or journeys i d ∷ []))
-      ∙ fold-append with_place [] (ends_of settings (take i journeys)) _
+      ap (λ js. places_met (ends_of settings js)) (take_more feed_trips i d lt)
+      ∙ ap places_met (flat_map-append (λ (feed_trip : FeedTrip). start_of settings feed_trip ∷ end_of settings feed_trip ∷ []) (take i feed_trips) (get_or feed_trips i d ∷ []))
+      ∙ fold-append with_place [] (ends_of settings (take i feed_trips)) _
 
   -- the place from which a trip runs is met
-  pub start_met : (i : ℕ) (d : Journey) → i < length journeys → Contains (names_of (places_met (ends_of settings journeys))) (start_of settings (get_or journeys i d)).name
+  pub start_met : (i : ℕ) (d : FeedTrip) → i < length feed_trips → Contains (names_of (places_met (ends_of settings feed_trips))) (start_of settings (get_or feed_trips i d)).name
   start_met i d lt =
-      let journey = get_or journeys i d in
-      subst (λ places. Contains (names_of places) (start_of settings journey).name) (sym (met-split i d lt))
-      (met-keeps _ (ends_of settings (drop (suc i) journeys)) _ (with_place-keeps _ (end_of settings journey) _ (with_place-there (met_before i) (start_of settings journey))))
+      let feed_trip = get_or feed_trips i d in
+      subst (λ places. Contains (names_of places) (start_of settings feed_trip).name) (sym (met-split i d lt))
+      (met-keeps _ (ends_of settings (drop (suc i) feed_trips)) _ (with_place-keeps _ (end_of settings feed_trip) _ (with_place-there (met_before i) (start_of settings feed_trip))))
 
   -- the place to which a trip runs is met
-  pub end_met : (i : ℕ) (d : Journey) → i < length journeys → Contains (names_of (places_met (ends_of settings journeys))) (end_of settings (get_or journeys i d)).name
+  pub end_met : (i : ℕ) (d : FeedTrip) → i < length feed_trips → Contains (names_of (places_met (ends_of settings feed_trips))) (end_of settings (get_or feed_trips i d)).name
   end_met i d lt =
-      let journey = get_or journeys i d in
-      subst (λ places. Contains (names_of places) (end_of settings journey).name) (sym (met-split i d lt))
-      (met-keeps _ (ends_of settings (drop (suc i) journeys)) _ (with_place-there (met_from i journey) (end_of settings journey)))
+      let feed_trip = get_or feed_trips i d in
+      subst (λ places. Contains (names_of places) (end_of settings feed_trip).name) (sym (met-split i d lt))
+      (met-keeps _ (ends_of settings (drop (suc i) feed_trips)) _ (with_place-there (met_from i feed_trip) (end_of settings feed_trip)))
 
   -- the places up to the start of a trip are at most those that are met
-  start-few : (i : ℕ) (d : Journey) → i < length journeys → length (met_from i (get_or journeys i d)) ≤ length (places_met (ends_of settings journeys))
+  start-few : (i : ℕ) (d : FeedTrip) → i < length feed_trips → length (met_from i (get_or feed_trips i d)) ≤ length (places_met (ends_of settings feed_trips))
   start-few i d lt =
-      let at = met_from i (get_or journeys i d) in
-      let to = end_of settings (get_or journeys i d) in
+      let at = met_from i (get_or feed_trips i d) in
+      let to = end_of settings (get_or feed_trips i d) in
       subst (λ places. length at ≤ length places) (sym (met-split i d lt))
-      (omega (arith, with_place-longer at to, met-longer (with_place at to) (ends_of settings (drop (suc i) journeys))))
+      (omega (arith, with_place-longer at to, met-longer (with_place at to) (ends_of settings (drop (suc i) feed_trips))))
 
   -- the places up to the end of a trip are at most those that are met
-  end-few : (i : ℕ) (d : Journey) → i < length journeys → length (met_to i (get_or journeys i d)) ≤ length (places_met (ends_of settings journeys))
+  end-few : (i : ℕ) (d : FeedTrip) → i < length feed_trips → length (met_to i (get_or feed_trips i d)) ≤ length (places_met (ends_of settings feed_trips))
   end-few i d lt =
-      let at = met_to i (get_or journeys i d) in
-      subst (λ places. length at ≤ length places) (sym (met-split i d lt)) (met-longer at (ends_of settings (drop (suc i) journeys)))
+      let at = met_to i (get_or feed_trips i d) in
+      subst (λ places. length at ≤ length places) (sym (met-split i d lt)) (met-longer at (ends_of settings (drop (suc i) feed_trips)))
 
   -- the places with both of the next trip
-  pub places_go_on : (i : ℕ) (journey : Journey) (before middle after : TimetableView) → i < length journeys → journey ≡ get_or journeys i journey
-      → before ≡ timetable_over settings (met_before i) [] → middle ≡ record before { places = with_place before.places (start_of settings journey) }
-      → after ≡ record middle { places = with_place middle.places (end_of settings journey) } → after ≡ timetable_over settings (met_before (i + 1)) []
-  places_go_on i journey before middle after lt is so_far from to =
-      pushed settings (met_from i journey) (end_of settings journey) middle after (pushed settings (met_before i) (start_of settings journey) before middle so_far from) to
-      ∙ ap (λ (j : Journey). timetable_over settings (met_to i j) []) is
-      ∙ ap (λ places. timetable_over settings places []) (sym (met-more i journey lt))
+  pub places_go_on : (i : ℕ) (feed_trip : FeedTrip) (before middle after : TimetableView) → i < length feed_trips → feed_trip ≡ get_or feed_trips i feed_trip
+      → before ≡ timetable_over settings (met_before i) [] → middle ≡ record before { places = with_place before.places (start_of settings feed_trip) }
+      → after ≡ record middle { places = with_place middle.places (end_of settings feed_trip) } → after ≡ timetable_over settings (met_before (i + 1)) []
+  places_go_on i feed_trip before middle after lt is so_far from to =
+      pushed settings (met_from i feed_trip) (end_of settings feed_trip) middle after (pushed settings (met_before i) (start_of settings feed_trip) before middle so_far from) to
+      ∙ ap (λ (j : FeedTrip). timetable_over settings (met_to i j) []) is
+      ∙ ap (λ places. timetable_over settings places []) (sym (met-more i feed_trip lt))
 
   -- the place from which a trip runs is one too many
-  pub places_end_at_start : (i : ℕ) (journey : Journey) (before : TimetableView) (refused : FeedFault) → i < length journeys → journey ≡ get_or journeys i journey
-      → before ≡ timetable_over settings (met_before i) [] → IsFullOrMemory (with_place before.places (start_of settings journey)) refused
-      → IsFullOrMemory (places_met (ends_of settings journeys)) refused
-  places_end_at_start i journey before refused lt is so_far full =
-      full-more _ _ refused (start-few i journey lt)
-      (subst (λ (j : Journey). IsFullOrMemory (met_from i j) refused) is
-      (subst (λ (t : TimetableView). IsFullOrMemory (with_place t.places (start_of settings journey)) refused) so_far full))
+  pub places_end_at_start : (i : ℕ) (feed_trip : FeedTrip) (before : TimetableView) (refused : FeedFault) → i < length feed_trips → feed_trip ≡ get_or feed_trips i feed_trip
+      → before ≡ timetable_over settings (met_before i) [] → IsFullOrMemory (with_place before.places (start_of settings feed_trip)) refused
+      → IsFullOrMemory (places_met (ends_of settings feed_trips)) refused
+  places_end_at_start i feed_trip before refused lt is so_far full =
+      full-more _ _ refused (start-few i feed_trip lt)
+      (subst (λ (j : FeedTrip). IsFullOrMemory (met_from i j) refused) is
+      (subst (λ (t : TimetableView). IsFullOrMemory (with_place t.places (start_of settings feed_trip)) refused) so_far full))
 
   -- the place to which a trip runs is one too many
-  pub places_end_at_end : (i : ℕ) (journey : Journey) (before middle : TimetableView) (refused : FeedFault) → i < length journeys → journey ≡ get_or journeys i journey
-      → before ≡ timetable_over settings (met_before i) [] → middle ≡ record before { places = with_place before.places (start_of settings journey) }
-      → IsFullOrMemory (with_place middle.places (end_of settings journey)) refused → IsFullOrMemory (places_met (ends_of settings journeys)) refused
-  places_end_at_end i journey before middle refused lt is so_far from full =
-      full-more _ _ refused (end-few i journey lt)
-      (subst (λ (j : Journey). IsFullOrMemory (met_to i j) refused) is
-      (subst (λ (t : TimetableView). IsFullOrMemory (with_place t.places (end_of settings journey)) refused)
-      (pushed settings (met_before i) (start_of settings journey) before middle so_far from) full))
+  pub places_end_at_end : (i : ℕ) (feed_trip : FeedTrip) (before middle : TimetableView) (refused : FeedFault) → i < length feed_trips → feed_trip ≡ get_or feed_trips i feed_trip
+      → before ≡ timetable_over settings (met_before i) [] → middle ≡ record before { places = with_place before.places (start_of settings feed_trip) }
+      → IsFullOrMemory (with_place middle.places (end_of settings feed_trip)) refused → IsFullOrMemory (places_met (ends_of settings feed_trips)) refused
+  places_end_at_end i feed_trip before middle refused lt is so_far from full =
+      full-more _ _ refused (end-few i feed_trip lt)
+      (subst (λ (j : FeedTrip). IsFullOrMemory (met_to i j) refused) is
+      (subst (λ (t : TimetableView). IsFullOrMemory (with_place t.places (end_of settings feed_trip)) refused)
+      (pushed settings (met_before i) (start_of settings feed_trip) before middle so_far from) full))

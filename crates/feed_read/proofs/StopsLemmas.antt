@@ -1,12 +1,12 @@
--- What is kept of the visits of a trip as they are met one after the other.
+-- What is kept of the stop times of a trip as they are met one after the other.
 use Rattle.std.proofs.Common.{◌≡◌, ℕ, ◌≤◌, Bool, true, false, cond, ◌||◌, ◌==◌, nat_eq, List, [], ◌∷◌, ◌++◌, length, None, refl, sym, ap, ◌∙◌, arith}
 use Rattle.std.specs.List.{list_any}
 use Rattle.std.proofs.lemmas.Bool.{false≢true}
 use Rattle.std.proofs.lemmas.Grind.{fold-append}
 use Rattle.std.proofs.lemmas.List.{map_push}
-use Rattle.feed_read.specs.Journeys.{sequences, has_repeat, sooner, later}
+use Rattle.feed_read.specs.FeedTrips.{sequences, has_repeat, sooner, later}
 use Rattle.feed_read.specs.Kept.{Kept, with_kept, nothing_kept, AreStops}
-use Rattle.feed_read.specs.Visits.{VisitView}
+use Rattle.feed_read.specs.StopTimes.{StopTimeView}
 
 any_push : {A : Type 0} (test : A → Bool) (xs : List A) (x : A) → list_any test (xs ++ x ∷ []) ≡ (list_any test xs || test x)
 any_push test [] x = elim (test x) as (λ b. (b || false) ≡ b) [
@@ -44,34 +44,34 @@ or_false : (a b : Bool) → (a || b) ≡ false → (a ≡ false) × (b ≡ false
 or_false true b is = absurd (false≢true (sym is))
 or_false false b is = (refl, is)
 
--- what is kept of visits and one more
-pub AreStops-add : (before : List VisitView) (visit : VisitView) (kept : Kept) → AreStops before kept → AreStops (before ++ visit ∷ []) (with_kept kept visit)
-AreStops-add before visit kept are = record {
-  numbers = λ none. numbers (or_false kept.repeated (list_any (nat_eq visit.sequence) kept.sequences) none);
+-- what is kept of stop times and one more
+pub AreStops-add : (before : List StopTimeView) (stop_time : StopTimeView) (kept : Kept) → AreStops before kept → AreStops (before ++ stop_time ∷ []) (with_kept kept stop_time)
+AreStops-add before stop_time kept are = record {
+  numbers = λ none. numbers (or_false kept.repeated (list_any (nat_eq stop_time.sequence) kept.sequences) none);
   repeated = by kept.repeated refl;
-  first = ap (λ f. sooner f visit) are.first ∙ sym (fold-append sooner None before (visit ∷ []));
-  last = ap (λ l. later l visit) are.last ∙ sym (fold-append later None before (visit ∷ []));
+  first = ap (λ f. sooner f stop_time) are.first ∙ sym (fold-append sooner None before (stop_time ∷ []));
+  last = ap (λ l. later l stop_time) are.last ∙ sym (fold-append later None before (stop_time ∷ []));
 }
   where
-    more : sequences (before ++ visit ∷ []) ≡ sequences before ++ visit.sequence ∷ []
-    more = map_push (λ (v : VisitView). v.sequence) before visit
+    more : sequences (before ++ stop_time ∷ []) ≡ sequences before ++ stop_time.sequence ∷ []
+    more = map_push (λ (v : StopTimeView). v.sequence) before stop_time
 
-    numbers : (kept.repeated ≡ false) × (list_any (nat_eq visit.sequence) kept.sequences ≡ false) → (with_kept kept visit).sequences ≡ sequences (before ++ visit ∷ [])
+    numbers : (kept.repeated ≡ false) × (list_any (nat_eq stop_time.sequence) kept.sequences ≡ false) → (with_kept kept stop_time).sequences ≡ sequences (before ++ stop_time ∷ [])
     numbers none =
-        ap (λ b. cond b kept.sequences (kept.sequences ++ visit.sequence ∷ [])) none.1
-        ∙ ap (λ ns. ns ++ visit.sequence ∷ []) (are.numbers none.0) ∙ sym more
+        ap (λ b. cond b kept.sequences (kept.sequences ++ stop_time.sequence ∷ [])) none.1
+        ∙ ap (λ ns. ns ++ stop_time.sequence ∷ []) (are.numbers none.0) ∙ sym more
 
-    all : has_repeat (sequences (before ++ visit ∷ [])) ≡ (has_repeat (sequences before) || list_any (nat_eq visit.sequence) (sequences before))
-    all = ap has_repeat more ∙ has_repeat-push (sequences before) visit.sequence
+    all : has_repeat (sequences (before ++ stop_time ∷ [])) ≡ (has_repeat (sequences before) || list_any (nat_eq stop_time.sequence) (sequences before))
+    all = ap has_repeat more ∙ has_repeat-push (sequences before) stop_time.sequence
 
-    by : (was : Bool) → kept.repeated ≡ was → (with_kept kept visit).repeated ≡ has_repeat (sequences (before ++ visit ∷ []))
+    by : (was : Bool) → kept.repeated ≡ was → (with_kept kept stop_time).repeated ≡ has_repeat (sequences (before ++ stop_time ∷ []))
     by true is =
-        ap (λ b. b || list_any (nat_eq visit.sequence) kept.sequences) is
-        ∙ sym (all ∙ ap (λ b. b || list_any (nat_eq visit.sequence) (sequences before)) (sym are.repeated ∙ is))
+        ap (λ b. b || list_any (nat_eq stop_time.sequence) kept.sequences) is
+        ∙ sym (all ∙ ap (λ b. b || list_any (nat_eq stop_time.sequence) (sequences before)) (sym are.repeated ∙ is))
     by false is =
-        ap (λ b. b || list_any (nat_eq visit.sequence) kept.sequences) is ∙ ap (list_any (nat_eq visit.sequence)) (are.numbers is)
-        ∙ sym (all ∙ ap (λ b. b || list_any (nat_eq visit.sequence) (sequences before)) (sym are.repeated ∙ is))
+        ap (λ b. b || list_any (nat_eq stop_time.sequence) kept.sequences) is ∙ ap (list_any (nat_eq stop_time.sequence)) (are.numbers is)
+        ∙ sym (all ∙ ap (λ b. b || list_any (nat_eq stop_time.sequence) (sequences before)) (sym are.repeated ∙ is))
 
--- of no visits nothing is kept
+-- of no stop times nothing is kept
 pub AreStops-none : AreStops [] nothing_kept
 AreStops-none = record { numbers = λ _. refl; repeated = refl; first = refl; last = refl }

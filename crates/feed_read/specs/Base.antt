@@ -13,9 +13,9 @@ use Rattle.desk_settings.specs.Settings.{SettingsView, is_classed, layover_at}
 use Rattle.trip_model.specs.declared.trip.Trip.{Trip}
 use Rattle.trip_model.specs.Place.{Place, post_place, terminal_place}
 use Rattle.trip_model.specs.Timetable.{TimetableView, Slot, number_of}
-use Rattle.feed_read.specs.declared.journey.Journey.{Journey}
+use Rattle.feed_read.specs.declared.feed_trip.FeedTrip.{FeedTrip}
 use Rattle.feed_read.specs.Trips.{trips_in}
-use Rattle.feed_read.specs.Journeys.{journeys_in}
+use Rattle.feed_read.specs.FeedTrips.{feed_trips_in}
 
 -- the place of a terminal for vehicles of a class, with the layover of the terminal: a post where vehicles are of classes, else
 -- the terminal
@@ -24,15 +24,15 @@ place_of settings terminal class =
     if is_classed settings then post_place terminal class (layover_at settings terminal) else terminal_place terminal (layover_at settings terminal)
 
 -- the place from which a trip runs, and the place to which it runs
-abbrev pub start_of : SettingsView → Journey → Place
-start_of settings journey = place_of settings journey.from journey.class
+abbrev pub start_of : SettingsView → FeedTrip → Place
+start_of settings feed_trip = place_of settings feed_trip.from feed_trip.class
 
-abbrev pub end_of : SettingsView → Journey → Place
-end_of settings journey = place_of settings journey.to journey.class
+abbrev pub end_of : SettingsView → FeedTrip → Place
+end_of settings feed_trip = place_of settings feed_trip.to feed_trip.class
 
 -- the places at which trips begin and end, trip by trip
-abbrev pub ends_of : SettingsView → List Journey → List Place
-ends_of settings journeys = flat_map (λ journey. start_of settings journey ∷ end_of settings journey ∷ []) journeys
+abbrev pub ends_of : SettingsView → List FeedTrip → List Place
+ends_of settings feed_trips = flat_map (λ feed_trip. start_of settings feed_trip ∷ end_of settings feed_trip ∷ []) feed_trips
 
 -- the names of places
 abbrev pub names_of : List Place → List Name
@@ -51,48 +51,48 @@ abbrev pub number_in : List Place → Place → ℕ
 number_in places place = unwrap_or (number_of (names_of places) place.name) 0
 
 -- a trip between two places: live, and as published
-abbrev pub trip_between : ℕ → ℕ → Journey → Trip
-trip_between from to journey = record {
+abbrev pub trip_between : ℕ → ℕ → FeedTrip → Trip
+trip_between from to feed_trip = record {
   from = from;
   to = to;
-  departs = journey.departs;
-  ends = journey.ends;
+  departs = feed_trip.departs;
+  ends = feed_trip.ends;
   offset = pos 0;
-  early = journey.early;
-  late = journey.late;
+  early = feed_trip.early;
+  late = feed_trip.late;
   live = true;
 }
 
 -- the slot of a trip, among these places
-abbrev pub slot_of : SettingsView → List Place → Journey → Slot
-slot_of settings places journey = record {
-  name = journey.name;
-  trip = trip_between (number_in places (start_of settings journey)) (number_in places (end_of settings journey)) journey;
+abbrev pub slot_of : SettingsView → List Place → FeedTrip → Slot
+slot_of settings places feed_trip = record {
+  name = feed_trip.name;
+  trip = trip_between (number_in places (start_of settings feed_trip)) (number_in places (end_of settings feed_trip)) feed_trip;
 }
 
 -- these places, and a slot for each trip
-abbrev pub timetable_over : SettingsView → List Place → List Journey → TimetableView
-timetable_over settings places journeys = record {
+abbrev pub timetable_over : SettingsView → List Place → List FeedTrip → TimetableView
+timetable_over settings places feed_trips = record {
   classed = is_classed settings;
   places = places;
-  slots = map (slot_of settings places) journeys;
+  slots = map (slot_of settings places) feed_trips;
   early = settings.early;
   late = settings.late;
 }
 
 -- the timetable of trips between at most 512 places, which are numbered in the order in which the trips meet them
-unfoldable pub timetable_of : SettingsView → List Journey → Result TimetableView FeedFault
-timetable_of settings journeys =
-    let places = places_met (ends_of settings journeys) in
-    provided (nat_le (length places) MOST_PLACES) (fault.TooManyPlaces paper.StopTimes) (Ok (timetable_over settings places journeys))
+unfoldable pub timetable_of : SettingsView → List FeedTrip → Result TimetableView FeedFault
+timetable_of settings feed_trips =
+    let places = places_met (ends_of settings feed_trips) in
+    provided (nat_le (length places) MOST_PLACES) (fault.TooManyPlaces paper.StopTimes) (Ok (timetable_over settings places feed_trips))
 
--- The base timetable: of `trips.txt` the selected trips, of `stop_times.txt` their visits, and of these the timetable. What
+-- The base timetable: of `trips.txt` the selected trips, of `stop_times.txt` their stop times, and of these the timetable. What
 -- stands first is judged first.
 unfoldable pub base_of : SettingsView → Found → Found → Result TimetableView FeedFault
 base_of settings trips_found stop_times_found = do
   selected ← trips_in settings trips_found
-  journeys ← journeys_in settings selected stop_times_found
-  timetable_of settings journeys
+  feed_trips ← feed_trips_in settings selected stop_times_found
+  timetable_of settings feed_trips
 
 -- a refusal: there are too many places, or there was no memory
 abbrev pub IsFullOrMemory : List Place → FeedFault → Type 0

@@ -1,5 +1,5 @@
 pub mod Trips
-pub mod Visits
-pub mod Journeys
+pub mod StopTimes
+pub mod FeedTrips
 pub mod Kept
 pub mod Base

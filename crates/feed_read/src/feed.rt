@@ -3,36 +3,36 @@ ghost use Rattle.gtfs_tables.specs.Papers.{IsWithinLimit};
 ghost use Rattle.gtfs_tables.specs.Reading.{Gives};
 ghost use Rattle.trip_model.specs.Timetable.{AreDistinct};
 ghost use Rattle.feed_read.specs.Base.{base_of};
-ghost use Rattle.feed_read.specs.Journeys as spec;
-ghost use Rattle.feed_read.specs.Journeys.{IsJourney};
+ghost use Rattle.feed_read.specs.FeedTrips as spec;
+ghost use Rattle.feed_read.specs.FeedTrips.{IsFeedTrip};
 ghost use Rattle.feed_read.specs.Trips.{seen};
 
-use crate::journey::{Journey, journeys_of};
+use crate::feed_trip::{FeedTrip, feed_trips_of};
 use crate::selection::Selection;
+use crate::stop_times::stops_in;
 use crate::timetable::timetable_of;
 use crate::trips::trips_in;
-use crate::visits::stops_in;
 use desk_io::Found;
 use desk_settings::Settings;
 use gtfs_tables::FeedFault;
 use std::alloc::Global;
 use trip_model::Timetable;
 
-// The selected trips, by what `stop_times.txt` leaves of their visits.
-fn journeys_in(
+// The selected trips, by what `stop_times.txt` leaves of their stop times.
+fn feed_trips_in(
     alloc: Global,
     settings: &Settings,
     selection: &Selection,
     stop_times: &Found,
-) -> Result<Vec<Journey>, FeedFault>
+) -> Result<Vec<FeedTrip>, FeedFault>
     requires { IsWithinLimit stop_times.now }
-    ensures gives { Gives (λ journeys. journeys.items) result (spec.journeys_in settings.now (seen selection.now) stop_times.now) }
-    ensures valid { IfOk result (λ journeys. All IsJourney journeys.items) }
-    ensures distinct { IfOk result (λ journeys. AreDistinct (map (λ journey. journey.name) journeys.items)) }
-    ensures count { IfOk result (λ journeys. length journeys.items ≡ length selection.now.names) }
+    ensures gives { Gives (λ feed_trips. feed_trips.items) result (spec.feed_trips_in settings.now (seen selection.now) stop_times.now) }
+    ensures valid { IfOk result (λ feed_trips. All IsFeedTrip feed_trips.items) }
+    ensures distinct { IfOk result (λ feed_trips. AreDistinct (map (λ feed_trip. feed_trip.name) feed_trips.items)) }
+    ensures count { IfOk result (λ feed_trips. length feed_trips.items ≡ length selection.now.names) }
 {
     let stops = stops_in(alloc, &selection.names, stop_times)?;
-    journeys_of(alloc, settings, selection, &stops)
+    feed_trips_of(alloc, settings, selection, &stops)
 }
 
 /// The base timetable of a feed: the trips of the chosen services, in the order of `trips.txt`, all live and as published;
@@ -57,6 +57,6 @@ pub fn read_feed(
     ensures { Gives (λ timetable. timetable) result (base_of settings.now trips.now stop_times.now) }
 {
     let selection = trips_in(alloc, settings, trips)?;
-    let journeys = journeys_in(alloc, settings, &selection, stop_times)?;
-    timetable_of(alloc, settings, &journeys)
+    let feed_trips = feed_trips_in(alloc, settings, &selection, stop_times)?;
+    timetable_of(alloc, settings, &feed_trips)
 }

@@ -10,22 +10,22 @@
 //!
 //! ```text
 //! let settings = Settings::read(alloc, &settings, &terminals, &tolerances)?;
-//! let timetable = read_feed(alloc, &trips, &stop_times, &settings)?;
+//! let timetable = read_feed(alloc, &trips, &stop times, &settings)?;
 //! ```
 //!
-//! The contracts cite `Base` (the timetable of a feed), and by it `Trips` (the selected trips and their classes), `Visits`
-//! (their records of `stop_times.txt`) and `Journeys` (the first and the last of these, of which [`laws::ends_law`] speaks,
+//! The contracts cite `Base` (the timetable of a feed), and by it `Trips` (the selected trips and their classes), `StopTimes`
+//! (their records of `stop_times.txt`) and `FeedTrips` (the first and the last of these, of which [`laws::ends_law`] speaks,
 //! and what the trip is by them).
 #![tactic(auto)]
 
 mod feed;
-mod journey;
+mod feed_trip;
 pub mod laws;
 mod selection;
+mod stop_time;
+mod stop_times;
 mod stops;
 mod timetable;
 mod trips;
-mod visit;
-mod visits;
 
 pub use feed::read_feed;

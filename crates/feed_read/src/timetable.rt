@@ -5,9 +5,9 @@ ghost use Rattle.trip_model.specs.declared.limits.TheConstants.{MOST_PLACES, MOS
 ghost use Rattle.trip_model.specs.Place.{has_slash, post_place};
 ghost use Rattle.trip_model.specs.Timetable.{AreDistinct, number_of, place_names};
 ghost use Rattle.feed_read.specs.Base as spec;
-ghost use Rattle.feed_read.specs.Journeys.{IsJourney};
+ghost use Rattle.feed_read.specs.FeedTrips.{IsFeedTrip};
 
-use crate::journey::Journey;
+use crate::feed_trip::FeedTrip;
 use desk_io::{Memory, Text};
 use desk_settings::Settings;
 use gtfs_tables::{FeedFault, Paper};
@@ -95,16 +95,16 @@ fn push_places(
     alloc: Global,
     settings: &Settings,
     timetable: &mut Timetable,
-    journeys: &[Journey],
+    feed_trips: &[FeedTrip],
 ) -> Result<(), FeedFault>
     requires empty { timetable.old ≡ spec.timetable_over settings.now [] [] }
-    requires valid { All IsJourney journeys.now }
-    ensures pushed { OnOk result (timetable.new ≡ spec.timetable_over settings.now (spec.places_met (spec.ends_of settings.now journeys.now)) []) }
-    ensures full { IfErr result (spec.IsFullOrMemory (spec.places_met (spec.ends_of settings.now journeys.now))) }
+    requires valid { All IsFeedTrip feed_trips.now }
+    ensures pushed { OnOk result (timetable.new ≡ spec.timetable_over settings.now (spec.places_met (spec.ends_of settings.now feed_trips.now)) []) }
+    ensures full { IfErr result (spec.IsFullOrMemory (spec.places_met (spec.ends_of settings.now feed_trips.now))) }
 {
-    for journey in journeys {
-        push_place(alloc, settings, timetable, &journey.from, &journey.class)?;
-        push_place(alloc, settings, timetable, &journey.to, &journey.class)?;
+    for trip in feed_trips {
+        push_place(alloc, settings, timetable, &trip.from, &trip.class)?;
+        push_place(alloc, settings, timetable, &trip.to, &trip.class)?;
     }
     Ok(())
 }
@@ -114,28 +114,35 @@ fn push_trips(
     alloc: Global,
     settings: &Settings,
     timetable: &mut Timetable,
-    journeys: &[Journey],
+    feed_trips: &[FeedTrip],
 ) -> Result<(), Memory>
-    requires places { timetable.old ≡ spec.timetable_over settings.now (spec.places_met (spec.ends_of settings.now journeys.now)) [] }
-    requires few { length journeys.now ≤ MOST_SLOTS }
-    requires distinct { AreDistinct (map (λ journey. journey.name) journeys.now) }
-    requires valid { All IsJourney journeys.now }
-    ensures { OnOk result (timetable.new ≡ spec.timetable_over settings.now (spec.places_met (spec.ends_of settings.now journeys.now)) journeys.now) }
+    requires places { timetable.old ≡ spec.timetable_over settings.now (spec.places_met (spec.ends_of settings.now feed_trips.now)) [] }
+    requires few { length feed_trips.now ≤ MOST_SLOTS }
+    requires distinct { AreDistinct (map (λ feed_trip. feed_trip.name) feed_trips.now) }
+    requires valid { All IsFeedTrip feed_trips.now }
+    ensures { OnOk result (timetable.new ≡ spec.timetable_over settings.now (spec.places_met (spec.ends_of settings.now feed_trips.now)) feed_trips.now) }
 {
-    for journey in journeys {
-        let from = find_place(alloc, settings, timetable, &journey.from, &journey.class)?.unwrap();
-        let to = find_place(alloc, settings, timetable, &journey.to, &journey.class)?.unwrap();
+    for feed_trip in feed_trips {
+        let from = find_place(
+            alloc,
+            settings,
+            timetable,
+            &feed_trip.from,
+            &feed_trip.class,
+        )?
+        .unwrap();
+        let to = find_place(alloc, settings, timetable, &feed_trip.to, &feed_trip.class)?.unwrap();
         let trip = Trip {
             from,
             to,
-            departs: journey.departs,
-            ends: journey.ends,
+            departs: feed_trip.departs,
+            ends: feed_trip.ends,
             offset: 0,
-            early: journey.early,
-            late: journey.late,
+            early: feed_trip.early,
+            late: feed_trip.late,
             live: true,
         };
-        timetable.push_trip(journey.name.as_str(), trip)?;
+        timetable.push_trip(feed_trip.name.as_str(), trip)?;
     }
     Ok(())
 }
@@ -156,15 +163,17 @@ fn opened(alloc: Global, settings: &Settings) -> Timetable
 pub(crate) fn timetable_of(
     alloc: Global,
     settings: &Settings,
-    journeys: &[Journey],
+    feed_trips: &[FeedTrip],
 ) -> Result<Timetable, FeedFault>
-    requires few { length journeys.now ≤ MOST_SLOTS }
-    requires distinct { AreDistinct (map (λ journey. journey.name) journeys.now) }
-    requires valid { All IsJourney journeys.now }
-    ensures { Gives (λ timetable. timetable) result (spec.timetable_of settings.now journeys.now) }
+    requires few { length feed_trips.now ≤ MOST_SLOTS }
+    requires distinct { AreDistinct (map (λ feed_trip. feed_trip.name) feed_trips.now) }
+    requires valid { All IsFeedTrip feed_trips.now }
+    ensures { Gives (λ timetable. timetable) result (spec.timetable_of settings.now feed_trips.now) }
 {
     let mut timetable = opened(alloc, settings);
-    push_places(alloc, settings, &mut timetable, journeys)?;
-    push_trips(alloc, settings, &mut timetable, journeys)?;
+    push_places(alloc, settings, &mut timetable, feed_trips)?;
+    push_trips(alloc, settings, &mut timetable, feed_trips)?;
+    // Its clause says that the timetable is valid.
+    let _slots = timetable.slots();
     Ok(timetable)
 }

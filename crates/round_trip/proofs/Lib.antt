@@ -2,9 +2,9 @@ pub mod Base
 pub mod Columns
 pub mod Early
 pub mod Edits
-pub mod Journeys
+pub mod FeedTrips
 pub mod ReadBack
 pub mod Records
 pub mod Times
 pub mod Trips
-pub mod Visits
+pub mod StopTimes

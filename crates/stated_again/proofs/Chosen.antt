@@ -20,15 +20,15 @@ use Rattle.desk_settings.specs.Names.{is_among}
 use Rattle.desk_settings.specs.Settings.{SettingsView, class_of, is_chosen, is_classed}
 use Rattle.trip_model.specs.Timetable.{TimetableView, Slot, slot_names}
 use Rattle.feed_read.specs.Base.{base_of, ends_of, places_met, slot_of}
-use Rattle.feed_read.specs.Journeys.{journeys_in, journeys_of}
+use Rattle.feed_read.specs.FeedTrips.{feed_trips_in, feed_trips_of}
 use Rattle.feed_read.specs.Trips.{Selected, chosen_in, classed_columns_in, columns_in, nothing_selected, trips_in, with_chosen, with_classed_trip, with_selected, with_trip}
-use Rattle.feed_read.specs.Visits.{visits_in}
+use Rattle.feed_read.specs.StopTimes.{stop_times_for}
 use Rattle.block_writer.specs.Fields.{place_of}
 use Rattle.block_audit.specs.Stated.{selected}
 use Rattle.claim_files.proofs.EachRecord.{provided-parts, read-parts, same_Ok}
 use Rattle.round_trip.proofs.Base.{slots-of}
 use Rattle.round_trip.proofs.Columns.{column_in-found}
-use Rattle.round_trip.proofs.Journeys.{journeys-named}
+use Rattle.round_trip.proofs.FeedTrips.{feed_trips-named}
 use Rattle.round_trip.proofs.Records.{GivenBy, of-table, text-parts}
 use Rattle.stated_again.specs.Laws as spec
 use Rattle.stated_again.specs.Planned.{AllRun, AreChosen, service_field, trip_field}
@@ -243,14 +243,14 @@ pub of-feed : (settings : SettingsView) (trips_found stop_times_found : Found) (
 unfolding base_of
 of-feed settings trips_found stop_times_found base said =
     let found = read-parts (trips_in settings trips_found) _ base said in
-    let journeys = read-parts (journeys_in settings found.0 stop_times_found) _ base found.2 in
-    let visits = read-parts (visits_in found.0.names stop_times_found) (journeys_of settings found.0) journeys.0 journeys.1 in
-    let slots = slots-of settings journeys.0 base journeys.2 in
+    let feed_trips = read-parts (feed_trips_in settings found.0 stop_times_found) _ base found.2 in
+    let timed = read-parts (stop_times_for found.0.names stop_times_found) (feed_trips_of settings found.0) feed_trips.0 feed_trips.1 in
+    let slots = slots-of settings feed_trips.0 base feed_trips.2 in
     record {
       chosen = found.0;
       read = found.1;
-      names = slots.0 ∙ journeys-named settings found.0.classes visits.0 found.0.names journeys.0 visits.2;
-      runs = subst (All Runs) (sym slots.2) (All-map Runs (slot_of settings (places_met (ends_of settings journeys.0))) journeys.0 (λ k d within. refl));
+      names = slots.0 ∙ feed_trips-named settings found.0.classes timed.0 found.0.names feed_trips.0 timed.2;
+      runs = subst (All Runs) (sym slots.2) (All-map Runs (slot_of settings (places_met (ends_of settings feed_trips.0))) feed_trips.0 (λ k d within. refl));
     }
   where
     Runs : Slot → Type 0

@@ -8,20 +8,20 @@ use Rattle.gtfs_tables.specs.declared.paper.Paper.TheVariants as paper
 use Rattle.gtfs_tables.specs.Fold.{paper_read}
 use Rattle.gtfs_tables.specs.Reading.{◌>>=◌, column_in, field_at, text_in, filled_in, number_in, time_in}
 use Rattle.desk_settings.specs.Entries.{Name}
-use Rattle.feed_read.specs.declared.visits.Columns.{Columns}
-use Rattle.feed_read.specs.declared.visit.Visit.{Visit}
+use Rattle.feed_read.specs.declared.stop_times.Columns.{Columns}
+use Rattle.feed_read.specs.declared.stop_time.StopTime.{StopTime}
 
 -- a record: the slot of its trip, its stop, its times in seconds where they are there, and its number along the trip
-pub record VisitView : Type 0 where
+pub record StopTimeView : Type 0 where
   pub trip : ℕ
   pub stop : Name
   pub arrival : Option ℕ
   pub departure : Option ℕ
   pub sequence : ℕ
 
--- what a clause sees of a visit
-abbrev pub seen : Visit → VisitView
-seen visit = record { trip = visit.trip; stop = visit.stop.now; arrival = visit.arrival; departure = visit.departure; sequence = visit.sequence }
+-- what a clause sees of a stop time
+abbrev pub seen : StopTime → StopTimeView
+seen stop_time = record { trip = stop_time.trip; stop = stop_time.stop.now; arrival = stop_time.arrival; departure = stop_time.departure; sequence = stop_time.sequence }
 
 -- where the required columns stand
 unfoldable pub columns_in : List (List ℕ) → Result Columns FeedFault
@@ -34,8 +34,8 @@ columns_in header = do
   Ok (record { trip = trip; arrival = arrival; departure = departure; stop = stop; sequence = sequence })
 
 -- the record of the trip of a slot
-unfoldable pub visit_in : Columns → ℕ → ℕ → List (List ℕ) → Result VisitView FeedFault
-visit_in columns number trip fields = do
+unfoldable pub stop_time_in : Columns → ℕ → ℕ → List (List ℕ) → Result StopTimeView FeedFault
+stop_time_in columns number trip fields = do
   arrival_text ← text_in paper.StopTimes number column.ArrivalTime (field_at fields columns.arrival)
   departure_text ← text_in paper.StopTimes number column.DepartureTime (field_at fields columns.departure)
   stop ← text_in paper.StopTimes number column.StopId (field_at fields columns.stop)
@@ -47,17 +47,17 @@ visit_in columns number trip fields = do
   departure ← time_in paper.StopTimes number column.DepartureTime departure_text
   Ok (record { trip = trip; stop = stop; arrival = arrival; departure = departure; sequence = sequence })
 
--- the visits, and that of a record of the trip of that slot; of a record of no selected trip nothing more is examined
-abbrev pub with_visit_of : Columns → ℕ → List VisitView → List (List ℕ) → Option ℕ → Result (List VisitView) FeedFault
-with_visit_of columns number before fields None = Ok before
-with_visit_of columns number before fields (Some trip) = visit_in columns number trip fields >>= λ visit. Ok (before ++ visit ∷ [])
+-- the stop times, and that of a record of the trip of that slot; of a record of no selected trip nothing more is examined
+abbrev pub with_stop_time_of : Columns → ℕ → List StopTimeView → List (List ℕ) → Option ℕ → Result (List StopTimeView) FeedFault
+with_stop_time_of columns number before fields None = Ok before
+with_stop_time_of columns number before fields (Some trip) = stop_time_in columns number trip fields >>= λ stop_time. Ok (before ++ stop_time ∷ [])
 
--- the visits with that of one record, among selected trips of these names
-unfoldable pub with_visit : List Name → Columns → ℕ → List VisitView → List (List ℕ) → Result (List VisitView) FeedFault
-with_visit names columns number before fields = do
+-- the stop times with that of one record, among selected trips of these names
+unfoldable pub with_stop_time : List Name → Columns → ℕ → List StopTimeView → List (List ℕ) → Result (List StopTimeView) FeedFault
+with_stop_time names columns number before fields = do
   name ← text_in paper.StopTimes number column.TripId (field_at fields columns.trip)
-  with_visit_of columns number before fields (position (bytes_eq name) names)
+  with_stop_time_of columns number before fields (position (bytes_eq name) names)
 
--- the visits of the file, in the order of its records
-abbrev pub visits_in : List Name → Found → Result (List VisitView) FeedFault
-visits_in names found = paper_read paper.StopTimes columns_in (with_visit names) [] found
+-- the stop times of the file, in the order of its records
+abbrev pub stop_times_for : List Name → Found → Result (List StopTimeView) FeedFault
+stop_times_for names found = paper_read paper.StopTimes columns_in (with_stop_time names) [] found

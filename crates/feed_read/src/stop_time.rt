@@ -7,7 +7,7 @@ use std::alloc::Global;
 /// A record of a selected trip: the slot of the trip, the stop, its times in seconds of the service day, and its number
 /// along the trip.
 #[derive(Clone, Copy, Debug)]
-pub(crate) struct Visit<'a> {
+pub(crate) struct StopTime<'a> {
     pub(crate) trip: usize,
     pub(crate) stop: &'a str,
     pub(crate) arrival: Option<u32>,
@@ -17,7 +17,7 @@ pub(crate) struct Visit<'a> {
     ghost departure_on_day: { IfSome departure (λ seconds. seconds ≤ 359999) } by { Prim.hlevel props },
 }
 
-/// The first or the last visit of a trip, which is kept when its record is gone.
+/// The first or the last stop time of a trip, which is kept when its record is gone.
 #[derive(Drop)]
 pub(crate) struct End {
     pub(crate) trip: usize,

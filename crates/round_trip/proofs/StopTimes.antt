@@ -1,4 +1,4 @@
--- What is read of the written stop times is what was read of them, each visit moved with its trip.
+-- What is read of the written stop times is what was read of them, each stop time moved with its trip.
 use Rattle.std.proofs.Common.{◌≡◌, ◌≢◌, ℕ, ◌<◌, ◌==◌, Bool, true, false, cond, List, [], ◌∷◌, ◌++◌, length, set, map, take, drop, Option, Some, None, Ok, ℤ, unwrap_or, refl, sym, ap, subst, ◌∙◌, arith}
 use Rattle.std.specs.Prelude.{All, position, unsigned_abs}
 use Rattle.std.specs.Option.{option_map}
@@ -14,7 +14,7 @@ use Rattle.gtfs_tables.specs.Reading.{column_in, field_at, filled_in, number_in,
 use Rattle.gtfs_tables.specs.Table.{TableView, IsTable, table_of}
 use Rattle.desk_settings.specs.Entries.{Name}
 use Rattle.trip_model.specs.Timetable.{TimetableView, number_of, slot_names}
-use Rattle.feed_read.specs.Visits.{VisitView, columns_in, visit_in, visits_in, with_visit, with_visit_of}
+use Rattle.feed_read.specs.StopTimes.{StopTimeView, columns_in, stop_time_in, stop_times_for, with_stop_time, with_stop_time_of}
 use Rattle.block_writer.specs.Fields.{place_of, slot_in}
 use Rattle.block_writer.specs.StopTimes.{moved, moved_by, moved_field, moved_row, offset_of, stop_time_written, with_times}
 use Rattle.claim_files.proofs.FieldsBack.{then}
@@ -28,13 +28,13 @@ use Rattle.round_trip.proofs.Times.{IsMovedField, moved-field, same-field}
 abbrev Columns : Type 0
 Columns = GivenBy columns_in
 
--- a visit with its times moved by so many minutes
-abbrev pub moved_visit : ℤ → VisitView → VisitView
-moved_visit offset visit = record visit { arrival = option_map (moved offset) visit.arrival; departure = option_map (moved offset) visit.departure }
+-- a stop time with its times moved by so many minutes
+abbrev pub moved_stop_time : ℤ → StopTimeView → StopTimeView
+moved_stop_time offset stop_time = record stop_time { arrival = option_map (moved offset) stop_time.arrival; departure = option_map (moved offset) stop_time.departure }
 
--- visits, each moved with its trip
-abbrev pub moved_visits : (ℕ → ℤ) → List VisitView → List VisitView
-moved_visits offsets visits = map (λ visit. moved_visit (offsets visit.trip) visit) visits
+-- stop times, each moved with its trip
+abbrev pub moved_stop_times : (ℕ → ℤ) → List StopTimeView → List StopTimeView
+moved_stop_times offsets stop_times = map (λ stop_time. moved_stop_time (offsets stop_time.trip) stop_time) stop_times
 
 -- a record says what another says, with both times moved
 record IsMovedRow (offset : ℤ) (trip arrival departure stop sequence : ℕ) (row other : List (List ℕ)) : Type 0 where
@@ -141,22 +141,22 @@ columns-are header columns e =
     } in
     subst (λ (c : Columns). AreColumns header c.trip c.arrival c.departure c.stop c.sequence) same are
 
--- a visit of a record that says the same, with both times moved, is moved, and is of the same trip
-visit-moved : (columns : Columns) (number trip : ℕ) (row other : List (List ℕ)) (offset : ℤ) (visit : VisitView) → visit_in columns number trip row ≡ Ok visit
+-- a stop time of a record that says the same, with both times moved, is moved, and is of the same trip
+stop_time-moved : (columns : Columns) (number trip : ℕ) (row other : List (List ℕ)) (offset : ℤ) (stop_time : StopTimeView) → stop_time_in columns number trip row ≡ Ok stop_time
     → IsMovedRow offset columns.trip columns.arrival columns.departure columns.stop columns.sequence row other
-    → (visit_in columns number trip other ≡ Ok (moved_visit offset visit)) × (trip ≡ visit.trip)
-unfolding visit_in
-visit-moved columns number trip row other offset visit e is =
-    let a = read-parts (text_in paper.StopTimes number column.ArrivalTime (field_at row columns.arrival)) _ visit e in
-    let d = read-parts (text_in paper.StopTimes number column.DepartureTime (field_at row columns.departure)) _ visit a.2 in
-    let s = read-parts (text_in paper.StopTimes number column.StopId (field_at row columns.stop)) _ visit d.2 in
-    let q = read-parts (text_in paper.StopTimes number column.StopSequence (field_at row columns.sequence)) _ visit s.2 in
-    let f = read-parts (filled_in paper.StopTimes number column.StopId s.0) _ visit q.2 in
-    let g = read-parts (filled_in paper.StopTimes number column.StopSequence q.0) _ visit f.2 in
-    let n = read-parts (number_in paper.StopTimes number column.StopSequence 9 999999999 q.0) _ visit g.2 in
-    let b = read-parts (time_in paper.StopTimes number column.ArrivalTime a.0) _ visit n.2 in
-    let c = read-parts (time_in paper.StopTimes number column.DepartureTime d.0) _ visit b.2 in
-    let same = same_Ok _ visit c.2 in
+    → (stop_time_in columns number trip other ≡ Ok (moved_stop_time offset stop_time)) × (trip ≡ stop_time.trip)
+unfolding stop_time_in
+stop_time-moved columns number trip row other offset stop_time e is =
+    let a = read-parts (text_in paper.StopTimes number column.ArrivalTime (field_at row columns.arrival)) _ stop_time e in
+    let d = read-parts (text_in paper.StopTimes number column.DepartureTime (field_at row columns.departure)) _ stop_time a.2 in
+    let s = read-parts (text_in paper.StopTimes number column.StopId (field_at row columns.stop)) _ stop_time d.2 in
+    let q = read-parts (text_in paper.StopTimes number column.StopSequence (field_at row columns.sequence)) _ stop_time s.2 in
+    let f = read-parts (filled_in paper.StopTimes number column.StopId s.0) _ stop_time q.2 in
+    let g = read-parts (filled_in paper.StopTimes number column.StopSequence q.0) _ stop_time f.2 in
+    let n = read-parts (number_in paper.StopTimes number column.StopSequence 9 999999999 q.0) _ stop_time g.2 in
+    let b = read-parts (time_in paper.StopTimes number column.ArrivalTime a.0) _ stop_time n.2 in
+    let c = read-parts (time_in paper.StopTimes number column.DepartureTime d.0) _ stop_time b.2 in
+    let same = same_Ok _ stop_time c.2 in
     let arrival_text = text-parts paper.StopTimes number column.ArrivalTime (field_at row columns.arrival) a.0 a.1 in
     let departure_text = text-parts paper.StopTimes number column.DepartureTime (field_at row columns.departure) d.0 d.1 in
     let arrival_read = subst (λ text. time_in paper.StopTimes number column.ArrivalTime text ≡ Ok b.0) (sym arrival_text.1) b.1 in
@@ -170,32 +170,32 @@ visit-moved columns number trip row other offset visit e is =
           (then (number_in paper.StopTimes number column.StopSequence 9 999999999 q.0) n.0 _ _ n.1
           (then (time_in paper.StopTimes number column.ArrivalTime (field_at other columns.arrival)) (option_map (moved offset) b.0) _ _ (is.arrives.time paper.StopTimes number column.ArrivalTime b.0 arrival_read)
           (then (time_in paper.StopTimes number column.DepartureTime (field_at other columns.departure)) (option_map (moved offset) c.0) _ _ (is.departs.time paper.StopTimes number column.DepartureTime c.0 departure_read)
-          (ap (λ visit. Ok (moved_visit offset visit)) same))))))))),
-      ap (λ (visit : VisitView). visit.trip) same,
+          (ap (λ stop_time. Ok (moved_stop_time offset stop_time)) same))))))))),
+      ap (λ (stop_time : StopTimeView). stop_time.trip) same,
     )
 
--- the visits with that of a record that says the same, moved with the trip that it names
-step-moved : (offsets : ℕ → ℤ) (names : List Name) (columns : Columns) (number : ℕ) (before after : List VisitView) (row other : List (List ℕ)) (offset : ℤ) → with_visit names columns number before row ≡ Ok after
+-- the stop times with that of a record that says the same, moved with the trip that it names
+step-moved : (offsets : ℕ → ℤ) (names : List Name) (columns : Columns) (number : ℕ) (before after : List StopTimeView) (row other : List (List ℕ)) (offset : ℤ) → with_stop_time names columns number before row ≡ Ok after
     → IsMovedRow offset columns.trip columns.arrival columns.departure columns.stop columns.sequence row other
     → ((s : ℕ) → position (bytes_eq (field_at row columns.trip)) names ≡ Some s → offset ≡ offsets s)
-    → with_visit names columns number (moved_visits offsets before) other ≡ Ok (moved_visits offsets after)
-unfolding with_visit
+    → with_stop_time names columns number (moved_stop_times offsets before) other ≡ Ok (moved_stop_times offsets after)
+unfolding with_stop_time
 step-moved offsets names columns number before after row other offset e is with_trip =
     let name = read-parts (text_in paper.StopTimes number column.TripId (field_at row columns.trip)) _ after e in
     let text = text-parts paper.StopTimes number column.TripId (field_at row columns.trip) name.0 name.1 in
     then (text_in paper.StopTimes number column.TripId (field_at other columns.trip)) name.0 _ _ (ap (text_in paper.StopTimes number column.TripId) is.trip_same ∙ name.1)
     (by (position (bytes_eq name.0) names) (λ s found. with_trip s (ap (λ name. position (bytes_eq name) names) text.1 ∙ found)) name.2)
   where
-    by : (found : Option ℕ) → ((s : ℕ) → found ≡ Some s → offset ≡ offsets s) → with_visit_of columns number before row found ≡ Ok after
-        → with_visit_of columns number (moved_visits offsets before) other found ≡ Ok (moved_visits offsets after)
-    by None moves e = ap (λ visits. Ok (moved_visits offsets visits)) (same_Ok before after e)
+    by : (found : Option ℕ) → ((s : ℕ) → found ≡ Some s → offset ≡ offsets s) → with_stop_time_of columns number before row found ≡ Ok after
+        → with_stop_time_of columns number (moved_stop_times offsets before) other found ≡ Ok (moved_stop_times offsets after)
+    by None moves e = ap (λ stop_times. Ok (moved_stop_times offsets stop_times)) (same_Ok before after e)
     by (Some s) moves e =
-        let visit = read-parts (visit_in columns number s row) _ after e in
-        let here = visit-moved columns number s row other offset visit.0 visit.1 is in
-        then (visit_in columns number s other) (moved_visit offset visit.0) _ _ here.0
-        (ap (λ offset. Ok (moved_visits offsets before ++ moved_visit offset visit.0 ∷ [])) (moves s refl ∙ ap offsets here.1)
-        ∙ ap Ok (sym (map_push (λ visit. moved_visit (offsets visit.trip) visit) before visit.0))
-        ∙ ap (λ visits. Ok (moved_visits offsets visits)) (same_Ok (before ++ visit.0 ∷ []) after visit.2))
+        let stop_time = read-parts (stop_time_in columns number s row) _ after e in
+        let here = stop_time-moved columns number s row other offset stop_time.0 stop_time.1 is in
+        then (stop_time_in columns number s other) (moved_stop_time offset stop_time.0) _ _ here.0
+        (ap (λ offset. Ok (moved_stop_times offsets before ++ moved_stop_time offset stop_time.0 ∷ [])) (moves s refl ∙ ap offsets here.1)
+        ∙ ap Ok (sym (map_push (λ stop_time. moved_stop_time (offsets stop_time.trip) stop_time) before stop_time.0))
+        ∙ ap (λ stop_times. Ok (moved_stop_times offsets stop_times)) (same_Ok (before ++ stop_time.0 ∷ []) after stop_time.2))
 
 -- a trip that is read has its number among those that stand, of which it is one of the first
 named-kept : (standing : TimetableView) (names : List Name) → take (length names) (slot_names standing) ≡ names → (name : List ℕ) (s : ℕ) → position (bytes_eq name) names ≡ Some s → number_of (slot_names standing) name ≡ Some s
@@ -229,8 +229,8 @@ module _ (standing : TimetableView) (base : ℕ) (names : List Name) (table : Ta
       (λ i. stop_time_written standing base (sym are.trip_is i) (sym are.arrival_is i) (sym are.departure_is i) row)
       (written-row (offset_of standing base (slot_in standing trip row)) trip arrival departure stop sequence row are.apart (omega (arith, are.arrival_in, fit.wide)) (omega (arith, are.departure_in, fit.wide)) writable)
 
-  step-back : (columns : Columns) → columns_in table.header ≡ Ok columns → (n : ℕ) (a b : List VisitView) (row : List (List ℕ)) → IsFit row
-      → with_visit names columns n a row ≡ Ok b → with_visit names columns n (moved_visits offsets a) (change row) ≡ Ok (moved_visits offsets b)
+  step-back : (columns : Columns) → columns_in table.header ≡ Ok columns → (n : ℕ) (a b : List StopTimeView) (row : List (List ℕ)) → IsFit row
+      → with_stop_time names columns n a row ≡ Ok b → with_stop_time names columns n (moved_stop_times offsets a) (change row) ≡ Ok (moved_stop_times offsets b)
   step-back columns at n a b row fit step =
       step-moved offsets names columns n a b row (change row) (offset_of standing base (slot_in standing columns.trip row)) step
       (row-moved row columns.trip columns.arrival columns.departure columns.stop columns.sequence (columns-are table.header columns at) fit)
@@ -239,19 +239,19 @@ module _ (standing : TimetableView) (base : ℕ) (names : List Name) (table : Ta
   rows-fit : IsTable table → AreWritable table standing base → All IsFit table.rows
   rows-fit is writable = λ i d within. record { wide = ap length (get_or_default table.rows i d [] within) ∙ is.width i within; writable = writable i d within }
 
-  pub visits-back : (bytes written : List ℕ) (visits : List VisitView) → IsTable table → AreWritable table standing base
+  pub stop_times-back : (bytes written : List ℕ) (stop_times : List StopTimeView) → IsTable table → AreWritable table standing base
       → table_of bytes ≡ Ok table → table_of written ≡ Ok (with_times table standing base)
-      → visits_in names (File bytes) ≡ Ok visits → visits_in names (File written) ≡ Ok (moved_visits offsets visits)
+      → stop_times_for names (File bytes) ≡ Ok stop_times → stop_times_for names (File written) ≡ Ok (moved_stop_times offsets stop_times)
   unfolding with_times
-  visits-back bytes written visits is writable from to e =
-      let read = sym (of-table paper.StopTimes columns_in (with_visit names) [] bytes table from) ∙ e in
-      let columns = read-parts (columns_in table.header) _ visits read in
-      of-table paper.StopTimes columns_in (with_visit names) [] written (with_times table standing base) to
+  stop_times-back bytes written stop_times is writable from to e =
+      let read = sym (of-table paper.StopTimes columns_in (with_stop_time names) [] bytes table from) ∙ e in
+      let columns = read-parts (columns_in table.header) _ stop_times read in
+      of-table paper.StopTimes columns_in (with_stop_time names) [] written (with_times table standing base) to
       ∙ then (columns_in table.header) columns.0 _ _ columns.1
-      (each-changed (with_visit names columns.0) (moved_visits offsets) change IsFit (step-back columns.0 columns.1) 1 [] visits table.rows (rows-fit is writable) columns.2)
+      (each-changed (with_stop_time names columns.0) (moved_stop_times offsets) change IsFit (step-back columns.0 columns.1) 1 [] stop_times table.rows (rows-fit is writable) columns.2)
 
--- a table of which visits are read has a column
-pub header-filled : (names : List Name) (bytes : List ℕ) (table : TableView) (visits : List VisitView) → table_of bytes ≡ Ok table → visits_in names (File bytes) ≡ Ok visits → 0 < length table.header
-header-filled names bytes table visits from e =
-    let columns = read-parts (columns_in table.header) _ visits (sym (of-table paper.StopTimes columns_in (with_visit names) [] bytes table from) ∙ e) in
+-- a table of which stop times are read has a column
+pub header-filled : (names : List Name) (bytes : List ℕ) (table : TableView) (stop_times : List StopTimeView) → table_of bytes ≡ Ok table → stop_times_for names (File bytes) ≡ Ok stop_times → 0 < length table.header
+header-filled names bytes table stop_times from e =
+    let columns = read-parts (columns_in table.header) _ stop_times (sym (of-table paper.StopTimes columns_in (with_stop_time names) [] bytes table from) ∙ e) in
     omega (arith, (columns-are table.header columns.0 columns.1).arrival_in)

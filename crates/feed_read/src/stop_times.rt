@@ -2,11 +2,11 @@ ghost use Rattle.std.specs.Prelude.{◌≡◌, ◌<◌, IfOk, OnOk, length, map,
 ghost use Rattle.gtfs_tables.specs.Papers.{IsWithinLimit};
 ghost use Rattle.gtfs_tables.specs.Reading.{Gives};
 ghost use Rattle.feed_read.specs.Kept.{nothing_kept, stops_seen, with_kept, Keeps};
-ghost use Rattle.feed_read.specs.Visits as spec;
-ghost use Rattle.feed_read.specs.Visits.{seen};
+ghost use Rattle.feed_read.specs.StopTimes as spec;
+ghost use Rattle.feed_read.specs.StopTimes.{seen};
 
+use crate::stop_time::StopTime;
 use crate::stops::{Stops, no_stops};
-use crate::visit::Visit;
 use desk_io::{Found, Memory};
 use desk_settings::Names;
 use gtfs_tables::{
@@ -26,15 +26,15 @@ pub(crate) struct Columns {
 }
 
 // The record of the trip of a slot.
-#[tactic(auto, unfolding(crate::specs::Visits::visit_in))]
-fn visit_in<'a>(
+#[tactic(auto, unfolding(crate::specs::StopTimes::stop_time_in))]
+fn stop_time_in<'a>(
     row: &'a Row,
     columns: &Columns,
     number: u32,
     trip: usize,
-) -> Result<Visit<'a>, FeedFault>
-    ensures gives { Gives spec.seen result (spec.visit_in columns.now number trip row.now) }
-    ensures trip { IfOk result (λ visit. visit.trip ≡ trip) }
+) -> Result<StopTime<'a>, FeedFault>
+    ensures gives { Gives spec.seen result (spec.stop_time_in columns.now number trip row.now) }
+    ensures trip { IfOk result (λ stop_time. stop_time.trip ≡ trip) }
 {
     let paper = Paper::StopTimes;
     let arrival = text_in(
@@ -68,7 +68,7 @@ fn visit_in<'a>(
     )?;
     let arrival = time_in(paper, number, Column::ArrivalTime, arrival)?;
     let departure = time_in(paper, number, Column::DepartureTime, departure)?;
-    Ok(Visit {
+    Ok(StopTime {
         trip,
         stop,
         arrival,
@@ -77,14 +77,14 @@ fn visit_in<'a>(
     })
 }
 
-// Keeps the visit of a trip at its slot.
-fn keep(alloc: Global, stops: &mut [Stops], visit: &Visit) -> Result<(), Memory>
-    requires { visit.now.trip < length stops.old }
-    ensures kept { OnOk result (map stops_seen stops.new ≡ slice_set (map stops_seen stops.old) visit.now.trip
-        (with_kept (slice_index_or (map stops_seen stops.old) visit.now.trip nothing_kept) (seen visit.now))) }
+// Keeps the stop time of a trip at its slot.
+fn keep(alloc: Global, stops: &mut [Stops], stop_time: &StopTime) -> Result<(), Memory>
+    requires { stop_time.now.trip < length stops.old }
+    ensures kept { OnOk result (map stops_seen stops.new ≡ slice_set (map stops_seen stops.old) stop_time.now.trip
+        (with_kept (slice_index_or (map stops_seen stops.old) stop_time.now.trip nothing_kept) (seen stop_time.now))) }
     ensures count { length stops.new ≡ length stops.old }
 {
-    stops[visit.trip].add(alloc, visit)
+    stops[stop_time.trip].add(alloc, stop_time)
 }
 
 // What the records that were read leave of each trip, by its slot.
@@ -100,7 +100,7 @@ impl<'a> RecordReader for StopTimes<'a> {
     ghost use Rattle.std.specs.Prelude.{ℕ, List, map};
     ghost use Rattle.desk_settings.specs.Entries.{Name};
     ghost use Rattle.feed_read.specs.Kept.{Kept, stops_seen, with_record_kept};
-    ghost use Rattle.feed_read.specs.Visits.{columns_in};
+    ghost use Rattle.feed_read.specs.StopTimes.{columns_in};
 
     type Columns = Columns;
 
@@ -118,7 +118,7 @@ impl<'a> RecordReader for StopTimes<'a> {
 
     ghost Leaves = { λ _ _ _ _ _ _. Unit {0} };
 
-    #[tactic(auto, unfolding(crate::specs::Visits::columns_in))]
+    #[tactic(auto, unfolding(crate::specs::StopTimes::columns_in))]
     fn columns(&self, header: &Row) -> Result<Columns, FeedFault> {
         let trip = column_in(Paper::StopTimes, Column::TripId, header)?;
         let arrival = column_in(Paper::StopTimes, Column::ArrivalTime, header)?;
@@ -145,16 +145,16 @@ impl<'a> RecordReader for StopTimes<'a> {
         let Some(trip) = self.names.number(name) else {
             return Ok(());
         };
-        let visit = visit_in(row, columns, number, trip)?;
-        keep(self.alloc, &mut self.stops, &visit)?;
+        let stop_time = stop_time_in(row, columns, number, trip)?;
+        keep(self.alloc, &mut self.stops, &stop_time)?;
         Ok(())
     }
 }
 
-/// What the file leaves of the visits of each of the trips of these names.
+/// What the file leaves of the stop times of each of the trips of these names.
 pub(crate) fn stops_in(alloc: Global, names: &Names, found: &Found) -> Result<Vec<Stops>, FeedFault>
     requires { IsWithinLimit found.now }
-    ensures keeps { Keeps (λ stops. stops.items) result (spec.visits_in names.now found.now) }
+    ensures keeps { Keeps (λ stops. stops.items) result (spec.stop_times_for names.now found.now) }
     ensures count { IfOk result (λ stops. length stops.items ≡ length names.now) }
 {
     let mut read = StopTimes {

@@ -2,7 +2,7 @@ use Rattle.std.proofs.Common.{Ok, Err, Global, Vec}
 use Rattle.std.proofs.lemmas.Result.{err_from_is_err_and}
 use Rattle.feed_read.specs.declared.stops.Stops.{Stops}
 use Rattle.feed_read.proofs.KeptLemmas.{keeps-file, AreKept-none}
-use Rattle.feed_read.proofs.visits.stops_in.Goals as goal
+use Rattle.feed_read.proofs.stop_times.stops_in.Goals as goal
 
 pub returns-in_err-read_records-clause-keeps : goal.returns-in_err-read_records-clause-keeps
 returns-in_err-read_records-clause-keeps c =

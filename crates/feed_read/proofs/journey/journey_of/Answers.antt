@@ -1,9 +1,0 @@
-use Rattle.std.proofs.Common.{sym, ap, ◌∙◌, Err}
-use Rattle.gtfs_tables.specs.declared.fault.FeedFault.TheVariants as fault
-use Rattle.feed_read.proofs.JourneyLemmas.{journey_of-repeated}
-use Rattle.feed_read.proofs.journey.journey_of.Goals as goal
-
-pub returns-then-stops-clause-gives : goal.returns-then-stops-clause-gives
-returns-then-stops-clause-gives c = λ visits are.
-    journey_of-repeated c.args.settings.now c.args.name.now c.args.class.now visits (sym are.repeated ∙ c.if-stops.true)
-    ∙ ap (λ name. Err (fault.DuplicateSequence name)) (sym c.in_ok-of.ensures)
