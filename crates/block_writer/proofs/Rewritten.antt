@@ -143,12 +143,12 @@ module _ (timetable : TimetableView) (base : ℕ) where
 
   -- a header that was read by itself is that of the table, if there is one
   abbrev IsHeaderOf : Fields → Result TableView FeedFault → Type 0
-  IsHeaderOf header paper_table = (table : TableView) → paper_table ≡ Ok table → ◌≡◌ {A = Result Fields FeedFault} (Ok table.header) (Ok header)
+  IsHeaderOf header paper_table = (table : TableView) → paper_table ≡ Ok table → table.header ≡ header
 
   header-told : (header : Fields) (start : List ℕ) (table : TableView) (read : Result (List ℕ) FeedFault) → IsHeaderOf header (Ok table) → start ≡ record_text header
       → stop_times_read header start table ≡ read → StopTimesTold table read
   header-told header start table read heads begins gives =
-      let same : table.header ≡ header = cc (heads table refl) in
+      let same = heads table refl in
       subst (StopTimesTold table) (ap (λ header. stop_times_read header (record_text header) table) same ∙ ap (λ start. stop_times_read header start table) (sym begins) ∙ gives) (stop-times-told table)
 
   -- the text of a paper is that of its table of texts

@@ -12,8 +12,7 @@ use crate::fields::{fields_of, place_of, text_of};
 use crate::texts::texts_of;
 use desk_io::{Bytes, Found, Memory, Text};
 use gtfs_tables::{
-    Column, FeedFault, Paper, RecordReader, RecordWriter, Row, judge_table, read_header,
-    read_records, read_time,
+    Column, FeedFault, Paper, RecordReader, RecordWriter, Row, read_header, read_records, read_time,
 };
 use std::alloc::Global;
 use trip_model::Timetable;
@@ -251,17 +250,6 @@ impl<'a> RecordReader for StopTimes<'a> {
     }
 }
 
-// Why a paper without a header that is read is no table, or want of memory.
-fn no_header(alloc: Global, found: &Found) -> FeedFault
-    requires { IsWithinLimit found.now }
-    ensures { result ≢ FeedFault.Memory → table_in Paper.StopTimes found.now ≡ Err result }
-{
-    match judge_table(alloc, Paper::StopTimes, found) {
-        Ok(()) => FeedFault::Memory,
-        Err(refused) => refused,
-    }
-}
-
 /// The text of `stop_times_blocks.txt`, made in one pass over `stop_times.txt` that keeps no record: its records in their
 /// order, each with as many fields as the header. In the records of a trip that runs and is shifted, in one of the first
 /// `base` slots, the times of arrival and departure are moved by its offset, and not below midnight; a field without a time
@@ -276,9 +264,7 @@ pub fn stop_times_text(
     ensures written { IfOk result (λ text. IsTextPaper (λ table. text ≡ spec.stop_times_written table timetable.now base) (table_in Paper.StopTimes found.now)) }
     ensures refused { IfErr result (λ refused. refused ≢ FeedFault.Memory → IsRefusedPaper Paper.StopTimes spec.stop_time_columns (table_in Paper.StopTimes found.now) refused) }
 {
-    let Ok(header) = read_header(alloc, Paper::StopTimes, found) else {
-        return Err(no_header(alloc, found));
-    };
+    let header = read_header(alloc, Paper::StopTimes, found)?;
     let mut records = RecordWriter::new(alloc);
     records.push(&fields_of(alloc, &header)?)?;
     let mut written = StopTimes {

@@ -145,9 +145,10 @@ pub fn read_records<R: RecordReader>(
     }
 }
 
-/// The header of a paper that is a table, by itself.
+/// The header of a paper by itself: that of its table, where it is one. Where it has none, it is refused as it is whole.
 pub fn read_header(alloc: Global, paper: Paper, found: &Found) -> Result<Row, FeedFault>
-    ensures { (table : TableView) → table_in paper found.now ≡ Ok table → Gives (λ header. header) result (Ok table.header) }
+    ensures header { IfOk result (λ header. (table : TableView) → table_in paper found.now ≡ Ok table → table.header ≡ header) }
+    ensures refused { IfErr result (λ refused. refused ≢ FeedFault.Memory → table_in paper found.now ≡ Err refused) }
 {
     let bytes = match found {
         Found::Missing => return Err(FeedFault::Missing(paper)),
