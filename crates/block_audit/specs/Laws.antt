@@ -1,5 +1,5 @@
 -- What stated blocks are.
-use Rattle.std.specs.Prelude.{◌≡◌, ◌≢◌, ℕ, ◌+◌, ◌<◌, Bool, List, [], length, slice_index_or}
+use Rattle.std.specs.Prelude.{◌≡◌, ◌≢◌, ℕ, ◌+◌, ◌<◌, Bool, List, [], length, slice_index_or, All, IfSome}
 use Rattle.gtfs_tables.specs.Table.{TableView}
 use Rattle.trip_model.specs.Blocking.{times, StandsOnce, IsBlock, IsBlocking, IsLeast, slots_in, empty_minutes}
 use Rattle.trip_model.specs.Network.{Network}
@@ -8,6 +8,7 @@ use Rattle.deadhead_matrix.specs.Matrix.{MatrixView}
 use Rattle.price_check.specs.Claim.{network_of}
 use Rattle.block_audit.specs.declared.cost.Above.{Above}
 use Rattle.block_audit.specs.declared.cost.Above.TheVariants.{Nothing, Vehicles, Minutes}
+use Rattle.block_audit.specs.declared.misfit.Misfit.{Misfit}
 use Rattle.block_audit.specs.Above.{above_by}
 use Rattle.block_audit.specs.Misfits.{misfits_in}
 use Rattle.block_audit.specs.Stated.{NamedBlock, slots_by, stated_in}
@@ -31,6 +32,15 @@ HaveNoMisfit =
     (timetable : TimetableView) (matrix : MatrixView) (stated : List NamedBlock)
     → IsBlocking (network_of timetable matrix) (slots_by stated)
     → misfits_in timetable matrix stated ≡ []
+
+-- where a way leads from one trip of a misfit to the other, a vehicle comes too late by more than no minutes
+abbrev pub IsLate : Misfit → Type 0
+IsLate misfit = IfSome misfit.short (λ minutes. 0 < minutes)
+
+abbrev pub AreLate : Type 0
+AreLate =
+    (trips : TableView) (timetable : TimetableView) (chosen : List Bool) (matrix : MatrixView)
+    → All IsLate (misfits_in timetable matrix (stated_in trips timetable chosen))
 
 -- where the trips of a stated block can be made one after the other in some order, that is the order in which they stand
 abbrev pub StandInOrder : Type 0

@@ -4,11 +4,13 @@ ghost use Rattle.block_audit.specs.Laws as spec;
 use deadhead_matrix::laws::deadhead_law;
 use trip_model::laws::plain_law;
 
-/// Each trip that runs stands in the stated blocks once. They are a blocking exactly where there is no misfit.
+/// Each trip that runs stands in the stated blocks once. They are a blocking exactly where there is no misfit; and of a misfit
+/// with a way between its trips a vehicle comes too late by more than no minutes.
 pub fn blocking_law()
     ensures stands { spec.EachStands }
     ensures blocking { spec.AreBlocking }
     ensures fitting { spec.HaveNoMisfit }
+    ensures late { spec.AreLate }
 {}
 
 /// Where the trips of a stated block can be made one after the other in some order, that is the order in which they stand.

@@ -1,3 +1,4 @@
+use Rattle.block_audit.proofs.Lateness.{are-late}
 use Rattle.block_audit.proofs.StatedLemmas.{each-stands, are-blocking, have-no-misfit}
 use Rattle.block_audit.proofs.laws.blocking_law.Goals as goal
 
@@ -9,3 +10,6 @@ returns-clause-blocking c = are-blocking
 
 pub returns-clause-fitting : goal.returns-clause-fitting
 returns-clause-fitting c = have-no-misfit
+
+pub returns-clause-late : goal.returns-clause-late
+returns-clause-late c = are-late
