@@ -59,7 +59,6 @@ module _ (base t : TimetableView) (on : StaysOn base t) where
   with_trip-on : (s : ℕ) (trip : Trip) → (s < length base.slots → IsSameTrip (slot_at t s).trip trip × (trip.departs < trip.ends)) → StaysOn base (with_trip t s trip)
   with_trip-on s trip stays = record {
     follows = record {
-      places = on.follows.places;
       names = ap (take (length base.slots)) (map-set_same (λ (q : Slot). q.name) t.slots s (record (slot_at t s) { trip = trip }) _ refl) ∙ on.follows.names;
       trips = λ n within. at n within (λ now. IsSameTrip (slot_at base n).trip now) (on.follows.trips n within)
           (λ e. same-then (slot_at base n).trip (slot_at t s).trip trip (subst (λ k. IsSameTrip (slot_at base n).trip (slot_at t k).trip) e (on.follows.trips n within)) (stays (omega (arith, within, e))).0);
@@ -82,7 +81,6 @@ module _ (base t : TimetableView) (on : StaysOn base t) where
       let some = enough base t on.follows in
       record {
         follows = record {
-          places = on.follows.places;
           names = ap (take (length base.slots)) (map-append (λ (q : Slot). q.name) t.slots (slot ∷ []))
               ∙ take-append-le (length base.slots) (slot_names t) (name ∷ []) (omega (arith, some, length-map t.slots (λ (q : Slot). q.name))) ∙ on.follows.names;
           trips = λ n within. subst (λ (q : Slot). IsSameTrip (slot_at base n).trip q.trip) (sym (get_or_append_left t.slots (slot ∷ []) _ n (omega (arith, some, within)))) (on.follows.trips n within);
@@ -162,7 +160,6 @@ records-on base t (r ∷ records) on = records-on base (after_record t r) record
 itself : (base : TimetableView) → AreForward base → StaysOn base base
 itself base forward = record {
   follows = record {
-    places = refl;
     names = take_all (length base.slots) (slot_names base) (omega (arith, length-map base.slots (λ (s : Slot). s.name)));
     trips = λ s within. same-trip (slot_at base s).trip;
   };
