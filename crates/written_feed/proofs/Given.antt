@@ -14,7 +14,7 @@ use Rattle.desk_run.specs.Outcome.{OutcomeView}
 use Rattle.desk_run.specs.Reading.{ReadView}
 use Rattle.desk_feed.specs.Feed.{Said}
 use Rattle.desk_feed.specs.Judging.{IsGivenOf, refusing}
-use Rattle.trip_model.specs.Timetable.{TimetableView}
+use Rattle.trip_model.specs.Timetable.{TimetableView, IsTimetable}
 use Rattle.deadhead_matrix.specs.Matrix.{MatrixView}
 use Rattle.desk_feed.specs.declared.script.Edited.{Edited}
 use Rattle.desk_feed.specs.Edited.{IsEdited}
@@ -120,6 +120,8 @@ written-given read said matrix edited timetable base table text is stands same c
       matrix_is = is;
       plan = written.plan;
       blocks = written.blocks;
+      valid = subst IsTimetable stands.timetable written.valid;
+      text = written.text;
       scheduled = subst (λ (t : TimetableView). IsScheduled t matrix written.plan written.blocks) stands.timetable written.scheduled;
       done = written.done ∙ (λ i. record {
         writes = files_of said.settings (stands.timetable i) written.blocks table ((made ∙ (λ j. stop_times_written second ((same ∙ stands.timetable) j) (count j))) i);

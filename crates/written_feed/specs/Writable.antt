@@ -1,10 +1,11 @@
 -- The parts of what `write` does: terms of the functions inside.
 use Rattle.std.specs.Prelude.{◌≡◌, ◌⊎◌, ℕ, List, ◌++◌, None, Result}
+use Rattle.std.specs.Str.{IsUtf8}
 use Rattle.gtfs_tables.specs.Table.{TableView}
 use Rattle.gtfs_tables.specs.declared.fault.FeedFault.{FeedFault}
 use Rattle.gtfs_tables.specs.declared.paper.Paper.TheVariants as paper
 use Rattle.desk_settings.specs.Settings.{SettingsView}
-use Rattle.trip_model.specs.Timetable.{TimetableView}
+use Rattle.trip_model.specs.Timetable.{TimetableView, IsTimetable}
 use Rattle.deadhead_matrix.specs.Matrix.{MatrixView}
 use Rattle.deadhead_matrix.specs.Prices.{Plan}
 use Rattle.block_writer.specs.StopTimes.{stop_time_columns, stop_times_written}
@@ -24,10 +25,12 @@ IsWritable settings timetable base trips stop_times (Texts table text) =
 IsWritable settings timetable base trips stop_times (Refused outcome) =
     IsRefusal paper.Trips (trip_columns settings) trips outcome ⊎ IsTextPaper (λ first. IsRefusal paper.StopTimes stop_time_columns stop_times outcome) trips
 
--- the outcome of a timetable after its script
+-- the outcome of a timetable after its script, with a prefix that is text
 pub record IsWrittenOf (settings : SettingsView) (matrix : MatrixView) (edited : Edited) (trips : TableView) (stop_times : List ℕ) (outcome : OutcomeView) : Type 0 where
   pub plan : Plan
   pub blocks : List (List ℕ)
+  pub valid : IsTimetable edited.script.timetable
+  pub text : IsUtf8 settings.prefix
   pub scheduled : IsScheduled edited.script.timetable matrix plan blocks
   pub done : outcome ≡ record {
     writes = files_of settings edited.script.timetable blocks trips stop_times;

@@ -1,5 +1,6 @@
 -- What `write` asks, and what it writes of a feed.
 use Rattle.std.specs.Prelude.{◌≡◌, ◌⊎◌, ℕ, Bool, false, List, [], ◌∷◌, ◌++◌, length, map, None, Result, Ok, Err, codes, if◌then◌else◌}
+use Rattle.std.specs.Str.{IsUtf8}
 use Rattle.gtfs_tables.specs.Reading.{table_in}
 use Rattle.gtfs_tables.specs.Table.{TableView}
 use Rattle.gtfs_tables.specs.declared.fault.FeedFault.{FeedFault}
@@ -8,7 +9,7 @@ use Rattle.gtfs_tables.specs.declared.paper.Column.TheVariants as column
 use Rattle.gtfs_tables.specs.declared.paper.Paper.{Paper}
 use Rattle.gtfs_tables.specs.declared.paper.Paper.TheVariants as paper
 use Rattle.desk_settings.specs.Settings.{SettingsView, is_chosen, is_classed}
-use Rattle.trip_model.specs.Timetable.{TimetableView}
+use Rattle.trip_model.specs.Timetable.{TimetableView, IsTimetable}
 use Rattle.deadhead_matrix.specs.Matrix.{MatrixView}
 use Rattle.deadhead_matrix.specs.Prices.{Plan}
 use Rattle.block_writer.specs.Fields.{field_at, place_of}
@@ -63,13 +64,15 @@ files_of settings timetable blocks trips stop_times =
 abbrev pub feed_files : Said → TableView → TableView → List (List ℕ) → List Writing
 feed_files said trips stop_times blocks = files_of said.settings (standing said) blocks trips (stop_times_written stop_times (standing said) (length said.base.slots))
 
--- The files are those of the blocks of a certified plan, which are least over all blockings of the timetable after the script;
--- and the lines of refused records are put, and then that the files were written.
+-- The files are those of the blocks of a certified plan, which are least over all blockings of the timetable after the script,
+-- a valid one, and their names begin with a text; and the lines of refused records are put, and then that the files were written.
 pub record IsWritten (said : Said) (trips stop_times : TableView) (outcome : OutcomeView) : Type 0 where
   pub matrix : MatrixView
   pub matrix_is : IsMatrixFor said matrix
   pub plan : Plan
   pub blocks : List (List ℕ)
+  pub valid : IsTimetable (standing said)
+  pub text : IsUtf8 said.settings.prefix
   pub scheduled : IsScheduled (standing said) matrix plan blocks
   pub done : outcome ≡ record { writes = feed_files said trips stop_times blocks; lines = None; text = refused_of said ++ written_line; ending = ending_of said }
 

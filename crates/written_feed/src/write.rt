@@ -104,6 +104,9 @@ fn written<L: Ledger>(
     ensures counted { steps.new ≤ steps.old + most_steps (length edited.now.script.timetable.slots) }
 {
     let timetable = edited.script.timetable();
+    // Their clauses say that the timetable is valid and that the prefix is text.
+    let _slots = timetable.slots();
+    let _prefix = settings.prefix().as_bytes();
     let schedule = schedule_of(alloc, timetable, matrix, steps)?;
     let blocks = &schedule.blocks;
     let writes = files(alloc, settings, timetable, blocks, trips, stop_times)?;

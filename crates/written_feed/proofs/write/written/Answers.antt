@@ -1,5 +1,6 @@
 use Rattle.std.proofs.Common.{◌++◌, None, ap, subst, ◌∙◌}
-use Rattle.trip_model.specs.Timetable.{TimetableView}
+use Rattle.std.specs.Str.{IsUtf8}
+use Rattle.trip_model.specs.Timetable.{TimetableView, IsTimetable}
 use Rattle.desk_feed.specs.Schedule.{IsScheduled}
 use Rattle.written_feed.specs.Write.{files_of, written_line}
 use Rattle.written_feed.proofs.write.written.Goals as goal
@@ -15,6 +16,8 @@ returns-clause-written g c =
     record {
       plan = plan;
       blocks = made;
+      valid = subst IsTimetable stands c.slots-slots.ensures.valid;
+      text = subst IsUtf8 (c.as_bytes-prefix.ensures.value ∙ c.prefix.ensures) c.as_bytes-prefix.ensures.utf8;
       scheduled = subst (λ (t : TimetableView). IsScheduled t c.args.matrix.now plan made) stands c.in_ok-schedule.ensures.scheduled;
       done = c.of.ensures ∙ (λ i. record { writes = writes i; lines = None; text = text i; ending = edited.ending });
     }
