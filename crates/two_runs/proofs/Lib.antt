@@ -1,1 +1,5 @@
+pub mod AuditedLemmas
 pub mod ConfirmedLemmas
+pub mod DeadheadsOver
+pub mod LaidLemmas
+pub mod WrittenAudited

@@ -1,14 +1,20 @@
-//! Runs one after the other over the same shelf.
+//! Runs one after the other.
 //!
-//! [`run_blocks_and_check`] is `blocks` and then `check`, which says yes to what was written.
+//! [`run_blocks_and_check`] is `blocks`, and then `check` over the same shelf, which says yes to what was written.
+//! [`run_write_and_audit`] is `write`, and then `audit` over a shelf on which the written feed is laid, which finds the written
+//! blocks least.
 //!
 //! ```text
 //! let (first, second) = run_blocks_and_check(alloc, shelf, out, keeper, steps);
+//! let (first, second) = run_write_and_audit(alloc, shelf, laid, out, keeper, steps);
 //! ```
 //!
-//! The contracts cite `Confirmed`; of `desk_commands` `Blocks`, and of `plan_commands` `Check`.
+//! The contracts cite `Confirmed` and `Audited`; of `desk_commands` `Blocks`, of `plan_commands` `Check`, of `written_feed`
+//! `Write`, and of `audit_commands` `Audit`.
 #![tactic(auto)]
 
+mod audited;
 mod confirmed;
 
+pub use audited::run_write_and_audit;
 pub use confirmed::run_blocks_and_check;

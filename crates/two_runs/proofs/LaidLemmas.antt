@@ -1,0 +1,226 @@
+-- What is written of a feed, and what the files say when it is laid.
+use Rattle.std.proofs.Common.{◌≡◌, ◌≢◌, inl, inr, ℕ, ◌≤◌, Bool, true, false, cond, nat_le, List, [], ◌∷◌, length, Option, Some, None, Result, Ok, Err, refl, sym, ap, subst, ◌∙◌, arith}
+use Rattle.std.specs.Prelude.{option_map, if◌then◌else◌}
+use Rattle.std.proofs.lemmas.Bool.{leb-true}
+use Rattle.std.proofs.lemmas.Cmp.{nat_list_cmp_total}
+use Rattle.std.specs.Cmp.Lexicographic.{slice_cmp}
+use Rattle.std.specs.FinMap.{get, insert, get-insert}
+use Rattle.std.specs.Ordering.{eq_by_cmp, nat_cmp}
+use Rattle.desk_io.specs.Shelf.{Files, ShelfState, found_as}
+use Rattle.desk_io.specs.declared.shelf.Found.{Found}
+use Rattle.desk_io.specs.declared.shelf.Found.TheVariants.{File, Missing, TooLong}
+use Rattle.gtfs_tables.specs.Papers.{file_name_of}
+use Rattle.gtfs_tables.specs.Reading.{◌>>=◌, or_refused, table_in}
+use Rattle.gtfs_tables.specs.Records.{records}
+use Rattle.gtfs_tables.specs.Table.{TableView, IsTable, body_of, table_from, table_of, with_header}
+use Rattle.gtfs_tables.specs.declared.fault.FeedFault.{FeedFault}
+use Rattle.gtfs_tables.specs.declared.paper.Paper.{Paper}
+use Rattle.gtfs_tables.specs.declared.paper.Paper.TheVariants as paper
+use Rattle.gtfs_tables.specs.declared.paper.TheConstants.{MOST_BYTES}
+use Rattle.gtfs_tables.specs.declared.table.TableFault.{TableFault}
+use Rattle.gtfs_tables.proofs.Body.{body-rows}
+use Rattle.gtfs_tables.proofs.CsvRecords.{length-records-le}
+use Rattle.desk_settings.specs.Settings.{SettingsView, settings_of}
+use Rattle.trip_model.specs.Timetable.{TimetableView}
+use Rattle.edit_script.specs.declared.edit.Line.{Line}
+use Rattle.deadhead_matrix.specs.declared.entry.Entry.{Entry}
+use Rattle.deadhead_matrix.specs.declared.pulls.Pull.{Pull}
+use Rattle.deadhead_matrix.specs.Deadheads.{deadheads_of}
+use Rattle.deadhead_matrix.specs.Depot.{pulls_of}
+use Rattle.claim_files.proofs.EachRecord.{read-parts, same_Ok}
+use Rattle.claim_files.proofs.FieldsBack.{then as and_then}
+use Rattle.desk_run.specs.Becomes.{with_writings}
+use Rattle.desk_run.specs.Commands.{IsGiven}
+use Rattle.desk_run.specs.Outcome.{OutcomeView, status_of}
+use Rattle.desk_run.specs.Reading.{ReadView, found_of, pages_in}
+use Rattle.desk_run.specs.declared.status.TheConstants.{EDITS_REFUSED}
+use Rattle.desk_feed.specs.Feed.{Said, deadheads_in, feed_papers, kept_on, lines_by, lines_in, pulls_in, said_by, said_with, settings_in, standing, timetable_in}
+use Rattle.desk_feed.specs.Judging.{Does, refusing, said_in}
+use Rattle.block_writer.specs.StopTimes.{stop_times_written}
+use Rattle.block_writer.specs.Trips.{trips_written}
+use Rattle.written_feed.specs.Write.{IsWritten, Writes, WritesBy, chosen_in, feed_files, files_of, stop_times_in, stop_times_name, trips_in, trips_name, write_asked}
+use Rattle.two_runs.specs.Audited.{IsLaid}
+use Rattle.two_runs.proofs.DeadheadsOver.{deadheads-over, slots-kept, with_slots}
+
+-- what is read of bytes that are not too many is a table
+headed : (bytes : List ℕ) (header : List (List ℕ)) (rows : List (List (List ℕ))) (table : TableView) → records bytes ≡ header ∷ rows → length bytes ≤ MOST_BYTES
+    → (body : Result (List (List (List ℕ))) TableFault) → body_of (length header) rows ≡ body → with_header header body ≡ Ok table → IsTable table
+headed bytes header rows table split short (Ok body) is e =
+    let same : record { header = header; rows = body } ≡ table = cc in
+    let all = body-rows (length header) rows body is in
+    subst IsTable same (record { width = all.0; count = omega (arith, all.1, length-records-le bytes, ap length split, short) })
+headed bytes header rows table split short (Err refused) is e = absurd (cc)
+
+pub is-table : (bytes : List ℕ) (table : TableView) → table_of bytes ≡ Ok table → length bytes ≤ MOST_BYTES → IsTable table
+is-table bytes table e short = by (records bytes) refl e
+  where
+    by : (all : List (List (List ℕ))) → records bytes ≡ all → table_from all ≡ Ok table → IsTable table
+    by [] split e = absurd (cc)
+    by (header ∷ rows) split e = headed bytes header rows table split short (body_of (length header) rows) refl e
+
+-- a paper that is a table is a file, of no more bytes than a file may have
+pub record IsFileOf (found : Found) (table : TableView) : Type 0 where
+  pub bytes : List ℕ
+  pub is : found ≡ File bytes
+  pub reads : table_of bytes ≡ Ok table
+
+read-as : (paper : Paper) (table : TableView) (read : Result TableView TableFault) → or_refused paper read ≡ Ok table → read ≡ Ok table
+read-as paper table (Ok read) e = ap Ok (same_Ok read table e)
+read-as paper table (Err refused) e = absurd (cc)
+
+pub file-of : (paper : Paper) (found : Found) (table : TableView) → table_in paper found ≡ Ok table → IsFileOf found table
+file-of paper (File bytes) table e = record { bytes = bytes; is = refl; reads = read-as paper table (table_of bytes) e }
+file-of paper Missing table e = absurd (cc)
+file-of paper TooLong table e = absurd (cc)
+
+pub found-fits : (stands : Option (List ℕ)) (bytes : List ℕ) → found_as MOST_BYTES stands ≡ File bytes → length bytes ≤ MOST_BYTES
+found-fits None bytes e = absurd (cc)
+found-fits (Some stands) bytes e = by (nat_le (length stands) MOST_BYTES) refl e
+  where
+    by : (fits : Bool) → nat_le (length stands) MOST_BYTES ≡ fits → (if fits then File stands else TooLong) ≡ File bytes → length bytes ≤ MOST_BYTES
+    by true fits e = let same : stands ≡ bytes = cc in omega (arith, leb-true (length stands) MOST_BYTES fits, ap length same)
+    by false fits e = absurd (cc)
+
+-- a file that is there and not too long is found
+pub found-short : (bytes : List ℕ) → found_as MOST_BYTES (Some bytes) ≢ TooLong → found_as MOST_BYTES (Some bytes) ≡ File bytes
+found-short bytes short = by (nat_le (length bytes) MOST_BYTES) short
+  where
+    by : (fits : Bool) → (if fits then File bytes else TooLong) ≢ TooLong → (if fits then File bytes else TooLong) ≡ File bytes
+    by true short = refl
+    by false short = absurd (short refl)
+
+-- the parts of what a feed says, between whose places its trips run as they were read
+pub record HasParts (found : Paper → Found) (said : Said) : Type 0 where
+  pub settings : SettingsView
+  pub read : TimetableView
+  pub more : TimetableView
+  pub entries : List Entry
+  pub pulls : List Pull
+  pub lines : List Line
+  pub settings_are : settings_in found ≡ Ok settings
+  pub read_is : timetable_in found settings ≡ Ok read
+  pub deadheads_are : deadheads_in found read ≡ Ok (with_slots read.slots more, entries)
+  pub pulls_are : pulls_in found more ≡ Ok pulls
+  pub said_is : said ≡ said_with settings (with_slots read.slots more) entries pulls lines
+
+pub has-parts : (found : Paper → Found) (said : Said) → said_by found ≡ Ok said → HasParts found said
+unfolding said_by
+has-parts found said e =
+    let settings = read-parts (settings_in found) _ said e in
+    let read = read-parts (timetable_in found settings.0) _ said settings.2 in
+    let deadheads = read-parts (deadheads_in found read.0) _ said read.2 in
+    let pulls = read-parts (pulls_in found deadheads.0.0) _ said deadheads.2 in
+    let lines = read-parts (lines_in found) _ said pulls.2 in
+    let kept = slots-kept (found paper.Deadheads) read.0 deadheads.0 deadheads.1 in
+    record {
+      settings = settings.0;
+      read = read.0;
+      more = deadheads.0.0;
+      entries = deadheads.0.1;
+      pulls = pulls.0;
+      lines = lines.0;
+      settings_are = settings.1;
+      read_is = read.1;
+      deadheads_are = deadheads.1 ∙ ap (λ t. Ok (t, deadheads.0.1)) kept;
+      pulls_are = pulls.1;
+      said_is = sym (same_Ok _ said lines.2) ∙ ap (λ t. said_with settings.0 t deadheads.0.1 pulls.0 lines.0) kept;
+    }
+
+-- the papers beside the trips, the stop times and the script are found as before
+pub record AreFoundAlike (one other : Paper → Found) : Type 0 where
+  pub settings : one paper.Settings ≡ other paper.Settings
+  pub terminals : one paper.Terminals ≡ other paper.Terminals
+  pub tolerances : one paper.Tolerances ≡ other paper.Tolerances
+  pub calendar : one paper.Calendar ≡ other paper.Calendar
+  pub dates : one paper.CalendarDates ≡ other paper.CalendarDates
+  pub deadheads : one paper.Deadheads ≡ other paper.Deadheads
+  pub depot : one paper.Depot ≡ other paper.Depot
+
+-- papers found so, with a timetable of other trips and without a script, say this
+pub says-again : (one other : Paper → Found) (said : Said) → AreFoundAlike one other → (parts : HasParts other said) (again : TimetableView) → timetable_in one parts.settings ≡ Ok again
+    → again ≡ with_slots again.slots parts.read → one paper.Edits ≡ Missing
+    → said_by one ≡ Ok (said_with parts.settings (with_slots again.slots parts.more) parts.entries parts.pulls [])
+unfolding said_by
+says-again one other said alike parts again read is no_script =
+    and_then (settings_in one) parts.settings _ _
+    ((λ i. settings_of (alike.settings i) (alike.terminals i) (alike.tolerances i) >>= λ s. kept_on (alike.calendar i) (alike.dates i) s s.date) ∙ parts.settings_are)
+    (and_then (timetable_in one parts.settings) again _ _ read
+    (and_then (deadheads_in one again) (with_slots again.slots parts.more, parts.entries) _ _
+    ((λ i. deadheads_of (alike.deadheads i) (is i)) ∙ deadheads-over again.slots (other paper.Deadheads) parts.read (with_slots parts.read.slots parts.more, parts.entries) parts.deadheads_are)
+    (and_then (pulls_in one (with_slots again.slots parts.more)) parts.pulls _ _ (ap (λ depot. pulls_of depot parts.more) alike.depot ∙ parts.pulls_are)
+    (and_then (lines_in one) [] _ _ (ap lines_by no_script) refl))))
+
+-- what a run of `write` has written that has done all
+pub record HasWritten (said : Said) (trips stop_times : Result TableView FeedFault) (outcome : OutcomeView) : Type 0 where
+  pub first : TableView
+  pub second : TableView
+  pub first_is : trips ≡ Ok first
+  pub second_is : stop_times ≡ Ok second
+  pub written : IsWritten said first second outcome
+
+refused-high : (outcome : OutcomeView) (refused : FeedFault) → status_of outcome.ending ≤ EDITS_REFUSED → outcome ≡ refusing refused → ⊥
+refused-high outcome refused low done = omega (arith, low, ap (λ (o : OutcomeView). status_of o.ending) done)
+
+has-written : (said : Said) (trips stop_times : Result TableView FeedFault) (outcome : OutcomeView) → status_of outcome.ending ≤ EDITS_REFUSED → WritesBy said trips stop_times outcome
+    → HasWritten said trips stop_times outcome
+has-written said trips stop_times outcome low (inl bad) = absurd (refused-high outcome bad.refused low bad.done)
+has-written said (Err due) stop_times outcome low (inr (inl none)) = absurd none
+has-written said (Err due) stop_times outcome low (inr (inr none)) = absurd none
+has-written said (Ok first) stop_times outcome low (inr (inl bad)) = absurd (refused-high outcome bad.1.refused low bad.1.done)
+has-written said (Ok first) (Err due) outcome low (inr (inr does)) = absurd does.1
+has-written said (Ok first) (Ok second) outcome low (inr (inr does)) = record { first = first; second = second; first_is = refl; second_is = refl; written = does.1.1 }
+
+pub written-said : (read : ReadView) (outcome : OutcomeView) → IsGiven write_asked read outcome → status_of outcome.ending ≤ EDITS_REFUSED
+    → (said : Said) × (said_in read ≡ Ok said) × HasWritten said (trips_in read) (stop_times_in read) outcome
+unfolding write_asked
+written-said read outcome given low = by (said_in read) refl given.gives
+  where
+    by : (result : Result Said FeedFault) → said_in read ≡ result → Does (Writes read) result outcome → (said : Said) × (said_in read ≡ Ok said) × HasWritten said (trips_in read) (stop_times_in read) outcome
+    by (Ok said) is does = (said, is, has-written said (trips_in read) (stop_times_in read) outcome low does)
+    by (Err refused) is does = absurd (refused-high outcome refused low does)
+
+-- the texts of the two files
+abbrev pub trips_of : Said → TableView → List (List ℕ) → List ℕ
+trips_of said trips blocks = trips_written trips (standing said) (chosen_in said.settings trips) blocks said.settings.prefix
+
+abbrev pub stop_times_of : Said → TableView → List ℕ
+stop_times_of said stop_times = stop_times_written stop_times (standing said) (length said.base.slots)
+
+-- the files of a shelf with the two, and where the shelf tells them
+abbrev pub with_both : Files → List ℕ → List ℕ → Files
+with_both files trips stop_times = insert (insert files trips_name trips) stop_times_name stop_times
+
+abbrev pub with_texts : List ℕ → List ℕ → Option Files → Option Files
+with_texts trips stop_times files = option_map (λ files. insert files stop_times_name stop_times) (option_map (λ files. insert files trips_name trips) files)
+
+pub written-files : (said : Said) (first second : TableView) (blocks : List (List ℕ)) (shelf : ShelfState)
+    → (with_writings (feed_files said first second blocks) shelf).files ≡ with_texts (trips_of said first blocks) (stop_times_of said second) shelf.files
+unfolding files_of
+written-files said first second blocks shelf = refl
+
+module _ (files : Files) (trips stop_times : List ℕ) where
+  kept : (name : List ℕ) → eq_by_cmp (slice_cmp nat_cmp) name stop_times_name ≡ false → eq_by_cmp (slice_cmp nat_cmp) name trips_name ≡ false → get (with_both files trips stop_times) name ≡ get files name
+  kept name other_than other =
+      get-insert nat_list_cmp_total (insert files trips_name trips) stop_times_name stop_times name
+      ∙ ap (λ b. cond b (Some stop_times) (get (insert files trips_name trips) name)) other_than
+      ∙ get-insert nat_list_cmp_total files trips_name trips name
+      ∙ ap (λ b. cond b (Some trips) (get files name)) other
+
+  pub trips-stand : get (with_both files trips stop_times) trips_name ≡ Some trips
+  trips-stand =
+      get-insert nat_list_cmp_total (insert files trips_name trips) stop_times_name stop_times trips_name
+      ∙ get-insert nat_list_cmp_total files trips_name trips trips_name
+
+  pub stop_times-stand : get (with_both files trips stop_times) stop_times_name ≡ Some stop_times
+  stop_times-stand = get-insert nat_list_cmp_total (insert files trips_name trips) stop_times_name stop_times stop_times_name
+
+  pub laid-alike : (laid : Files) → IsLaid (with_both files trips stop_times) laid → AreFoundAlike (found_of (pages_in feed_papers laid)) (found_of (pages_in feed_papers files))
+  laid-alike laid is = record {
+    settings = ap (found_as MOST_BYTES) (is.others.0 ∙ kept (file_name_of paper.Settings) refl refl);
+    terminals = ap (found_as MOST_BYTES) (is.others.1.0 ∙ kept (file_name_of paper.Terminals) refl refl);
+    tolerances = ap (found_as MOST_BYTES) (is.others.1.1.0 ∙ kept (file_name_of paper.Tolerances) refl refl);
+    calendar = ap (found_as MOST_BYTES) (is.others.1.1.1.0 ∙ kept (file_name_of paper.Calendar) refl refl);
+    dates = ap (found_as MOST_BYTES) (is.others.1.1.1.1.0 ∙ kept (file_name_of paper.CalendarDates) refl refl);
+    deadheads = ap (found_as MOST_BYTES) (is.others.1.1.1.1.1.0 ∙ kept (file_name_of paper.Deadheads) refl refl);
+    depot = ap (found_as MOST_BYTES) (is.others.1.1.1.1.1.1.0 ∙ kept (file_name_of paper.Depot) refl refl);
+  }

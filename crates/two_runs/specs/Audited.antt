@@ -1,0 +1,84 @@
+-- `write`, and then `audit` over the written feed.
+use Rattle.std.specs.Prelude.{◌≡◌, ◌≢◌, ℕ, ◌≤◌, List, [], ◌∷◌, ◌++◌, length, IfSome, Option, None, Ok, codes}
+use Rattle.std.specs.FinMap.{get}
+use Rattle.std.specs.List.{AllByRecursion}
+use Rattle.csv.specs.Reading.{strip_bom}
+use Rattle.desk_io.specs.Shelf.{Files, ShelfState, found_in}
+use Rattle.desk_io.specs.Sink.{SinkState, put_bytes}
+use Rattle.desk_io.specs.declared.shelf.Found.TheVariants.{TooLong}
+use Rattle.gtfs_tables.specs.Papers.{file_name_of}
+use Rattle.gtfs_tables.specs.Reading.{table_in}
+use Rattle.gtfs_tables.specs.Table.{TableView}
+use Rattle.gtfs_tables.specs.declared.paper.Paper.{Paper}
+use Rattle.gtfs_tables.specs.declared.paper.Paper.TheVariants as paper
+use Rattle.gtfs_tables.specs.declared.paper.TheConstants.{MOST_BYTES}
+use Rattle.round_trip.specs.Written.{AreWritable}
+use Rattle.stated_again.specs.Planned.{AllRun}
+use Rattle.desk_keeper.specs.Keeper.{KeeperState}
+use Rattle.desk_run.specs.Performs.{Performs}
+use Rattle.desk_run.specs.Reading.{found_of, pages_in}
+use Rattle.desk_run.specs.World.{World}
+use Rattle.desk_run.specs.declared.status.TheConstants.{DONE, EDITS_REFUSED, NO}
+use Rattle.desk_feed.specs.Feed.{Said, feed_papers, said_by, standing}
+use Rattle.written_feed.specs.Write.{stop_times_name, trips_name, write_asked}
+use Rattle.audit_commands.specs.Audit.{audit_asked}
+use Rattle.audit_commands.specs.Lines.{cost_line}
+
+-- the papers of a feed beside its trips, its stop times and its script
+abbrev pub other_papers : List Paper
+other_papers = paper.Settings ∷ paper.Terminals ∷ paper.Tolerances ∷ paper.Calendar ∷ paper.CalendarDates ∷ paper.Deadheads ∷ paper.Depot ∷ []
+
+-- The written feed is laid: what was written stands under the names of the trips and of the stop times, there is no script, and
+-- every other paper stands as it did.
+pub record IsLaid (written laid : Files) : Type 0 where
+  pub trips : get laid (file_name_of paper.Trips) ≡ get written trips_name
+  pub stop_times : get laid (file_name_of paper.StopTimes) ≡ get written stop_times_name
+  pub edits : get laid (file_name_of paper.Edits) ≡ None
+  pub others : AllByRecursion (λ p. get laid (file_name_of p) ≡ get written (file_name_of p)) other_papers
+
+-- a written file is not longer than a file may be, and does not begin with a byte-order mark
+pub record IsReadable (written : Files) (name : List ℕ) : Type 0 where
+  pub short : found_in written name MOST_BYTES ≢ TooLong
+  pub unmarked : IfSome (get written name) (λ bytes. strip_bom bytes ≡ bytes)
+
+-- the script of a feed adds no trip and leaves none cancelled, and moves no time to 100:00:00 or later
+pub record IsWholeAfter (said : Said) (stop_times : TableView) : Type 0 where
+  pub no_extras : length (standing said).slots ≡ length said.base.slots
+  pub runs : AllRun (standing said)
+  pub times : AreWritable stop_times (standing said) (length said.base.slots)
+
+-- what is written of such a feed can be audited
+pub record CanBeAudited (files written : Files) : Type 0 where
+  pub trips : IsReadable written trips_name
+  pub stop_times : IsReadable written stop_times_name
+  pub whole : (said : Said) (stop_times : TableView) → said_by (found_of (pages_in feed_papers files)) ≡ Ok said
+      → table_in paper.StopTimes (found_in files (file_name_of paper.StopTimes) MOST_BYTES) ≡ Ok stop_times → IsWholeAfter said stop_times
+
+-- the text of an audit that finds blocks least, which have so many vehicles and empty minutes
+abbrev pub least_text : ℕ → ℕ → List ℕ
+least_text vehicles minutes = cost_line vehicles minutes ++ (codes "least " ++ (cost_line vehicles minutes ++ (codes "least" ++ 10 ∷ [])))
+
+-- a run of `audit` finds them least: it says so, and nothing else
+pub record FindsLeast (before after : SinkState) (status : ℕ) : Type 0 where
+  pub vehicles : ℕ
+  pub minutes : ℕ
+  pub done : status ≡ DONE
+  pub put : after ≡ put_bytes (least_text vehicles minutes) before
+
+-- Where the first run has written all, also where it refused edits, the written feed is laid and can be audited, and the second
+-- came to its end, it is so.
+abbrev pub FindsWrittenLeast : Option Files → Option Files → Option Files → SinkState → SinkState → ℕ → ℕ → Type 0
+FindsWrittenLeast files written laid before after first second =
+    first ≤ EDITS_REFUSED → second ≤ NO
+    → IfSome files (λ files. IfSome written (λ written. IfSome laid (λ laid. IsLaid written laid → CanBeAudited files written → FindsLeast before after second)))
+
+-- The first run is one of `write`, which leaves this shelf, and the second one of `audit` over another, which begins with sink
+-- and keeper as the first has left them: each of the two is all that the command promises when it runs alone. And the second
+-- finds least what the first has written.
+pub record WritesAndAudits (before : World) (written laid : ShelfState) (after : World) (first second old new : ℕ) : Type 0 where
+  pub sink : SinkState
+  pub keeper : KeeperState
+  pub steps : ℕ
+  pub write : Performs write_asked before (record { shelf = written; sink = sink; keeper = keeper }) first old steps
+  pub audit : Performs audit_asked (record { shelf = laid; sink = sink; keeper = keeper }) after second steps new
+  pub least : FindsWrittenLeast before.shelf.files written.files laid.files sink after.sink first second

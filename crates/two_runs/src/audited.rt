@@ -1,0 +1,31 @@
+ghost use Rattle.desk_run.specs.World.{world};
+ghost use Rattle.two_runs.specs.Audited.{WritesAndAudits};
+
+use audit_commands::run_audit;
+use desk_io::{Shelf, Sink, Steps};
+use desk_keeper::Keeper;
+use stated_again::laws::plan_law;
+use std::alloc::Global;
+use std::sync::ledger::Ledger;
+use trip_model::laws::plain_law;
+use written_feed::run_write;
+
+/// `write`, and then `audit` over another shelf. Where the written feed is laid on that, and the script neither adds nor cancels
+/// a trip, it finds the written blocks least. It answers both statuses.
+pub fn run_write_and_audit<S: Shelf, A: Shelf, O: Sink, K: Keeper, L: Ledger>(
+    alloc: Global,
+    shelf: &mut S,
+    laid: &mut A,
+    out: &mut O,
+    keeper: &mut K,
+    steps: &mut Steps<L>,
+) -> (u8, u8)
+    ensures { let before = world S.state O.state K.state in let after = world A.state O.state K.state in
+        WritesAndAudits (before shelf.old out.old keeper.old) (S.state shelf.new) (A.state laid.old) (after laid.new out.new keeper.new) result.0 result.1 steps.old steps.new }
+{
+    plain_law();
+    plan_law();
+    let first = run_write(alloc, shelf, out, keeper, steps);
+    let second = run_audit(alloc, laid, out, keeper, steps);
+    (first, second)
+}
