@@ -15,12 +15,12 @@ use Rattle.gtfs_tables.specs.declared.paper.Paper.TheVariants as paper
 use Rattle.gtfs_tables.specs.Fold.{paper_read}
 use Rattle.gtfs_tables.specs.Reading.{◌>>=◌, each_record, field_at, table_in, text_in, Fails, Gives}
 use Rattle.desk_settings.specs.Entries.{Name}
-use Rattle.feed_read.specs.declared.stops.Stops.{Stops}
+use Rattle.feed_read.specs.declared.trip_ends.TripEnds.{TripEnds}
 use Rattle.feed_read.specs.declared.stop_times.Columns.{Columns}
 use Rattle.feed_read.specs.FeedTrips.{stop_times_of}
-use Rattle.feed_read.specs.Kept.{Kept, nothing_kept, stops_seen, with_kept, with_kept_of, with_record_kept, AreKept, AreStops, Keeps}
+use Rattle.feed_read.specs.Kept.{Kept, nothing_kept, trip_ends_seen, with_kept, with_kept_of, with_record_kept, AreKept, AreTripEnds, Keeps}
 use Rattle.feed_read.specs.StopTimes.{StopTimeView, columns_in, stop_time_in, stop_times_for, with_stop_time, with_stop_time_of}
-use Rattle.feed_read.proofs.StopsLemmas.{AreStops-add, AreStops-none}
+use Rattle.feed_read.proofs.TripEndsLemmas.{AreTripEnds-add, AreTripEnds-none}
 
 -- the stop times of a slot with one more of that slot, and of another
 stop_times_of-same : (before : List StopTimeView) (stop_time : StopTimeView) (slot : ℕ) → slot ≡ stop_time.trip → stop_times_of slot (before ++ stop_time ∷ []) ≡ stop_times_of slot before ++ stop_time ∷ []
@@ -44,20 +44,20 @@ kept_more before kept stop_time are = λ slot own is. by slot own is (cases_eq s
     new : Kept
     new = with_kept (get_or kept stop_time.trip nothing_kept) stop_time
 
-    by : (slot : ℕ) (own : Kept) → slice_get (set kept stop_time.trip new) slot ≡ Some own → (slot ≡ stop_time.trip) ⊎ (slot ≢ stop_time.trip) → AreStops (stop_times_of slot (before ++ stop_time ∷ [])) own
+    by : (slot : ℕ) (own : Kept) → slice_get (set kept stop_time.trip new) slot ≡ Some own → (slot ≡ stop_time.trip) ⊎ (slot ≢ stop_time.trip) → AreTripEnds (stop_times_of slot (before ++ stop_time ∷ [])) own
     by slot own is (inl same) =
         let within : slot < length kept = omega (arith, slice_get_within (set kept stop_time.trip new) slot own is, length-set kept stop_time.trip new) in
         let trip_within : stop_time.trip < length kept = omega (arith, same, within) in
         let now : new ≡ own =
         sym (get_or-set_same kept stop_time.trip new new trip_within) ∙ ap (λ n. get_or (set kept stop_time.trip new) n new) (sym same) ∙ get_or_from_slice_get (set kept stop_time.trip new) slot own new is in
         let was : slice_get kept slot ≡ Some (get_or kept stop_time.trip nothing_kept) = ap (slice_get kept) same ∙ slice_get-get_or kept stop_time.trip nothing_kept trip_within in
-        subst (λ stop_times. AreStops stop_times own) (sym (stop_times_of-same before stop_time slot same))
-        (subst (AreStops (stop_times_of slot before ++ stop_time ∷ [])) now (AreStops-add (stop_times_of slot before) stop_time (get_or kept stop_time.trip nothing_kept) (are slot (get_or kept stop_time.trip nothing_kept) was)))
+        subst (λ stop_times. AreTripEnds stop_times own) (sym (stop_times_of-same before stop_time slot same))
+        (subst (AreTripEnds (stop_times_of slot before ++ stop_time ∷ [])) now (AreTripEnds-add (stop_times_of slot before) stop_time (get_or kept stop_time.trip nothing_kept) (are slot (get_or kept stop_time.trip nothing_kept) was)))
     by slot own is (inr differs) =
         let within : slot < length kept = omega (arith, slice_get_within (set kept stop_time.trip new) slot own is, length-set kept stop_time.trip new) in
         let was : slice_get kept slot ≡ Some own =
         slice_get-get_or kept slot new within ∙ ap Some (sym (get_or-set_other kept stop_time.trip slot new new differs) ∙ get_or_from_slice_get (set kept stop_time.trip new) slot own new is) in
-        subst (λ stop_times. AreStops stop_times own) (sym (stop_times_of-other before stop_time slot differs)) (are slot own was)
+        subst (λ stop_times. AreTripEnds stop_times own) (sym (stop_times_of-other before stop_time slot differs)) (are slot own was)
 
 -- what is kept follows the stop times: of as many slots, or refused alike
 abbrev pub Follows : Result (List StopTimeView) FeedFault → Result (List Kept) FeedFault → Type 0
@@ -107,17 +107,17 @@ follows-paper names kept found are =
     follows-after (table_in paper.StopTimes found) _ _ (λ table. follows-after (columns_in table.header) _ _ (λ columns. follows-each names columns 1 [] kept table.rows are))
 
 -- at each slot nothing is kept
-get-nothing : (stops : List Stops) (slot : ℕ) → slot < length stops → All (λ kept. stops_seen kept ≡ nothing_kept) stops → get_or (map stops_seen stops) slot nothing_kept ≡ nothing_kept
+get-nothing : (trip_ends : List TripEnds) (slot : ℕ) → slot < length trip_ends → All (λ kept. trip_ends_seen kept ≡ nothing_kept) trip_ends → get_or (map trip_ends_seen trip_ends) slot nothing_kept ≡ nothing_kept
 get-nothing [] slot within none = absurd (omega arith)
-get-nothing (s ∷ stops) zero within none = none 0 s (omega arith)
-get-nothing (s ∷ stops) (suc slot) within none = get-nothing stops slot (omega arith) (λ k d lt. none (suc k) d (omega arith))
+get-nothing (s ∷ trip_ends) zero within none = none 0 s (omega arith)
+get-nothing (s ∷ trip_ends) (suc slot) within none = get-nothing trip_ends slot (omega arith) (λ k d lt. none (suc k) d (omega arith))
 
 -- what is kept of no stop times
-pub AreKept-none : (stops : List Stops) → All (λ kept. stops_seen kept ≡ nothing_kept) stops → AreKept [] (map stops_seen stops)
-AreKept-none stops none = λ slot own is.
-    let within : slot < length stops = omega (arith, slice_get_within (map stops_seen stops) slot own is, length-map stops stops_seen) in
-    let nothing : own ≡ nothing_kept = sym (get_or_from_slice_get (map stops_seen stops) slot own nothing_kept is) ∙ get-nothing stops slot within none in
-    subst (AreStops []) (sym nothing) AreStops-none
+pub AreKept-none : (trip_ends : List TripEnds) → All (λ kept. trip_ends_seen kept ≡ nothing_kept) trip_ends → AreKept [] (map trip_ends_seen trip_ends)
+AreKept-none trip_ends none = λ slot own is.
+    let within : slot < length trip_ends = omega (arith, slice_get_within (map trip_ends_seen trip_ends) slot own is, length-map trip_ends trip_ends_seen) in
+    let nothing : own ≡ nothing_kept = sym (get_or_from_slice_get (map trip_ends_seen trip_ends) slot own nothing_kept is) ∙ get-nothing trip_ends slot within none in
+    subst (AreTripEnds []) (sym nothing) AreTripEnds-none
 
 -- a refusal fails whatever was to be read
 err-fails : (refused told : FeedFault) → Fails {A = List Kept} refused (Err told) → Fails {A = List StopTimeView} refused (Err told)
@@ -135,21 +135,21 @@ follows-fails refused (Err due) (Ok kept) follows fails = absurd follows
 follows-fails refused (Err due) (Err told) follows fails = subst (λ f. Fails {A = List StopTimeView} refused (Err f)) (sym follows) (err-fails refused told fails)
 
 -- a call that gives what is kept of the file keeps what there is to keep
-pub keeps-file : {X : Type 0} (view : X → List Stops) (result : Result X FeedFault) (names : List Name) (kept : List Kept) (found : Found) → AreKept [] kept
-    → Gives (λ x. map stops_seen (view x)) result (paper_read paper.StopTimes columns_in (with_record_kept names) kept found) → Keeps view result (stop_times_for names found)
+pub keeps-file : {X : Type 0} (view : X → List TripEnds) (result : Result X FeedFault) (names : List Name) (kept : List Kept) (found : Found) → AreKept [] kept
+    → Gives (λ x. map trip_ends_seen (view x)) result (paper_read paper.StopTimes columns_in (with_record_kept names) kept found) → Keeps view result (stop_times_for names found)
 keeps-file view (Ok x) names kept found are gives = by (stop_times_for names found) (subst (Follows (stop_times_for names found)) gives (follows-paper names kept found are))
   where
-    by : (read : Result (List StopTimeView) FeedFault) → Follows read (Ok (map stops_seen (view x))) → Keeps view (Ok x) read
+    by : (read : Result (List StopTimeView) FeedFault) → Follows read (Ok (map trip_ends_seen (view x))) → Keeps view (Ok x) read
     by (Ok stop_times) follows = follows
     by (Err refused) follows = follows
 keeps-file view (Err refused) names kept found are fails =
     follows-fails refused (stop_times_for names found) (paper_read paper.StopTimes columns_in (with_record_kept names) kept found) (follows-paper names kept found are) fails
 
 -- what follows on the stop times, where it is given of all stop times of which this is kept
-pub gives-kept : {X Y : Type 0} (view : X → Y) (result : Result X FeedFault) (stops : List Stops) (read : Result (List StopTimeView) FeedFault) (next : List StopTimeView → Result Y FeedFault)
-    → Keeps (λ (s : List Stops). s) (Ok stops) read → ((stop_times : List StopTimeView) → AreKept stop_times (map stops_seen stops) → Gives view result (next stop_times)) → Gives view result (read >>= next)
-gives-kept view result stops (Ok stop_times) next keeps gives = gives stop_times keeps
-gives-kept view result stops (Err refused) next keeps gives = absurd keeps
+pub gives-kept : {X Y : Type 0} (view : X → Y) (result : Result X FeedFault) (trip_ends : List TripEnds) (read : Result (List StopTimeView) FeedFault) (next : List StopTimeView → Result Y FeedFault)
+    → Keeps (λ (s : List TripEnds). s) (Ok trip_ends) read → ((stop_times : List StopTimeView) → AreKept stop_times (map trip_ends_seen trip_ends) → Gives view result (next stop_times)) → Gives view result (read >>= next)
+gives-kept view result trip_ends (Ok stop_times) next keeps gives = gives stop_times keeps
+gives-kept view result trip_ends (Err refused) next keeps gives = absurd keeps
 
 -- what holds where a call gave something
 pub on-ok : {X E P Q : Type 0} (result : Result X E) → (P → Q) → OnOk result P → OnOk result Q
@@ -157,8 +157,8 @@ on-ok (Ok x) gives holds = gives holds
 on-ok (Err e) gives holds = tt
 
 -- what a stop time changes at its slot
-pub kept-set : (stops : List Stops) (stop_time : StopTimeView) (d new : Stops) → stop_time.trip < length stops → stops_seen new ≡ with_kept (stops_seen (get_or stops stop_time.trip d)) stop_time
-    → map stops_seen (set stops stop_time.trip new) ≡ set (map stops_seen stops) stop_time.trip (with_kept (get_or (map stops_seen stops) stop_time.trip nothing_kept) stop_time)
-kept-set stops stop_time d new within adds =
-    map-set stops_seen stops stop_time.trip new
-    ∙ ap (set (map stops_seen stops) stop_time.trip) (adds ∙ ap (λ kept. with_kept kept stop_time) (sym (get_or-map stops_seen stops stop_time.trip d nothing_kept within)))
+pub kept-set : (trip_ends : List TripEnds) (stop_time : StopTimeView) (d new : TripEnds) → stop_time.trip < length trip_ends → trip_ends_seen new ≡ with_kept (trip_ends_seen (get_or trip_ends stop_time.trip d)) stop_time
+    → map trip_ends_seen (set trip_ends stop_time.trip new) ≡ set (map trip_ends_seen trip_ends) stop_time.trip (with_kept (get_or (map trip_ends_seen trip_ends) stop_time.trip nothing_kept) stop_time)
+kept-set trip_ends stop_time d new within adds =
+    map-set trip_ends_seen trip_ends stop_time.trip new
+    ∙ ap (set (map trip_ends_seen trip_ends) stop_time.trip) (adds ∙ ap (λ kept. with_kept kept stop_time) (sym (get_or-map trip_ends_seen trip_ends stop_time.trip d nothing_kept within)))

@@ -4,4 +4,4 @@ mod FeedTripLemmas
 mod KeptLemmas
 mod Places
 mod Slots
-mod StopsLemmas
+mod TripEndsLemmas

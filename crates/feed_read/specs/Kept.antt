@@ -9,7 +9,7 @@ use Rattle.gtfs_tables.specs.Reading.{◌>>=◌, field_at, text_in, Fails}
 use Rattle.desk_settings.specs.Entries.{Name}
 use Rattle.feed_read.specs.declared.stop_times.Columns.{Columns}
 use Rattle.feed_read.specs.declared.stop_time.End.{End}
-use Rattle.feed_read.specs.declared.stops.Stops.{Stops}
+use Rattle.feed_read.specs.declared.trip_ends.TripEnds.{TripEnds}
 use Rattle.feed_read.specs.FeedTrips.{sooner, later, first_stop_time, last_stop_time, has_repeat, sequences, stop_times_of}
 use Rattle.feed_read.specs.StopTimes.{StopTimeView, stop_time_in}
 
@@ -50,11 +50,11 @@ with_record_kept names columns number before fields = do
 abbrev pub end_seen : End → StopTimeView
 end_seen end = record { trip = end.trip; stop = end.stop; arrival = end.arrival; departure = end.departure; sequence = end.sequence }
 
-abbrev pub stops_seen : Stops → Kept
-stops_seen stops = record { sequences = stops.sequences.keys; repeated = stops.repeated; first = option_map end_seen stops.first; last = option_map end_seen stops.last }
+abbrev pub trip_ends_seen : TripEnds → Kept
+trip_ends_seen trip_ends = record { sequences = trip_ends.sequences.keys; repeated = trip_ends.repeated; first = option_map end_seen trip_ends.first; last = option_map end_seen trip_ends.last }
 
 -- this is kept of these stop times
-pub record AreStops (stop_times : List StopTimeView) (kept : Kept) : Type 0 where
+pub record AreTripEnds (stop_times : List StopTimeView) (kept : Kept) : Type 0 where
   pub numbers : kept.repeated ≡ false → kept.sequences ≡ sequences stop_times
   pub repeated : kept.repeated ≡ has_repeat (sequences stop_times)
   pub first : kept.first ≡ first_stop_time stop_times
@@ -62,11 +62,11 @@ pub record AreStops (stop_times : List StopTimeView) (kept : Kept) : Type 0 wher
 
 -- this is kept of these stop times slot by slot
 abbrev pub AreKept : List StopTimeView → List Kept → Type 0
-AreKept stop_times kept = (slot : ℕ) (own : Kept) → slice_get kept slot ≡ Some own → AreStops (stop_times_of slot stop_times) own
+AreKept stop_times kept = (slot : ℕ) (own : Kept) → slice_get kept slot ≡ Some own → AreTripEnds (stop_times_of slot stop_times) own
 
 -- A call keeps, in what a view sees, what there is to keep of the stop times that their definition reads; or it gives the
 -- refusal of that definition, or it found no memory.
-abbrev pub Keeps : {X : Type 0} → (X → List Stops) → Result X FeedFault → Result (List StopTimeView) FeedFault → Type 0
-Keeps view (Ok x) (Ok stop_times) = AreKept stop_times (map stops_seen (view x))
+abbrev pub Keeps : {X : Type 0} → (X → List TripEnds) → Result X FeedFault → Result (List StopTimeView) FeedFault → Type 0
+Keeps view (Ok x) (Ok stop_times) = AreKept stop_times (map trip_ends_seen (view x))
 Keeps view (Ok x) (Err refused) = ⊥
 Keeps view (Err refused) read = Fails refused read

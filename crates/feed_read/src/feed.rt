@@ -9,7 +9,7 @@ ghost use Rattle.feed_read.specs.Trips.{seen};
 
 use crate::feed_trip::{FeedTrip, feed_trips_of};
 use crate::selection::Selection;
-use crate::stop_times::stops_in;
+use crate::stop_times::trip_ends_in;
 use crate::timetable::timetable_of;
 use crate::trips::trips_in;
 use desk_io::Found;
@@ -31,8 +31,8 @@ fn feed_trips_in(
     ensures distinct { IfOk result (λ feed_trips. AreDistinct (map (λ feed_trip. feed_trip.name) feed_trips.items)) }
     ensures count { IfOk result (λ feed_trips. length feed_trips.items ≡ length selection.now.names) }
 {
-    let stops = stops_in(alloc, &selection.names, stop_times)?;
-    feed_trips_of(alloc, settings, selection, &stops)
+    let trip_ends = trip_ends_in(alloc, &selection.names, stop_times)?;
+    feed_trips_of(alloc, settings, selection, &trip_ends)
 }
 
 /// The base timetable of a feed: the trips of the chosen services, in the order of `trips.txt`, all live and as published;

@@ -3,13 +3,13 @@ ghost use Rattle.gtfs_tables.specs.Reading.{Gives};
 ghost use Rattle.trip_model.specs.Place.{has_slash};
 ghost use Rattle.trip_model.specs.Timetable.{AreDistinct};
 ghost use Rattle.feed_read.specs.FeedTrips as spec;
-ghost use Rattle.feed_read.specs.Kept.{AreKept, AreStops, end_seen, stops_seen};
+ghost use Rattle.feed_read.specs.Kept.{AreKept, AreTripEnds, end_seen, trip_ends_seen};
 ghost use Rattle.feed_read.specs.Trips.{seen};
 ghost use Rattle.feed_read.specs.StopTimes.{StopTimeView};
 
 use crate::selection::Selection;
 use crate::stop_time::End;
-use crate::stops::Stops;
+use crate::trip_ends::TripEnds;
 use desk_io::Text;
 use desk_settings::Settings;
 use gtfs_tables::{FeedFault, minute_down, minute_up};
@@ -75,18 +75,18 @@ fn feed_trip_of(
     settings: &Settings,
     name: &str,
     class: &str,
-    stops: &Stops,
+    trip_ends: &TripEnds,
 ) -> Result<FeedTrip, FeedFault>
     requires { has_slash class.now ≡ false }
-    ensures gives { (stop_times : List StopTimeView) → AreStops stop_times (stops_seen stops.now) → Gives (λ feed_trip. feed_trip) result (spec.feed_trip_of settings.now name.now class.now stop_times) }
+    ensures gives { (stop_times : List StopTimeView) → AreTripEnds stop_times (trip_ends_seen trip_ends.now) → Gives (λ feed_trip. feed_trip) result (spec.feed_trip_of settings.now name.now class.now stop_times) }
     ensures valid { IfOk result spec.IsFeedTrip }
     ensures name { IfOk result (λ feed_trip. feed_trip.name ≡ name.now) }
 {
-    if stops.repeated {
+    if trip_ends.repeated {
         return Err(FeedFault::DuplicateSequence(Text::of(alloc, name)?));
     }
-    match (&stops.first, &stops.last) {
-        (Some(first), Some(last)) if stops.sequences.len() >= 2 => {
+    match (&trip_ends.first, &trip_ends.last) {
+        (Some(first), Some(last)) if trip_ends.sequences.len() >= 2 => {
             feed_trip_between(alloc, settings, name, class, first, last)
         }
         _ => Err(FeedFault::TooFewStops(Text::of(alloc, name)?)),
@@ -98,10 +98,10 @@ pub(crate) fn feed_trips_of(
     alloc: Global,
     settings: &Settings,
     selection: &Selection,
-    stops: &[Stops],
+    trip_ends: &[TripEnds],
 ) -> Result<Vec<FeedTrip>, FeedFault>
-    requires { length stops.now ≡ length selection.now.names }
-    ensures gives { (stop_times : List StopTimeView) → AreKept stop_times (map stops_seen stops.now) →
+    requires { length trip_ends.now ≡ length selection.now.names }
+    ensures gives { (stop_times : List StopTimeView) → AreKept stop_times (map trip_ends_seen trip_ends.now) →
         Gives (λ feed_trips. feed_trips.items) result (spec.feed_trips_of settings.now (seen selection.now) stop_times) }
     ensures valid { IfOk result (λ feed_trips. All spec.IsFeedTrip feed_trips.items) }
     ensures distinct { IfOk result (λ feed_trips. AreDistinct (map (λ feed_trip. feed_trip.name) feed_trips.items)) }
@@ -111,7 +111,7 @@ pub(crate) fn feed_trips_of(
     for slot in 0..selection.names.len() {
         let name = selection.names.get(slot);
         let class = selection.classes[slot].as_str();
-        let feed_trip = feed_trip_of(alloc, settings, name, class, &stops[slot])?;
+        let feed_trip = feed_trip_of(alloc, settings, name, class, &trip_ends[slot])?;
         feed_trips.push(feed_trip)?;
     }
     Ok(feed_trips)

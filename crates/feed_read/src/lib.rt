@@ -10,12 +10,12 @@
 //!
 //! ```text
 //! let settings = Settings::read(alloc, &settings, &terminals, &tolerances)?;
-//! let timetable = read_feed(alloc, &trips, &stop times, &settings)?;
+//! let timetable = read_feed(alloc, &trips, &stop_times, &settings)?;
 //! ```
 //!
 //! The contracts cite `Base` (the timetable of a feed), and by it `Trips` (the selected trips and their classes), `StopTimes`
 //! (their records of `stop_times.txt`) and `FeedTrips` (the first and the last of these, of which [`laws::ends_law`] speaks,
-//! and what the trip is by them).
+//! and what the trip is by them). `Kept` (what is kept of stop times) has terms of the functions inside.
 #![tactic(auto)]
 
 mod feed;
@@ -24,8 +24,8 @@ pub mod laws;
 mod selection;
 mod stop_time;
 mod stop_times;
-mod stops;
 mod timetable;
+mod trip_ends;
 mod trips;
 
 pub use feed::read_feed;

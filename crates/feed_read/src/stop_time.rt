@@ -6,7 +6,7 @@ use std::alloc::Global;
 
 /// A record of a selected trip: the slot of the trip, the stop, its times in seconds of the service day, and its number
 /// along the trip.
-#[derive(Clone, Copy, Debug)]
+#[derive(Clone, Copy)]
 pub(crate) struct StopTime<'a> {
     pub(crate) trip: usize,
     pub(crate) stop: &'a str,

@@ -1,12 +1,12 @@
 ghost use Rattle.std.specs.Prelude.{◌≡◌, ◌<◌, IfOk, OnOk, length, map, slice_index_or, slice_set};
 ghost use Rattle.gtfs_tables.specs.Papers.{IsWithinLimit};
 ghost use Rattle.gtfs_tables.specs.Reading.{Gives};
-ghost use Rattle.feed_read.specs.Kept.{nothing_kept, stops_seen, with_kept, Keeps};
+ghost use Rattle.feed_read.specs.Kept.{nothing_kept, trip_ends_seen, with_kept, Keeps};
 ghost use Rattle.feed_read.specs.StopTimes as spec;
 ghost use Rattle.feed_read.specs.StopTimes.{seen};
 
 use crate::stop_time::StopTime;
-use crate::stops::{Stops, no_stops};
+use crate::trip_ends::{TripEnds, no_trip_ends};
 use desk_io::{Found, Memory};
 use desk_settings::Names;
 use gtfs_tables::{
@@ -16,7 +16,7 @@ use gtfs_tables::{
 use std::alloc::Global;
 
 /// Where the required columns of `stop_times.txt` stand.
-#[derive(Clone, Copy, Debug)]
+#[derive(Clone, Copy)]
 pub(crate) struct Columns {
     pub(crate) trip: usize,
     pub(crate) arrival: usize,
@@ -78,13 +78,13 @@ fn stop_time_in<'a>(
 }
 
 // Keeps the stop time of a trip at its slot.
-fn keep(alloc: Global, stops: &mut [Stops], stop_time: &StopTime) -> Result<(), Memory>
-    requires { stop_time.now.trip < length stops.old }
-    ensures kept { OnOk result (map stops_seen stops.new ≡ slice_set (map stops_seen stops.old) stop_time.now.trip
-        (with_kept (slice_index_or (map stops_seen stops.old) stop_time.now.trip nothing_kept) (seen stop_time.now))) }
-    ensures count { length stops.new ≡ length stops.old }
+fn keep(alloc: Global, trip_ends: &mut [TripEnds], stop_time: &StopTime) -> Result<(), Memory>
+    requires { stop_time.now.trip < length trip_ends.old }
+    ensures kept { OnOk result (map trip_ends_seen trip_ends.new ≡ slice_set (map trip_ends_seen trip_ends.old) stop_time.now.trip
+        (with_kept (slice_index_or (map trip_ends_seen trip_ends.old) stop_time.now.trip nothing_kept) (seen stop_time.now))) }
+    ensures count { length trip_ends.new ≡ length trip_ends.old }
 {
-    stops[stop_time.trip].add(alloc, stop_time)
+    trip_ends[stop_time.trip].add(alloc, stop_time)
 }
 
 // What the records that were read leave of each trip, by its slot.
@@ -92,14 +92,14 @@ fn keep(alloc: Global, stops: &mut [Stops], stop_time: &StopTime) -> Result<(), 
 struct StopTimes<'a> {
     alloc: Global,
     names: &'a Names,
-    stops: Vec<Stops>,
-    ghost count: { length stops.items ≡ length names.now },
+    trip_ends: Vec<TripEnds>,
+    ghost count: { length trip_ends.items ≡ length names.now },
 }
 
 impl<'a> RecordReader for StopTimes<'a> {
     ghost use Rattle.std.specs.Prelude.{ℕ, List, map};
     ghost use Rattle.desk_settings.specs.Entries.{Name};
-    ghost use Rattle.feed_read.specs.Kept.{Kept, stops_seen, with_record_kept};
+    ghost use Rattle.feed_read.specs.Kept.{Kept, trip_ends_seen, with_record_kept};
     ghost use Rattle.feed_read.specs.StopTimes.{columns_in};
 
     type Columns = Columns;
@@ -110,7 +110,7 @@ impl<'a> RecordReader for StopTimes<'a> {
 
     ghost kept = { λ read. read.names.now };
 
-    ghost state = { λ read. map stops_seen read.stops.items };
+    ghost state = { λ read. map trip_ends_seen read.trip_ends.items };
 
     ghost columns_in = { columns_in };
 
@@ -146,22 +146,26 @@ impl<'a> RecordReader for StopTimes<'a> {
             return Ok(());
         };
         let stop_time = stop_time_in(row, columns, number, trip)?;
-        keep(self.alloc, &mut self.stops, &stop_time)?;
+        keep(self.alloc, &mut self.trip_ends, &stop_time)?;
         Ok(())
     }
 }
 
 /// What the file leaves of the stop times of each of the trips of these names.
-pub(crate) fn stops_in(alloc: Global, names: &Names, found: &Found) -> Result<Vec<Stops>, FeedFault>
+pub(crate) fn trip_ends_in(
+    alloc: Global,
+    names: &Names,
+    found: &Found,
+) -> Result<Vec<TripEnds>, FeedFault>
     requires { IsWithinLimit found.now }
-    ensures keeps { Keeps (λ stops. stops.items) result (spec.stop_times_for names.now found.now) }
-    ensures count { IfOk result (λ stops. length stops.items ≡ length names.now) }
+    ensures keeps { Keeps (λ trip_ends. trip_ends.items) result (spec.stop_times_for names.now found.now) }
+    ensures count { IfOk result (λ trip_ends. length trip_ends.items ≡ length names.now) }
 {
     let mut read = StopTimes {
         alloc,
         names,
-        stops: no_stops(alloc, names.len())?,
+        trip_ends: no_trip_ends(alloc, names.len())?,
     };
     read_records(alloc, Paper::StopTimes, found, &mut read)?;
-    Ok(read.stops)
+    Ok(read.trip_ends)
 }

@@ -5,7 +5,7 @@ use Rattle.std.proofs.lemmas.Bool.{false≢true}
 use Rattle.std.proofs.lemmas.Grind.{fold-append}
 use Rattle.std.proofs.lemmas.List.{map_push}
 use Rattle.feed_read.specs.FeedTrips.{sequences, has_repeat, sooner, later}
-use Rattle.feed_read.specs.Kept.{Kept, with_kept, nothing_kept, AreStops}
+use Rattle.feed_read.specs.Kept.{Kept, with_kept, nothing_kept, AreTripEnds}
 use Rattle.feed_read.specs.StopTimes.{StopTimeView}
 
 any_push : {A : Type 0} (test : A → Bool) (xs : List A) (x : A) → list_any test (xs ++ x ∷ []) ≡ (list_any test xs || test x)
@@ -45,8 +45,8 @@ or_false true b is = absurd (false≢true (sym is))
 or_false false b is = (refl, is)
 
 -- what is kept of stop times and one more
-pub AreStops-add : (before : List StopTimeView) (stop_time : StopTimeView) (kept : Kept) → AreStops before kept → AreStops (before ++ stop_time ∷ []) (with_kept kept stop_time)
-AreStops-add before stop_time kept are = record {
+pub AreTripEnds-add : (before : List StopTimeView) (stop_time : StopTimeView) (kept : Kept) → AreTripEnds before kept → AreTripEnds (before ++ stop_time ∷ []) (with_kept kept stop_time)
+AreTripEnds-add before stop_time kept are = record {
   numbers = λ none. numbers (or_false kept.repeated (list_any (nat_eq stop_time.sequence) kept.sequences) none);
   repeated = by kept.repeated refl;
   first = ap (λ f. sooner f stop_time) are.first ∙ sym (fold-append sooner None before (stop_time ∷ []));
@@ -73,5 +73,5 @@ AreStops-add before stop_time kept are = record {
         ∙ sym (all ∙ ap (λ b. b || list_any (nat_eq stop_time.sequence) (sequences before)) (sym are.repeated ∙ is))
 
 -- of no stop times nothing is kept
-pub AreStops-none : AreStops [] nothing_kept
-AreStops-none = record { numbers = λ _. refl; repeated = refl; first = refl; last = refl }
+pub AreTripEnds-none : AreTripEnds [] nothing_kept
+AreTripEnds-none = record { numbers = λ _. refl; repeated = refl; first = refl; last = refl }

@@ -11,7 +11,7 @@ use std::alloc::Global;
 /// What is kept of the stop times of one trip: their numbers along the trip, each once, whether one stood twice, and the first
 /// and the last stop time by these numbers.
 #[derive(Drop)]
-pub(crate) struct Stops {
+pub(crate) struct TripEnds {
     pub(crate) sequences: IndexSet<u64>,
     pub(crate) repeated: bool,
     pub(crate) first: Option<End>,
@@ -51,12 +51,12 @@ fn later(alloc: Global, greatest: Option<End>, stop_time: &StopTime) -> Result<O
     }
 }
 
-impl Stops {
+impl TripEnds {
     /// What is kept of no stop times.
-    fn new(alloc: Global) -> Stops
-        ensures { spec.stops_seen result ≡ spec.nothing_kept }
+    fn new(alloc: Global) -> TripEnds
+        ensures { spec.trip_ends_seen result ≡ spec.nothing_kept }
     {
-        Stops {
+        TripEnds {
             sequences: IndexSet::new(alloc),
             repeated: false,
             first: None,
@@ -66,7 +66,7 @@ impl Stops {
 
     /// Takes one more stop time in.
     pub(crate) fn add(&mut self, alloc: Global, stop_time: &StopTime) -> Result<(), Memory>
-        ensures { OnOk result (spec.stops_seen self.new ≡ spec.with_kept (spec.stops_seen self.old) (seen stop_time.now)) }
+        ensures { OnOk result (spec.trip_ends_seen self.new ≡ spec.with_kept (spec.trip_ends_seen self.old) (seen stop_time.now)) }
     {
         self.first = sooner(alloc, self.first.take(), stop_time)?;
         self.last = later(alloc, self.last.take(), stop_time)?;
@@ -77,13 +77,13 @@ impl Stops {
 }
 
 /// What is kept of no stop times, for each of so many slots.
-pub(crate) fn no_stops(alloc: Global, slots: usize) -> Result<Vec<Stops>, Memory>
-    ensures count { IfOk result (λ stops. length stops.items ≡ slots) }
-    ensures none { IfOk result (λ stops. All (λ kept. spec.stops_seen kept ≡ spec.nothing_kept) stops.items) }
+pub(crate) fn no_trip_ends(alloc: Global, slots: usize) -> Result<Vec<TripEnds>, Memory>
+    ensures count { IfOk result (λ trip_ends. length trip_ends.items ≡ slots) }
+    ensures none { IfOk result (λ trip_ends. All (λ kept. spec.trip_ends_seen kept ≡ spec.nothing_kept) trip_ends.items) }
 {
-    let mut stops = Vec::new(alloc);
+    let mut trip_ends = Vec::new(alloc);
     for _ in 0..slots {
-        stops.push(Stops::new(alloc))?;
+        trip_ends.push(TripEnds::new(alloc))?;
     }
-    Ok(stops)
+    Ok(trip_ends)
 }
