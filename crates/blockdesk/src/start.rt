@@ -1,8 +1,7 @@
 ghost use Rattle.std.specs.Prelude.{◌≡◌, ◌<◌};
-ghost use Rattle.blockdesk.specs.Commands as spec;
 
-use crate::run;
 use desk_io::{FolderShelf, Memory, OutSink, Steps, Text};
+use desk_program::{folder_of, run};
 use desk_run::NO_MEMORY;
 use sqlite_keeper::SqliteKeeper;
 use std::env;
@@ -51,15 +50,5 @@ fn words_of(rt: &(impl Env + AllocGlobal)) -> Result<Vec<Text>, Memory> {
         }
         Err(error) if error.kind() == ErrorKind::OutOfMemory => Err(Memory),
         Err(_) => Ok(words),
-    }
-}
-
-// The folder that is read and written: the second of two words, but for `sample`, which works on none.
-fn folder_of(words: &[Text]) -> &str
-    ensures { result.now ≡ spec.folder_of words.now }
-{
-    match words {
-        [command, folder] if command.as_str() != "sample" => folder.as_str(),
-        _ => ".",
     }
 }

@@ -18,8 +18,8 @@ use Rattle.gtfs_tables.specs.Numbers.{number_of}
 use Rattle.sample_commands.specs.Sample.{sample_asked}
 use Rattle.journal_commands.specs.Keep.{keep_asked}
 use Rattle.journal_commands.specs.Kept.{kept_asked}
-use Rattle.blockdesk.specs.declared.command.Command.{Command}
-use Rattle.blockdesk.specs.declared.command.Command.TheVariants.{Deficits, Fixed, Blocks, Check, Write, Chart, Chains, Shifts, Keep, Kept, Joined, Planners, Audit, Sample}
+use Rattle.desk_program.specs.declared.command.Command.{Command}
+use Rattle.desk_program.specs.declared.command.Command.TheVariants.{Deficits, Fixed, Blocks, Check, Write, Chart, Chains, Shifts, Keep, Kept, Joined, Planners, Audit, Sample}
 
 -- the command of that name
 abbrev pub command_named : List ℕ → Option Command

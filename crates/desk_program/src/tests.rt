@@ -8,21 +8,21 @@ use std::marker::Brand;
 use std::sync::ledger::{Blank, Ledger};
 use std::test::Fail;
 
-// A run over words and a shelf in the ledger that the blank becomes, with a keeper of which each call fails.
-fn counted<L: Ledger, S: Shelf>(
+// A run over words, a shelf, a sink and a keeper in the ledger that the blank becomes.
+pub(crate) fn counted<L: Ledger, S: Shelf>(
     alloc: Global,
     words: &[Text],
     shelf: &mut S,
+    out: &mut MemorySink,
+    keeper: &mut MemoryKeeper,
     blank: Blank,
-) -> Result<u8, Memory>
+) -> u8
     requires name { blank.name ≡ L.name }
     requires parts { blank.parts ≡ L.parts }
     requires shared { 0 < blank.parts }
 {
     let mut steps = Steps::<L>::open(blank);
-    let mut out = MemorySink::open(alloc, 64, Vec::new(alloc), 64)?;
-    let mut keeper = MemoryKeeper::open(alloc, vec![in alloc; 1, 2]?);
-    Ok(run(alloc, words, shelf, &mut out, &mut keeper, &mut steps))
+    run(alloc, words, shelf, out, keeper, &mut steps)
 }
 
 // A shelf without files that notes the names that it is asked for.
@@ -48,10 +48,13 @@ impl Shelf for NotedReads {
     }
 }
 
-// The status of a command.
+// The status of a command, with a keeper of which each call fails.
 fn ran(alloc: Global, command: &str, shelf: &mut NotedReads) -> Result<u8, Memory> {
     let words = vec![in alloc; Text::of(alloc, command)?, Text::of(alloc, "feed")?]?;
-    counted::<Brand, NotedReads>(alloc, &words, shelf, Blank::new(1))
+    let mut out = MemorySink::open(alloc, 64, Vec::new(alloc), 64)?;
+    let mut keeper = MemoryKeeper::open(alloc, vec![in alloc; 1, 2]?);
+    let blank = Blank::new(1);
+    Ok(counted::<Brand, NotedReads>(alloc, &words, shelf, &mut out, &mut keeper, blank))
 }
 
 #[test]

@@ -1,4 +1,4 @@
-use Rattle.blockdesk.proofs.tests.ran.Given as goal
+use Rattle.desk_program.proofs.tests.ran.Given as goal
 
 abbrev pub ghosts-counted : goal.ghosts-counted
 ghosts-counted a = record { name = a.blank.name; parts = a.blank.parts }

@@ -1,5 +1,5 @@
 ghost use Rattle.std.specs.Prelude.{◌≡◌, option_map};
-ghost use Rattle.blockdesk.specs.Status.{status_line_of};
+ghost use Rattle.desk_program.specs.Status.{status_line_of};
 
 use desk_run::{KEEPER_FAULT, NO_MEMORY, READ_FAULT, WRITE_FAULT};
 

@@ -1,20 +1,20 @@
--- What a run does to the world, when each status comes, and which comes where no fault was counted.
+-- What a run of the program is: that of the command which the words name, or for words of no form the usage line.
 use Rattle.std.specs.Prelude.{◌≡◌, ◌⊎◌, ℕ, List, [], ◌∷◌, ◌++◌, codes, Option, None, Some}
 use Rattle.desk_io.specs.Faults.{Rose}
-use Rattle.desk_io.specs.Sink.{put_bytes, PutsFront}
+use Rattle.desk_io.specs.Sink.{put_bytes, PutsPrefix}
 use Rattle.desk_run.specs.Performs.{Performs}
 use Rattle.desk_run.specs.World.{World, NoCountRose}
 use Rattle.desk_run.specs.declared.status.TheConstants.{USAGE, WRITE_FAULT}
-use Rattle.blockdesk.specs.Commands.{asked_by}
-use Rattle.blockdesk.specs.declared.command.Command.{Command}
+use Rattle.desk_program.specs.Commands.{asked_by}
+use Rattle.desk_program.specs.declared.command.Command.{Command}
 
 -- the line that is put for words of no form, with its line feed
 abbrev pub usage_line : List ℕ
 usage_line = codes "usage: blockdesk deficits|fixed|blocks|check|write|chart|chains|shifts|keep|kept|joined|planners|audit FOLDER, or blockdesk sample N" ++ 10 ∷ []
 
--- the usage line was put, or a front of it; and nothing else changed
+-- the usage line was put, or a prefix of it; and nothing else changed
 pub record PutsUsage (before after : World) (status : ℕ) : Type 0 where
-  pub put : ((status ≡ USAGE) × (after.sink ≡ put_bytes usage_line before.sink)) ⊎ ((status ≡ WRITE_FAULT) × PutsFront usage_line before.sink after.sink)
+  pub put : ((status ≡ USAGE) × (after.sink ≡ put_bytes usage_line before.sink)) ⊎ ((status ≡ WRITE_FAULT) × PutsPrefix usage_line before.sink after.sink)
   pub shelf : after.shelf ≡ before.shelf
   pub keeper : after.keeper ≡ before.keeper
 

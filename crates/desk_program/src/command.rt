@@ -1,5 +1,5 @@
 ghost use Rattle.std.specs.Prelude.{◌≡◌, ◌≤◌, IfSome};
-ghost use Rattle.blockdesk.specs.Commands as spec;
+ghost use Rattle.desk_program.specs.Commands as spec;
 ghost use Rattle.feed_sample.specs.declared.sample.TheConstants.{MOST_SAMPLE};
 
 use desk_io::Text;
@@ -7,7 +7,7 @@ use feed_sample::MOST_SAMPLE;
 use gtfs_tables::read_number;
 
 /// What the words after the program's name ask for.
-#[derive(Clone, Copy, Debug, PartialEq, Eq)]
+#[derive(Clone, Copy)]
 pub enum Command {
     /// The deficit functions of a feed.
     Deficits,
@@ -97,5 +97,15 @@ pub fn command_of(words: &[Text]) -> Option<Command>
         },
         [command, _folder] => command_named(command.as_str()),
         _ => None,
+    }
+}
+
+/// The folder that is read and written: the second of two words, but for `sample`, which works on none.
+pub fn folder_of(words: &[Text]) -> &str
+    ensures { result.now ≡ spec.folder_of words.now }
+{
+    match words {
+        [command, folder] if command.as_str() != "sample" => folder.as_str(),
+        _ => ".",
     }
 }

@@ -1,6 +1,6 @@
 ghost use Rattle.desk_run.specs.World.{world};
-ghost use Rattle.blockdesk.specs.Commands as spec;
-ghost use Rattle.blockdesk.specs.Runs.{IsRun};
+ghost use Rattle.desk_program.specs.Commands as spec;
+ghost use Rattle.desk_program.specs.Runs.{IsRun};
 
 use crate::{Command, command_of, put_usage};
 use audit_commands::run_audit;

@@ -1,5 +1,5 @@
 ghost use Rattle.desk_run.specs.World.{world};
-ghost use Rattle.blockdesk.specs.Runs.{HasUsageCause, PutsUsage};
+ghost use Rattle.desk_program.specs.Runs.{HasUsageCause, PutsUsage};
 
 use desk_io::{Shelf, Sink, put_all};
 use desk_keeper::Keeper;

@@ -1,0 +1,195 @@
+use crate::tests::counted;
+use desk_io::{Memory, MemoryShelf, MemorySink, Text};
+use desk_keeper::MemoryKeeper;
+use std::alloc::Global;
+use std::marker::Brand;
+use std::sync::ledger::Blank;
+use std::test::Fail;
+
+// Two trips, of which the second can follow the first with a deadhead of 31 minutes once it is shifted by one minute, which its
+// tolerance allows once.
+const FEED: [(&str, &str); 5] = [
+    ("trips.txt", "route_id,service_id,trip_id\nR,W,U1\nR,W,U2\n"),
+    (
+        "stop_times.txt",
+        "trip_id,arrival_time,departure_time,stop_id,stop_sequence\nU1,06:00:00,06:00:00,A,1\nU1,06:30:00,06:30:00,B,2\nU2,07:00:00,07:00:00,C,1\nU2,07:30:00,07:30:00,A,2\n",
+    ),
+    ("deadheads.csv", "from,to,minutes\nB,C,31\n"),
+    ("tolerances.csv", "trip_id,early,late\nU2,0,1\n"),
+    ("edits.csv", "shift,U2,+1\nshift,U2,+1\n"),
+];
+
+// A command, the names and texts of the two files that it writes, and the text that it puts.
+#[derive(Clone, Copy)]
+struct Run {
+    command: &'static str,
+    first: &'static str,
+    first_text: &'static str,
+    second: &'static str,
+    second_text: &'static str,
+    text: &'static str,
+}
+
+const BLOCKS: Run = Run {
+    command: "blocks",
+    first: "blocks.csv",
+    first_text: "block_id,trip_id,deadhead\nB1,U1,0\nB1,U2,31\n",
+    second: "prices.csv",
+    second_text: "trip_id,leave,enter\nU1,0,0\nU2,0,67108833\n",
+    text: "record 1: ok, fixed 2, vehicles 1, minutes 31\nrecord 2: refused, U2: outside tolerance (+2)\nfixed 2, vehicles 1, minutes 31\n",
+};
+
+const WRITE: Run = Run {
+    command: "write",
+    first: "trips_blocks.txt",
+    first_text: "route_id,service_id,trip_id,block_id\nR,W,U1,B1\nR,W,U2,B1\n",
+    second: "stop_times_blocks.txt",
+    second_text: "trip_id,arrival_time,departure_time,stop_id,stop_sequence\nU1,06:00:00,06:00:00,A,1\nU1,06:30:00,06:30:00,B,2\nU2,07:01:00,07:01:00,C,1\nU2,07:31:00,07:31:00,A,2\n",
+    text: "record 2: refused, U2: outside tolerance (+2)\nwrote trips_blocks.txt, stop_times_blocks.txt\n",
+};
+
+// `keep` writes no file.
+const KEEP: Run = Run {
+    command: "keep",
+    first: "blocks.csv",
+    first_text: "",
+    second: "prices.csv",
+    second_text: "",
+    text: "journal 0 records\nrecord 1: ok\nrecord 2: refused, U2: outside tolerance (+2)\nkept 1 records\n",
+};
+
+// The read, the write, the call of the keeper and the put of a run that fails, counted from 1, and none where it is 0; how many
+// bytes of a text one put takes at the most, and how many all of them.
+#[derive(Clone, Copy)]
+struct Faults {
+    read: u32,
+    write: u32,
+    call: u32,
+    put: u32,
+    chunk: usize,
+    room: usize,
+}
+
+const NONE: Faults = Faults {
+    read: 0,
+    write: 0,
+    call: 0,
+    put: 0,
+    chunk: 16,
+    room: 200,
+};
+
+// How many bytes there are of a text, where they are its first ones, or that they are not.
+fn prefix(bytes: Option<&[u8]>, text: &str) -> usize {
+    match bytes {
+        None => 0,
+        Some(bytes) if text.as_bytes().starts_with(bytes) => bytes.len(),
+        Some(_) => usize::MAX,
+    }
+}
+
+// What stands after a run: its status, how many bytes of its two files, how many lines of the journal, and how many bytes of the
+// text that was put.
+fn stands(
+    alloc: Global,
+    run: Run,
+    faults: Faults,
+) -> Result<(u8, usize, usize, usize, usize), Memory> {
+    let words = vec![in alloc; Text::of(alloc, run.command)?, Text::of(alloc, "feed")?]?;
+    let mut shelf = MemoryShelf::open(
+        alloc,
+        vec![in alloc; faults.read]?,
+        vec![in alloc; faults.write]?,
+    );
+    for (name, text) in FEED {
+        shelf.lay(alloc, name, text.as_bytes())?;
+    }
+    let mut keeper = MemoryKeeper::open(alloc, vec![in alloc; faults.call]?);
+    let chunk = faults.chunk.max(1);
+    let mut out = MemorySink::open(alloc, chunk, vec![in alloc; faults.put]?, faults.room)?;
+    let blank = Blank::new(1);
+    let status = counted::<Brand, MemoryShelf>(
+        alloc,
+        &words,
+        &mut shelf,
+        &mut out,
+        &mut keeper,
+        blank,
+    );
+    Ok((
+        status,
+        prefix(shelf.file(run.first), run.first_text),
+        prefix(shelf.file(run.second), run.second_text),
+        keeper
+            .lines()
+            .iter()
+            .filter(|line| line.as_str() == "shift,U2,+1")
+            .count(),
+        prefix(Some(out.written()), run.text),
+    ))
+}
+
+#[test]
+fn blocks_stand_up_to_the_call_that_fails(rt: HostRuntime) -> Result<(), Fail> {
+    for read in 1..11 {
+        let stood = stands(rt.alloc(), BLOCKS, Faults { read, ..NONE })?;
+        assert_eq!(rt; stood, (5, 0, 0, 0, 0));
+    }
+    // The write and the put that fail, what one put takes and what all; the status, the bytes of both files and those of the
+    // text. A file of which the write fails has its first half. A put is given all that is left: a sink that takes it at once
+    // sees one put, and no second that could fail.
+    let rows: [(u32, u32, usize, usize, u8, usize, usize, usize); 13] = [
+        (0, 0, 16, 200, 1, 43, 41, 124),
+        (1, 0, 16, 200, 6, 21, 0, 0),
+        (2, 0, 16, 200, 6, 43, 20, 0),
+        (0, 1, 16, 200, 6, 43, 41, 0),
+        (0, 2, 16, 200, 6, 43, 41, 16),
+        (0, 3, 16, 200, 6, 43, 41, 32),
+        (0, 4, 16, 200, 6, 43, 41, 48),
+        (0, 5, 16, 200, 6, 43, 41, 64),
+        (0, 6, 16, 200, 6, 43, 41, 80),
+        (0, 7, 16, 200, 6, 43, 41, 96),
+        (0, 8, 16, 200, 6, 43, 41, 112),
+        (0, 0, 16, 50, 6, 43, 41, 50),
+        (0, 2, 200, 200, 1, 43, 41, 124),
+    ];
+    for (write, put, chunk, room, status, first, second, text) in rows {
+        let faults = Faults {
+            write,
+            put,
+            chunk,
+            room,
+            ..NONE
+        };
+        let stood = stands(rt.alloc(), BLOCKS, faults)?;
+        assert_eq!(rt; stood, (status, first, second, 0, text));
+    }
+    Ok(())
+}
+
+#[test]
+fn a_written_feed_and_a_journal_stand_up_to_the_call_that_fails(
+    rt: HostRuntime,
+) -> Result<(), Fail> {
+    // The write, the call of the keeper and the put that fail; the status, the bytes of both files, the lines and the bytes of
+    // the text.
+    let rows: [(Run, u32, u32, u32, u8, usize, usize, usize, usize); 6] = [
+        (WRITE, 0, 0, 0, 1, 57, 158, 0, 92),
+        (WRITE, 2, 0, 0, 6, 57, 79, 0, 0),
+        (KEEP, 0, 0, 0, 1, 0, 0, 1, 92),
+        (KEEP, 0, 1, 0, 7, 0, 0, 0, 0),
+        (KEEP, 0, 2, 0, 7, 0, 0, 0, 0),
+        (KEEP, 0, 0, 1, 6, 0, 0, 1, 0),
+    ];
+    for (run, write, call, put, status, first, second, lines, text) in rows {
+        let faults = Faults {
+            write,
+            call,
+            put,
+            ..NONE
+        };
+        let stood = stands(rt.alloc(), run, faults)?;
+        assert_eq!(rt; stood, (status, first, second, lines, text));
+    }
+    Ok(())
+}
