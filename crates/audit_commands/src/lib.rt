@@ -11,7 +11,8 @@
 //! ```
 //!
 //! The contracts cite `Audit` (what the command asks and does) and `Lines` (what it prints), of `block_audit` `Stated`, `Misfits`
-//! and `Laws`, of `desk_run` `Performs`, and of `desk_feed` `Feed`, `Judging` and `Schedule`.
+//! and `Laws`, of `desk_run` `Performs`, and of `desk_feed` `Feed`, `Judging` and `Schedule`. `Auditable` has terms of the
+//! functions inside.
 #![tactic(auto)]
 
 mod audit;

@@ -14,7 +14,7 @@ use trip_model::Timetable;
 use trip_model::laws::plain_law;
 
 /// By how much blocks are above least ones.
-#[derive(Clone, Copy, Debug, PartialEq, Eq)]
+#[derive(Clone, Copy)]
 pub enum Above {
     /// They are as good.
     Nothing,

@@ -10,7 +10,7 @@ use std::alloc::Global;
 use trip_model::Timetable;
 
 /// Two neighbours of a stated block of which the second does not fit after the first.
-#[derive(Clone, Copy, Debug, PartialEq, Eq)]
+#[derive(Clone, Copy)]
 pub struct Misfit {
     /// The number of the block, counted from 0.
     pub block: u32,

@@ -4,7 +4,7 @@ ghost use Rattle.claim_files.specs.Claims as spec;
 use gtfs_tables::{FeedFault, Paper};
 
 /// Why two files are no claim. Records are counted from 1 after the header; 0 stands for the header.
-#[derive(Clone, Copy, Debug, PartialEq, Eq)]
+#[derive(Clone, Copy)]
 pub enum ClaimFault {
     /// The file is not there.
     Missing(Paper),

@@ -1,5 +1,5 @@
 /// A vehicle can run empty from one place to another, both by their numbers, in so many minutes.
-#[derive(Clone, Copy, Debug, PartialEq, Eq)]
+#[derive(Clone, Copy)]
 pub struct Entry {
     pub from: u16,
     pub to: u16,

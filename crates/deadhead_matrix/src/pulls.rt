@@ -13,7 +13,7 @@ use trip_model::Timetable;
 
 /// In how many minutes a vehicle runs empty from the depot to a place, before its first trip, and from there back to the
 /// depot, after its last.
-#[derive(Clone, Copy, Debug, PartialEq, Eq)]
+#[derive(Clone, Copy)]
 pub struct Pull {
     pub pull_out: u16,
     pub pull_in: u16,

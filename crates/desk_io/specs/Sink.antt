@@ -18,8 +18,8 @@ pub record PutFailed (before after : SinkState) : Type 0 where
   pub never_falls : before.faults ≤ after.faults
   pub rose : Rose before.faults after.faults
 
--- a text was cut short: a front of it was appended, and the count rose
-pub record PutsFront (bytes : List ℕ) (before after : SinkState) : Type 0 where
+-- a text was cut short: a prefix of it was appended, and the count rose
+pub record PutsPrefix (bytes : List ℕ) (before after : SinkState) : Type 0 where
   pub count : ℕ
   pub within : count ≤ length bytes
   pub written : after.written ≡ append_known before.written (take count bytes)

@@ -4,7 +4,7 @@ ghost use Rattle.desk_io.specs.Calls.{CallCount, calls_at_first, after_call, aft
 use std::marker::Model;
 
 /// Which calls of an object in memory fail: those that are listed, counted from 1, and no others.
-#[derive(Debug, Drop)]
+#[derive(Drop)]
 pub struct Calls {
     listed: Vec<u32>,
     made: u64,

@@ -1,4 +1,4 @@
-//! The edge to the outside: what the product reads, writes and counts.
+//! The edge to the outside: what the program reads, writes and counts.
 //!
 //! A [`Shelf`] holds named files, a [`Sink`] takes the bytes that are printed, and [`Steps`] counts steps for
 //! proofs alone. Each of the first two is a trait with one meaning, a record of what it holds and of how many
@@ -7,7 +7,7 @@
 //! an object in memory fail.
 //!
 //! The contract that the crates above use: a read gives the file, `Missing` or `TooLong` by the files; [`put_all`]
-//! appends all bytes or a front; `Failed` comes only where a count of that object rose, and every other answer
+//! appends all bytes or a prefix; `Failed` comes only where a count of that object rose, and every other answer
 //! leaves the counts as they were.
 //!
 //! ```text
@@ -16,7 +16,8 @@
 //! ```
 //!
 //! The contracts cite `Faults` (when a count rose), `Calls` (which calls are listed to fail), `Shelf` (what a shelf
-//! holds, and what reads and writes do to it), `Sink` (what a sink has taken), `MemoryShelf` and `MemorySink`.
+//! holds, and what reads and writes do to it), `Sink` (what a sink has taken), `MemoryShelf` and `MemorySink` (the objects
+//! in memory), `FolderShelf` and `OutSink` (a real folder and standard output).
 #![tactic(auto)]
 
 mod calls;
@@ -40,6 +41,3 @@ pub use shelf::{Found, Shelf, ShelfFault};
 pub use sink::{Sink, SinkFault, put_all};
 pub use steps::Steps;
 pub use text::{Bytes, Text};
-
-#[cfg(test)]
-mod tests;

@@ -1,7 +1,7 @@
 use std::alloc::{AllocError, AllocFailed};
 
 /// No memory was found for what a call had to keep. The values lent to the call are as before.
-#[derive(Clone, Copy, Debug, PartialEq, Eq)]
+#[derive(Clone, Copy, Debug)]
 pub struct Memory;
 
 impl From<AllocError> for Memory {

@@ -6,7 +6,7 @@ use std::alloc::Global;
 use thiserror::Error;
 
 /// What a read finds under a name.
-#[derive(Debug, Drop)]
+#[derive(Drop)]
 pub enum Found {
     /// The file, whole.
     File(Bytes),

@@ -1,5 +1,5 @@
 ghost use Rattle.std.specs.Prelude.{◌≡◌, ◌<◌, ◌≤◌, length, take, IfOk, OnOk, OnErr};
-ghost use Rattle.desk_io.specs.Sink.{SinkState, put_bytes, PutFailed, PutsFront};
+ghost use Rattle.desk_io.specs.Sink.{SinkState, put_bytes, PutFailed, PutsPrefix};
 
 use thiserror::Error;
 
@@ -25,11 +25,11 @@ pub trait Sink {
         ensures failed { OnErr result (PutFailed (state self.old) (state self.new)) };
 }
 
-/// Puts all the bytes, or a front of them where the sink has counted a fault. Each put is given all that is left.
+/// Puts all the bytes, or a prefix of them where the sink has counted a fault. Each put is given all that is left.
 /// It takes no memory.
 pub fn put_all<O: Sink>(out: &mut O, bytes: &[u8]) -> Result<(), SinkFault>
     ensures all { OnOk result (O.state out.new ≡ put_bytes bytes.now (O.state out.old)) }
-    ensures front { OnErr result (PutsFront bytes.now (O.state out.old) (O.state out.new)) }
+    ensures prefix { OnErr result (PutsPrefix bytes.now (O.state out.old) (O.state out.new)) }
 {
     let mut done = 0;
     while done < bytes.len() {

@@ -3,7 +3,6 @@ ghost use Rattle.std.specs.Prelude.{◌≡◌, IfOk, string_bytes};
 use crate::Memory;
 use std::alloc::Global;
 use std::cmp::Ordering;
-use std::fmt;
 use std::hash::{Hash, Hasher};
 use std::marker::Model;
 
@@ -128,14 +127,7 @@ impl Hash for Text {
     }
 }
 
-impl fmt::Debug for Text {
-    fn fmt<W: fmt::Write>(&self, f: &mut fmt::Formatter<W>) -> fmt::Result {
-        fmt::Debug::fmt(&self.text, f)
-    }
-}
-
 /// The bytes of a file, seen as their list.
-#[derive(Debug)]
 pub struct Bytes {
     bytes: Vec<u8>,
 }

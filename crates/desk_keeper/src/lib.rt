@@ -26,6 +26,3 @@ mod memory_keeper;
 pub use keeper::{Keeper, KeeperFault};
 pub use lines::Lines;
 pub use memory_keeper::MemoryKeeper;
-
-#[cfg(test)]
-mod tests;

@@ -4,7 +4,6 @@ use desk_io::Text;
 use std::marker::Model;
 
 /// The lines of a journal in their order, seen as the list of their bytes.
-#[derive(Debug)]
 pub struct Lines {
     lines: Vec<Text>,
 }

@@ -1,7 +1,7 @@
 -- What becomes of an outcome: it is carried out whole, or a fault or want of memory ends that.
 use Rattle.std.specs.Prelude.{◌≡◌, ◌⊎◌, ℕ, List, fold, take, slice_get, Option, None, Some, IsSome, Result, Ok, Err}
 use Rattle.desk_io.specs.Shelf.{ShelfState, with_file, WriteFailed}
-use Rattle.desk_io.specs.Sink.{put_bytes, PutsFront}
+use Rattle.desk_io.specs.Sink.{put_bytes, PutsPrefix}
 use Rattle.desk_keeper.specs.Keeper.{Journal, KeeperState, CallFailed, with_lines}
 use Rattle.desk_run.specs.Outcome.{OutcomeView, status_of}
 use Rattle.desk_run.specs.World.{World}
@@ -64,11 +64,11 @@ pub record EndsAtFile (outcome : OutcomeView) (before after : World) : Type 0 wh
   pub sink : after.sink ≡ before.sink
   pub keeper : after.keeper ≡ before.keeper
 
--- the sink failed: all files are whole, the lines are appended, and a front of the text was put
+-- the sink failed: all files are whole, the lines are appended, and a prefix of the text was put
 pub record EndsAtText (outcome : OutcomeView) (before after : World) : Type 0 where
   pub shelf : after.shelf ≡ with_writings outcome.writes before.shelf
   pub keeper : after.keeper ≡ with_appended outcome.lines before.keeper
-  pub sink : PutsFront outcome.text before.sink after.sink
+  pub sink : PutsPrefix outcome.text before.sink after.sink
 
 -- the keeper failed to append: all files are whole, the journal is as it was, and nothing was put
 pub record EndsAtLines (outcome : OutcomeView) (before after : World) : Type 0 where

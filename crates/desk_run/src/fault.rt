@@ -1,7 +1,7 @@
 use desk_io::Memory;
 
 /// Why a run did not come to its end.
-#[derive(Clone, Copy, Debug, PartialEq, Eq)]
+#[derive(Clone, Copy)]
 pub enum RunFault {
     /// A read failed, and the shelf has counted it.
     Read,

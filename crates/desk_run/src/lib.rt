@@ -11,7 +11,7 @@
 //! steps are counted at the most (`IsCounted`).
 //!
 //! ```text
-//! perform(&Deficits, alloc, shelf, out, keeper, steps)
+//! perform(&WriteJournal, alloc, shelf, out, keeper, steps)
 //! ```
 //!
 //! The contracts cite `World` (what stands outside the program), `Reading` (what is read of it), `Outcome` (an outcome as
@@ -38,6 +38,3 @@ pub use status::{
     DONE, EDITS_REFUSED, Ending, FEED_REFUSED, KEEPER_FAULT, NO, NO_MEMORY, READ_FAULT, USAGE,
     WRITE_FAULT,
 };
-
-#[cfg(test)]
-mod tests;

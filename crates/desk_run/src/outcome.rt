@@ -7,7 +7,7 @@ use std::alloc::Global;
 use std::marker::Model;
 
 /// A file that a run writes.
-#[derive(Debug, Drop)]
+#[derive(Drop)]
 pub struct Writing {
     pub name: Text,
     pub bytes: Bytes,
@@ -29,7 +29,6 @@ impl Writing {
 
 /// What a run that comes to its end does: it writes files in their order, appends lines to the journal where there are any
 /// to append, puts a text, and ends with a status.
-#[derive(Debug)]
 pub struct Outcome {
     pub(crate) writes: Vec<Writing>,
     pub(crate) lines: Option<Lines>,

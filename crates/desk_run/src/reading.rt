@@ -12,14 +12,14 @@ use std::alloc::Global;
 use std::marker::Model;
 
 /// A paper, and what was found of its file.
-#[derive(Debug, Drop)]
+#[derive(Drop)]
 pub struct Page {
     pub paper: Paper,
     pub found: Found,
 }
 
 /// What was loaded of the journal.
-#[derive(Debug, Drop)]
+#[derive(Drop)]
 pub enum Loaded {
     /// The command asks for no journal.
     Unasked,
@@ -31,7 +31,6 @@ pub enum Loaded {
 
 /// What a command has read: the papers that it asks for, in their order, and the journal. No paper is longer than a file
 /// may be.
-#[derive(Debug)]
 pub struct Read {
     pub(crate) pages: Vec<Page>,
     pub(crate) journal: Loaded,

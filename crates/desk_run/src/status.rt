@@ -29,7 +29,7 @@ pub const KEEPER_FAULT: u8 = 7;
 pub const NO_MEMORY: u8 = 8;
 
 /// How a run ends that comes to its end.
-#[derive(Clone, Copy, Debug, PartialEq, Eq)]
+#[derive(Clone, Copy)]
 pub enum Ending {
     /// All that was asked for is done.
     Done,

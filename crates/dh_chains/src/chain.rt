@@ -1,7 +1,7 @@
 use trip_model::Move;
 
 /// A vehicle that runs empty from one place to another, in minutes of the service day.
-#[derive(Clone, Copy, Debug, PartialEq, Eq)]
+#[derive(Clone, Copy)]
 pub struct Deadhead {
     /// The place that it leaves.
     pub from: u16,
@@ -14,7 +14,7 @@ pub struct Deadhead {
 
 /// A chain of one to three deadheads. The first arrives where a vehicle is wanting, and each further one where the one
 /// before it left. A third one is none where there is no second.
-#[derive(Clone, Copy, Debug, PartialEq, Eq)]
+#[derive(Clone, Copy)]
 pub struct Chain {
     pub first: Deadhead,
     pub second: Option<Deadhead>,

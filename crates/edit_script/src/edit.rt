@@ -10,7 +10,7 @@ pub const MOST_MINUTE: u16 = 5999;
 pub const MOST_SHOWS: u32 = 64;
 
 /// An edit of a timetable. Trips and places are known by their names.
-#[derive(Debug, Drop)]
+#[derive(Drop)]
 pub enum Edit {
     /// The trip departs and arrives by so many minutes later, or earlier where they are negative.
     Shift {
@@ -42,7 +42,7 @@ pub enum Edit {
 }
 
 /// A record of a script: its edit, or none where it is of no form.
-#[derive(Debug, Drop)]
+#[derive(Drop)]
 pub enum Line {
     Edit(Edit),
     NotAnEdit,

@@ -6,14 +6,14 @@ use desk_io::{Memory, Text};
 use std::alloc::Global;
 
 /// An end of an extra trip.
-#[derive(Clone, Copy, Debug, PartialEq, Eq)]
+#[derive(Clone, Copy, PartialEq, Eq)]
 pub enum Side {
     From,
     To,
 }
 
 /// Why an edit is refused.
-#[derive(Clone, Copy, Debug, PartialEq, Eq)]
+#[derive(Clone, Copy, PartialEq, Eq)]
 pub enum EditFault {
     /// The record is of no form.
     NotAnEdit,

@@ -2,7 +2,7 @@ use trip_model::Trip;
 
 /// The trip that a step changed, added or took off: its slot, and the trip there before the step and after it, where the
 /// slot was there. A show touches none.
-#[derive(Clone, Copy, Debug, PartialEq, Eq)]
+#[derive(Clone, Copy)]
 pub struct Touched {
     pub slot: Option<u16>,
     pub before: Option<Trip>,

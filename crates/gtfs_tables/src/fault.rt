@@ -6,7 +6,7 @@ use desk_io::{Memory, Text};
 use std::alloc::{AllocError, AllocFailed, Global};
 
 /// Why the files of a feed are refused. Records are counted from 1 after the header.
-#[derive(Debug, Drop)]
+#[derive(Drop)]
 pub enum FeedFault {
     /// The file is not there.
     Missing(Paper),

@@ -1,13 +1,16 @@
 //! Comma-separated files as tables, small texts as numbers and times, and the lines of refused files.
 //!
-//! [`read_rows`] gives the records of a file that has no header, [`Table::read`] a header and rows of as many fields.
-//! [`read_time`], [`read_number`] and [`minute_text`] go between texts and numbers, and take spaces round a value.
+//! [`read_records`] takes the records of a file one by one into a [`RecordReader`], [`judge_table`] tells whether a file is
+//! a table, [`Table::read`] gives a header and rows of as many fields, and [`read_rows`] the records of a file that has no
+//! header. [`read_time`], [`read_minute`] and [`read_number`] read values with spaces round them, [`minute_text`] prints a
+//! minute, and [`RecordWriter`] writes records.
 //! [`Paper`] and [`Column`] name the files and their columns, and [`feed_line`] is the line of a [`FeedFault`].
 //! [`table_in`], [`column_in`], [`text_in`], [`filled_in`], [`number_in`] and [`time_in`] read a feed's table step by step,
 //! each up to its own refusal.
 //!
-//! The contract that the crates above use: a table is the record list of its bytes, as `csv` promises to read them,
-//! or the fault that is due, or there was no memory for it; a time and a number are the values of their grammars.
+//! The contract that the crates above use: what a fold gives is its definition over the record list of the bytes, as `csv`
+//! promises to read them, or the first refusal, or there was no memory; a time and a number are the values of their
+//! grammars; records that are written read back, unless the text begins with a byte-order mark ([`laws`]).
 //!
 //! ```text
 //! let table = Table::read(alloc, bytes)?;
@@ -20,7 +23,8 @@
 //!
 //! The contracts cite `Records` (the records of a file), `Rows` and `Table` (padding, the table or its fault, the place
 //! of a column), `Times` and `Numbers` (the grammars, the rounding to minutes), `Spaces`, `Papers` and `Faults` (the
-//! printed names and lines), and `Reading` (reading one part after another up to the first refusal).
+//! printed names and lines), `Reading` (reading one part after another up to the first refusal), `Fold` (reading record by
+//! record), `Writing` (records as text) and `Laws`.
 #![tactic(auto)]
 
 mod fault;

@@ -8,7 +8,7 @@ pub const MOST_BYTES: u64 = 536_870_912;
 pub const MOST_RECORDS: u32 = 65_536;
 
 /// A file that is read.
-#[derive(Clone, Copy, Debug, PartialEq, Eq)]
+#[derive(Clone, Copy)]
 pub enum Paper {
     Settings,
     Terminals,
@@ -51,7 +51,7 @@ impl Paper {
 }
 
 /// A column that is asked of a file, or any other.
-#[derive(Clone, Copy, Debug, PartialEq, Eq)]
+#[derive(Clone, Copy)]
 pub enum Column {
     StopId,
     Terminal,

@@ -12,7 +12,6 @@ use std::alloc::{AllocError, Global};
 use std::marker::Model;
 
 /// One record of a file, seen as the list of its fields, each a list of bytes.
-#[derive(Debug)]
 pub struct Row {
     fields: ByteRecord,
     width: usize,

@@ -11,7 +11,7 @@ use std::alloc::{AllocError, AllocFailed, Global};
 use std::marker::Model;
 
 /// Why bytes are no table.
-#[derive(Clone, Copy, Debug, PartialEq, Eq)]
+#[derive(Clone, Copy)]
 pub enum TableFault {
     /// There is no record.
     NoHeader,
@@ -55,7 +55,6 @@ impl<T: Drop> From<AllocFailed<T>> for TableFault {
 }
 
 /// A file with a header: its rows are padded with empty fields to the header's length.
-#[derive(Debug)]
 pub struct Table {
     header: Row,
     rows: Vec<Row>,

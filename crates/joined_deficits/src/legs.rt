@@ -11,7 +11,7 @@ use std::alloc::Global;
 use trip_model::{Move, Timetable};
 
 /// What a vehicle does on its running board: a trip, or a deadhead that takes time.
-#[derive(Clone, Copy, Debug, PartialEq, Eq)]
+#[derive(Clone, Copy)]
 pub struct Leg {
     /// The slot of the trip, and None where the vehicle runs empty.
     pub slot: Option<u16>,

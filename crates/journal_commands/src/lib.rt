@@ -12,6 +12,7 @@
 //!
 //! The contracts cite `Keep` and `Kept` (what each command asks and does), `Journal` (a journal as a script), `Replay` (what
 //! becomes of the records), and the laws `Laws`; of `desk_run` `Performs`, and of `desk_feed` `Feed`, `Judging` and `Script`.
+//! `Replayed` has terms of the functions inside.
 #![tactic(auto)]
 
 mod journal;

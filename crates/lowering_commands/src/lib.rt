@@ -10,8 +10,9 @@
 //! let status = run_chains(alloc, shelf, out, keeper, steps);
 //! ```
 //!
-//! The contracts cite `Chains` and `Shifts` (what each command asks and shows), of `dh_chains` `Chains`, of `shift_moves`
-//! `Lowering`, of `desk_run` `Performs`, and of `desk_feed` `Showing`. `Step` has terms of the functions inside.
+//! The contracts cite `Chains` and `Shifts` (what each command asks and shows), by these `Fleet` (the sum of the maxima, and
+//! the last line), of `dh_chains` `Chains`, of `shift_moves` `Lowering`, of `desk_run` `Performs`, and of `desk_feed`
+//! `Showing`. `Step` has terms of the functions inside.
 #![tactic(auto)]
 
 mod chains;

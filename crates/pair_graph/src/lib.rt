@@ -18,8 +18,8 @@
 //! }
 //! ```
 //!
-//! The contracts cite `Pairs` (what the pairs are seen as), of `deadhead_matrix` `Fitting` and
-//! `Prices`, and of `trip_model` `Plain` and `Network`.
+//! The contracts cite `Pairs` (what the pairs are seen as), `Reach` (what a vehicle saves by the trips at one place), of
+//! `deadhead_matrix` `Fitting` and `Prices`, and of `trip_model` `Plain` and `Network`.
 #![tactic(auto)]
 
 mod column;

@@ -51,8 +51,7 @@ abbrev pub Proves : TimetableView → MatrixView → Result ClaimedView ClaimFau
 Proves timetable matrix read = (claimed : ClaimedView) → read ≡ Ok claimed → reason_of timetable matrix claimed ≡ None
     → IsCertificate (network_of timetable matrix) (length timetable.slots) claimed × IsLeast (network_of timetable matrix) (blocks_in claimed.blocks)
 
--- The verdict is put: by the matrix of the feed, and there is no other verdict by any matrix of the feed. A yes proves the
--- blocks.
+-- The verdict by a matrix of the feed is put. A yes proves the blocks.
 pub record IsChecked (read : ReadView) (said : Said) (outcome : OutcomeView) : Type 0 where
   pub matrix : MatrixView
   pub matrix_is : IsMatrixFor said matrix

@@ -5,14 +5,14 @@ use edit_script::Edit;
 pub const MOST_PLANNER_EDITS: u32 = 4096;
 
 /// An edit with the name of the planner who asks for it.
-#[derive(Debug, Drop)]
+#[derive(Drop)]
 pub struct PlannerEdit {
     pub planner: Text,
     pub edit: Edit,
 }
 
 /// A record of a script of planners: its planner and edit, or none where it is of no form.
-#[derive(Debug, Drop)]
+#[derive(Drop)]
 pub enum PlannerLine {
     Edit(PlannerEdit),
     NotAnEdit,

@@ -2,7 +2,7 @@ use desk_io::Memory;
 use edit_script::EditFault;
 
 /// Why a planner's record is refused.
-#[derive(Clone, Copy, Debug, PartialEq, Eq)]
+#[derive(Clone, Copy)]
 pub enum PlannerFault {
     /// The record is of no form.
     NotAnEdit,

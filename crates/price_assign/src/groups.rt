@@ -6,7 +6,7 @@ use crate::order::Column;
 
 /// Columns next to each other that stand at one post and in the order of their minutes: those from one place until before
 /// another.
-#[derive(Clone, Copy, Debug, PartialEq, Eq)]
+#[derive(Clone, Copy)]
 pub(crate) struct Group {
     pub post: Option<u16>,
     pub from: u16,

@@ -22,7 +22,7 @@ pub(crate) struct Line<'a> {
 }
 
 /// The columns of a group that a row fits: those from a place on. They weigh the same.
-#[derive(Clone, Copy, Debug, PartialEq, Eq)]
+#[derive(Clone, Copy)]
 pub(crate) struct Fit {
     pub from: u16,
     pub weight: u64,

@@ -10,7 +10,7 @@ use trip_model::{LAST_MINUTE, Move};
 
 /// A column of a search: where its trip begins or, seen from the entering side, ends; the minute by which a row that is linked
 /// to it must be ready; and its slot. No row is linked to one that stands nowhere.
-#[derive(Clone, Copy, Debug, PartialEq, Eq, PartialOrd, Ord)]
+#[derive(Clone, Copy, PartialEq, Eq, PartialOrd, Ord)]
 pub(crate) struct Column {
     pub post: Option<u16>,
     pub minute: u16,

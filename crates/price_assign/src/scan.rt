@@ -12,7 +12,7 @@ use std::sync::ledger::Ledger;
 
 /// What a search has seen of a group of columns: none that is not done is nearer than `near`, and those from a place on were
 /// reached at a cost.
-#[derive(Clone, Copy, Debug, PartialEq, Eq)]
+#[derive(Clone, Copy)]
 pub(crate) struct Seen {
     pub near: u64,
     pub cost: u64,

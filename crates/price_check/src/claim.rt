@@ -8,7 +8,7 @@ pub const MOST_PRICE: u64 = 999_999_999_999;
 
 /// A record of `blocks.csv`: a trip of a block. Blocks are numbered from 0 in the order of the file; `slot` is the slot of
 /// the trip of that name, if one runs, and `deadhead` the empty minutes that are shown before it.
-#[derive(Debug, Drop)]
+#[derive(Drop)]
 pub struct BlockRow {
     pub block: u32,
     pub trip: Text,
@@ -18,7 +18,7 @@ pub struct BlockRow {
 
 /// A record of `prices.csv`: the prices of leaving a trip and of entering it. `slot` is that of the trip of that name, if one
 /// runs.
-#[derive(Debug, Drop)]
+#[derive(Drop)]
 pub struct PriceRow {
     pub trip: Text,
     pub slot: Option<u16>,
@@ -54,7 +54,6 @@ impl Record for PriceRow {
 }
 
 /// What is claimed of a timetable: the records of both files, each in its order.
-#[derive(Debug)]
 pub struct Claimed {
     blocks: Vec<BlockRow>,
     prices: Vec<PriceRow>,

@@ -2,7 +2,7 @@ use gtfs_tables::Paper;
 
 /// Why a claim is no certificate. Records are numbered from 1. The seven are judged in this order, each of the first three in
 /// `blocks.csv` before `prices.csv`, and each at its least record or slot.
-#[derive(Clone, Copy, Debug, PartialEq, Eq)]
+#[derive(Clone, Copy)]
 pub enum Reason {
     /// A record names no trip that runs.
     UnknownTrip(Paper, u32),
@@ -23,7 +23,7 @@ pub enum Reason {
 
 /// The verdict on a claim: its blocks are least, with their vehicles and empty minutes, or the first reason why this is not
 /// proved.
-#[derive(Clone, Copy, Debug, PartialEq, Eq)]
+#[derive(Clone, Copy)]
 pub enum Verdict {
     Yes { vehicles: u32, minutes: u32 },
     No(Reason),

@@ -14,7 +14,7 @@
 //!
 //! The contracts cite `Dates` (dates and their weekdays), `Calendar` (the schedules, record after record),
 //! `CalendarDates` (the exceptions, record after record) and `Services` (the services that run). That a number is told to be
-//! a date exactly where `jiff` has its day is a law (`laws`).
+//! a date exactly where `jiff` has its day, and that the services are exactly those that run, are laws (`Laws`).
 #![tactic(auto)]
 
 mod calendar;

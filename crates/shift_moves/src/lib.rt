@@ -14,7 +14,7 @@
 //! ```
 //!
 //! The contracts cite `Lowering` (which shifts lower the sum, and which is the first), of `trip_model` `Timetable`, `Trip`,
-//! `Deficit` and `Maximum`, and of `deficit_steps` `Holds`.
+//! `Deficit` and `Maximum`, and of `deficit_steps` `Holds`. `Trial` has terms of the functions inside.
 #![tactic(auto)]
 
 mod search;

@@ -15,7 +15,7 @@ use std::sync::ledger::Ledger;
 use trip_model::{Timetable, Trip};
 
 /// The trip of a slot moved by so many minutes, earlier where they are negative.
-#[derive(Clone, Copy, Debug, PartialEq, Eq)]
+#[derive(Clone, Copy)]
 pub struct Shift {
     pub slot: u16,
     pub by: i16,

@@ -19,13 +19,13 @@ pub(crate) struct Database {
 impl Drop for Database {
     fn drop(self) {
         let Database { connection } = self;
-        // What was committed stays in the log where it can't be copied.
+        // What was committed stays in the log where it cannot be copied.
         let _ = connection.close();
     }
 }
 
 impl Database {
-    /// Opens `journal.db` in a folder. The file and its table are made where they aren't there.
+    /// Opens `journal.db` in a folder. The file and its table are made where they are not there.
     pub fn open(rt: &HostRuntime, folder: &str) -> Result<Database, Error> {
         let path = Path::new(folder).join(rt.alloc(), "journal.db")?;
         let mut database = Database {

@@ -34,7 +34,7 @@ impl<'a> SqliteKeeper<'a> {
         }
     }
 
-    // The database, opened where it isn't open yet. It is put back once a call has succeeded.
+    // The database, opened where it is not open yet. It is put back once a call has succeeded.
     fn open(&mut self) -> Result<Database, Error>
         ensures { keeper_state_of self.new ≡ keeper_state_of self.old }
     {

@@ -15,9 +15,9 @@
 //! let first = tree.first_reaching(most);
 //! ```
 //!
-//! The contracts cite `Summary` (the laws of a summary), `MaxPrefix` (the greatest prefix sum) and `Reaching` (the
-//! greatest prefix sum, and the first place whose prefix sum reaches a value). That the nodes are the summaries of their
-//! leaves, `Nodes`, is the invariant of the type alone.
+//! The contracts cite `Summary` (the laws of a summary), `MaxPrefix` (the greatest prefix sum), `MaxPrefixLaws` (that it
+//! keeps these laws) and `Reaching` (the greatest prefix sum, and the first place whose prefix sum reaches a value). That
+//! the nodes are the summaries of their leaves, `Nodes`, is the invariant of the type alone.
 #![tactic(auto)]
 
 mod descent;

@@ -3,7 +3,7 @@ use crate::summary::Summary;
 /// The sum of neighbouring leaves, and the greatest of their prefix sums.
 ///
 /// Of one leaf the sum lies between -65,536 and 65,536.
-#[derive(Clone, Copy, Debug, PartialEq, Eq)]
+#[derive(Clone, Copy)]
 pub struct MaxPrefix {
     /// The sum of all leaves.
     pub sum: i32,

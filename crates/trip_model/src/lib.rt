@@ -13,7 +13,7 @@
 //!
 //! ```text
 //! let mut timetable = Timetable::open(alloc, 0, 0);
-//! let depot = timetable.push_place("A", 5)?;
+//! let terminal = timetable.push_place("A", 5)?;
 //! ```
 //!
 //! The contracts cite `Place` (terminals and posts), `Trip` (valid trips, the move of a trip), `Timetable` (what a

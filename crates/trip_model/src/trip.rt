@@ -1,7 +1,7 @@
 ghost use Rattle.std.specs.Prelude.{◌≡◌, List};
 
 /// A trip between two places, in minutes of the service day as they stand now.
-#[derive(Clone, Copy, Debug, PartialEq, Eq)]
+#[derive(Clone, Copy)]
 pub struct Trip {
     /// The place at which it starts.
     pub from: u16,
@@ -22,7 +22,7 @@ pub struct Trip {
 }
 
 /// A vehicle's way from one place to another, in minutes of the service day.
-#[derive(Clone, Copy, Debug, PartialEq, Eq)]
+#[derive(Clone, Copy)]
 pub struct Move {
     pub from: u16,
     pub to: u16,
