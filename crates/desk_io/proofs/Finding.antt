@@ -1,5 +1,5 @@
 -- What was read of a file by a reader that stops one byte above a limit.
-use Rattle.std.proofs.Common.{◌≡◌, ℕ, ◌+◌, ◌-◌, ◌^◌, ◌<◌, ◌≤◌, min, List, length, take, sym, ap, ◌∙◌, subst, arith}
+use Rattle.std.proofs.Common.{◌≡◌, ℕ, ◌+◌, ◌-◌, ◌^◌, ◌<◌, ◌≤◌, min, List, length, take, arith}
 use Rattle.std.proofs.lemmas.List.{length-take, take_all}
 
 -- what was read is no longer than the limit, so that it is the whole file

@@ -1,8 +1,8 @@
 -- What a shelf in memory holds, and which of its calls fail.
 use Rattle.std.specs.Prelude.{ℕ, ◌/◌, List, length, take, Some}
 use Rattle.std.specs.FinMap.{from_entries}
-use Rattle.desk_io.specs.Calls.{CallCount, after_call, after_fault}
-use Rattle.desk_io.specs.Shelf.{Files, ShelfState, with_file}
+use Rattle.desk_io.specs.Calls.{CallCount}
+use Rattle.desk_io.specs.Shelf.{Files, ShelfState}
 use Rattle.desk_io.specs.declared.memory_shelf.MemoryShelf.{MemoryShelf}
 
 -- the files: of each name, the bytes that were laid or written last

@@ -1,4 +1,4 @@
-ghost use Rattle.std.specs.Prelude.{◌≡◌, ◌≢◌, IfOk, IfErr, IfSome, Some, Err};
+ghost use Rattle.std.specs.Prelude.{◌≡◌, ◌≢◌, IfOk, IfSome, Some};
 ghost use Rattle.desk_io.specs.Shelf.{FitsIn, found_as};
 
 use crate::{Bytes, Found, Shelf, ShelfFault, Text};
@@ -35,18 +35,15 @@ impl<'a, R: Files> FolderShelf<'a, R> {
 }
 
 // What is found of a file that the system opened, of which no more than one byte above the limit is read. What the system
-// refuses is handed on: a file that was opened is never missing.
+// refuses is handed on.
 #[tactic(auto, using(crate::proofs::Finding::take_short))]
-fn find<I: Read + Drop>(alloc: Global, opened: io::Result<I>, limit: u64) -> io::Result<Found>
+fn find<I: Read + Drop>(alloc: Global, file: I, limit: u64) -> io::Result<Found>
     ensures bound { IfOk result (FitsIn limit) }
-    ensures found { IfOk opened (λ file. IfSome (I.remaining file) (λ bytes. IfOk result (λ found. found ≡ found_as limit (Some bytes)))) }
+    ensures found { IfSome (I.remaining file) (λ bytes. IfOk result (λ found. found ≡ found_as limit (Some bytes))) }
     ensures there { IfOk result (λ found. found ≢ Found.Missing) }
-    ensures refused { IfErr opened (λ error. result ≡ Err error) }
 {
     let mut bytes = Vec::new(alloc);
-    opened?
-        .take(limit.saturating_add(1))
-        .read_to_end(&mut bytes)?;
+    file.take(limit.saturating_add(1)).read_to_end(&mut bytes)?;
     if bytes.len() as u64 <= limit {
         Ok(Found::File(Bytes::wrap(bytes)))
     } else {
@@ -55,31 +52,52 @@ fn find<I: Read + Drop>(alloc: Global, opened: io::Result<I>, limit: u64) -> io:
 }
 
 impl<'a, R: Files> FolderShelf<'a, R> {
-    ghost use Rattle.std.specs.Prelude.{◌≡◌, ◌≢◌, ℕ, [], IfOk, IfErr, OnOk, OnErr, IsOk};
+    ghost use Rattle.std.specs.Prelude.{◌≡◌, ◌≢◌, [], None, IfOk, IfErr, OnOk, OnErr, IsOk};
     ghost use Rattle.std.specs.IoError.{error_kind};
-    ghost use Rattle.desk_io.specs.Shelf.{FitsIn, Reads, WriteFailed};
+    ghost use Rattle.desk_io.specs.Shelf.{ReadFailed, Reads, WriteFailed};
     ghost use Rattle.desk_io.specs.FolderShelf.{folder_state_of};
 
-    // What a read answers to what the system answered. A file that is not there is no fault, and want of memory is
-    // told as such; every other refusal of the system is counted.
-    fn answer(&mut self, found: io::Result<Found>) -> Result<Found, ShelfFault>
-        ensures state { Reads result (folder_state_of self.old) (folder_state_of self.new) }
-        ensures bound { (limit : ℕ) → IfOk found (FitsIn limit) → IfOk result (FitsIn limit) }
-        ensures found { IfOk found (λ it. result ≡ Ok it) }
-        ensures missing { IfErr found (λ error. error_kind error ≡ ErrorKind.NotFound → result ≡ Ok Found.Missing) }
-        ensures memory { IfErr found (λ error. error_kind error ≡ ErrorKind.OutOfMemory → result ≡ Err ShelfFault.Memory) }
-        ensures failed { IfErr found (λ error. error_kind error ≢ ErrorKind.NotFound → error_kind error ≢ ErrorKind.OutOfMemory → result ≡ Err ShelfFault.Failed) }
+    // Counts a fault of a read.
+    fn read_fault(&mut self) -> ShelfFault
+        ensures failed { result ≡ ShelfFault.Failed }
+        ensures state { ReadFailed (folder_state_of self.old) (folder_state_of self.new) }
     {
-        match found {
-            Ok(found) => Ok(found),
+        self.read_faults = self.read_faults.saturating_add(1);
+        ShelfFault::Failed
+    }
+
+    // What a read answers to what the system answered when it was to open the file. One that is not there is no fault, and
+    // want of memory is told as such; every other refusal of the system is counted.
+    fn answer_open<I>(&mut self, opened: io::Result<I>) -> Result<Option<I>, ShelfFault>
+        ensures state { Reads result (folder_state_of self.old) (folder_state_of self.new) }
+        ensures opened { IfOk opened (λ file. result ≡ Ok (Some file)) }
+        ensures missing { IfErr opened (λ error. error_kind error ≡ ErrorKind.NotFound → result ≡ Ok None) }
+        ensures memory { IfErr opened (λ error. error_kind error ≡ ErrorKind.OutOfMemory → result ≡ Err ShelfFault.Memory) }
+        ensures failed { IfErr opened (λ error. error_kind error ≢ ErrorKind.NotFound → error_kind error ≢ ErrorKind.OutOfMemory → result ≡ Err ShelfFault.Failed) }
+    {
+        match opened {
+            Ok(file) => Ok(Some(file)),
             Err(error) => match error.kind() {
-                ErrorKind::NotFound => Ok(Found::Missing),
+                ErrorKind::NotFound => Ok(None),
                 ErrorKind::OutOfMemory => Err(ShelfFault::Memory),
-                _ => {
-                    self.read_faults = self.read_faults.saturating_add(1);
-                    Err(ShelfFault::Failed)
-                }
+                _ => Err(self.read_fault()),
             },
+        }
+    }
+
+    // What a read answers to what the system answered when the file, which it had opened, was read. Such a file is never
+    // missing: every refusal but want of memory is counted.
+    fn answer_read(&mut self, read: io::Result<Found>) -> Result<Found, ShelfFault>
+        ensures state { Reads result (folder_state_of self.old) (folder_state_of self.new) }
+        ensures found { IfOk read (λ found. result ≡ Ok found) }
+        ensures only { IfOk result (λ found. read ≡ Ok found) }
+        ensures memory { IfErr read (λ error. error_kind error ≡ ErrorKind.OutOfMemory → result ≡ Err ShelfFault.Memory) }
+        ensures failed { IfErr read (λ error. error_kind error ≢ ErrorKind.OutOfMemory → result ≡ Err ShelfFault.Failed) }
+    {
+        match read {
+            Ok(found) => Ok(found),
+            Err(error) if error.kind() == ErrorKind::OutOfMemory => Err(ShelfFault::Memory),
+            Err(_) => Err(self.read_fault()),
         }
     }
 
@@ -123,7 +141,10 @@ impl<'a, R: Files> Shelf for FolderShelf<'a, R> {
         let Ok(path) = Path::new(self.folder.as_str()).join(alloc, name) else {
             return Err(ShelfFault::Memory);
         };
-        self.answer(find(alloc, fs::open(self.rt, path.as_str()), limit))
+        let Some(file) = self.answer_open(fs::open(self.rt, path.as_str()))? else {
+            return Ok(Found::Missing);
+        };
+        self.answer_read(find(alloc, file, limit))
     }
 
     fn write(&mut self, alloc: Global, name: &str, bytes: &[u8]) -> Result<(), ShelfFault> {

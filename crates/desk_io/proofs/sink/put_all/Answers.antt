@@ -1,4 +1,4 @@
-use Rattle.std.proofs.Common.{arith, length, take, drop, length-take, length-drop}
+use Rattle.std.proofs.Common.{arith, length-take, length-drop}
 use Rattle.desk_io.proofs.PutsMore.{put_more}
 use Rattle.desk_io.proofs.sink.put_all.Goals as goal
 

@@ -1,4 +1,4 @@
-use Rattle.std.proofs.Common.{◌≡◌, ap, sym, ◌∙◌, arith}
+use Rattle.std.proofs.Common.{◌≡◌, ap, ◌∙◌, arith}
 use Rattle.desk_io.specs.MemoryShelf.{files_of}
 use Rattle.desk_io.proofs.OthersStay.{others_stay}
 use Rattle.desk_io.proofs.memory_shelf.MemoryShelfShelf.write.Goals as goal
