@@ -1,5 +1,5 @@
 -- What the bytes of a field are read as, and the reading of records one after the other, as a loop does it.
-use Rattle.std.proofs.Common.{◌≡◌, ◌≢◌, refl, ℕ, ◌+◌, ◌-◌, ◌<◌, cond, List, [], length, get_or, drop, Result, Ok, Err, sym, ap, subst, ◌∙◌, arith, add-one}
+use Rattle.std.proofs.Common.{◌≡◌, ◌≢◌, refl, ℕ, ◌+◌, ◌-◌, ◌<◌, cond, List, [], ◌∷◌, length, get_or, drop, Result, Ok, Err, sym, ap, subst, ◌∙◌, arith, add-one}
 use Rattle.std.specs.Str.{IsUtf8, is_utf8}
 use Rattle.std.proofs.Math.Seq.{drop-cons}
 use Rattle.std.proofs.lemmas.Bool.{false_from_ne_true}
@@ -8,7 +8,12 @@ use Rattle.gtfs_tables.specs.declared.fault.FeedFault.{FeedFault}
 use Rattle.gtfs_tables.specs.declared.fault.FeedFault.TheVariants as fault
 use Rattle.gtfs_tables.specs.declared.paper.Paper.{Paper}
 use Rattle.gtfs_tables.specs.declared.paper.Column.{Column}
-use Rattle.gtfs_tables.specs.Reading.{◌>>=◌, Fails, text_in, each_record}
+use Rattle.gtfs_tables.specs.declared.table.TableFault.{TableFault}
+use Rattle.gtfs_tables.specs.Reading.{◌>>=◌, Fails, each_record, header_from, header_in, or_refused, table_in, text_in}
+use Rattle.gtfs_tables.specs.Records.{records}
+use Rattle.gtfs_tables.specs.Table.{TableView, body_of, table_from, with_header}
+use Rattle.desk_io.specs.declared.shelf.Found.{Found}
+use Rattle.desk_io.specs.declared.shelf.Found.TheVariants.{File, Missing, TooLong}
 
 pub text_in-utf8 : (paper : Paper) (number : ℕ) (column : Column) (bytes : List ℕ) → IsUtf8 bytes → text_in paper number column bytes ≡ Ok bytes
 text_in-utf8 paper number column bytes is = ap (λ b. cond b (Ok bytes) (Err (fault.NotUtf8 paper number column))) (is_utf8-from_IsUtf8 bytes is)
@@ -53,3 +58,17 @@ module _ {A X : Type 0} (read : ℕ → A → List X → Result A FeedFault) (ro
   records_end number before fields r refused all lt at due so_far =
       Fails-equal refused _ all (sym (records_next number before fields r lt at) ∙ so_far)
       (Fails->>= refused (read number before fields) (λ more. each_record read (number + 1) more (drop (r + 1) rows)) due)
+
+-- a table has the header that is read by itself
+pub header-table : (paper : Paper) (found : Found) (header : List (List ℕ)) → header_in paper found ≡ Ok header → (table : TableView) → table_in paper found ≡ Ok table → table.header ≡ header
+header-table paper Missing header is table reads = absurd (cc)
+header-table paper TooLong header is table reads = absurd (cc)
+header-table paper (File bytes) header is table reads = by (records bytes) is reads
+  where
+    over : (first : List (List ℕ)) → first ≡ header → (body : Result (List (List (List ℕ))) TableFault) → or_refused paper (with_header first body) ≡ Ok table → table.header ≡ header
+    over first same (Ok rows) reads = let whole : record { header = first; rows = rows } ≡ table = cc in sym (ap (λ (t : TableView). t.header) whole) ∙ same
+    over first same (Err refused) reads = absurd (cc)
+
+    by : (all : List (List (List ℕ))) → header_from paper all ≡ Ok header → or_refused paper (table_from all) ≡ Ok table → table.header ≡ header
+    by [] is reads = absurd (cc)
+    by (first ∷ rows) is reads = over first (cc) (body_of (length first) rows) reads

@@ -12,6 +12,7 @@ use Rattle.gtfs_tables.specs.declared.table.TableFault.{TableFault}
 use Rattle.gtfs_tables.specs.declared.table.TableFault.TheVariants as table
 use Rattle.gtfs_tables.specs.Numbers.{number_of}
 use Rattle.gtfs_tables.specs.Papers.{column_name_of}
+use Rattle.gtfs_tables.specs.Records.{records}
 use Rattle.gtfs_tables.specs.Spaces.{without_spaces}
 use Rattle.gtfs_tables.specs.Table.{TableView, table_of, column_of}
 use Rattle.gtfs_tables.specs.Times.{seconds_of}
@@ -52,6 +53,17 @@ abbrev pub table_in : Paper → Found → Result TableView FeedFault
 table_in paper Missing = Err (fault.Missing paper)
 table_in paper TooLong = Err (fault.TooLong paper)
 table_in paper (File bytes) = or_refused paper (table_of bytes)
+
+-- the header of records, whatever comes after it
+abbrev pub header_from : Paper → List (List (List ℕ)) → Result (List (List ℕ)) FeedFault
+header_from paper [] = Err (fault.NoHeader paper)
+header_from paper (header ∷ rows) = Ok header
+
+-- the header of a paper that must be there
+abbrev pub header_in : Paper → Found → Result (List (List ℕ)) FeedFault
+header_in paper Missing = Err (fault.Missing paper)
+header_in paper TooLong = Err (fault.TooLong paper)
+header_in paper (File bytes) = header_from paper (records bytes)
 
 -- nothing was to be read, and nothing is refused
 abbrev pub nothing : Result (Unit {0}) FeedFault

@@ -3,7 +3,7 @@ ghost use Rattle.gtfs_tables.specs.declared.fault.FeedFault.{FeedFault};
 ghost use Rattle.gtfs_tables.specs.declared.paper.TheConstants.{MOST_BYTES};
 ghost use Rattle.gtfs_tables.specs.Fold.{due, longer_from, bytes_read, paper_read, rest_read, AreLeft, IsTableLeft};
 ghost use Rattle.gtfs_tables.specs.Papers.{IsWithinLimit};
-ghost use Rattle.gtfs_tables.specs.Reading.{Gives, judged, table_in};
+ghost use Rattle.gtfs_tables.specs.Reading.{Gives, header_in, judged, table_in};
 ghost use Rattle.gtfs_tables.specs.Records.{records_left, IsReading};
 ghost use Rattle.gtfs_tables.specs.Rows.{padded};
 ghost use Rattle.gtfs_tables.specs.Table.{TableView, table_of};
@@ -145,10 +145,9 @@ pub fn read_records<R: RecordReader>(
     }
 }
 
-/// The header of a paper by itself: that of its table, where it is one. Where it has none, it is refused as it is whole.
+/// The header of a paper by itself, whatever its records are. Where it has none, it is refused as it is whole.
 pub fn read_header(alloc: Global, paper: Paper, found: &Found) -> Result<Row, FeedFault>
-    ensures header { IfOk result (λ header. (table : TableView) → table_in paper found.now ≡ Ok table → table.header ≡ header) }
-    ensures refused { IfErr result (λ refused. refused ≢ FeedFault.Memory → table_in paper found.now ≡ Err refused) }
+    ensures { Gives (λ header. header) result (header_in paper found.now) }
 {
     let bytes = match found {
         Found::Missing => return Err(FeedFault::Missing(paper)),

@@ -1,5 +1,6 @@
 use Rattle.std.proofs.lemmas.Result.{err_from_is_err_and}
 use Rattle.gtfs_tables.specs.Reading.{table_in}
+use Rattle.gtfs_tables.proofs.ReadingLemmas.{header-table}
 use Rattle.gtfs_tables.specs.declared.paper.Paper.TheVariants as paper
 use Rattle.block_writer.proofs.Rewritten.{started, stop-times-made, stop-times-refused}
 use Rattle.block_writer.proofs.stop_times.stop_times_text.Goals as goal
@@ -9,11 +10,11 @@ returns-in_err-read_records-clause-refused c =
     let p = err_from_is_err_and c.from_residual-in_err-read_records.result c.from_residual-in_err-read_records.ensures.1 in
     let begins = started c.new-records.result c.push.new.self c.deref.result.now c.in_ok-fields_of.field-0.items c.in_ok-header.header c.new-records.ensures c.deref.ensures.value c.in_ok-fields_of.ensures c.in_ok-push.ensures in
     rw (p.1, p.2)
-    (stop-times-refused c.args.timetable.now c.args.base c.in_ok-header.header c.push.new.self (table_in paper.StopTimes c.args.found.now) c.in_err-read_records.field-0.0 c.in_ok-header.ensures.header begins
+    (stop-times-refused c.args.timetable.now c.args.base c.in_ok-header.header c.push.new.self (table_in paper.StopTimes c.args.found.now) c.in_err-read_records.field-0.0 (header-table paper.StopTimes c.args.found.now c.in_ok-header.header c.in_ok-header.ensures) begins
     c.in_err-read_records.ensures.gives)
 
 pub returns-clause-written : goal.returns-clause-written
 returns-clause-written c =
     let begins = started c.new-records.result c.push.new.self c.deref.result.now c.in_ok-fields_of.field-0.items c.in_ok-header.header c.new-records.ensures c.deref.ensures.value c.in_ok-fields_of.ensures c.in_ok-push.ensures in
     rw c.in_ok-into_bytes.ensures
-    (stop-times-made c.args.timetable.now c.args.base c.in_ok-header.header c.push.new.self (table_in paper.StopTimes c.args.found.now) _ c.in_ok-header.ensures.header begins c.in_ok-read_records.ensures.gives)
+    (stop-times-made c.args.timetable.now c.args.base c.in_ok-header.header c.push.new.self (table_in paper.StopTimes c.args.found.now) _ (header-table paper.StopTimes c.args.found.now c.in_ok-header.header c.in_ok-header.ensures) begins c.in_ok-read_records.ensures.gives)
