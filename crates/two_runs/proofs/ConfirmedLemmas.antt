@@ -1,14 +1,11 @@
 -- What `blocks` has written, `check` accepts.
-use Rattle.std.proofs.Common.{◌≡◌, ◌≢◌, ℕ, ◌≤◌, Bool, true, false, cond, List, [], ◌++◌, length, Option, Some, None, Result, Ok, Err, refl, sym, ap, subst, ◌∙◌, arith}
-use Rattle.std.specs.Prelude.{IfSome, option_map, nat_le, if◌then◌else◌}
-use Rattle.std.proofs.lemmas.Cmp.{nat_list_cmp_total}
-use Rattle.std.specs.Cmp.Lexicographic.{slice_cmp}
-use Rattle.std.specs.FinMap.{get, insert, get-insert}
-use Rattle.std.specs.Ordering.{eq_by_cmp, nat_cmp}
+use Rattle.std.proofs.Common.{◌≡◌, ℕ, ◌≤◌, false, List, [], ◌++◌, length, Option, Some, None, Result, Ok, Err, refl, sym, ap, subst, ◌∙◌, arith}
+use Rattle.std.specs.Prelude.{IfSome}
+use Rattle.std.specs.FinMap.{get}
 use Rattle.desk_io.specs.Shelf.{Files, found_as, found_in}
 use Rattle.desk_io.specs.Sink.{put_bytes}
 use Rattle.desk_io.specs.declared.shelf.Found.{Found}
-use Rattle.desk_io.specs.declared.shelf.Found.TheVariants.{File, TooLong}
+use Rattle.desk_io.specs.declared.shelf.Found.TheVariants.{File}
 use Rattle.gtfs_tables.specs.Papers.{file_name_of}
 use Rattle.gtfs_tables.specs.Reading.{◌>>=◌}
 use Rattle.gtfs_tables.specs.declared.fault.FeedFault.{FeedFault}
@@ -46,10 +43,11 @@ use Rattle.plan_commands.proofs.Given.{put-alone}
 use Rattle.feed_names.proofs.NamesSaid.{said-names}
 use Rattle.plan_commands.proofs.ScheduleLemmas.{outcome-same}
 use Rattle.two_runs.specs.Confirmed.{IsShort, IsConfirmed}
+use Rattle.two_runs.proofs.TwoFiles.{first-stands, found-short, is_name, others-stand, second-stands, with_two, with_two_told}
 
 -- the files with those of blocks and of prices
 abbrev written : Files → List ℕ → List ℕ → Files
-written files blocks prices = insert (insert files (file_name_of paper.Blocks) blocks) (file_name_of paper.Prices) prices
+written files blocks prices = with_two (file_name_of paper.Blocks) blocks (file_name_of paper.Prices) prices files
 
 -- papers that are found as before say what they said
 said_same : (one other : Paper → Found) → one paper.Settings ≡ other paper.Settings → one paper.Terminals ≡ other paper.Terminals → one paper.Tolerances ≡ other paper.Tolerances
@@ -60,31 +58,18 @@ said_same one other settings terminals tolerances calendar dates trips stop_time
     (settings_of (settings i) (terminals i) (tolerances i) >>= λ s. kept_on (calendar i) (dates i) s s.date) >>= λ s. base_of s (trips i) (stop_times i) >>= λ t. deadheads_of (deadheads i) t >>= λ d. pulls_of (depot i) d.0
     >>= λ p. lines_by (edits i) >>= λ lines. Ok (said_with s d.0 d.1 p lines)
 
--- a file that is there and not too long is found
-found_short : (bytes : List ℕ) → (if nat_le (length bytes) MOST_BYTES then File bytes else TooLong) ≢ TooLong → (if nat_le (length bytes) MOST_BYTES then File bytes else TooLong) ≡ File bytes
-found_short bytes short = by (nat_le (length bytes) MOST_BYTES) short
-  where
-    by : (b : Bool) → (if b then File bytes else TooLong) ≢ TooLong → (if b then File bytes else TooLong) ≡ File bytes
-    by true short = refl
-    by false short = absurd (short refl)
-
--- each other file stands in them as before
+-- what is found in them
 module _ (files : Files) (blocks prices : List ℕ) where
-  kept : (name : List ℕ) → eq_by_cmp (slice_cmp nat_cmp) name (file_name_of paper.Prices) ≡ false → eq_by_cmp (slice_cmp nat_cmp) name (file_name_of paper.Blocks) ≡ false
+  kept : (name : List ℕ) → is_name name (file_name_of paper.Prices) ≡ false → is_name name (file_name_of paper.Blocks) ≡ false
       → found_in (written files blocks prices) name MOST_BYTES ≡ found_in files name MOST_BYTES
-  kept name prices_no blocks_no = ap (found_as MOST_BYTES)
-      (get-insert nat_list_cmp_total (insert files (file_name_of paper.Blocks) blocks) (file_name_of paper.Prices) prices name
-      ∙ ap (λ b. cond b (Some prices) (get (insert files (file_name_of paper.Blocks) blocks) name)) prices_no
-      ∙ get-insert nat_list_cmp_total files (file_name_of paper.Blocks) blocks name
-      ∙ ap (λ b. cond b (Some blocks) (get files name)) blocks_no)
+  kept name not_prices not_blocks =
+      ap (found_as MOST_BYTES) (others-stand (file_name_of paper.Blocks) blocks (file_name_of paper.Prices) prices files name not_prices not_blocks)
 
   blocks_found : get (written files blocks prices) (file_name_of paper.Blocks) ≡ Some blocks
-  blocks_found =
-      get-insert nat_list_cmp_total (insert files (file_name_of paper.Blocks) blocks) (file_name_of paper.Prices) prices (file_name_of paper.Blocks)
-      ∙ get-insert nat_list_cmp_total files (file_name_of paper.Blocks) blocks (file_name_of paper.Blocks)
+  blocks_found = first-stands (file_name_of paper.Blocks) blocks (file_name_of paper.Prices) prices files refl refl
 
   prices_found : get (written files blocks prices) (file_name_of paper.Prices) ≡ Some prices
-  prices_found = get-insert nat_list_cmp_total (insert files (file_name_of paper.Blocks) blocks) (file_name_of paper.Prices) prices (file_name_of paper.Prices)
+  prices_found = second-stands (file_name_of paper.Blocks) blocks (file_name_of paper.Prices) prices files refl
 
   -- the papers of a feed say what they said
   pub said_kept : said_by (found_of (pages_in claim_papers (written files blocks prices))) ≡ said_by (found_of (pages_in feed_papers files))
@@ -95,10 +80,10 @@ module _ (files : Files) (blocks prices : List ℕ) where
 
   -- the two files are found as they were written, where they are not too long
   pub blocks_read : IsShort (written files blocks prices) paper.Blocks → found_of (pages_in claim_papers (written files blocks prices)) paper.Blocks ≡ File blocks
-  blocks_read short = ap (found_as MOST_BYTES) blocks_found ∙ found_short blocks (λ long. short (ap (found_as MOST_BYTES) blocks_found ∙ long))
+  blocks_read short = ap (found_as MOST_BYTES) blocks_found ∙ found-short blocks (λ long. short (ap (found_as MOST_BYTES) blocks_found ∙ long))
 
   pub prices_read : IsShort (written files blocks prices) paper.Prices → found_of (pages_in claim_papers (written files blocks prices)) paper.Prices ≡ File prices
-  prices_read short = ap (found_as MOST_BYTES) prices_found ∙ found_short prices (λ long. short (ap (found_as MOST_BYTES) prices_found ∙ long))
+  prices_read short = ap (found_as MOST_BYTES) prices_found ∙ found-short prices (λ long. short (ap (found_as MOST_BYTES) prices_found ∙ long))
 
 -- a run of `blocks` that has done all has done so with an accepted feed
 planned_said : (read : ReadView) (outcome : OutcomeView) → IsGiven blocks_asked read outcome → status_of outcome.ending ≤ EDITS_REFUSED → (said : Said) × (said_in read ≡ Ok said) × IsPlan said outcome
@@ -120,7 +105,7 @@ writes_none read outcome given = by (said_in read) given.gives
 
 -- the files of a shelf with two more, where it tells them
 abbrev with_texts : List ℕ → List ℕ → Option Files → Option Files
-with_texts blocks prices files = option_map (λ fs. insert fs (file_name_of paper.Prices) prices) (option_map (λ fs. insert fs (file_name_of paper.Blocks) blocks) files)
+with_texts blocks prices = with_two_told (file_name_of paper.Blocks) blocks (file_name_of paper.Prices) prices
 
 -- what is needed of the laws
 abbrev pub AcceptsPlans : Type 0

@@ -1,11 +1,8 @@
 -- What is written of a feed, and what the files say when it is laid.
-use Rattle.std.proofs.Common.{◌≡◌, ◌≢◌, inl, inr, ℕ, ◌≤◌, Bool, true, false, cond, nat_le, List, [], ◌∷◌, length, Option, Some, None, Result, Ok, Err, refl, sym, ap, subst, ◌∙◌, arith}
-use Rattle.std.specs.Prelude.{option_map, if◌then◌else◌}
+use Rattle.std.proofs.Common.{◌≡◌, inl, inr, ℕ, ◌≤◌, Bool, true, false, nat_le, List, [], ◌∷◌, length, Option, Some, None, Result, Ok, Err, refl, sym, ap, subst, ◌∙◌, arith}
+use Rattle.std.specs.Prelude.{if◌then◌else◌}
 use Rattle.std.proofs.lemmas.Bool.{leb-true}
-use Rattle.std.proofs.lemmas.Cmp.{nat_list_cmp_total}
-use Rattle.std.specs.Cmp.Lexicographic.{slice_cmp}
-use Rattle.std.specs.FinMap.{get, insert, get-insert}
-use Rattle.std.specs.Ordering.{eq_by_cmp, nat_cmp}
+use Rattle.std.specs.FinMap.{get}
 use Rattle.desk_io.specs.Shelf.{Files, ShelfState, found_as}
 use Rattle.desk_io.specs.declared.shelf.Found.{Found}
 use Rattle.desk_io.specs.declared.shelf.Found.TheVariants.{File, Missing, TooLong}
@@ -41,6 +38,7 @@ use Rattle.block_writer.specs.Trips.{trips_written}
 use Rattle.written_feed.specs.Write.{IsWritten, Writes, WritesBy, chosen_in, feed_files, files_of, stop_times_in, stop_times_name, trips_in, trips_name, write_asked}
 use Rattle.two_runs.specs.Audited.{IsLaid}
 use Rattle.two_runs.proofs.DeadheadsOver.{deadheads-over, slots-kept, with_slots}
+use Rattle.two_runs.proofs.TwoFiles.{first-stands, is_name, others-stand, second-stands, with_two, with_two_told}
 
 -- what is read of bytes that are not too many is a table
 headed : (bytes : List ℕ) (header : List (List ℕ)) (rows : List (List (List ℕ))) (table : TableView) → records bytes ≡ header ∷ rows → length bytes ≤ MOST_BYTES
@@ -80,14 +78,6 @@ found-fits (Some stands) bytes e = by (nat_le (length stands) MOST_BYTES) refl e
     by : (fits : Bool) → nat_le (length stands) MOST_BYTES ≡ fits → (if fits then File stands else TooLong) ≡ File bytes → length bytes ≤ MOST_BYTES
     by true fits e = let same : stands ≡ bytes = cc in omega (arith, leb-true (length stands) MOST_BYTES fits, ap length same)
     by false fits e = absurd (cc)
-
--- a file that is there and not too long is found
-pub found-short : (bytes : List ℕ) → found_as MOST_BYTES (Some bytes) ≢ TooLong → found_as MOST_BYTES (Some bytes) ≡ File bytes
-found-short bytes short = by (nat_le (length bytes) MOST_BYTES) short
-  where
-    by : (fits : Bool) → (if fits then File bytes else TooLong) ≢ TooLong → (if fits then File bytes else TooLong) ≡ File bytes
-    by true short = refl
-    by false short = absurd (short refl)
 
 -- the parts of what a feed says, between whose places its trips run as they were read
 pub record HasParts (found : Paper → Found) (said : Said) : Type 0 where
@@ -188,10 +178,10 @@ stop_times_of said stop_times = stop_times_written stop_times (standing said) (l
 
 -- the files of a shelf with the two, and where the shelf tells them
 abbrev pub with_both : Files → List ℕ → List ℕ → Files
-with_both files trips stop_times = insert (insert files trips_name trips) stop_times_name stop_times
+with_both files trips stop_times = with_two trips_name trips stop_times_name stop_times files
 
 abbrev pub with_texts : List ℕ → List ℕ → Option Files → Option Files
-with_texts trips stop_times files = option_map (λ files. insert files stop_times_name stop_times) (option_map (λ files. insert files trips_name trips) files)
+with_texts trips stop_times = with_two_told trips_name trips stop_times_name stop_times
 
 pub written-files : (said : Said) (first second : TableView) (blocks : List (List ℕ)) (shelf : ShelfState)
     → (with_writings (feed_files said first second blocks) shelf).files ≡ with_texts (trips_of said first blocks) (stop_times_of said second) shelf.files
@@ -199,20 +189,14 @@ unfolding files_of
 written-files said first second blocks shelf = refl
 
 module _ (files : Files) (trips stop_times : List ℕ) where
-  kept : (name : List ℕ) → eq_by_cmp (slice_cmp nat_cmp) name stop_times_name ≡ false → eq_by_cmp (slice_cmp nat_cmp) name trips_name ≡ false → get (with_both files trips stop_times) name ≡ get files name
-  kept name other_than other =
-      get-insert nat_list_cmp_total (insert files trips_name trips) stop_times_name stop_times name
-      ∙ ap (λ b. cond b (Some stop_times) (get (insert files trips_name trips) name)) other_than
-      ∙ get-insert nat_list_cmp_total files trips_name trips name
-      ∙ ap (λ b. cond b (Some trips) (get files name)) other
+  kept : (name : List ℕ) → is_name name stop_times_name ≡ false → is_name name trips_name ≡ false → get (with_both files trips stop_times) name ≡ get files name
+  kept = others-stand trips_name trips stop_times_name stop_times files
 
   pub trips-stand : get (with_both files trips stop_times) trips_name ≡ Some trips
-  trips-stand =
-      get-insert nat_list_cmp_total (insert files trips_name trips) stop_times_name stop_times trips_name
-      ∙ get-insert nat_list_cmp_total files trips_name trips trips_name
+  trips-stand = first-stands trips_name trips stop_times_name stop_times files refl refl
 
   pub stop_times-stand : get (with_both files trips stop_times) stop_times_name ≡ Some stop_times
-  stop_times-stand = get-insert nat_list_cmp_total (insert files trips_name trips) stop_times_name stop_times stop_times_name
+  stop_times-stand = second-stands trips_name trips stop_times_name stop_times files refl
 
   pub laid-alike : (laid : Files) → IsLaid (with_both files trips stop_times) laid → AreFoundAlike (found_of (pages_in feed_papers laid)) (found_of (pages_in feed_papers files))
   laid-alike laid is = record {

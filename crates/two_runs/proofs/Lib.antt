@@ -2,4 +2,5 @@ pub mod AuditedLemmas
 pub mod ConfirmedLemmas
 pub mod DeadheadsOver
 pub mod LaidLemmas
+pub mod TwoFiles
 pub mod WrittenAudited

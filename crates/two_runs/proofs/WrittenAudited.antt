@@ -31,7 +31,8 @@ use Rattle.audit_commands.specs.Audit.{AuditsBy, audit_asked}
 use Rattle.two_runs.specs.Audited.{CanBeAudited, FindsLeast, IsLaid, IsReadable, IsWholeAfter}
 use Rattle.two_runs.proofs.AuditedLemmas.{TellsLeast, finds-least, read_again, table_again}
 use Rattle.two_runs.proofs.ConfirmedLemmas.{MakesMoves}
-use Rattle.two_runs.proofs.LaidLemmas.{HasParts, HasWritten, file-of, found-fits, found-short, has-parts, is-table, laid-alike, says-again, stop_times-stand, stop_times_of, trips-stand, trips_of, with_both, with_texts, written-files, written-said}
+use Rattle.two_runs.proofs.LaidLemmas.{HasParts, HasWritten, file-of, found-fits, has-parts, is-table, laid-alike, says-again, stop_times-stand, stop_times_of, trips-stand, trips_of, with_both, with_texts, written-files, written-said}
+use Rattle.two_runs.proofs.TwoFiles.{found-short}
 
 -- a readable file that stands is found as it is
 found-readable : (files : Files) (name bytes : List ℕ) → get files name ≡ Some bytes → IsReadable files name → found_as MOST_BYTES (get files name) ≡ File bytes
