@@ -1,11 +1,11 @@
 -- Where a way leads from one trip of a misfit to the other, a vehicle comes too late by more than no minutes.
-use Rattle.std.proofs.Common.{◌≡◌, ℕ, ◌+◌, ◌-◌, ◌<◌, ◌≤◌, ◌==◌, nat_le, Bool, true, false, cond, List, [], ◌∷◌, ◌++◌, Option, None, Some, if◌then◌else◌, refl, sym, ap, ◌∙◌, arith}
+use Rattle.std.proofs.Common.{◌≡◌, ℕ, ◌+◌, ◌-◌, ◌<◌, ◌≤◌, nat_le, Bool, true, false, cond, List, [], ◌∷◌, ◌++◌, Option, None, Some, if◌then◌else◌, refl, sym, ap, ◌∙◌, arith}
 use Rattle.std.specs.Prelude.{All, IfSome, option_map}
 use Rattle.std.specs.List.{AllByRecursion}
 use Rattle.std.specs.Option.{is_some}
 use Rattle.std.proofs.lemmas.Bool.{eq-eqb, false≢true, leb-false}
 use Rattle.std.proofs.lemmas.List.Elements.{recursion_from_All, All-from_recursion}
-use Rattle.trip_model.specs.Blocking.{times, StandsOnce}
+use Rattle.trip_model.specs.Blocking.{times}
 use Rattle.trip_model.specs.Order.{by_departure}
 use Rattle.trip_model.specs.Plain.{move_at, trip_moves}
 use Rattle.trip_model.specs.Timetable.{TimetableView, slot_at}

@@ -1,5 +1,5 @@
 -- What `joined` gives of an accepted feed is what it asks.
-use Rattle.std.proofs.Common.{◌≡◌, ℕ, List, length, ℤ, pos, Result, Ok, Err, refl, sym, ap, subst, ◌∙◌}
+use Rattle.std.proofs.Common.{◌≡◌, ℕ, List, length, pos, Result, Ok, Err, refl, sym, ap, subst, ◌∙◌}
 use Rattle.std.specs.Prelude.{IfOk}
 use Rattle.desk_io.specs.declared.shelf.Found.{Found}
 use Rattle.gtfs_tables.specs.Reading.{◌>>=◌}

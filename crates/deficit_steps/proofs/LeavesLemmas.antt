@@ -1,15 +1,15 @@
 -- The leaves of a tree as the changes of a place: what is read and written there, and what its greatest prefix sum is.
-use Rattle.std.proofs.Common.{◌≡◌, ◌⊎◌, ℕ, ◌+◌, ◌<◌, ◌≤◌, List, length, get_or, set, map, take, fold, All, ℤ, pos, ◌+ℤ◌, ◌≤ℤ◌, ◌<ℤ◌, FitsSigned, w32, to_z, of_z, refl, sym, ap, subst, ◌∙◌, ⊎_elim, arith}
-use Rattle.std.specs.Prelude.{Option, Some, None, IsSome, IfSome, IfNone, option_map, slice_get}
+use Rattle.std.proofs.Common.{◌≡◌, ℕ, ◌+◌, ◌<◌, List, length, get_or, set, take, fold, All, ℤ, pos, ◌+ℤ◌, ◌≤ℤ◌, ◌<ℤ◌, sym, ap, subst, ◌∙◌, ⊎_elim, arith}
+use Rattle.std.specs.Prelude.{Option, Some, None, IfNone, option_map, slice_get}
 use Rattle.std.specs.Int.{int_max}
-use Rattle.std.proofs.lemmas.Int.{ints, clamps, to_z-of_z}
+use Rattle.std.proofs.lemmas.Int.{ints, clamps}
 use Rattle.std.proofs.lemmas.List.{length-map, get_or-map, map-set, take-map}
 use Rattle.std.proofs.lemmas.List.Folds.{fold-map}
 use Rattle.std.proofs.lemmas.Option.{slice_get-map, get_or_from_slice_get}
 use Rattle.terminal_maxima.specs.declared.max_prefix.MaxPrefix.{MaxPrefix}
 use Rattle.terminal_maxima.specs.MaxPrefix.{SumsLeaves, no_leaf}
 use Rattle.terminal_maxima.specs.Reaching.{prefix_sum, IsGreatestPrefix, IsFirstReaching, NoneReaches}
-use Rattle.trip_model.specs.Maximum.{IsFirstMaximum, first_maximum}
+use Rattle.trip_model.specs.Maximum.{first_maximum}
 use Rattle.trip_model.proofs.MaximumLemmas.{IsFirstMaximum-first_maximum, first_maximum-le, first_maximum-unique}
 use Rattle.deficit_steps.specs.Changes.{IsChange, AreChanges, value_in, with_change_in}
 use Rattle.deficit_steps.specs.Leaves.{sums}

@@ -1,20 +1,17 @@
 -- The sum of the changes of one place, minute by minute: its bounds, its steps so far, and one change raised.
-use Rattle.std.proofs.Common.{◌≡◌, ℕ, zero, suc, ◌+◌, ◌*◌, ◌^◌, ◌<◌, ◌≤◌, ◌≢◌, true, false, not, List, [], ◌∷◌, ◌++◌, length, get_or, take, set, fold, All, ℤ, pos, neg_ℤ, ◌+ℤ◌, ◌≤ℤ◌, ◌<ℤ◌, if◌then◌else◌, refl, sym, ap, subst, ◌∙◌, ⊎_elim, add-one, arith}
+use Rattle.std.proofs.Common.{◌≡◌, ℕ, zero, suc, ◌+◌, ◌*◌, ◌^◌, ◌<◌, ◌≤◌, ◌≢◌, true, false, not, List, [], ◌∷◌, ◌++◌, length, get_or, take, fold, All, ℤ, pos, neg_ℤ, ◌+ℤ◌, ◌≤ℤ◌, if◌then◌else◌, refl, sym, ap, subst, ◌∙◌, ⊎_elim, add-one, arith}
 use mir.Val.{to_z, of_z, hbits}
 use Rattle.std.specs.Int.RustNames.{FitsSigned, unsigned_abs}
 use mir.Syntax.{w32}
-use Rattle.std.specs.Int.Signed.{lt_z}
 use lib.IntN.{nat_abs, negsuc}
 use Rattle.std.specs.Ordering.{int_eq}
 use Rattle.std.proofs.lemmas.Bool.{cases_lt, false_from_ne_true}
 use Rattle.std.proofs.lemmas.Bool.Decides.{Decides-int_eq}
 use Rattle.std.proofs.lemmas.Int.{ints, to_z-of_z, fits_signed_from_abs}
 use Rattle.std.proofs.lemmas.List.Elements.{All-set}
-use Rattle.std.proofs.lemmas.List.{append-nil, length-set, get_or_default, get_or-set_same, get_or-set_other}
+use Rattle.std.proofs.lemmas.List.{append-nil, length-set, get_or-set_same, get_or-set_other}
 use Rattle.std.proofs.lemmas.List.Sums.{fold_more}
-use Rattle.trip_model.specs.Maximum.{first_maximum}
 use Rattle.trip_model.specs.Steps.{value_before, is_step, steps_before}
-use Rattle.trip_model.proofs.MaximumLemmas.{first_maximum-unique}
 use Rattle.trip_model.proofs.StepsLemmas.{steps_before-suc}
 use Rattle.deficit_steps.specs.Changes.{IsChange, AreChanges, value_in, with_change_in}
 

@@ -5,7 +5,7 @@ use Rattle.trip_model.specs.Timetable.{TimetableView, place_names}
 use Rattle.deficit_steps.specs.Lines.{deficit_text}
 use Rattle.desk_run.specs.Commands.{Asked}
 use Rattle.desk_feed.specs.Judging.{of_feed}
-use Rattle.desk_feed.specs.Showing.{Stands, TextAsked, showing}
+use Rattle.desk_feed.specs.Showing.{TextAsked, showing}
 
 -- the deficit functions of the trips that run: departures so far less arrivals so far, of each place
 abbrev pub deficits_text : TimetableView → List ℕ

@@ -1,5 +1,5 @@
 -- One chain after the other.
-use Rattle.std.proofs.Common.{◌≡◌, ℕ, ◌+◌, ◌<◌, List, [], ◌∷◌, ◌++◌, All, length, ◌≤◌, ℤ, pos, Option, None, Some, refl, sym, ap, subst, ◌∙◌, arith}
+use Rattle.std.proofs.Common.{◌≡◌, ℕ, ◌+◌, ◌<◌, List, [], ◌∷◌, ◌++◌, All, length, ◌≤◌, ℤ, pos, Option, None, Some, sym, ap, subst, ◌∙◌, arith}
 use Rattle.std.specs.Prelude.{codes, ◌↔◌, unsigned_abs}
 use Rattle.std.proofs.lemmas.List.Elements.{All-cons, All-head, All-nil, All-tail}
 use Rattle.trip_model.specs.declared.trip.Move.{Move}
@@ -13,7 +13,7 @@ use Rattle.dh_chains.specs.Chains.{GoesOn, IsDeadhead, IsFirstChain, IsUnitChain
 use Rattle.dh_chains.specs.Lines.{IsBetween, chain_text}
 use Rattle.dh_chains.specs.declared.chain.Chain.{Chain}
 use Rattle.dh_chains.specs.declared.chain.Deadhead.{Deadhead}
-use Rattle.lowering_commands.specs.Chains.{AreChains, IsChainsText, chains_text, with_chain}
+use Rattle.lowering_commands.specs.Chains.{IsChainsText, with_chain}
 use Rattle.lowering_commands.specs.Fleet.{fleet_of, total_line}
 use Rattle.lowering_commands.specs.Step.{HasPut, sum_kept}
 

@@ -1,12 +1,12 @@
 -- One shift after the other.
-use Rattle.std.proofs.Common.{◌≡◌, ℕ, suc, ◌+◌, ◌*◌, ◌≤◌, List, [], ◌∷◌, ◌++◌, ℤ, pos, ◌<ℤ◌, refl, sym, ap, subst, ◌∙◌, arith}
+use Rattle.std.proofs.Common.{◌≡◌, ℕ, suc, ◌+◌, ◌*◌, ◌≤◌, List, [], ◌∷◌, ◌++◌, ℤ, pos, ap, subst, ◌∙◌, arith}
 use Rattle.std.specs.Prelude.{codes, unsigned_abs}
 use Rattle.std.proofs.Math.Nat.{mul-le-mul_left, mul-suc}
 use Rattle.std.proofs.lemmas.Int.{ints}
 use Rattle.trip_model.specs.Timetable.{TimetableView}
 use Rattle.shift_moves.specs.Lowering.{IsLowering, deficit_sum}
 use Rattle.lowering_commands.specs.Fleet.{total_line}
-use Rattle.lowering_commands.specs.Shifts.{AreShifts, IsShiftsText, shift_line, shifts_text}
+use Rattle.lowering_commands.specs.Shifts.{IsShiftsText, shift_line}
 use Rattle.lowering_commands.specs.Step.{HasShifted}
 
 -- a shift before the text of the others

@@ -1,6 +1,5 @@
 -- The services that the definition takes in, one after another, are those that run.
-use Rattle.std.proofs.Common.{◌≡◌, ◌≢◌, ℕ, Bool, true, false, cond, ◌&&◌, ◌||◌, ◌==◌, List, [], ◌∷◌, fold, Option, Some, None, is_some, Contains, refl, sym, ap, ◌∙◌, Ordering, Less, Equal, Greater, nat_cmp}
-use Rattle.std.specs.Bool.{⊤}
+use Rattle.std.proofs.Common.{◌≡◌, ◌≢◌, ℕ, Bool, true, false, cond, ◌&&◌, ◌||◌, ◌==◌, List, [], ◌∷◌, fold, Option, Some, None, is_some, refl, sym, ap, ◌∙◌, Ordering, Less, Equal, Greater, nat_cmp}
 use Rattle.std.specs.BTreeSet.{insert_key}
 use Rattle.std.specs.Cmp.Lexicographic.{slice_cmp}
 use Rattle.std.specs.List.{AllByRecursion, list_any}
@@ -18,7 +17,7 @@ use Rattle.service_days.specs.declared.calendar.Schedule.{Schedule}
 use Rattle.service_days.specs.declared.calendar_dates.Exception.{Exception}
 use Rattle.service_days.specs.Calendar.{Name, schedule_of}
 use Rattle.service_days.specs.CalendarDates.{ServiceDate, exception_of, is_same}
-use Rattle.service_days.specs.Services.{ServicesView, runs_by, is_running, with_running, with_excepted, scheduled_on, excepted_on, services_on, AreRunning}
+use Rattle.service_days.specs.Services.{ServicesView, runs_by, is_running, with_running, with_excepted, scheduled_on, services_on, AreRunning}
 
 -- an exception of the date adds its service where it runs, and one of another date adds none
 pub of-date : (services : ServicesView) (date : ℕ) (names : List Name) (key : ServiceDate) → key.1 ≡ date → with_running services date names key.0 ≡ with_excepted services date names key

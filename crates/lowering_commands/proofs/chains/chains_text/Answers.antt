@@ -1,9 +1,9 @@
-use Rattle.std.proofs.Common.{◌≡◌, ◌+◌, ◌*◌, ◌≤◌, ◌++◌, length, Ok, sym, ap, subst, ◌∙◌, arith}
+use Rattle.std.proofs.Common.{◌≡◌, ◌+◌, ◌≤◌, ◌++◌, length, Ok, sym, ap, subst, ◌∙◌, arith}
 use Rattle.std.specs.Prelude.{codes, string_bytes}
 use Rattle.std.proofs.lemmas.Int.{ints}
 use Rattle.std.proofs.lemmas.List.{append_assoc, length-append}
 use Rattle.trip_model.specs.Deficit.{live_moves}
-use Rattle.dh_chains.specs.Chains.{NoChain, deadheads, moves_of, places_of}
+use Rattle.dh_chains.specs.Chains.{deadheads, moves_of}
 use Rattle.dh_chains.specs.Lines.{chain_text}
 use Rattle.lowering_commands.specs.Chains.{IsChainsText, with_chain}
 use Rattle.lowering_commands.specs.Step.{sum_kept}

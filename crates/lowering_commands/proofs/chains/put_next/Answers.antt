@@ -1,4 +1,4 @@
-use Rattle.std.proofs.Common.{sym, ◌∙◌}
+use Rattle.std.proofs.Common.{sym}
 use Rattle.dh_chains.specs.Chains.{places_of}
 use Rattle.lowering_commands.proofs.ChainsLemmas.{chain-between}
 use Rattle.lowering_commands.proofs.chains.put_next.Goals as goal

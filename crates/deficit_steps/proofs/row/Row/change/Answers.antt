@@ -1,6 +1,6 @@
-use Rattle.std.proofs.Common.{◌+◌, ◌<◌, length, w32, pos, ◌+ℤ◌, sym, ap, subst, ◌∙◌, arith}
+use Rattle.std.proofs.Common.{◌<◌, length, w32, sym, ap, subst, ◌∙◌, arith}
 use Rattle.std.proofs.lemmas.Int.{to_z-of_z}
-use Rattle.deficit_steps.specs.Changes.{IsChange, AreChanges, with_change_in}
+use Rattle.deficit_steps.specs.Changes.{IsChange, AreChanges}
 use Rattle.deficit_steps.specs.Leaves.{sums}
 use Rattle.deficit_steps.proofs.LeavesLemmas.{change_read, leaf_written, SumsLeaves-change}
 use Rattle.deficit_steps.proofs.RowLemmas.{raised-is, AreChanges-with}

@@ -1,4 +1,4 @@
-use Rattle.std.proofs.Common.{◌≡◌, ◌<◌, ◌≤◌, length, refl, sym, ap, ◌∙◌, arith}
+use Rattle.std.proofs.Common.{◌≡◌, ◌<◌, length, refl, sym, ap, ◌∙◌, arith}
 use Rattle.trip_model.proofs.StepsLemmas.{steps_before-zero, steps-at_end}
 use Rattle.deficit_steps.specs.Changes.{value_in}
 use Rattle.deficit_steps.proofs.LeavesLemmas.{change_read}

@@ -1,4 +1,4 @@
-use Rattle.std.proofs.Common.{◌+◌, ◌<◌, ◌≤◌, length, arith}
+use Rattle.std.proofs.Common.{◌<◌, length, arith}
 use Rattle.deficit_steps.proofs.LeavesLemmas.{change_read}
 use Rattle.deficit_steps.proofs.RowLemmas.{next_sum-fits, next_sum-is}
 use Rattle.deficit_steps.proofs.row.Row.value_at.Goals as goal

@@ -1,4 +1,4 @@
-use Rattle.std.proofs.Common.{◌≡◌, ap, ◌∙◌}
+use Rattle.std.proofs.Common.{ap, ◌∙◌}
 use Rattle.desk_settings.specs.Names.{is_among}
 use Rattle.desk_settings.specs.Settings.{SettingsView, kept_services}
 use Rattle.desk_settings.proofs.SettingsLemmas.{chosen-kept}
