@@ -22,9 +22,10 @@ use std::alloc::Global;
 use std::marker::Model;
 
 /// The settings of a desk, seen as a record: the services that are selected, each once, or None where all are; the date of
-/// which the services that run are to be selected, where there is one; the classes of routes; the minutes of layover, with a list of places that have their own; the minutes of tolerance early and late; what the
-/// names of blocks begin with; and the lists of stops with their terminals and of trips with their tolerances.
-/// Entries for places, stops and trips that no feed names are kept.
+/// which the services that run are to be selected, where there is one; the classes of routes; the minutes of layover, with a
+/// list of places that have their own; the minutes of tolerance early and late; what the names of blocks begin with; and the
+/// lists of stops with their terminals and of trips with their tolerances. Entries for places, stops and trips that no feed
+/// names are kept.
 pub struct Settings {
     desk: Desk,
     terminals: Entries<Text>,

@@ -61,8 +61,8 @@ abbrev pub time_or : Option ℕ → Option ℕ → Option ℕ
 time_or (Some seconds) other = Some seconds
 time_or None other = other
 
--- A trip of vehicles of a class between its first and its last stop time. It departs rounded down to the minute, and ends rounded up, after the layover
--- of its last place.
+-- A trip of vehicles of a class between its first and its last stop time. It departs rounded down to the minute, and ends
+-- rounded up, after the layover of its last place.
 unfoldable pub feed_trip_between : SettingsView → Name → Name → StopTimeView → StopTimeView → Result FeedTrip FeedFault
 feed_trip_between settings name class first last = do
   departure ← ok_or (time_or first.departure first.arrival) (fault.NoTime name)

@@ -19,5 +19,5 @@ pub const LAST_END: u16 = 6240;
 /// The last minute that is scheduled.
 pub const LAST_MINUTE: u16 = 8191;
 
-/// How many minutes are scheduled, from 0 on: a service day of 99 hours, and what may follow it.
+/// How many minutes are scheduled, from 0 on: a service day of 100 hours, and what may follow it.
 pub const MINUTES: u16 = 8192;
