@@ -87,8 +87,7 @@ impl Solver {
         self.plan.put(slot, next, leave, enter);
     }
 
-    /// Makes a certified plan for the pairs, whatever the plan was: it adds the leaving side of one trip after the other, the
-    /// last to depart first. At most n^3 + n^2 steps for n slots.
+    /// Makes a certified plan for the pairs, whatever the plan was. At most n^3 + n^2 steps for n slots.
     pub fn solve<L: Ledger>(&mut self, pairs: &Pairs<'_>, steps: &mut Steps<L>)
         ensures slots { length self.new.next ≡ length pairs.now.moves }
         ensures certified { IsCertified (pairs_network pairs.now) self.new }

@@ -2,7 +2,8 @@
 //!
 //! [`SqliteKeeper`] is a `Keeper` over the file `journal.db` of a folder, table
 //! `journal(seq INTEGER PRIMARY KEY, line TEXT NOT NULL)`. The file is opened at the first call, and made where it
-//! is not there. Other programs then find it locked until the keeper is dropped. Each append is one transaction.
+//! is not there. Other programs then find it locked, until a call fails or the keeper is dropped. Each append is one
+//! transaction.
 //!
 //! ```text
 //! let mut keeper = SqliteKeeper::over(&rt, Text::of(rt.alloc(), "feed")?);

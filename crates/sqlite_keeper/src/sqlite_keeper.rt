@@ -1,4 +1,4 @@
-ghost use Rattle.std.specs.Prelude.{◌≡◌, length, nat_le, if◌then◌else◌, Ok, Err};
+ghost use Rattle.std.specs.Prelude.{◌≡◌, ◌+◌, length, nat_le, if◌then◌else◌, pos, Ok, Err};
 
 use crate::database::Database;
 use desk_io::Text;
@@ -18,7 +18,7 @@ pub struct SqliteKeeper<'a> {
 }
 
 impl<'a> SqliteKeeper<'a> {
-    ghost use Rattle.std.specs.Prelude.{◌≡◌, None, Ok, Err, IfOk, IfErr};
+    ghost use Rattle.std.specs.Prelude.{◌≡◌, length, nat_le, if◌then◌else◌, None, Ok, Err, IfOk, IfErr};
     ghost use Rattle.desk_keeper.specs.Keeper.{Loads};
     ghost use Rattle.sqlite_keeper.specs.SqliteKeeper.{keeper_state_of, refusal_of};
 
@@ -81,6 +81,19 @@ impl<'a> SqliteKeeper<'a> {
             }
         }
     }
+
+    // What a load answers to the lines that the database gave, of which there may be one too many.
+    fn answer_load(
+        &mut self,
+        found: Result<Vec<Text>, Error>,
+        limit: u32,
+    ) -> Result<Lines, KeeperFault>
+        ensures found { IfOk found (λ lines. result ≡ (if nat_le (length lines.items) limit then Ok lines.items else Err KeeperFault.TooLong)) }
+        ensures refused { IfErr found (λ error. result ≡ Err (refusal_of error)) }
+        ensures state { Loads result (keeper_state_of self.old) (keeper_state_of self.new) }
+    {
+        within(self.answer(found)?, limit)
+    }
 }
 
 // The lines, where there are at most so many.
@@ -93,14 +106,21 @@ fn within(lines: Vec<Text>, limit: u32) -> Result<Lines, KeeperFault>
     Ok(Lines::wrap(lines))
 }
 
+// How many lines are asked for, so that one too many is seen.
+fn asked(limit: u32) -> i64
+    ensures { result ≡ pos (limit + 1) }
+{
+    i64::from(limit) + 1
+}
+
 impl<'a> Keeper for SqliteKeeper<'a> {
     ghost use Rattle.sqlite_keeper.specs.SqliteKeeper.{keeper_state_of};
 
     ghost state = { keeper_state_of };
 
     fn load(&mut self, alloc: Global, limit: u32) -> Result<Lines, KeeperFault> {
-        let found = self.first_lines(alloc, i64::from(limit) + 1);
-        within(self.answer(found)?, limit)
+        let found = self.first_lines(alloc, asked(limit));
+        self.answer_load(found, limit)
     }
 
     fn append_all(&mut self, _: Global, lines: &[Text]) -> Result<(), KeeperFault> {

@@ -10,8 +10,8 @@ use std::alloc::Global;
 use std::sync::ledger::Ledger;
 use trip_model::laws::plain_law;
 
-/// `blocks`, and then `check` over the same shelf, which says yes to what was written, with the same vehicles and empty
-/// minutes. It answers both statuses.
+/// `blocks`, and then `check` over the same shelf. Where both come to their end, the shelf tells its files and neither of the
+/// two that are written is too long, it says yes, with the same vehicles and empty minutes. It answers both statuses.
 pub fn run_blocks_and_check<S: Shelf, O: Sink, K: Keeper, L: Ledger>(
     alloc: Global,
     shelf: &mut S,
