@@ -48,7 +48,7 @@ const WRITE: Run = Run {
     text: "record 2: refused, U2: outside tolerance (+2)\nwrote trips_blocks.txt, stop_times_blocks.txt\n",
 };
 
-// `keep` writes no file.
+// `keep` and `deficits` write no file.
 const KEEP: Run = Run {
     command: "keep",
     first: "blocks.csv",
@@ -56,6 +56,12 @@ const KEEP: Run = Run {
     second: "prices.csv",
     second_text: "",
     text: "journal 0 records\nrecord 1: ok\nrecord 2: refused, U2: outside tolerance (+2)\nkept 1 records\n",
+};
+
+const DEFICITS: Run = Run {
+    command: "deficits",
+    text: "record 2: refused, U2: outside tolerance (+2)\nA max 1 at 06:00\n 06:00 1\n 07:31 0\nB max 0 at 00:00\n 06:30 -1\nC max 1 at 07:01\n 07:01 1\nsum 2\n",
+    ..KEEP
 };
 
 // The read, the write, the call of the keeper and the put of a run that fails, counted from 1, and none where it is 0; how many
@@ -88,13 +94,20 @@ fn prefix(bytes: Option<&[u8]>, text: &str) -> usize {
     }
 }
 
-// What stands after a run: its status, how many bytes of its two files, how many lines of the journal, and how many bytes of the
-// text that was put.
-fn stands(
-    alloc: Global,
-    run: Run,
-    faults: Faults,
-) -> Result<(u8, usize, usize, usize, usize), Memory> {
+// How many lines a journal has, where each is the edit of the feed that is accepted, or that one is not.
+fn edits(lines: &[Text]) -> usize {
+    if lines.iter().all(|line| line.as_str() == "shift,U2,+1") {
+        lines.len()
+    } else {
+        usize::MAX
+    }
+}
+
+// A status, how many bytes of two files, how many lines of a journal, and how many bytes of a text.
+type Stood = (u8, usize, usize, usize, usize);
+
+// What stands after a run: its status, its two files, the journal, and the text that was put.
+fn stands(alloc: Global, run: Run, faults: Faults) -> Result<Stood, Memory> {
     let words = vec![in alloc; Text::of(alloc, run.command)?, Text::of(alloc, "feed")?]?;
     let mut shelf = MemoryShelf::open(
         alloc,
@@ -120,76 +133,57 @@ fn stands(
         status,
         prefix(shelf.file(run.first), run.first_text),
         prefix(shelf.file(run.second), run.second_text),
-        keeper
-            .lines()
-            .iter()
-            .filter(|line| line.as_str() == "shift,U2,+1")
-            .count(),
+        edits(keeper.lines()),
         prefix(Some(out.written()), run.text),
     ))
 }
 
 #[test]
-fn blocks_stand_up_to_the_call_that_fails(rt: HostRuntime) -> Result<(), Fail> {
+fn each_file_that_cannot_be_read_ends_a_run(rt: HostRuntime) -> Result<(), Fail> {
     for read in 1..11 {
         let stood = stands(rt.alloc(), BLOCKS, Faults { read, ..NONE })?;
         assert_eq!(rt; stood, (5, 0, 0, 0, 0));
-    }
-    // The write and the put that fail, what one put takes and what all; the status, the bytes of both files and those of the
-    // text. A file of which the write fails has its first half. A put is given all that is left: a sink that takes it at once
-    // sees one put, and no second that could fail.
-    let rows: [(u32, u32, usize, usize, u8, usize, usize, usize); 13] = [
-        (0, 0, 16, 200, 1, 43, 41, 124),
-        (1, 0, 16, 200, 6, 21, 0, 0),
-        (2, 0, 16, 200, 6, 43, 20, 0),
-        (0, 1, 16, 200, 6, 43, 41, 0),
-        (0, 2, 16, 200, 6, 43, 41, 16),
-        (0, 3, 16, 200, 6, 43, 41, 32),
-        (0, 4, 16, 200, 6, 43, 41, 48),
-        (0, 5, 16, 200, 6, 43, 41, 64),
-        (0, 6, 16, 200, 6, 43, 41, 80),
-        (0, 7, 16, 200, 6, 43, 41, 96),
-        (0, 8, 16, 200, 6, 43, 41, 112),
-        (0, 0, 16, 50, 6, 43, 41, 50),
-        (0, 2, 200, 200, 1, 43, 41, 124),
-    ];
-    for (write, put, chunk, room, status, first, second, text) in rows {
-        let faults = Faults {
-            write,
-            put,
-            chunk,
-            room,
-            ..NONE
-        };
-        let stood = stands(rt.alloc(), BLOCKS, faults)?;
-        assert_eq!(rt; stood, (status, first, second, 0, text));
     }
     Ok(())
 }
 
 #[test]
-fn a_written_feed_and_a_journal_stand_up_to_the_call_that_fails(
-    rt: HostRuntime,
-) -> Result<(), Fail> {
-    // The write, the call of the keeper and the put that fail; the status, the bytes of both files, the lines and the bytes of
-    // the text.
-    let rows: [(Run, u32, u32, u32, u8, usize, usize, usize, usize); 6] = [
-        (WRITE, 0, 0, 0, 1, 57, 158, 0, 92),
-        (WRITE, 2, 0, 0, 6, 57, 79, 0, 0),
-        (KEEP, 0, 0, 0, 1, 0, 0, 1, 92),
-        (KEEP, 0, 1, 0, 7, 0, 0, 0, 0),
-        (KEEP, 0, 2, 0, 7, 0, 0, 0, 0),
-        (KEEP, 0, 0, 1, 6, 0, 0, 1, 0),
+fn what_stands_up_to_the_call_that_fails(rt: HostRuntime) -> Result<(), Fail> {
+    // The write, the call of the keeper and the put that fail; what one put takes and what all; and what stands. A file of which
+    // the write fails has its first half. A put is given all that is left: a sink that takes it at once sees one put, and no
+    // second that could fail.
+    let rows: [(Run, (u32, u32, u32), (usize, usize), Stood); 20] = [
+        (BLOCKS, (0, 0, 0), (16, 200), (1, 43, 41, 0, 124)),
+        (BLOCKS, (1, 0, 0), (16, 200), (6, 21, 0, 0, 0)),
+        (BLOCKS, (2, 0, 0), (16, 200), (6, 43, 20, 0, 0)),
+        (BLOCKS, (0, 0, 1), (16, 200), (6, 43, 41, 0, 0)),
+        (BLOCKS, (0, 0, 2), (16, 200), (6, 43, 41, 0, 16)),
+        (BLOCKS, (0, 0, 3), (16, 200), (6, 43, 41, 0, 32)),
+        (BLOCKS, (0, 0, 4), (16, 200), (6, 43, 41, 0, 48)),
+        (BLOCKS, (0, 0, 5), (16, 200), (6, 43, 41, 0, 64)),
+        (BLOCKS, (0, 0, 6), (16, 200), (6, 43, 41, 0, 80)),
+        (BLOCKS, (0, 0, 7), (16, 200), (6, 43, 41, 0, 96)),
+        (BLOCKS, (0, 0, 8), (16, 200), (6, 43, 41, 0, 112)),
+        (BLOCKS, (0, 0, 0), (16, 50), (6, 43, 41, 0, 50)),
+        (BLOCKS, (0, 0, 2), (200, 200), (1, 43, 41, 0, 124)),
+        (WRITE, (0, 0, 0), (16, 200), (1, 57, 158, 0, 92)),
+        (WRITE, (2, 0, 0), (16, 200), (6, 57, 79, 0, 0)),
+        (KEEP, (0, 0, 0), (16, 200), (1, 0, 0, 1, 92)),
+        (KEEP, (0, 1, 0), (16, 200), (7, 0, 0, 0, 0)),
+        (KEEP, (0, 2, 0), (16, 200), (7, 0, 0, 0, 0)),
+        (KEEP, (0, 0, 1), (16, 200), (6, 0, 0, 1, 0)),
+        (DEFICITS, (0, 0, 3), (8, 200), (6, 0, 0, 0, 16)),
     ];
-    for (run, write, call, put, status, first, second, lines, text) in rows {
+    for (run, (write, call, put), (chunk, room), stood) in rows {
         let faults = Faults {
+            read: 0,
             write,
             call,
             put,
-            ..NONE
+            chunk,
+            room,
         };
-        let stood = stands(rt.alloc(), run, faults)?;
-        assert_eq!(rt; stood, (status, first, second, lines, text));
+        assert_eq!(rt; stands(rt.alloc(), run, faults)?, stood);
     }
     Ok(())
 }
