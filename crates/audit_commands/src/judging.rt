@@ -1,40 +1,19 @@
 ghost use Rattle.std.specs.Prelude.{◌≡◌, ◌<◌, length, IfNone, IfOk, IfSome, IsUtf8, MatchBool};
-ghost use Rattle.block_writer.specs.Fields.{field_at, place_of};
 ghost use Rattle.block_audit.specs.Stated.{AreNames};
 ghost use Rattle.audit_commands.specs.Audit as spec;
 ghost use Rattle.audit_commands.specs.Audit.{IsFirstBad};
 
+use block_writer::{place_of, text_of};
 use desk_io::Memory;
 use desk_settings::Settings;
 use gtfs_tables::{Column, Row, Table};
 use std::alloc::Global;
-
-// The number, from 0, of the first column of that name; where there is none, of the next column.
-fn place_of(trips: &Table, column: Column) -> usize
-    ensures { result ≡ place_of column trips.now.header }
-{
-    match trips.column(column.name()) {
-        Some(place) => place,
-        None => trips.header().len(),
-    }
-}
 
 // Whether a field is UTF-8.
 fn is_utf8(field: &[u8]) -> bool
     ensures { MatchBool result (IsUtf8 field.now) (¬ IsUtf8 field.now) }
 {
     str::from_utf8(field).is_ok()
-}
-
-// The text of a field that is UTF-8.
-fn text_of(field: &[u8]) -> &str
-    requires { IsUtf8 field.now }
-    ensures { result.now ≡ field.now }
-{
-    match str::from_utf8(field) {
-        Ok(text) => text,
-        Err(_) => unreachable!(),
-    }
 }
 
 // Whether a service is text and is chosen.
@@ -64,7 +43,7 @@ pub(crate) fn chosen_in(
     ensures chosen { IfOk result (λ chosen. chosen.items ≡ spec.chosen_in settings.now trips.now) }
     ensures count { IfOk result (λ chosen. length chosen.items ≡ length trips.now.rows) }
 {
-    let place = place_of(trips, Column::ServiceId);
+    let place = place_of(trips.header(), Column::ServiceId);
     let mut chosen = Vec::new(alloc);
     for before in 0..trips.records() {
         chosen.push(is_selected(settings, place, trips.row(before + 1)))?;
@@ -78,7 +57,7 @@ pub(crate) fn bad_name(trips: &Table, chosen: &[bool]) -> Option<u32>
     ensures bad { IfSome result (IsFirstBad trips.now chosen.now) }
     ensures names { IfNone result (AreNames trips.now chosen.now) }
 {
-    let place = place_of(trips, Column::BlockId);
+    let place = place_of(trips.header(), Column::BlockId);
     for before in 0..trips.records() {
         if chosen[before as usize] && !is_utf8(trips.row(before + 1).field(place)) {
             return Some(before);

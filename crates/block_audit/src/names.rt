@@ -1,8 +1,8 @@
 ghost use Rattle.std.specs.Prelude.{◌≡◌, ◌++◌, [], ◌∷◌, true, cond, length, map, IfOk, IsUtf8, OnOk};
-ghost use Rattle.block_writer.specs.Fields.{place_of};
 ghost use Rattle.block_audit.specs.Stated as spec;
 ghost use Rattle.block_audit.specs.Stated.{AreNames};
 
+use block_writer::{place_of, text_of};
 use desk_io::Memory;
 use gtfs_tables::{Column, Table};
 use std::alloc::Global;
@@ -22,27 +22,6 @@ impl<'a> Model for Names<'a> {
     ghost view = { λ n. map (λ name. name.now) n.names.items };
 }
 
-// The number, from 0, of the first column of `block_id`; where there is none, of the next column.
-fn block_place(trips: &Table) -> usize
-    ensures { result ≡ place_of Column.BlockId trips.now.header }
-{
-    match trips.column(Column::BlockId.name()) {
-        Some(place) => place,
-        None => trips.header().len(),
-    }
-}
-
-// The text of a field that is UTF-8.
-fn text_of(field: &[u8]) -> &str
-    requires { IsUtf8 field.now }
-    ensures { result.now ≡ field.now }
-{
-    match str::from_utf8(field) {
-        Ok(text) => text,
-        Err(_) => unreachable!(),
-    }
-}
-
 // Appends the name in a field, where its record is selected.
 fn push_name<'a>(names: &mut Vec<&'a str>, field: &'a [u8], chosen: bool) -> Result<(), Memory>
     requires { chosen ≡ true → IsUtf8 field.now }
@@ -60,7 +39,7 @@ pub fn names_in<'a>(alloc: Global, trips: &'a Table, chosen: &[bool]) -> Result<
     requires names { AreNames trips.now chosen.now }
     ensures { IfOk result (λ names. names ≡ spec.stated_names trips.now chosen.now) }
 {
-    let place = block_place(trips);
+    let place = place_of(trips.header(), Column::BlockId);
     let mut names = Vec::new(alloc);
     for before in 0..trips.records() {
         let field = trips.row(before + 1).field(place);
