@@ -6,7 +6,7 @@ use Rattle.gtfs_tables.specs.Reading.{◌>>=◌}
 use Rattle.gtfs_tables.specs.declared.fault.FeedFault.{FeedFault}
 use Rattle.gtfs_tables.specs.declared.paper.Paper.{Paper}
 use Rattle.gtfs_tables.specs.declared.paper.Paper.TheVariants as paper
-use Rattle.trip_model.specs.Blocking.{IsLeast}
+use Rattle.trip_model.specs.Blocking.{IsBlocking, IsLeast}
 use Rattle.trip_model.specs.Deficit.{deficit}
 use Rattle.trip_model.specs.Maximum.{sum_of_maxima}
 use Rattle.trip_model.specs.Plain.{trip_moves}
@@ -18,12 +18,16 @@ use Rattle.deadhead_matrix.specs.Matrix.{MatrixView, AreLeastWalks}
 use Rattle.joined_deficits.specs.Joined.{TakeTime, joined_moves}
 use Rattle.desk_run.specs.Outcome.{OutcomeView}
 use Rattle.desk_run.specs.Reading.{ReadView, found_of}
-use Rattle.desk_feed.specs.declared.script.Edited.{Edited}
-use Rattle.desk_feed.specs.Edited.{IsEdited}
+use Rattle.edit_script.specs.declared.edit.Line.{Line}
+use Rattle.desk_feed.specs.Edited.{standing_after}
 use Rattle.desk_feed.specs.Feed.{Said, deadheads_in, lines_in, pulls_in, said_by, said_with, settings_in, standing, timetable_in}
 use Rattle.desk_feed.specs.Judging.{IsGivenOf, ending_of, refused_of, said_in}
-use Rattle.desk_feed.specs.Schedule.{IsMatrixFor, IsScheduled}
-use Rattle.board_commands.specs.Joined.{IsBoarded, boards_outcome, joined_does}
+use Rattle.desk_feed.specs.Schedule.{IsMatrixFor}
+use Rattle.desk_feed.proofs.ScriptLemmas.{standing-places}
+use Rattle.feed_desk.specs.Drawn.{HasDrawn}
+use Rattle.feed_desk.specs.declared.draw.Drawn.{Drawn}
+use Rattle.feed_desk.proofs.DrawnLemmas.{drawn-scheduled, drawn-valid}
+use Rattle.board_commands.specs.Joined.{boards_outcome, joined_does}
 
 read-parts : {A B : Type 0} (read : Result A FeedFault) (next : A → Result B FeedFault) (x : B) → (read >>= next) ≡ Ok x → (y : A) × (read ≡ Ok y) × (next y ≡ Ok x)
 read-parts (Ok y) next x e = (y, refl, e)
@@ -63,26 +67,36 @@ entries-said law found said e =
     let given = said_with settings.0 entries.0.0 entries.0.1 pulls.0 lines.0 in
     subst (λ (s : Said). TakeTime s.entries) (same_Ok (Ok given) given said refl lines.2) (law (found paper.Deadheads) base.0 entries.0.0 entries.0.1 entries.1)
 
-pub joined-given : {E : Type 0} (read : ReadView) (said : Said) (matrix : MatrixView) (edited : Edited) → JoinedIsLeast → EntriesTakeTime → said_in read ≡ Ok said
-    → IsMatrixFor said matrix → IsEdited said.base said.lines edited → IsTimetable edited.script.timetable → edited.script.timetable.places ≡ said.base.places
-    → (result : Result OutcomeView E) → IfOk result (IsBoarded edited.refused edited.ending said.settings.prefix edited.script.timetable matrix) → IfOk result (IsGivenOf joined_does read said)
-joined-given read said matrix edited least law says is stands valid places (Err e) boarded = tt
-joined-given read said matrix edited least law says is stands valid places (Ok outcome) boarded =
-    let here : IsBoarded (refused_of said) (ending_of said) said.settings.prefix (standing said) matrix outcome = record {
-      plan = boarded.plan;
-      blocks = boarded.blocks;
-      scheduled = subst (λ (t : TimetableView). IsScheduled t matrix boarded.plan boarded.blocks) stands.timetable boarded.scheduled;
-      done = boarded.done ∙ (λ i. boards_outcome (stands.refused i) (stands.ending i) said.settings.prefix (stands.timetable i) matrix boarded.blocks);
-    } in
-    let count : length matrix.walks ≡ length (standing said).places = is.count ∙ sym (ap length (ap (λ (t : TimetableView). t.places) (sym stands.timetable) ∙ places)) in
+-- what is drawn is a blocking of the trips that run
+pub drawn-blocking : (base : TimetableView) (lines : List Line) (matrix : MatrixView) (drawn : Drawn) → HasDrawn base lines matrix drawn
+    → IsBlocking (deadhead_network (trip_moves drawn.desk.script.timetable.slots) drawn.desk.matrix) drawn.blocks
+drawn-blocking base lines matrix drawn has =
+    subst (λ (t : TimetableView). IsBlocking (deadhead_network (trip_moves t.slots) drawn.desk.matrix) drawn.blocks) (sym has.timetable)
+    (subst (λ matrix. IsBlocking (deadhead_network (trip_moves (standing_after base lines).slots) matrix) drawn.blocks) (sym has.matrix_is)
+    (drawn-scheduled base lines matrix drawn.desk.plan drawn.blocks has.plan).least.fewest.blocking)
+
+pub joined-given : {E : Type 0} (read : ReadView) (said : Said) (matrix : MatrixView) (drawn : Drawn) → JoinedIsLeast → EntriesTakeTime → said_in read ≡ Ok said
+    → IsMatrixFor said matrix → HasDrawn said.base said.lines matrix drawn
+    → (result : Result OutcomeView E) → IfOk result (λ outcome. outcome ≡ boards_outcome drawn.refused drawn.ending said.settings.prefix drawn.desk.script.timetable drawn.desk.matrix drawn.blocks)
+    → IfOk result (IsGivenOf joined_does read said)
+joined-given read said matrix drawn least law says is has (Err e) done = tt
+joined-given read said matrix drawn least law says is has (Ok outcome) done =
+    let scheduled = drawn-scheduled said.base said.lines matrix drawn.desk.plan drawn.blocks has.plan in
+    let valid = drawn-valid said.base said.lines matrix drawn.desk.plan drawn.blocks has.plan in
+    let here : outcome ≡ boards_outcome (refused_of said) (ending_of said) said.settings.prefix (standing said) matrix drawn.blocks =
+    done ∙ (λ i. boards_outcome (has.refused i) (has.ending i) said.settings.prefix (has.timetable i) (has.matrix_is i) drawn.blocks) in
+    let count : length matrix.walks ≡ length (standing said).places = is.count ∙ sym (ap length (standing-places said.base said.lines (length said.lines))) in
     record {
       gives = record {
         matrix = matrix;
         matrix_is = is;
-        boarded = here;
-        sum = least (standing said) matrix boarded.blocks (subst IsTimetable stands.timetable valid) is.walks count
-            (subst TakeTime (sym is.entries_are) (entries-said law (found_of read.pages) said says)) here.scheduled.least;
+        plan = drawn.desk.plan;
+        blocks = drawn.blocks;
+        drawn = has.plan;
+        done = here;
+        sum = least (standing said) matrix drawn.blocks valid is.walks count
+            (subst TakeTime (sym is.entries_are) (entries-said law (found_of read.pages) said says)) scheduled.least;
       };
-      ends = ap (λ (o : OutcomeView). o.ending) here.done;
-      unkept = λ _. ap (λ (o : OutcomeView). o.lines) here.done;
+      ends = ap (λ (o : OutcomeView). o.ending) here;
+      unkept = λ _. ap (λ (o : OutcomeView). o.lines) here;
     }

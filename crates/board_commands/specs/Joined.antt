@@ -14,7 +14,9 @@ use Rattle.desk_run.specs.Outcome.{OutcomeView}
 use Rattle.desk_run.specs.declared.status.Ending.{Ending}
 use Rattle.desk_feed.specs.Feed.{Said, standing}
 use Rattle.desk_feed.specs.Judging.{FeedAsked, doing, ending_of, of_feed, refused_of}
-use Rattle.desk_feed.specs.Schedule.{IsMatrixFor, IsScheduled, most_steps}
+use Rattle.desk_feed.specs.Schedule.{IsMatrixFor}
+use Rattle.feed_desk.specs.Drawn.{IsDrawn}
+use Rattle.feed_desk.specs.Plans.{most_steps_of}
 
 -- the deficits of all moves of blocks beside those of the trips alone
 abbrev pub joined_of : TimetableView → MatrixView → List (List ℕ) → List ℕ
@@ -30,23 +32,19 @@ boards_outcome refused end prefix timetable matrix blocks = record {
   ending = end;
 }
 
--- it is done of the blocks of a certified plan
-pub record IsBoarded (refused : List ℕ) (end : Ending) (prefix : List ℕ) (timetable : TimetableView) (matrix : MatrixView) (outcome : OutcomeView) : Type 0 where
-  pub plan : Plan
-  pub blocks : List (List ℕ)
-  pub scheduled : IsScheduled timetable matrix plan blocks
-  pub done : outcome ≡ boards_outcome refused end prefix timetable matrix blocks
-
--- and of a feed: the blocks are those of the timetable after the script, and the maxima add up to their number
+-- it is done of the blocks of the plan after the script of a feed, and the maxima add up to their number
 pub record IsJoined (said : Said) (outcome : OutcomeView) : Type 0 where
   pub matrix : MatrixView
   pub matrix_is : IsMatrixFor said matrix
-  pub boarded : IsBoarded (refused_of said) (ending_of said) said.settings.prefix (standing said) matrix outcome
-  pub sum : sum_of_maxima (deficit (joined_moves (standing said) matrix boarded.blocks)) (length (standing said).places) ≡ pos (length boarded.blocks)
+  pub plan : Plan
+  pub blocks : List (List ℕ)
+  pub drawn : IsDrawn said.base said.lines matrix plan blocks
+  pub done : outcome ≡ boards_outcome (refused_of said) (ending_of said) said.settings.prefix (standing said) matrix blocks
+  pub sum : sum_of_maxima (deficit (joined_moves (standing said) matrix blocks)) (length (standing said).places) ≡ pos (length blocks)
 
--- the most steps: those of a plan from scratch, and of the deficits of as many moves as there may be
+-- the most steps: those of the plans of the script, and of the deficits of as many moves as there may be
 abbrev pub joined_does : FeedAsked
-joined_does = doing IsJoined (λ said. most_steps (length (standing said).slots) + 28 * MOST_MOVES)
+joined_does = doing IsJoined (λ said. most_steps_of said + 28 * MOST_MOVES)
 
 unfoldable pub joined_asked : Asked
 joined_asked = of_feed joined_does

@@ -1,50 +1,53 @@
 ghost use Rattle.std.specs.Prelude.{◌≡◌, ◌+◌, ◌≤◌, ◌++◌, length, None, IfOk, string_bytes};
-ghost use Rattle.desk_commands.specs.Answers.{most_to, numbers_text};
+ghost use Rattle.desk_commands.specs.Answers.{numbers_text};
 ghost use Rattle.desk_run.specs.Performs.{Performs};
 ghost use Rattle.desk_run.specs.World.{world};
 ghost use Rattle.desk_commands.specs.Blocks.{IsPlanned, blocks_asked, plan_files};
 ghost use Rattle.desk_feed.specs.Schedule.{most_steps};
 ghost use Rattle.desk_feed.specs.Script.{IsScript};
+ghost use Rattle.feed_desk.specs.Plans.{most_to};
 
-use crate::answers::{Answers, answer_all, blocks_now, push_numbers};
+use crate::answers::{Numbers, push_numbers};
 use block_build::{blocks_text, prices_text};
-use deadhead_matrix::laws::plan_law;
+use claim_files::laws::accepted_law;
 use deadhead_matrix::{Deadheads, Matrix, Pulls};
-use desk_core::Desk;
-use desk_core::laws::standing_law;
 use desk_feed::{FEED_PAPERS, FeedCommand, OnFeed, matrix_of};
 use desk_io::{Memory, Shelf, Sink, Steps, Text};
 use desk_keeper::Keeper;
 use desk_run::{Outcome, Read, Writing, perform};
 use desk_settings::Settings;
-use edit_script::{Line, Script};
-use fixed_fleet::laws::plain_blocks_law;
+use edit_script::Line;
+use feed_desk::{Followed, blocks_now, follow_script};
+use feed_names::laws::names_law;
 use gtfs_tables::Paper;
 use std::alloc::Global;
 use std::sync::ledger::Ledger;
 use trip_model::Timetable;
-use trip_model::laws::plain_law;
 
 // The files of the last plan, and behind what was put of the records the numbers after them all.
-fn finished(alloc: Global, desk: &Desk, answers: Answers, prefix: &str) -> Result<Outcome, Memory>
+fn finished(alloc: Global, followed: Followed, prefix: &str) -> Result<Outcome, Memory>
     ensures { IfOk result (λ outcome. outcome ≡ record {
-      writes = plan_files desk.now.script.timetable desk.now.matrix prefix.now desk.now.plan;
+      writes = plan_files followed.desk.script.timetable followed.desk.matrix prefix.now followed.desk.plan;
       lines = None;
-      text = string_bytes answers.text ++ numbers_text desk.now.script.timetable desk.now.matrix desk.now.plan;
-      ending = answers.ending;
+      text = string_bytes followed.text ++ numbers_text followed.desk.script.timetable followed.desk.matrix followed.desk.plan;
+      ending = followed.ending;
     }) }
 {
+    let Followed {
+        desk,
+        mut text,
+        ending,
+    } = followed;
     let timetable = desk.timetable();
     let plan = desk.plan();
-    let blocks = blocks_now(alloc, desk)?;
+    let blocks = blocks_now(alloc, &desk)?;
     let blocks = blocks_text(alloc, timetable, desk.matrix(), &blocks, prefix)?;
     let prices = prices_text(alloc, timetable, plan.leave(), plan.enter())?;
     let first = Writing::of(alloc, Paper::Blocks.file_name(), blocks)?;
     let second = Writing::of(alloc, Paper::Prices.file_name(), prices)?;
     let writes = vec![in alloc; first, second]?;
-    let mut text = answers.text;
-    push_numbers(&mut text, desk)?;
-    Ok(Outcome::of(writes, None, Text::wrap(text), answers.ending))
+    push_numbers(&mut text, &desk)?;
+    Ok(Outcome::of(writes, None, Text::wrap(text), ending))
 }
 
 // What is written and put of a timetable, the lines of its script and its matrix.
@@ -61,16 +64,9 @@ fn planned<L: Ledger>(
     ensures planned { IfOk result (IsPlanned timetable lines.now matrix prefix.now) }
     ensures counted { steps.new ≤ steps.old + (most_steps (length timetable.slots) + most_to timetable lines.now (length lines.now)) }
 {
-    plan_law();
-    plain_law();
-    plain_blocks_law();
-    standing_law();
-    // Its clause says that no pull is longer than a day.
-    let _places = matrix.places();
-    let script = Script::open(alloc, timetable)?;
-    let mut desk = Desk::open(alloc, script, matrix, steps)?;
-    let answers = answer_all(alloc, &mut desk, lines, prefix, steps)?;
-    finished(alloc, &desk, answers, prefix)
+    let answers = Numbers { prefix };
+    let followed = follow_script(alloc, timetable, lines, matrix, &answers, steps)?;
+    finished(alloc, followed, prefix)
 }
 
 #[derive(Drop)]
@@ -100,6 +96,8 @@ impl FeedCommand for WriteBlocks {
         lines: &[Line],
         steps: &mut Steps<L>,
     ) -> Result<Outcome, Memory> {
+        accepted_law();
+        names_law();
         let matrix = matrix_of(alloc, &timetable, deadheads, pulls)?;
         planned(alloc, timetable, lines, matrix, settings.prefix(), steps)
     }

@@ -1,20 +1,19 @@
-//! The command that follows the script of a feed with a desk: `blocks`.
+//! The command that puts the numbers after each record of a script, and writes the last plan: `blocks`.
 //!
-//! [`run_blocks`] is a whole run over any shelf, sink and keeper, of a `FeedCommand` of `desk_feed`. It schedules the base
-//! timetable, applies the records of the script one by one to a `Desk` of `desk_core`, which repairs the plan, and puts what
-//! becomes of each.
+//! [`run_blocks`] is a whole run over any shelf, sink and keeper, of a `FeedCommand` of `desk_feed`. It follows the script by
+//! `follow_script` of `feed_desk`, and puts what becomes of each record.
 //!
-//! The contract that the crates above use: a run performs what `blocks` asks (`blocks_asked`). Of an accepted feed
-//! there is one plan for each moment of the script, certified and least over all blockings of the timetable that stands then;
-//! where the same edits stand the plans are equal; and the text and the two files are the functions of these plans that the
-//! formats write out.
+//! The contract that the crates above use: a run performs what `blocks` asks (`blocks_asked`). Of an accepted feed there is one
+//! plan for each moment of the script, as `feed_desk` says. The text and the two files are the functions of these plans that the
+//! formats write out, and the two files are a claim on which the verdict is yes.
 //!
 //! ```text
 //! let status = run_blocks(alloc, shelf, out, keeper, steps);
 //! ```
 //!
-//! The contracts cite `Blocks` (what the command asks, and the plans) and `Answers` (what is put of them), of `desk_run`
-//! `Performs`, and of `desk_feed` `Feed`, `Judging`, `Script` and `Schedule`. `Moments` has terms of the functions inside.
+//! The contracts cite `Blocks` (what the command asks and does) and `Answers` (what is put of each record), of `feed_desk`
+//! `Plans` and `Answers`, of `claim_files` `Written`, of `desk_run` `Performs`, and of `desk_feed` `Feed`, `Judging` and
+//! `Schedule`.
 #![tactic(auto)]
 
 mod answers;

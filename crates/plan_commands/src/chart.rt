@@ -1,64 +1,69 @@
-ghost use Rattle.std.specs.Prelude.{◌≡◌, ◌+◌, ◌≤◌, length, IfOk};
-ghost use Rattle.desk_feed.specs.Schedule.{most_steps};
+ghost use Rattle.std.specs.Prelude.{◌≡◌, ◌+◌, ◌<◌, ◌≤◌, length, All, IfOk};
 ghost use Rattle.desk_run.specs.Performs.{Performs};
 ghost use Rattle.desk_run.specs.World.{world};
-ghost use Rattle.plan_commands.specs.Chart.{IsChartText, chart_asked};
+ghost use Rattle.plan_commands.specs.Chart.{chart_asked, chart_text};
 
 use chart_text::{block_chart, deficit_chart};
-use deadhead_matrix::{Deadheads, Matrix, Pulls};
-use deficit_steps::deficits_of;
-use desk_feed::{AfterScript, OnFeed, TextCommand, matrix_of};
+use deadhead_matrix::{Deadheads, Pulls};
+use desk_feed::{FEED_PAPERS, FeedCommand, OnFeed, matrix_of, putting_after};
 use desk_io::{Memory, Shelf, Sink, Steps, Text};
 use desk_keeper::Keeper;
-use desk_run::perform;
+use desk_run::{Outcome, Read, perform};
 use desk_settings::Settings;
-use feed_schedule::schedule_of;
+use edit_script::Line;
+use feed_desk::{Drawn, draw_after};
+use gtfs_tables::Paper;
 use std::alloc::Global;
 use std::sync::ledger::Ledger;
 use trip_model::Timetable;
 
-// The charts of the deficits and of the blocks of a plan.
-fn charts<L: Ledger>(
-    alloc: Global,
-    timetable: &Timetable,
-    matrix: &Matrix,
-    prefix: &str,
-    steps: &mut Steps<L>,
-) -> Result<Text, Memory>
-    requires { length timetable.now.places ≡ length matrix.now.walks }
-    ensures text { IfOk result (IsChartText timetable.now matrix.now prefix.now) }
-    ensures counted { steps.new ≤ steps.old + most_steps (length timetable.now.slots) }
+// The charts of the deficits and of the blocks after a script.
+fn charts(alloc: Global, drawn: &Drawn, prefix: &str) -> Result<Text, Memory>
+    requires slots { All (All (λ s. s < length drawn.now.desk.script.timetable.slots)) drawn.now.blocks }
+    ensures { IfOk result (λ text. text ≡ chart_text drawn.now.desk.script.timetable drawn.now.desk.matrix prefix.now drawn.now.blocks) }
 {
-    let deficits = deficits_of(alloc, timetable, steps)?;
-    let above = deficit_chart(alloc, timetable, &deficits)?;
-    let schedule = schedule_of(alloc, timetable, matrix, steps)?;
-    let below = block_chart(alloc, timetable, matrix, &schedule.blocks, prefix)?;
+    let timetable = drawn.desk.timetable();
+    let above = deficit_chart(alloc, timetable, drawn.desk.deficits())?;
+    let below = block_chart(alloc, timetable, drawn.desk.matrix(), &drawn.blocks, prefix)?;
     Ok(Text::wrap(format!(in alloc; "{}{}", above.as_str(), below.as_str())?))
 }
 
 #[derive(Drop)]
 struct ShowChart;
 
-impl TextCommand for ShowChart {
-    ghost use Rattle.plan_commands.specs.Chart.{chart_shown};
+impl FeedCommand for ShowChart {
+    ghost use Rattle.plan_commands.specs.Chart.{chart_does};
 
-    ghost asks = { λ _. chart_shown };
+    ghost asks = { λ _. chart_does };
 
-    fn text<L: Ledger>(
+    fn papers(&self) -> &[Paper] {
+        &FEED_PAPERS
+    }
+
+    fn keeps(&self) -> bool {
+        false
+    }
+
+    fn outcome<L: Ledger>(
         &self,
         alloc: Global,
+        _read: &Read,
         settings: &Settings,
-        timetable: &Timetable,
+        timetable: Timetable,
         deadheads: &Deadheads,
         pulls: Pulls,
+        lines: &[Line],
         steps: &mut Steps<L>,
-    ) -> Result<Text, Memory> {
-        let matrix = matrix_of(alloc, timetable, deadheads, pulls)?;
-        charts(alloc, timetable, &matrix, settings.prefix(), steps)
+    ) -> Result<Outcome, Memory> {
+        let matrix = matrix_of(alloc, &timetable, deadheads, pulls)?;
+        let drawn = draw_after(alloc, timetable, lines, matrix, steps)?;
+        let text = charts(alloc, &drawn, settings.prefix())?;
+        putting_after(alloc, &drawn.refused, &text, drawn.ending)
     }
 }
 
-/// The command `chart`: charts of the deficits and of the blocks of a plan, ten minutes a character. It answers the status.
+/// The command `chart`: charts of the deficits and of the blocks of the plan after the script, ten minutes a character. It answers
+/// the status.
 #[tactic(auto, unfolding(crate::specs::Chart::chart_asked))]
 pub fn run_chart<S: Shelf, O: Sink, K: Keeper, L: Ledger>(
     alloc: Global,
@@ -70,12 +75,5 @@ pub fn run_chart<S: Shelf, O: Sink, K: Keeper, L: Ledger>(
     ensures { let at = world S.state O.state K.state in
         Performs chart_asked (at shelf.old out.old keeper.old) (at shelf.new out.new keeper.new) result steps.old steps.new }
 {
-    perform(
-        &OnFeed(AfterScript(ShowChart)),
-        alloc,
-        shelf,
-        out,
-        keeper,
-        steps,
-    )
+    perform(&OnFeed(ShowChart), alloc, shelf, out, keeper, steps)
 }

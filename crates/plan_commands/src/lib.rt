@@ -1,8 +1,8 @@
-//! The commands that schedule a feed from scratch or judge a schedule of it: charts of a plan, and whether one that somebody
-//! hands in is least.
+//! The commands that draw a plan or judge one: charts of the plan after the script, and whether blocks that somebody hands in
+//! are least.
 //!
-//! [`run_chart`] draws the deficits and the blocks of a plan, and [`run_check`] judges the two files of a claim. Each is a whole
-//! run over any shelf, sink and keeper, of a `TextCommand` and of a `FeedCommand` of `desk_feed`.
+//! [`run_chart`] draws the deficits and the blocks of the plan after the script, and [`run_check`] judges the two files of a
+//! claim. Each is a whole run over any shelf, sink and keeper, of a `FeedCommand` of `desk_feed`.
 //!
 //! The contract that the crates above use: a run performs what its command asks (`chart_asked`, `check_asked`).
 //!
@@ -10,8 +10,8 @@
 //! let status = run_check(alloc, shelf, out, keeper, steps);
 //! ```
 //!
-//! The contracts cite `Chart` and `Check` (what each command asks and does), of `desk_run` `Performs`, and of `desk_feed` `Feed`,
-//! `Judging`, `Showing`, `Edited` and `Schedule`.
+//! The contracts cite `Chart` and `Check` (what each command asks and does), of `feed_desk` `Drawn` and `Plans`, of `desk_run`
+//! `Performs`, and of `desk_feed` `Feed`, `Judging`, `Edited` and `Schedule`.
 #![tactic(auto)]
 
 mod chart;

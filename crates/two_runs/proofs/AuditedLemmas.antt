@@ -42,9 +42,11 @@ use Rattle.desk_run.specs.Outcome.{OutcomeView, putting}
 use Rattle.desk_run.specs.declared.status.Ending.TheVariants as ending
 use Rattle.desk_feed.specs.Feed.{Said, said_by, said_with, standing}
 use Rattle.desk_feed.specs.Judging.{Does, ending_of, refused_of}
+use Rattle.desk_feed.specs.Schedule.{IsScheduled}
 use Rattle.desk_feed.specs.Script.{ending_by, first_records}
 use Rattle.desk_feed.proofs.OneNetwork.{network-same}
 use Rattle.desk_feed.proofs.ScriptLemmas.{first-none, refused-none, some-none, standing-places}
+use Rattle.feed_desk.proofs.DrawnLemmas.{drawn-scheduled, drawn-valid}
 use Rattle.written_feed.specs.Write.{IsWritten, chosen_in}
 use Rattle.audit_commands.specs.Audit.{AuditsBy, AuditsOf, IsAudited, IsCosted, IsJudged}
 use Rattle.audit_commands.specs.Audit.{chosen_in as audited_in}
@@ -121,6 +123,12 @@ module _ (states : WrittenFeedStatesPlan) (makes : MakesMoves) (settings : Setti
   abbrev said_again : Said
   said_again = said_with settings base_again entries pulls []
 
+  valid : IsTimetable now
+  valid = drawn-valid said.base lines written.matrix written.plan written.blocks written.drawn
+
+  scheduled : IsScheduled now written.matrix written.plan written.blocks
+  scheduled = drawn-scheduled said.base lines written.matrix written.plan written.blocks written.drawn
+
   follows : Follows read now
   follows =
       let on = standing-follows said.base (first_records lines (length lines)) (base-forward settings (File trips_bytes) (File stop_times_bytes) read feed.read) in
@@ -134,7 +142,7 @@ module _ (states : WrittenFeedStatesPlan) (makes : MakesMoves) (settings : Setti
 
   moves : AreMoves (length more.places) (trip_moves again.slots)
   moves = subst (AreMoves (length more.places)) (sym same_moves)
-      (subst (λ places. AreMoves (length places) (trip_moves now.slots)) (standing-places said.base lines (length lines)) (makes now written.valid))
+      (subst (λ places. AreMoves (length places) (trip_moves now.slots)) (standing-places said.base lines (length lines)) (makes now valid))
 
   -- no script, no change
   standing_again : standing said_again ≡ base_again
@@ -167,9 +175,9 @@ module _ (states : WrittenFeedStatesPlan) (makes : MakesMoves) (settings : Setti
 
     plan : StatesPlan table again (audited_in settings table) written.matrix settings.prefix written.blocks
     plan =
-        stated-plan states settings trips_bytes stop_times_bytes trips stop_times read now written.matrix written.plan.next written.blocks written.scheduled.along feed written.valid is_whole
+        stated-plan states settings trips_bytes stop_times_bytes trips stop_times read now written.matrix written.plan.next written.blocks scheduled.along feed valid is_whole
         (record { times = whole.times; trips_unmarked = trips_unmarked; stop_times_unmarked = stop_times_unmarked })
-        written.scheduled.least table again table_again read_again
+        scheduled.least table again table_again read_again
 
     audited-least : (audit : OutcomeView) → IsAudited said_again table audit → TellsLeast audit
     audited-least audit audited =

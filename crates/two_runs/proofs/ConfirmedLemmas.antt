@@ -20,7 +20,7 @@ use Rattle.deadhead_matrix.specs.Matrix.{MatrixView}
 use Rattle.deadhead_matrix.specs.Prices.{Plan}
 use Rattle.block_build.specs.Files.{blocks_text, prices_text}
 use Rattle.claim_files.specs.Claims.{claimed_of}
-use Rattle.claim_files.specs.Written.{AreOfPlan, IsAccepted}
+use Rattle.claim_files.specs.Written.{IsAccepted}
 use Rattle.trip_model.specs.Plain.{trip_moves, AreMoves}
 use Rattle.trip_model.specs.Timetable.{TimetableView, IsTimetable}
 use Rattle.desk_run.specs.Becomes.{with_writings}
@@ -33,14 +33,15 @@ use Rattle.desk_run.specs.Runs.{HasEnded}
 use Rattle.desk_run.specs.World.{World}
 use Rattle.desk_run.proofs.EachStatus.{pages_told}
 use Rattle.desk_core.specs.Counts.{blocks_in, minutes_in}
-use Rattle.desk_commands.specs.Answers.{answers_to, fixed_number}
-use Rattle.desk_commands.specs.Blocks.{IsPlan, IsPlannedAt, blocks_asked}
+use Rattle.feed_desk.specs.Answers.{answers_by}
+use Rattle.feed_desk.specs.Plans.{IsPlannedAt, fixed_number}
+use Rattle.desk_commands.specs.Answers.{answer_text}
+use Rattle.desk_commands.specs.Blocks.{IsPlan, blocks_asked}
 use Rattle.desk_feed.specs.Feed.{Said, feed_papers, kept_on, lines_by, said_by, said_with, standing}
 use Rattle.desk_feed.specs.Judging.{Does, refused_of, said_in}
 use Rattle.plan_commands.specs.Check.{IsChecked, check_asked, claim_papers, claim_in, claim_outcome, verdict_outcome, yes_line}
 use Rattle.desk_feed.proofs.ScriptLemmas.{standing-places}
 use Rattle.plan_commands.proofs.Given.{put-alone}
-use Rattle.feed_names.proofs.NamesSaid.{said-names}
 use Rattle.plan_commands.proofs.ScheduleLemmas.{outcome-same}
 use Rattle.two_runs.specs.Confirmed.{IsShort, IsConfirmed}
 use Rattle.two_runs.proofs.TwoFiles.{first-stands, found-short, is_name, others-stand, second-stands, with_two, with_two_told}
@@ -108,14 +109,10 @@ abbrev with_texts : List ℕ → List ℕ → Option Files → Option Files
 with_texts blocks prices = with_two_told (file_name_of paper.Blocks) blocks (file_name_of paper.Prices) prices
 
 -- what is needed of the laws
-abbrev pub AcceptsPlans : Type 0
-AcceptsPlans = (timetable : TimetableView) (matrix : MatrixView) (prefix : List ℕ) (plan : Plan) (blocks : List (List ℕ)) → AreOfPlan timetable matrix prefix plan blocks
-    → IsAccepted timetable matrix prefix blocks plan.leave plan.enter
-
 abbrev pub MakesMoves : Type 0
 MakesMoves = (timetable : TimetableView) → IsTimetable timetable → AreMoves (length timetable.places) (trip_moves timetable.slots)
 
-module _ (accepts : AcceptsPlans) (makes : MakesMoves) (before middle after : World) (first second : ℕ) (one : HasEnded blocks_asked before middle first) (two : HasEnded check_asked middle after second) (all : first ≤ EDITS_REFUSED) where
+module _ (makes : MakesMoves) (before middle after : World) (first second : ℕ) (one : HasEnded blocks_asked before middle first) (two : HasEnded check_asked middle after second) (all : first ≤ EDITS_REFUSED) where
   abbrev planned : (said : Said) × (said_in one.chosen.read ≡ Ok said) × IsPlan said one.chosen.outcome
   planned = planned_said one.chosen.read one.chosen.outcome one.chosen.given (omega (arith, all, one.answered))
 
@@ -147,14 +144,7 @@ module _ (accepts : AcceptsPlans) (makes : MakesMoves) (before middle after : Wo
 
   -- the blocks and the prices are accepted
   accepted : IsAccepted (standing said) plan.matrix said.settings.prefix blocks last_plan.leave last_plan.enter
-  accepted = accepts (standing said) plan.matrix said.settings.prefix last_plan blocks (record {
-    valid = last_planned.valid;
-    pulls = plan.planned.pulls;
-    certified = last_planned.scheduled.certified;
-    along = last_planned.scheduled.along;
-    begun = plan.planned.begun;
-    names = said-names (found_of one.chosen.read.pages) said planned.1;
-  })
+  accepted = plan.accepted
 
   module _ (files : Files) (told : before.shelf.files ≡ Some files) (blocks_short : IsShort (written files text_of_blocks text_of_prices) paper.Blocks) (prices_short : IsShort (written files text_of_blocks text_of_prices) paper.Prices) where
     now : middle.shelf.files ≡ Some (written files text_of_blocks text_of_prices)
@@ -200,7 +190,7 @@ module _ (accepts : AcceptsPlans) (makes : MakesMoves) (before middle after : Wo
 
     confirmed : IsConfirmed before after second
     confirmed = record {
-      answers = answers_to plan.matrix said.settings.prefix said.base said.lines plan.planned.plans (length said.lines);
+      answers = answers_by (answer_text plan.matrix said.settings.prefix) said.base said.lines plan.planned.plans (length said.lines);
       refused = refused_of said;
       fixed = fixed_number (standing said);
       vehicles = vehicles;

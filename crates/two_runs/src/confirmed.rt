@@ -1,7 +1,6 @@
 ghost use Rattle.desk_run.specs.World.{world};
 ghost use Rattle.two_runs.specs.Confirmed.{Confirms, RunsInTurn};
 
-use claim_files::laws::accepted_law;
 use desk_commands::run_blocks;
 use desk_io::{Shelf, Sink, Steps};
 use desk_keeper::Keeper;
@@ -24,7 +23,6 @@ pub fn run_blocks_and_check<S: Shelf, O: Sink, K: Keeper, L: Ledger>(
     ensures confirmed { let at = world S.state O.state K.state in
         Confirms (at shelf.old out.old keeper.old) (at shelf.new out.new keeper.new) result.0 result.1 }
 {
-    accepted_law();
     plain_law();
     let first = run_blocks(alloc, shelf, out, keeper, steps);
     let second = run_check(alloc, shelf, out, keeper, steps);

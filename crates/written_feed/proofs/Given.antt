@@ -14,11 +14,11 @@ use Rattle.desk_run.specs.Outcome.{OutcomeView}
 use Rattle.desk_run.specs.Reading.{ReadView}
 use Rattle.desk_feed.specs.Feed.{Said}
 use Rattle.desk_feed.specs.Judging.{IsGivenOf, refusing}
-use Rattle.trip_model.specs.Timetable.{TimetableView, IsTimetable}
+use Rattle.trip_model.specs.Timetable.{TimetableView}
 use Rattle.deadhead_matrix.specs.Matrix.{MatrixView}
-use Rattle.desk_feed.specs.declared.script.Edited.{Edited}
-use Rattle.desk_feed.specs.Edited.{IsEdited}
-use Rattle.desk_feed.specs.Schedule.{IsMatrixFor, IsScheduled}
+use Rattle.desk_feed.specs.Schedule.{IsMatrixFor}
+use Rattle.feed_desk.specs.Drawn.{HasDrawn}
+use Rattle.feed_desk.specs.declared.draw.Drawn.{Drawn}
 use Rattle.written_feed.specs.declared.write.Writable.TheVariants.{Texts, Refused}
 use Rattle.written_feed.specs.Writable.{IsWritable, IsWrittenOf}
 use Rattle.written_feed.specs.Write.{EndsBy, IsRefusal, IsWritten, Writes, WritesBy, files_of, stop_times_in, trips_in, write_does, written_line}
@@ -107,26 +107,25 @@ both-by said timetable base (Ok first) (Ok second) table text outcome one other 
 both-by said timetable base (Ok first) (Err due) table text outcome one other does = absurd other
 both-by said timetable base (Err due) stop_times table text outcome one other does = absurd one
 
--- of the timetable after the script
-pub written-given : {E : Type 0} (read : ReadView) (said : Said) (matrix : MatrixView) (edited : Edited) (timetable : TimetableView) (base : ℕ) (table : TableView) (text : List ℕ)
-    → IsMatrixFor said matrix → IsEdited said.base said.lines edited → timetable ≡ edited.script.timetable → base ≡ length said.base.slots
+-- of the plan after the script
+pub written-given : {E : Type 0} (read : ReadView) (said : Said) (matrix : MatrixView) (drawn : Drawn) (timetable : TimetableView) (base : ℕ) (table : TableView) (text : List ℕ)
+    → IsMatrixFor said matrix → HasDrawn said.base said.lines matrix drawn → timetable ≡ drawn.desk.script.timetable → base ≡ length said.base.slots
     → IsWritable said.settings timetable base (trips_in read) (stop_times_in read) (Texts table text)
-    → (result : Result OutcomeView E) → IfOk result (IsWrittenOf said.settings matrix edited table text) → IfOk result (Writes read said)
-written-given read said matrix edited timetable base table text is stands same count writable (Err e) written = tt
-written-given read said matrix edited timetable base table text is stands same count writable (Ok outcome) written =
+    → (result : Result OutcomeView E) → IfOk result (IsWrittenOf said.settings drawn table text) → IfOk result (Writes read said)
+written-given read said matrix drawn timetable base table text is has same count writable (Err e) written = tt
+written-given read said matrix drawn timetable base table text is has same count writable (Ok outcome) written =
     both-by said timetable base (trips_in read) (stop_times_in read) table text outcome writable.0 writable.1
     (λ second made. record {
       matrix = matrix;
       matrix_is = is;
-      plan = written.plan;
-      blocks = written.blocks;
-      valid = subst IsTimetable stands.timetable written.valid;
+      plan = drawn.desk.plan;
+      blocks = drawn.blocks;
+      drawn = has.plan;
       text = written.text;
-      scheduled = subst (λ (t : TimetableView). IsScheduled t matrix written.plan written.blocks) stands.timetable written.scheduled;
       done = written.done ∙ (λ i. record {
-        writes = files_of said.settings (stands.timetable i) written.blocks table ((made ∙ (λ j. stop_times_written second ((same ∙ stands.timetable) j) (count j))) i);
+        writes = files_of said.settings (has.timetable i) drawn.blocks table ((made ∙ (λ j. stop_times_written second ((same ∙ has.timetable) j) (count j))) i);
         lines = None;
-        text = stands.refused i ++ written_line;
-        ending = stands.ending i;
+        text = has.refused i ++ written_line;
+        ending = has.ending i;
       });
     })

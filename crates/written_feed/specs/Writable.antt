@@ -5,14 +5,11 @@ use Rattle.gtfs_tables.specs.Table.{TableView}
 use Rattle.gtfs_tables.specs.declared.fault.FeedFault.{FeedFault}
 use Rattle.gtfs_tables.specs.declared.paper.Paper.TheVariants as paper
 use Rattle.desk_settings.specs.Settings.{SettingsView}
-use Rattle.trip_model.specs.Timetable.{TimetableView, IsTimetable}
-use Rattle.deadhead_matrix.specs.Matrix.{MatrixView}
-use Rattle.deadhead_matrix.specs.Prices.{Plan}
+use Rattle.trip_model.specs.Timetable.{TimetableView}
 use Rattle.block_writer.specs.StopTimes.{stop_time_columns, stop_times_written}
 use Rattle.block_writer.specs.Texts.{IsTextPaper}
 use Rattle.desk_run.specs.Outcome.{OutcomeView}
-use Rattle.desk_feed.specs.declared.script.Edited.{Edited}
-use Rattle.desk_feed.specs.Schedule.{IsScheduled}
+use Rattle.feed_desk.specs.declared.draw.Drawn.{Drawn}
 use Rattle.written_feed.specs.Write.{IsRefusal, files_of, trip_columns, written_line}
 use Rattle.written_feed.specs.declared.write.Writable.{Writable}
 use Rattle.written_feed.specs.declared.write.Writable.TheVariants.{Texts, Refused}
@@ -25,16 +22,12 @@ IsWritable settings timetable base trips stop_times (Texts table text) =
 IsWritable settings timetable base trips stop_times (Refused outcome) =
     IsRefusal paper.Trips (trip_columns settings) trips outcome ⊎ IsTextPaper (λ first. IsRefusal paper.StopTimes stop_time_columns stop_times outcome) trips
 
--- the outcome of a timetable after its script, with a prefix that is text
-pub record IsWrittenOf (settings : SettingsView) (matrix : MatrixView) (edited : Edited) (trips : TableView) (stop_times : List ℕ) (outcome : OutcomeView) : Type 0 where
-  pub plan : Plan
-  pub blocks : List (List ℕ)
-  pub valid : IsTimetable edited.script.timetable
+-- the outcome of the plan after a script, with a prefix that is text
+pub record IsWrittenOf (settings : SettingsView) (drawn : Drawn) (trips : TableView) (stop_times : List ℕ) (outcome : OutcomeView) : Type 0 where
   pub text : IsUtf8 settings.prefix
-  pub scheduled : IsScheduled edited.script.timetable matrix plan blocks
   pub done : outcome ≡ record {
-    writes = files_of settings edited.script.timetable blocks trips stop_times;
+    writes = files_of settings drawn.desk.script.timetable drawn.blocks trips stop_times;
     lines = None;
-    text = edited.refused ++ written_line;
-    ending = edited.ending;
+    text = drawn.refused ++ written_line;
+    ending = drawn.ending;
   }

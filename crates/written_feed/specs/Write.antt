@@ -9,7 +9,7 @@ use Rattle.gtfs_tables.specs.declared.paper.Column.TheVariants as column
 use Rattle.gtfs_tables.specs.declared.paper.Paper.{Paper}
 use Rattle.gtfs_tables.specs.declared.paper.Paper.TheVariants as paper
 use Rattle.desk_settings.specs.Settings.{SettingsView, is_chosen, is_classed}
-use Rattle.trip_model.specs.Timetable.{TimetableView, IsTimetable}
+use Rattle.trip_model.specs.Timetable.{TimetableView}
 use Rattle.deadhead_matrix.specs.Matrix.{MatrixView}
 use Rattle.deadhead_matrix.specs.Prices.{Plan}
 use Rattle.block_writer.specs.Fields.{field_at, place_of}
@@ -24,7 +24,9 @@ use Rattle.desk_run.specs.declared.status.Ending.{Ending}
 use Rattle.desk_run.specs.declared.status.Ending.TheVariants as ending
 use Rattle.desk_feed.specs.Feed.{Said, standing}
 use Rattle.desk_feed.specs.Judging.{FeedAsked, ending_of, of_feed, refused_of, refusing}
-use Rattle.desk_feed.specs.Schedule.{IsMatrixFor, IsScheduled, most_steps}
+use Rattle.desk_feed.specs.Schedule.{IsMatrixFor}
+use Rattle.feed_desk.specs.Drawn.{IsDrawn}
+use Rattle.feed_desk.specs.Plans.{most_steps_of}
 
 -- the tables of the two papers, or why one is none; an accepted feed has both
 abbrev pub trips_in : ReadView → Result TableView FeedFault
@@ -64,16 +66,15 @@ files_of settings timetable blocks trips stop_times =
 abbrev pub feed_files : Said → TableView → TableView → List (List ℕ) → List Writing
 feed_files said trips stop_times blocks = files_of said.settings (standing said) blocks trips (stop_times_written stop_times (standing said) (length said.base.slots))
 
--- The files are those of the blocks of a certified plan, which are least over all blockings of the timetable after the script,
--- a valid one, and their names begin with a text; and the lines of refused records are put, and then that the files were written.
+-- The files are those of the blocks of the plan after the script, and their names begin with a text; and the lines of refused
+-- records are put, and then that the files were written.
 pub record IsWritten (said : Said) (trips stop_times : TableView) (outcome : OutcomeView) : Type 0 where
   pub matrix : MatrixView
   pub matrix_is : IsMatrixFor said matrix
   pub plan : Plan
   pub blocks : List (List ℕ)
-  pub valid : IsTimetable (standing said)
+  pub drawn : IsDrawn said.base said.lines matrix plan blocks
   pub text : IsUtf8 said.settings.prefix
-  pub scheduled : IsScheduled (standing said) matrix plan blocks
   pub done : outcome ≡ record { writes = feed_files said trips stop_times blocks; lines = None; text = refused_of said ++ written_line; ending = ending_of said }
 
 -- the refusal of a paper is told
@@ -107,14 +108,14 @@ EndsBy said (Ok trips) (Ok stop_times) end = EndsOf said trips stop_times end
 abbrev pub Ends : ReadView → Said → Ending → Type 0
 Ends read said end = EndsBy said (trips_in read) (stop_times_in read) end
 
--- with the most steps of a plan from scratch
+-- with the most steps of the plans of its script
 abbrev pub write_does : FeedAsked
 write_does = record {
   further = [];
   keeps = false;
   Ends = Ends;
   Gives = Writes;
-  most = λ read said. most_steps (length (standing said).slots);
+  most = λ read. most_steps_of;
 }
 
 unfoldable pub write_asked : Asked

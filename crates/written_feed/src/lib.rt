@@ -1,7 +1,7 @@
 //! The command that writes the feed again: `write`.
 //!
-//! [`run_write`] is a whole run over any shelf, sink and keeper, of a `FeedCommand` of `desk_feed`. It makes the text of the
-//! stop times for the timetable after the script, schedules that, and makes the text of the trips by its blocks.
+//! [`run_write`] is a whole run over any shelf, sink and keeper, of a `FeedCommand` of `desk_feed`. It takes the plan
+//! after the script, and makes the text of the stop times by its timetable and that of the trips by its blocks.
 //!
 //! The contract that the crates above use: a run performs what `write` asks (`write_asked`).
 //!
@@ -10,7 +10,8 @@
 //! ```
 //!
 //! The contracts cite `Write` (what the command asks and writes), of `block_writer` `Trips`, `StopTimes` and `Texts`, of
-//! `desk_run` `Performs`, and of `desk_feed` `Feed`, `Judging` and `Schedule`. `Writable` has terms of the functions inside.
+//! `feed_desk` `Drawn` and `Plans`, of `desk_run` `Performs`, and of `desk_feed` `Feed`, `Judging` and `Schedule`. `Writable` has
+//! terms of the functions inside.
 #![tactic(auto)]
 
 mod judging;

@@ -1,25 +1,25 @@
 ghost use Rattle.std.specs.Prelude.{◌≡◌, ◌+◌, ◌<◌, ◌≤◌, length, All, IfOk};
 ghost use Rattle.block_writer.specs.Texts.{AreTexts};
-ghost use Rattle.desk_feed.specs.Edited.{standing_after};
 ghost use Rattle.desk_feed.specs.Feed.{HasPapers, said_with};
 ghost use Rattle.desk_feed.specs.Schedule.{most_steps};
 ghost use Rattle.desk_feed.specs.Script.{IsScript};
 ghost use Rattle.desk_run.specs.Performs.{Performs};
 ghost use Rattle.desk_run.specs.World.{world};
+ghost use Rattle.feed_desk.specs.Plans.{most_to};
 ghost use Rattle.written_feed.specs.Write.{Writes, files_of, stop_times_in, trips_in, write_asked};
 ghost use Rattle.written_feed.specs.Writable.{IsWritable, IsWrittenOf};
 
 use crate::judging::{chosen_in, trip_columns};
 use block_build::Blocks;
 use block_writer::{read_texts, stop_times_text, trips_text};
-use deadhead_matrix::{Deadheads, Matrix, Pulls};
-use desk_feed::{Edited, FEED_PAPERS, FeedCommand, OnFeed, after_script, matrix_of, refuse};
+use deadhead_matrix::{Deadheads, Pulls};
+use desk_feed::{FEED_PAPERS, FeedCommand, OnFeed, matrix_of, refuse};
 use desk_io::{Bytes, Memory, Shelf, Sink, Steps, Text};
 use desk_keeper::Keeper;
 use desk_run::{Outcome, Read, Writing, perform};
 use desk_settings::Settings;
 use edit_script::Line;
-use feed_schedule::schedule_of;
+use feed_desk::{Drawn, draw_after};
 use gtfs_tables::{FeedFault, Paper, Table};
 use std::alloc::Global;
 use std::sync::ledger::Ledger;
@@ -88,31 +88,25 @@ fn files(
     Ok(vec![in alloc; first, second]?)
 }
 
-// What is written and put of a timetable after its script.
-fn written<L: Ledger>(
+// What is written and put of the plan after a script.
+fn written(
     alloc: Global,
     settings: &Settings,
-    matrix: &Matrix,
-    edited: &Edited,
+    drawn: &Drawn,
     trips: &Table,
     stop_times: Bytes,
-    steps: &mut Steps<L>,
 ) -> Result<Outcome, Memory>
-    requires places { length edited.now.script.timetable.places ≡ length matrix.now.walks }
+    requires slots { All (All (λ s. s < length drawn.now.desk.script.timetable.slots)) drawn.now.blocks }
     requires trips { AreTexts trips.now }
-    ensures written { IfOk result (IsWrittenOf settings.now matrix.now edited.now trips.now stop_times) }
-    ensures counted { steps.new ≤ steps.old + most_steps (length edited.now.script.timetable.slots) }
+    ensures { IfOk result (IsWrittenOf settings.now drawn.now trips.now stop_times) }
 {
-    let timetable = edited.script.timetable();
-    // Their clauses say that the timetable is valid and that the prefix is text.
-    let _slots = timetable.slots();
+    let timetable = drawn.desk.timetable();
+    // Its clause says that the prefix is text.
     let _prefix = settings.prefix().as_bytes();
-    let schedule = schedule_of(alloc, timetable, matrix, steps)?;
-    let blocks = &schedule.blocks;
-    let writes = files(alloc, settings, timetable, blocks, trips, stop_times)?;
-    let refused = edited.refused.as_str();
+    let writes = files(alloc, settings, timetable, &drawn.blocks, trips, stop_times)?;
+    let refused = drawn.refused.as_str();
     let text = format!(in alloc; "{refused}wrote trips_blocks.txt, stop_times_blocks.txt\n")?;
-    Ok(Outcome::of(writes, None, Text::wrap(text), edited.ending))
+    Ok(Outcome::of(writes, None, Text::wrap(text), drawn.ending))
 }
 
 // What is written and put of what a feed says.
@@ -130,17 +124,15 @@ fn written_of<L: Ledger>(
     requires pulls { length pulls ≡ length timetable.places }
     requires script { IsScript lines.now }
     ensures writes { IfOk result (Writes read.now (said_with settings.now timetable deadheads.now pulls lines.now)) }
-    ensures counted { steps.new ≤ steps.old + most_steps (length (standing_after timetable lines.now).slots) }
+    ensures counted { steps.new ≤ steps.old + (most_steps (length timetable.slots) + most_to timetable lines.now (length lines.now)) }
 {
     let slots = timetable.slots();
     let matrix = matrix_of(alloc, &timetable, deadheads, pulls)?;
-    let edited = after_script(alloc, timetable, lines)?;
-    let stands = edited.script.timetable();
+    let drawn = draw_after(alloc, timetable, lines, matrix, steps)?;
+    let stands = drawn.desk.timetable();
     match writable_of(alloc, settings, read, stands, slots)? {
         Writable::Refused(outcome) => Ok(outcome),
-        Writable::Texts(trips, stop_times) => written(
-            alloc, settings, &matrix, &edited, &trips, stop_times, steps,
-        ),
+        Writable::Texts(trips, stop_times) => written(alloc, settings, &drawn, &trips, stop_times),
     }
 }
 

@@ -12,4 +12,4 @@ returns-clause-runs g c = record {
 
 pub returns-clause-confirmed : goal.returns-clause-confirmed
 returns-clause-confirmed g c = λ all low.
-    confirms c.accepted_law.ensures.accepted c.plain_law.ensures.moves _ _ _ _ _ (c.run_blocks-first.ensures.run.ended (omega (arith, all))) (c.run_check-second.ensures.run.ended low) all
+    confirms c.plain_law.ensures.moves _ _ _ _ _ (c.run_blocks-first.ensures.run.ended (omega (arith, all))) (c.run_check-second.ensures.run.ended low) all

@@ -22,7 +22,7 @@ pub returns-clause-writes : goal.returns-clause-writes
 returns-clause-writes g c =
     let read = c.args.read.now in
     let said = said_with c.args.settings.now c.args.timetable c.args.deadheads.now c.args.pulls c.args.lines.now in
-    written-given read said c.in_ok-matrix.matrix c.in_ok-edited.edited c.timetable-stands.result.now c.slots-slots.result c.in-Texts.trips c.in-Texts.stop_times
-    c.in_ok-matrix.ensures c.in_ok-edited.ensures.edited c.timetable-stands.ensures c.slots-slots.ensures.count
+    written-given read said c.in_ok-matrix.matrix c.in_ok-drawn.drawn c.timetable-stands.result.now c.slots-slots.result c.in-Texts.trips c.in-Texts.stop_times
+    c.in_ok-matrix.ensures c.in_ok-drawn.ensures.drawn c.timetable-stands.ensures.timetable c.slots-slots.ensures.count
     (subst (IsWritable said.settings c.timetable-stands.result.now c.slots-slots.result (trips_in read) (stop_times_in read)) c.in-Texts.is c.in_ok-outcome.ensures)
-    c.written.result c.written.ensures.written
+    c.written.result c.written.ensures

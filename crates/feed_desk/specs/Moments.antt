@@ -2,19 +2,28 @@
 use Rattle.std.specs.Prelude.{◌≡◌, ℕ, suc, ◌<◌, ◌≤◌, List, Option, None, Some}
 use Rattle.trip_model.specs.Timetable.{TimetableView, IsTimetable}
 use Rattle.edit_script.specs.Machine.{IsAt}
+use Rattle.edit_script.specs.Script.{IsNext}
+use Rattle.edit_script.specs.declared.edit.Edit.{Edit}
 use Rattle.edit_script.specs.declared.edit.Line.{Line}
+use Rattle.edit_script.specs.declared.edit.Line.TheVariants as line
 use Rattle.edit_script.specs.declared.fault.EditFault.{EditFault}
 use Rattle.deadhead_matrix.specs.Matrix.{MatrixView}
 use Rattle.deadhead_matrix.specs.Prices.{IsPlanFor}
-use Rattle.desk_core.specs.Desk.{DeskView}
-use Rattle.desk_core.specs.Standing.{IsApplied}
-use Rattle.desk_feed.specs.Script.{refusal_in, state_at, step_at}
-use Rattle.desk_commands.specs.Answers.{answers_to}
+use Rattle.desk_core.specs.Desk.{DeskView, IsDone}
+use Rattle.desk_feed.specs.Script.{line_at, refusal_in, state_at, step_at}
+use Rattle.feed_desk.specs.Answers.{Answer, answers_by}
+
+-- an edit is done as that of some record, which may be applied
+pub record IsEdited (edit : Edit) (old new : DeskView) : Type 0 where
+  pub number : ℕ
+  pub next : IsNext old.script number edit
+  pub done : IsDone number edit old new
 
 -- what a record does to a desk: its edit is done, or it is refused and changes nothing
-abbrev pub IsFollowed : Option EditFault → DeskView → DeskView → Type 0
-IsFollowed None old new = IsApplied old new
-IsFollowed (Some refused) old new = new ≡ old
+abbrev pub IsFollowed : Line → Option EditFault → DeskView → DeskView → Type 0
+IsFollowed line.NotAnEdit None old new = ⊥
+IsFollowed (line.Edit edit) None old new = IsEdited edit old new
+IsFollowed line (Some refused) old new = new ≡ old
 
 -- a desk stands where the machine does at a moment, and its plan is one for a valid timetable
 pub record IsMoment (base : TimetableView) (lines : List Line) (matrix : MatrixView) (m : ℕ) (desk : DeskView) : Type 0 where
@@ -28,10 +37,10 @@ pub record AreMoments (base : TimetableView) (lines : List Line) (first : DeskVi
   pub begins : desks 0 ≡ first
   pub ends : desks m ≡ last
   pub each : (k : ℕ) → k ≤ m → IsMoment base lines first.matrix k (desks k)
-  pub follow : (k : ℕ) → k < m → IsFollowed (refusal_in (step_at base lines k)) (desks k) (desks (suc k))
+  pub follow : (k : ℕ) → k < m → IsFollowed (line_at lines k) (refusal_in (step_at base lines k)) (desks k) (desks (suc k))
 
 -- what was put of the records from a first moment to a last one
-pub record IsAnswered (prefix : List ℕ) (base : TimetableView) (lines : List Line) (first : DeskView) (m : ℕ) (last : DeskView) (text : List ℕ) : Type 0 where
+pub record IsAnswered (answer : Answer) (base : TimetableView) (lines : List Line) (first : DeskView) (m : ℕ) (last : DeskView) (text : List ℕ) : Type 0 where
   pub desks : ℕ → DeskView
   pub are : AreMoments base lines first m last desks
-  pub put : text ≡ answers_to first.matrix prefix base lines (λ k. (desks k).plan) m
+  pub put : text ≡ answers_by answer base lines (λ k. (desks k).plan) m

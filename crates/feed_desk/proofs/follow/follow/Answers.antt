@@ -5,8 +5,9 @@ use Rattle.edit_script.specs.declared.fault.EditFault.TheVariants as fault
 use Rattle.desk_core.specs.Desk.{DeskView}
 use Rattle.desk_feed.specs.Script.{IsStepped, refusal_in}
 use Rattle.desk_feed.proofs.ScriptLemmas.{none-refused}
-use Rattle.desk_commands.proofs.MomentsLemmas.{refusal-named}
-use Rattle.desk_commands.proofs.answers.follow.Goals as goal
+use Rattle.feed_desk.specs.Moments.{IsFollowed}
+use Rattle.feed_desk.proofs.MomentsLemmas.{next-of, refusal-named}
+use Rattle.feed_desk.proofs.follow.follow.Goals as goal
 
 pub returns-in_default-apply-clause-stepped : goal.returns-in_default-apply-clause-stepped
 returns-in_default-apply-clause-stepped g c =
@@ -23,3 +24,11 @@ returns-clause-stepped g c =
     (λ base records at.
     let done = c.machine_law.ensures.refused base records c.args.desk.now.script c.args.number c.in-Edit.edit c.in-Err.refused at due in
     (ap refusal_in (sym done.0), subst (λ (desk : DeskView). IsAt base (machine base (records ++ edit_record c.args.number c.in-Edit.edit ∷ [])) desk.script) (sym c.in-Err.ensures.unchanged) done.1))
+
+pub returns-in_default-apply-clause-followed : goal.returns-in_default-apply-clause-followed
+returns-in_default-apply-clause-followed g c =
+    subst (λ line. IsFollowed line None c.args.desk.now c.apply.new.self) (sym c.in-Edit.is)
+    (record { number = c.args.number; next = next-of c.args.desk.now.script c.args.number c.in-Edit.edit c.requires.next; done = c.in_default-apply.ensures.done })
+
+pub returns-clause-followed : goal.returns-clause-followed
+returns-clause-followed g c = subst (λ line. IsFollowed line (Some c.in-Err.refused) c.args.desk.now c.apply.new.self) (sym c.in-Edit.is) c.in-Err.ensures.unchanged

@@ -4,7 +4,7 @@ use Rattle.trip_model.specs.Plain.{timely_network, trip_moves}
 use Rattle.trip_model.specs.Timetable.{TimetableView}
 use Rattle.deadhead_matrix.specs.Prices.{Plan}
 use Rattle.desk_feed.proofs.TimelyLinks.{timely-links}
-use Rattle.desk_commands.proofs.answers.blocks_now.Goals as goal
+use Rattle.feed_desk.proofs.draw.blocks_now.Goals as goal
 
 pub blocks_of-requires-clause-links : goal.blocks_of-requires-clause-links
 blocks_of-requires-clause-links c =

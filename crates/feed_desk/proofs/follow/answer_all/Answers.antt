@@ -6,11 +6,11 @@ use Rattle.edit_script.specs.Script.{ScriptView}
 use Rattle.edit_script.specs.declared.edit.Line.TheVariants as line
 use Rattle.desk_feed.specs.Script.{IsStepped, line_at}
 use Rattle.desk_feed.proofs.ScriptLemmas.{some-next, some-none}
-use Rattle.desk_commands.specs.Answers.{answer_text, most_of}
-use Rattle.desk_commands.specs.Moments.{IsAnswered}
-use Rattle.desk_commands.proofs.MomentsLemmas as moments
-use Rattle.desk_commands.proofs.MomentsLemmas.{IsAnswered-none, most-le}
-use Rattle.desk_commands.proofs.answers.answer_all.Goals as goal
+use Rattle.feed_desk.specs.Plans.{most_of}
+use Rattle.feed_desk.specs.Moments.{IsAnswered, IsFollowed}
+use Rattle.feed_desk.proofs.MomentsLemmas as moments
+use Rattle.feed_desk.proofs.MomentsLemmas.{IsAnswered-none, most-le}
+use Rattle.feed_desk.proofs.follow.answer_all.Goals as goal
 
 pub loop-n-init : goal.loop-n-init
 loop-n-init g c =
@@ -18,8 +18,8 @@ loop-n-init g c =
     let base = desk.script.timetable in
     let valid = subst IsTimetable c.timetable.ensures.timetable c.slots-slots.ensures.valid in
     record {
-      answered = subst (IsAnswered c.args.prefix.now base c.args.lines.now desk 0 desk) (sym c.new-text.ensures.bytes)
-          (IsAnswered-none c.machine_law.ensures.start c.args.prefix.now c.args.lines.now desk c.requires.opened c.plan-plan.ensures.certified valid);
+      answered = subst (IsAnswered (g.A.Answers.answer c.args.answers.now desk.matrix) base c.args.lines.now desk 0 desk) (sym c.new-text.ensures.bytes)
+          (IsAnswered-none c.machine_law.ensures.start (g.A.Answers.answer c.args.answers.now desk.matrix) c.args.lines.now desk c.requires.opened c.plan-plan.ensures.certified valid);
       some = sym (some-none base c.args.lines.now);
       last = omega (arith, ap (λ (s : ScriptView). s.last) c.requires.opened.script);
       counted = omega arith;
@@ -41,9 +41,11 @@ returns-in_err-push_answer-clause-counted g c =
     let text = string_bytes c.loop-n.text in
     let here : c.index-lines-n.result ≡ line_at lines n = get_or_read lines n c.index-lines-n.result c.loop-n-test.true c.index-lines-n.is line.NotAnEdit in
     let stepped = subst (λ line. IsStepped (n + 1) line refused c.loop-n.desk.script next.script) here c.in_ok-refused.ensures.stepped in
+    let followed = subst (λ line. IsFollowed line refused c.loop-n.desk next) here c.in_ok-refused.ensures.followed in
     let valid = subst IsTimetable c.timetable-in-loop-n.ensures.timetable c.slots-slots-in-loop-n.ensures.valid in
-    let most = moments.most-next c.args.prefix.now base lines c.args.desk.now n c.loop-n.desk next text (text ++ answer_text next.matrix c.args.prefix.now (n + 1) (line_at lines n) next.script.timetable next.plan refused)
-    refused c.loop-n.invariant.answered stepped c.in_ok-refused.ensures.followed c.in_ok-refused.ensures.matrix c.plan-plan-in-loop-n.ensures.certified valid refl (n + 1) refl in
+    let answer = g.A.Answers.answer c.args.answers.now in
+    let most = moments.most-next answer base lines c.args.desk.now n c.loop-n.desk next text (text ++ answer next.matrix (n + 1) (line_at lines n) next.script.timetable next.plan refused)
+    refused c.loop-n.invariant.answered stepped followed c.in_ok-refused.ensures.matrix c.plan-plan-in-loop-n.ensures.certified valid refl (n + 1) refl in
     omega (
       arith,
       c.loop-n.invariant.counted,
@@ -57,20 +59,21 @@ pub loop-n-preserved : goal.loop-n-preserved
 loop-n-preserved g c =
     let base = c.args.desk.now.script.timetable in
     let lines = c.args.lines.now in
-    let prefix = c.args.prefix.now in
+    let answer = g.A.Answers.answer c.args.answers.now in
     let n = c.loop-n.n in
     let refused = c.in_ok-refused.refused in
     let next = c.follow.new.desk in
     let here : c.index-lines-n.result ≡ line_at lines n = get_or_read lines n c.index-lines-n.result c.loop-n-test.true c.index-lines-n.is line.NotAnEdit in
     let stepped = subst (λ line. IsStepped (n + 1) line refused c.loop-n.desk.script next.script) here c.in_ok-refused.ensures.stepped in
+    let followed = subst (λ line. IsFollowed line refused c.loop-n.desk next) here c.in_ok-refused.ensures.followed in
     let valid = subst IsTimetable c.timetable-in-loop-n.ensures.timetable c.slots-slots-in-loop-n.ensures.valid in
-    let put = c.in_ok-push_answer.ensures ∙ ap (λ line. string_bytes c.loop-n.text ++ answer_text next.matrix prefix (n + 1) line next.script.timetable next.plan refused) here in
+    let put = c.in_ok-push_answer.ensures ∙ ap (λ line. string_bytes c.loop-n.text ++ answer next.matrix (n + 1) line next.script.timetable next.plan refused) here in
     let text = string_bytes c.loop-n.text in
     let more = string_bytes c.push_answer.new.text in
-    let step = moments.step prefix base lines c.args.desk.now n c.loop-n.desk next text more refused c.loop-n.invariant.answered stepped c.in_ok-refused.ensures.followed c.in_ok-refused.ensures.matrix c.plan-plan-in-loop-n.ensures.certified valid put in
-    let most = moments.most-next prefix base lines c.args.desk.now n c.loop-n.desk next text more refused c.loop-n.invariant.answered stepped c.in_ok-refused.ensures.followed c.in_ok-refused.ensures.matrix c.plan-plan-in-loop-n.ensures.certified valid put (n + 1) refl in
+    let step = moments.step answer base lines c.args.desk.now n c.loop-n.desk next text more refused c.loop-n.invariant.answered stepped followed c.in_ok-refused.ensures.matrix c.plan-plan-in-loop-n.ensures.certified valid put in
+    let most = moments.most-next answer base lines c.args.desk.now n c.loop-n.desk next text more refused c.loop-n.invariant.answered stepped followed c.in_ok-refused.ensures.matrix c.plan-plan-in-loop-n.ensures.certified valid put (n + 1) refl in
     record {
-      answered = moments.IsAnswered-next prefix base lines c.args.desk.now n c.loop-n.desk next text more refused c.loop-n.invariant.answered stepped c.in_ok-refused.ensures.followed c.in_ok-refused.ensures.matrix c.plan-plan-in-loop-n.ensures.certified valid put (n + 1) refl;
+      answered = moments.IsAnswered-next answer base lines c.args.desk.now n c.loop-n.desk next text more refused c.loop-n.invariant.answered stepped followed c.in_ok-refused.ensures.matrix c.plan-plan-in-loop-n.ensures.certified valid put (n + 1) refl;
       some = (λ i. c.loop-n.invariant.some i || (c.is_some-some.ensures ∙ ap is_some step.0) i) ∙ sym (some-next base lines n (n + 1) refl);
       last = omega (arith, c.in_ok-refused.ensures.last);
       counted = omega (arith, c.loop-n.invariant.counted, most, c.in_ok-refused.ensures.counted, ap (λ line. most_of line (length next.script.timetable.slots) refused) here);

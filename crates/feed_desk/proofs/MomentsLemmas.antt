@@ -1,6 +1,6 @@
 -- The desk and the plan at each moment of a script.
 use Rattle.std.proofs.Common.{◌≡◌, ◌≢◌, ℕ, zero, suc, ◌+◌, ◌-◌, ◌<◌, ◌≤◌, ◌⊎◌, inl, inr, ⊎_elim, Bool, true, false, List, [], ◌∷◌, ◌++◌, length, Option, None, Some, Result, Ok, Err, nat_le, if◌then◌else◌, refl, sym, ap, subst, ◌∙◌, arith}
-use Rattle.std.specs.Prelude.{All, IfOk, IsSome, IsUtf8, pos, unsigned_abs}
+use Rattle.std.specs.Prelude.{All, IsSome, pos, string_bytes, unsigned_abs}
 use Rattle.std.proofs.lemmas.Bool.{false≢true, cases_lt, le-leb, leb-true}
 use Rattle.trip_model.specs.Blocking.{IsFewest, IsLeast}
 use Rattle.trip_model.specs.Deficit.{deficit, live_moves}
@@ -16,20 +16,22 @@ use Rattle.deadhead_matrix.specs.Prices.{Plan, IsPlanFor}
 use Rattle.deadhead_matrix.specs.Pulls.{IsPull}
 use Rattle.fixed_fleet.specs.Rule.{first_in_first_out}
 use Rattle.edit_script.specs.Machine.{IsAt, machine, numbers_of}
-use Rattle.edit_script.specs.Script.{ScriptView, opened}
+use Rattle.edit_script.specs.Script.{IsNext, ScriptView, opened}
 use Rattle.edit_script.specs.declared.edit.Edit.{Edit}
+use Rattle.edit_script.specs.declared.edit.Edit.TheVariants.{Shift, Cancel, Restore, Extra, Undo, Redo, Show}
+use Rattle.edit_script.specs.declared.edit.Line.TheVariants as line
 use Rattle.edit_script.specs.declared.fault.EditFault.TheVariants as fault
 use Rattle.edit_script.specs.declared.edit.Line.{Line}
 use Rattle.edit_script.specs.declared.fault.EditFault.{EditFault}
 use Rattle.desk_core.specs.Desk.{DeskView, IsRefused}
 use Rattle.desk_core.specs.Standing.{IsLed, IsOpened}
-use Rattle.desk_feed.specs.Script.{IsStepped, first_records, line_at, record_at, refusal_in, standing_at, state_at, step_at}
-use Rattle.desk_run.specs.Outcome.{OutcomeView}
-use Rattle.desk_run.specs.declared.status.Ending.{Ending}
+use Rattle.desk_feed.specs.Script.{IsStepped, first_records, line_at, record_at, refusal_in, refusal_text, refused_to, standing_at, state_at, step_at}
 use Rattle.desk_feed.specs.Edited.{ending_after}
-use Rattle.desk_commands.specs.Answers.{answer_text, answers_to, fixed_number, most_of, most_to, numbers_text}
-use Rattle.desk_commands.specs.Blocks.{ArePlanned, IsFixed, IsPlanned, IsPlannedAt, plan_files}
-use Rattle.desk_commands.specs.Moments.{AreMoments, IsAnswered, IsFollowed, IsMoment}
+use Rattle.feed_desk.specs.Answers.{Answer, answers_by, refusals}
+use Rattle.feed_desk.specs.Plans.{ArePlanned, AreRelinked, IsFixed, IsPlannedAt, fixed_number, most_of, most_to}
+use Rattle.feed_desk.specs.Drawn.{HasFollowed}
+use Rattle.feed_desk.specs.declared.follow.Followed.{Followed}
+use Rattle.feed_desk.specs.Moments.{AreMoments, IsAnswered, IsFollowed, IsMoment}
 
 -- a refusal that is not want of memory is that of the script
 pub refusal-named : (refused : EditFault) (edit : Edit) (due : Result ScriptView EditFault) → refused ≢ fault.Memory → IsRefused refused edit due → due ≡ Err refused
@@ -48,6 +50,16 @@ refusal-named fault.NothingToUndo edit due named is = is
 refusal-named fault.NothingToRedo edit due named is = is
 refusal-named fault.TooManyShows edit due named is = is
 refusal-named fault.Memory edit due named is = absurd (named refl)
+
+-- a record of a number above those before it may be applied
+pub next-of : (s : ScriptView) (number : ℕ) (edit : Edit) → s.last < number → IsNext s number edit
+next-of s number (Shift trip by) lt = lt
+next-of s number (Cancel trip) lt = lt
+next-of s number (Restore trip) lt = lt
+next-of s number (Extra trip from to departs arrives) lt = lt
+next-of s number Undo lt = tt
+next-of s number Redo lt = tt
+next-of s number Show lt = tt
 
 -- a moment is at most another one, or above it
 by_order : (k m : ℕ) → (k ≤ m) ⊎ (m < k)
@@ -68,13 +80,13 @@ extend-new desks m next k lt = by (nat_le k m) refl
     by false is = refl
 
 -- the text by plans that are the same at each moment is the same
-answers-same : (matrix : MatrixView) (prefix : List ℕ) (base : TimetableView) (lines : List Line) (plans other : ℕ → Plan) (n : ℕ) → ((k : ℕ) → k ≤ n → plans k ≡ other k)
-    → answers_to matrix prefix base lines plans n ≡ answers_to matrix prefix base lines other n
-unfolding answers_to
-answers-same matrix prefix base lines plans other zero same = refl
-answers-same matrix prefix base lines plans other (suc n) same = λ i.
-    answers-same matrix prefix base lines plans other n (λ k le. same k (omega (arith, le))) i
-    ++ answer_text matrix prefix (n + 1) (line_at lines n) (standing_at base lines (suc n)) (same (suc n) (omega arith) i) (refusal_in (step_at base lines n))
+answers-same : (answer : Answer) (base : TimetableView) (lines : List Line) (plans other : ℕ → Plan) (n : ℕ) → ((k : ℕ) → k ≤ n → plans k ≡ other k)
+    → answers_by answer base lines plans n ≡ answers_by answer base lines other n
+unfolding answers_by
+answers-same answer base lines plans other zero same = refl
+answers-same answer base lines plans other (suc n) same = λ i.
+    answers-same answer base lines plans other n (λ k le. same k (omega (arith, le))) i
+    ++ answer (n + 1) (line_at lines n) (standing_at base lines (suc n)) (same (suc n) (omega arith) i) (refusal_in (step_at base lines n))
 
 first-none : (lines : List Line) → first_records lines 0 ≡ []
 unfolding first_records
@@ -84,15 +96,21 @@ first-more : (lines : List Line) (n : ℕ) → first_records lines (suc n) ≡ f
 unfolding first_records
 first-more lines n = refl
 
-answers-none : (matrix : MatrixView) (prefix : List ℕ) (base : TimetableView) (lines : List Line) (plans : ℕ → Plan) → answers_to matrix prefix base lines plans 0 ≡ []
-unfolding answers_to
-answers-none matrix prefix base lines plans = refl
+answers-none : (answer : Answer) (base : TimetableView) (lines : List Line) (plans : ℕ → Plan) → answers_by answer base lines plans 0 ≡ []
+unfolding answers_by
+answers-none answer base lines plans = refl
 
-answers-more : (matrix : MatrixView) (prefix : List ℕ) (base : TimetableView) (lines : List Line) (plans : ℕ → Plan) (n : ℕ)
-    → answers_to matrix prefix base lines plans (suc n)
-    ≡ answers_to matrix prefix base lines plans n ++ answer_text matrix prefix (n + 1) (line_at lines n) (standing_at base lines (suc n)) (plans (suc n)) (refusal_in (step_at base lines n))
-unfolding answers_to
-answers-more matrix prefix base lines plans n = refl
+answers-more : (answer : Answer) (base : TimetableView) (lines : List Line) (plans : ℕ → Plan) (n : ℕ)
+    → answers_by answer base lines plans (suc n)
+    ≡ answers_by answer base lines plans n ++ answer (n + 1) (line_at lines n) (standing_at base lines (suc n)) (plans (suc n)) (refusal_in (step_at base lines n))
+unfolding answers_by
+answers-more answer base lines plans n = refl
+
+-- of refused records alone their lines are put
+pub refusals-are : (base : TimetableView) (lines : List Line) (plans : ℕ → Plan) (n : ℕ) → answers_by refusals base lines plans n ≡ refused_to base lines n
+unfolding answers_by refused_to
+refusals-are base lines plans zero = refl
+refusals-are base lines plans (suc n) = ap (λ text. text ++ refusal_text (n + 1) (line_at lines n) (refusal_in (step_at base lines n))) (refusals-are base lines plans n)
 
 -- and so are the steps
 most-none : (base : TimetableView) (lines : List Line) → most_to base lines 0 ≡ 0
@@ -112,9 +130,9 @@ most-le base lines n (suc d) m e = omega (arith, most-le base lines (suc n) d m 
 abbrev StartsAt : Type 0
 StartsAt = (base : TimetableView) → IsAt base (machine base []) (opened base)
 
-pub IsAnswered-none : StartsAt → (prefix : List ℕ) (lines : List Line) (desk : DeskView) → IsOpened desk → IsPlanFor desk.script.timetable desk.matrix desk.plan → IsTimetable desk.script.timetable
-    → IsAnswered prefix desk.script.timetable lines desk 0 desk []
-IsAnswered-none starts prefix lines desk is plan valid =
+pub IsAnswered-none : StartsAt → (answer : Answer) (lines : List Line) (desk : DeskView) → IsOpened desk → IsPlanFor desk.script.timetable desk.matrix desk.plan → IsTimetable desk.script.timetable
+    → IsAnswered answer desk.script.timetable lines desk 0 desk []
+IsAnswered-none starts answer lines desk is plan valid =
     let base = desk.script.timetable in
     let script : opened base ≡ desk.script = ap opened (ap (λ s. s.timetable) is.script) ∙ sym is.script in
     let at : IsAt base (state_at base lines 0) desk.script = subst (λ records. IsAt base (machine base records) desk.script) (sym (first-none lines)) (subst (IsAt base (machine base [])) script (starts base)) in
@@ -126,14 +144,14 @@ IsAnswered-none starts prefix lines desk is plan valid =
         each = λ k le. subst (λ m. IsMoment base lines desk.matrix m desk) (let none : 0 ≡ k = omega (arith, le) in none) (record { at = at; matrix_is = refl; plan = plan; valid = valid });
         follow = λ k lt. absurd (omega (arith, lt));
       };
-      put = sym (answers-none desk.matrix prefix base lines (λ k. desk.plan));
+      put = sym (answers-none answer base lines (λ k. desk.plan));
     }
 
 -- and after each
-module _ (prefix : List ℕ) (base : TimetableView) (lines : List Line) (first : DeskView) (m : ℕ) (last next : DeskView) (text more : List ℕ) (refused : Option EditFault)
-    (so_far : IsAnswered prefix base lines first m last text) (stepped : IsStepped (m + 1) (line_at lines m) refused last.script next.script) (followed : IsFollowed refused last next)
+module _ (answer : MatrixView → Answer) (base : TimetableView) (lines : List Line) (first : DeskView) (m : ℕ) (last next : DeskView) (text more : List ℕ) (refused : Option EditFault)
+    (so_far : IsAnswered (answer first.matrix) base lines first m last text) (stepped : IsStepped (m + 1) (line_at lines m) refused last.script next.script) (followed : IsFollowed (line_at lines m) refused last next)
     (matrix : next.matrix ≡ last.matrix) (plan : IsPlanFor next.script.timetable next.matrix next.plan) (valid : IsTimetable next.script.timetable)
-    (put : more ≡ text ++ answer_text next.matrix prefix (m + 1) (line_at lines m) next.script.timetable next.plan refused) where
+    (put : more ≡ text ++ answer next.matrix (m + 1) (line_at lines m) next.script.timetable next.plan refused) where
   abbrev before : AreMoments base lines first m last so_far.desks
   before = so_far.are
 
@@ -170,25 +188,29 @@ module _ (prefix : List ℕ) (base : TimetableView) (lines : List Line) (first :
   at_next : desks (suc m) ≡ next
   at_next = extend-new so_far.desks m next (suc m) (omega arith)
 
-  follow : (k : ℕ) → k < suc m → IsFollowed (refusal_in (step_at base lines k)) (desks k) (desks (suc k))
+  -- what the record of a moment does
+  abbrev Follows : ℕ → DeskView → DeskView → Type 0
+  Follows k = IsFollowed (line_at lines k) (refusal_in (step_at base lines k))
+
+  follow : (k : ℕ) → k < suc m → Follows k (desks k) (desks (suc k))
   follow k lt = ⊎_elim
       (λ (old : suc k ≤ m).
-      subst (IsFollowed (refusal_in (step_at base lines k)) (desks k)) (sym (extend-old so_far.desks m next (suc k) old))
-      (subst (λ desk. IsFollowed (refusal_in (step_at base lines k)) desk (so_far.desks (suc k))) (sym (extend-old so_far.desks m next k (omega (arith, old)))) (before.follow k (omega (arith, old)))))
+      subst (Follows k (desks k)) (sym (extend-old so_far.desks m next (suc k) old))
+      (subst (λ desk. Follows k desk (so_far.desks (suc k))) (sym (extend-old so_far.desks m next k (omega (arith, old)))) (before.follow k (omega (arith, old)))))
       (λ new. let is : m ≡ k = omega (arith, lt, new) in
-      subst (λ k. IsFollowed (refusal_in (step_at base lines k)) (desks k) (desks (suc k))) is
-      (subst (IsFollowed (refusal_in (step_at base lines m)) (desks m)) (sym at_next) (subst (λ desk. IsFollowed (refusal_in (step_at base lines m)) desk next) (sym at_m) (subst (λ r. IsFollowed r last next) step.0 followed))))
+      subst (λ k. Follows k (desks k) (desks (suc k))) is
+      (subst (Follows m (desks m)) (sym at_next) (subst (λ desk. Follows m desk next) (sym at_m) (subst (λ r. IsFollowed (line_at lines m) r last next) step.0 followed))))
       (by_order (suc k) m)
 
   moments : AreMoments base lines first (suc m) next desks
   moments = record { begins = extend-old so_far.desks m next 0 (omega arith) ∙ before.begins; ends = at_next; each = each; follow = follow }
 
-  written : more ≡ answers_to first.matrix prefix base lines (λ k. (desks k).plan) (suc m)
+  written : more ≡ answers_by (answer first.matrix) base lines (λ k. (desks k).plan) (suc m)
   written =
       put
-      ∙ (λ i. (so_far.put ∙ answers-same first.matrix prefix base lines (λ k. (so_far.desks k).plan) (λ k. (desks k).plan) m (λ k le. ap (λ (d : DeskView). d.plan) (sym (extend-old so_far.desks m next k le)))) i
-      ++ answer_text (same_matrix i) prefix (m + 1) (line_at lines m) (next_is.at.timetable i) (sym (ap (λ (d : DeskView). d.plan) at_next) i) (step.0 i))
-      ∙ sym (answers-more first.matrix prefix base lines (λ k. (desks k).plan) m)
+      ∙ (λ i. (so_far.put ∙ answers-same (answer first.matrix) base lines (λ k. (so_far.desks k).plan) (λ k. (desks k).plan) m (λ k le. ap (λ (d : DeskView). d.plan) (sym (extend-old so_far.desks m next k le)))) i
+      ++ answer (same_matrix i) (m + 1) (line_at lines m) (next_is.at.timetable i) (sym (ap (λ (d : DeskView). d.plan) at_next) i) (step.0 i))
+      ∙ sym (answers-more (answer first.matrix) base lines (λ k. (desks k).plan) m)
 
   -- the steps of the record are counted with those before it
   pub most-next : (k : ℕ) → k ≡ m + 1 → most_to base lines k ≡ most_to base lines m + most_of (line_at lines m) (length next.script.timetable.slots) refused
@@ -196,8 +218,8 @@ module _ (prefix : List ℕ) (base : TimetableView) (lines : List Line) (first :
       let same : suc m ≡ k = omega (arith, is) in
       sym (ap (most_to base lines) same) ∙ most-more base lines m ∙ (λ i. most_to base lines m + most_of (line_at lines m) (length (sym next_is.at.timetable i).slots) (sym step.0 i))
 
-  pub IsAnswered-next : (k : ℕ) → k ≡ m + 1 → IsAnswered prefix base lines first k next more
-  IsAnswered-next k is = subst (λ k. IsAnswered prefix base lines first k next more) (let next : suc m ≡ k = omega (arith, is) in next) (record { desks = desks; are = moments; put = written })
+  pub IsAnswered-next : (k : ℕ) → k ≡ m + 1 → IsAnswered (answer first.matrix) base lines first k next more
+  IsAnswered-next k is = subst (λ k. IsAnswered (answer first.matrix) base lines first k next more) (let next : suc m ≡ k = omega (arith, is) in next) (record { desks = desks; are = moments; put = written })
 
 -- what is needed of the laws
 abbrev pub AreRestored : Type 0
@@ -244,11 +266,13 @@ module _ (restores : AreRestored) (proves : AreProved) (makes : MakesMoves) (are
       let rest = led-on (suc m) d (omega (arith, le)) in
       let there : suc m + d ≡ m + suc d = omega arith in
       let led : IsLed (desks (suc m)) rest.0 (desks (m + suc d)) = subst (λ k. IsLed (desks (suc m)) rest.0 (desks k)) there rest.1 in
-      by (refusal_in (step_at base lines m)) (are.follow m (omega (arith, le))) rest.0 led
+      by (line_at lines m) (refusal_in (step_at base lines m)) (are.follow m (omega (arith, le))) rest.0 led
     where
-      by : (refused : Option EditFault) → IsFollowed refused (desks m) (desks (suc m)) → (rest : List DeskView) → IsLed (desks (suc m)) rest (desks (m + suc d)) → (moments : List DeskView) × IsLed (desks m) moments (desks (m + suc d))
-      by None followed rest led = (desks (suc m) ∷ rest, (followed, led))
-      by (Some refused) followed rest led = (rest, subst (λ desk. IsLed desk rest (desks (m + suc d))) followed led)
+      by : (l : Line) (refused : Option EditFault) → IsFollowed l refused (desks m) (desks (suc m)) → (rest : List DeskView) → IsLed (desks (suc m)) rest (desks (m + suc d)) → (moments : List DeskView) × IsLed (desks m) moments (desks (m + suc d))
+      by (line.Edit edit) None followed rest led = (desks (suc m) ∷ rest, (record { number = followed.number; edit = edit; next = followed.next; done = followed.done }, led))
+      by line.NotAnEdit None followed rest led = absurd followed
+      by (line.Edit edit) (Some refused) followed rest led = (rest, subst (λ desk. IsLed desk rest (desks (m + suc d))) followed led)
+      by line.NotAnEdit (Some refused) followed rest led = (rest, subst (λ desk. IsLed desk rest (desks (m + suc d))) followed led)
 
   in_order : (m d k : ℕ) → m + d ≡ k → k ≤ n → (state_at base lines m).standing ≡ (state_at base lines k).standing → (desks m).plan ≡ (desks k).plan
   in_order m d k there le standing =
@@ -275,44 +299,45 @@ module _ (restores : AreRestored) (proves : AreProved) (makes : MakesMoves) (are
       })
 
   unchanged : (m : ℕ) → m < n → IsSome (refusal_in (step_at base lines m)) → (desks (suc m)).plan ≡ (desks m).plan
-  unchanged m lt is = by (refusal_in (step_at base lines m)) (are.follow m lt) is
+  unchanged m lt is = by (line_at lines m) (refusal_in (step_at base lines m)) (are.follow m lt) is
     where
-      by : (refused : Option EditFault) → IsFollowed refused (desks m) (desks (suc m)) → IsSome refused → (desks (suc m)).plan ≡ (desks m).plan
-      by None followed is = absurd (false≢true is)
-      by (Some refused) followed is = ap (λ (d : DeskView). d.plan) followed
+      by : (l : Line) (refused : Option EditFault) → IsFollowed l refused (desks m) (desks (suc m)) → IsSome refused → (desks (suc m)).plan ≡ (desks m).plan
+      by l None followed is = absurd (false≢true is)
+      by (line.Edit edit) (Some refused) followed is = ap (λ (d : DeskView). d.plan) followed
+      by line.NotAnEdit (Some refused) followed is = ap (λ (d : DeskView). d.plan) followed
+
+  repaired : (m : ℕ) → m < n → AreRelinked (line_at lines m) (refusal_in (step_at base lines m)) (standing_at base lines m) (desks m).plan.next (desks (suc m)).plan.next
+  repaired m lt =
+      subst (λ t. AreRelinked (line_at lines m) (refusal_in (step_at base lines m)) t (desks m).plan.next (desks (suc m)).plan.next) (are.each m (omega (arith, lt))).at.timetable
+      (by (line_at lines m) (refusal_in (step_at base lines m)) (are.follow m lt))
+    where
+      by : (l : Line) (refused : Option EditFault) → IsFollowed l refused (desks m) (desks (suc m)) → AreRelinked l refused (desks m).script.timetable (desks m).plan.next (desks (suc m)).plan.next
+      by (line.Edit edit) None followed = followed.done.links
+      by line.NotAnEdit None followed = absurd followed
+      by (line.Edit edit) (Some refused) followed = ap (λ (d : DeskView). d.plan.next) followed
+      by line.NotAnEdit (Some refused) followed = ap (λ (d : DeskView). d.plan.next) followed
 
   pub are-planned : n ≡ length lines → ArePlanned base lines first.matrix (λ k. (desks k).plan)
   are-planned all = record {
     planned = λ m le. planned m (omega (arith, all, le));
     restored = λ m k m_in k_in standing. restored m k (omega (arith, all, m_in)) (omega (arith, all, k_in)) standing;
     unchanged = λ m lt is. unchanged m (omega (arith, all, lt)) is;
+    repaired = λ m lt. repaired m (omega (arith, all, lt));
   }
 
-  -- what is written and put is that of these plans
-  pub planned-of : {E : Type 0} (prefix text : List ℕ) (end : Ending) → n ≡ length lines → IsUtf8 prefix
-      → text ≡ answers_to first.matrix prefix base lines (λ k. (desks k).plan) n → end ≡ ending_after base lines → (result : Result OutcomeView E)
-      → IfOk result (λ outcome. outcome ≡ record {
-        writes = plan_files last.script.timetable last.matrix prefix last.plan;
-        lines = None;
-        text = text ++ numbers_text last.script.timetable last.matrix last.plan;
-        ending = end;
-      })
-      → IfOk result (IsPlanned base lines first.matrix prefix)
-  planned-of prefix text end all begun put end_is (Err e) done = tt
-  planned-of prefix text end all begun put end_is (Ok outcome) done =
+  -- a desk has followed the script with these plans
+  pub has-followed : (answer : Answer) (followed : Followed) → n ≡ length lines → followed.desk ≡ last
+      → string_bytes followed.text ≡ answers_by answer base lines (λ k. (desks k).plan) n → followed.ending ≡ ending_after base lines
+      → HasFollowed answer base lines first.matrix followed
+  has-followed answer followed all is put end_is =
       let last_is = subst (IsMoment base lines first.matrix n) are.ends (are.each n (omega arith)) in
-      let stands : last.script.timetable ≡ standing_at base lines (length lines) = last_is.at.timetable ∙ ap (standing_at base lines) all in
-      let plan : last.plan ≡ (desks (length lines)).plan = ap (λ (d : DeskView). d.plan) (sym are.ends ∙ ap desks all) in
-      let answers : text ≡ answers_to first.matrix prefix base lines (λ k. (desks k).plan) (length lines) = put ∙ ap (answers_to first.matrix prefix base lines (λ k. (desks k).plan)) all in
       record {
         plans = λ k. (desks k).plan;
         are = are-planned all;
         pulls = pulls;
-        begun = begun;
-        done = done ∙ (λ i. record {
-          writes = plan_files (stands i) (last_is.matrix_is i) prefix (plan i);
-          lines = None;
-          text = answers i ++ numbers_text (stands i) (last_is.matrix_is i) (plan i);
-          ending = end_is i;
-        });
+        timetable = ap (λ (d : DeskView). d.script.timetable) is ∙ last_is.at.timetable ∙ ap (standing_at base lines) all;
+        matrix_is = ap (λ (d : DeskView). d.matrix) is ∙ last_is.matrix_is;
+        plan = ap (λ (d : DeskView). d.plan) (is ∙ sym are.ends ∙ ap desks all);
+        text = put ∙ ap (answers_by answer base lines (λ k. (desks k).plan)) all;
+        ending = end_is;
       }

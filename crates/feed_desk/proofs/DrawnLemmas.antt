@@ -1,0 +1,46 @@
+-- What is drawn after a script: the last plan, and its blocks.
+use Rattle.std.proofs.Common.{◌≡◌, ℕ, List, length, ap, refl, sym, subst, ◌∙◌, arith}
+use Rattle.std.specs.Prelude.{string_bytes}
+use Rattle.trip_model.specs.Timetable.{TimetableView, IsTimetable}
+use Rattle.edit_script.specs.declared.edit.Line.{Line}
+use Rattle.deadhead_matrix.specs.Matrix.{MatrixView}
+use Rattle.deadhead_matrix.specs.Prices.{Plan}
+use Rattle.desk_core.specs.Counts.{blocks_in}
+use Rattle.desk_core.specs.Desk.{DeskView}
+use Rattle.desk_feed.specs.Edited.{standing_after}
+use Rattle.desk_feed.specs.Schedule.{IsScheduled}
+use Rattle.feed_desk.specs.Answers.{refusals}
+use Rattle.feed_desk.specs.Drawn.{HasDrawn, HasFollowed, IsDrawn}
+use Rattle.feed_desk.specs.Plans.{IsPlannedAt}
+use Rattle.feed_desk.specs.declared.draw.Drawn.{Drawn}
+use Rattle.feed_desk.specs.declared.follow.Followed.{Followed}
+use Rattle.feed_desk.proofs.MomentsLemmas.{refusals-are}
+
+module _ (base : TimetableView) (lines : List Line) (matrix : MatrixView) (plan : Plan) (blocks : List (List ℕ)) (drawn : IsDrawn base lines matrix plan blocks) where
+  last-planned : IsPlannedAt (standing_after base lines) matrix plan
+  last-planned = subst (IsPlannedAt (standing_after base lines) matrix) (sym drawn.last) (drawn.are.planned (length lines) (omega arith))
+
+  -- the timetable after the script is valid
+  pub drawn-valid : IsTimetable (standing_after base lines)
+  drawn-valid = last-planned.valid
+
+  -- and the blocks are those of a plan that its prices prove, least over all blockings
+  pub drawn-scheduled : IsScheduled (standing_after base lines) matrix plan blocks
+  drawn-scheduled = subst (IsScheduled (standing_after base lines) matrix plan) (sym drawn.along) last-planned.scheduled
+
+-- the blocks of the desk that has followed a script are drawn
+pub has-drawn : (base : TimetableView) (lines : List Line) (matrix : MatrixView) (followed : Followed) (drawn : Drawn) → HasFollowed refusals base lines matrix followed
+    → drawn.desk ≡ followed.desk → drawn.blocks ≡ blocks_in followed.desk.script.timetable followed.desk.plan → drawn.refused ≡ string_bytes followed.text → drawn.ending ≡ followed.ending
+    → HasDrawn base lines matrix drawn
+has-drawn base lines matrix followed drawn has desk blocks refused end = record {
+  plan = record {
+    plans = has.plans;
+    are = has.are;
+    last = ap (λ (d : DeskView). d.plan) desk ∙ has.plan;
+    along = blocks ∙ (λ i. blocks_in (has.timetable i) ((ap (λ (d : DeskView). d.plan) (sym desk)) i));
+  };
+  timetable = ap (λ (d : DeskView). d.script.timetable) desk ∙ has.timetable;
+  matrix_is = ap (λ (d : DeskView). d.matrix) desk ∙ has.matrix_is;
+  refused = refused ∙ has.text ∙ refusals-are base lines has.plans (length lines);
+  ending = end ∙ has.ending;
+}

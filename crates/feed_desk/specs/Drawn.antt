@@ -1,0 +1,40 @@
+-- A desk after the script of a feed, and the one plan that is drawn, written and listed.
+use Rattle.std.specs.Prelude.{◌≡◌, ℕ, List, length, All, string_bytes}
+use Rattle.trip_model.specs.Timetable.{TimetableView}
+use Rattle.edit_script.specs.declared.edit.Line.{Line}
+use Rattle.deadhead_matrix.specs.Matrix.{MatrixView}
+use Rattle.deadhead_matrix.specs.Prices.{Plan}
+use Rattle.deadhead_matrix.specs.Pulls.{IsPull}
+use Rattle.desk_core.specs.Counts.{blocks_in}
+use Rattle.desk_feed.specs.Edited.{ending_after, refused_text, standing_after}
+use Rattle.feed_desk.specs.Answers.{Answer, answers_by}
+use Rattle.feed_desk.specs.Plans.{ArePlanned}
+use Rattle.feed_desk.specs.declared.follow.Followed.{Followed}
+use Rattle.feed_desk.specs.declared.draw.Drawn.{Drawn}
+
+-- A desk has followed a script, with one plan for each moment: it stands where the script ends, with the last of these plans;
+-- and of each record this was put.
+pub record HasFollowed (answer : Answer) (base : TimetableView) (lines : List Line) (matrix : MatrixView) (followed : Followed) : Type 0 where
+  pub plans : ℕ → Plan
+  pub are : ArePlanned base lines matrix plans
+  pub pulls : All IsPull matrix.pulls
+  pub timetable : followed.desk.script.timetable ≡ standing_after base lines
+  pub matrix_is : followed.desk.matrix ≡ matrix
+  pub plan : followed.desk.plan ≡ plans (length lines)
+  pub text : string_bytes followed.text ≡ answers_by answer base lines plans (length lines)
+  pub ending : followed.ending ≡ ending_after base lines
+
+-- The plan of a command that draws one, and its blocks: it is the last of the plans of a script, one for each moment.
+pub record IsDrawn (base : TimetableView) (lines : List Line) (matrix : MatrixView) (plan : Plan) (blocks : List (List ℕ)) : Type 0 where
+  pub plans : ℕ → Plan
+  pub are : ArePlanned base lines matrix plans
+  pub last : plan ≡ plans (length lines)
+  pub along : blocks ≡ blocks_in (standing_after base lines) plan
+
+-- the desk after a script, its plan drawn, with the lines of refused records
+pub record HasDrawn (base : TimetableView) (lines : List Line) (matrix : MatrixView) (drawn : Drawn) : Type 0 where
+  pub plan : IsDrawn base lines matrix drawn.desk.plan drawn.blocks
+  pub timetable : drawn.desk.script.timetable ≡ standing_after base lines
+  pub matrix_is : drawn.desk.matrix ≡ matrix
+  pub refused : drawn.refused ≡ refused_text base lines
+  pub ending : drawn.ending ≡ ending_after base lines

@@ -1,0 +1,4 @@
+pub mod Answers
+pub mod Drawn
+pub mod Moments
+pub mod Plans

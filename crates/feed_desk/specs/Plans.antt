@@ -1,0 +1,64 @@
+-- The plans of a script, one for each moment, and the steps that they take.
+use Rattle.std.specs.Prelude.{◌≡◌, ℕ, zero, suc, ◌+◌, ◌<◌, ◌≤◌, List, length, Option, None, Some, IsSome, pos, unsigned_abs}
+use Rattle.trip_model.specs.Blocking.{IsFewest}
+use Rattle.trip_model.specs.Deficit.{deficit, live_moves}
+use Rattle.trip_model.specs.Maximum.{sum_of_maxima}
+use Rattle.trip_model.specs.Plain.{plain_network, trip_moves}
+use Rattle.trip_model.specs.Timetable.{TimetableView, IsTimetable}
+use Rattle.edit_script.specs.declared.edit.Line.{Line}
+use Rattle.edit_script.specs.declared.edit.Line.TheVariants as line
+use Rattle.edit_script.specs.declared.fault.EditFault.{EditFault}
+use Rattle.deadhead_matrix.specs.Matrix.{MatrixView}
+use Rattle.deadhead_matrix.specs.Prices.{Plan}
+use Rattle.desk_core.specs.Counts.{blocks_in}
+use Rattle.desk_core.specs.Desk as desk
+use Rattle.desk_feed.specs.Feed.{Said}
+use Rattle.desk_feed.specs.Schedule.{IsScheduled, most_steps}
+use Rattle.desk_feed.specs.Script.{line_at, refusal_in, standing_at, state_at, step_at}
+
+-- the sum of the maxima of the deficits
+abbrev pub fixed_number : TimetableView → ℕ
+fixed_number timetable = unsigned_abs (sum_of_maxima (deficit (live_moves timetable.slots)) (length timetable.places))
+
+-- The sum of the maxima of the deficits: as many blocks has one without deadheads, and none of those has fewer.
+pub record IsFixed (timetable : TimetableView) (fixed : ℕ) : Type 0 where
+  pub maxima : pos fixed ≡ sum_of_maxima (deficit (live_moves timetable.slots)) (length timetable.places)
+  pub blocks : List (List ℕ)
+  pub fewest : IsFewest (plain_network (trip_moves timetable.slots)) blocks
+  pub count : length blocks ≡ fixed
+
+-- A plan of a timetable that stands: its prices prove it, and its blocks are least over all blockings; and the fewest vehicles
+-- without deadheads are the sum of the maxima. The timetable is valid.
+pub record IsPlannedAt (timetable : TimetableView) (matrix : MatrixView) (plan : Plan) : Type 0 where
+  pub valid : IsTimetable timetable
+  pub scheduled : IsScheduled timetable matrix plan (blocks_in timetable plan)
+  pub without : IsFixed timetable (fixed_number timetable)
+
+-- Along which paths a record changes the links of a plan for a timetable: those of the repair of its trip. Undo and redo are told
+-- by what stands, and a record that is refused changes none.
+abbrev pub AreRelinked : Line → Option EditFault → TimetableView → List (Option ℕ) → List (Option ℕ) → Type 0
+AreRelinked (line.Edit edit) None timetable old new = desk.AreRepaired edit timetable old new
+AreRelinked line refused timetable old new = new ≡ old
+
+-- One plan for each moment of a script, which is after so many of its records: each is a plan of the timetable that stands
+-- then. Where the same edits stand the plans are equal, prices included. A record that is refused leaves the plan as it is, and
+-- the edit of a trip changes links along the paths of its repair alone.
+pub record ArePlanned (base : TimetableView) (lines : List Line) (matrix : MatrixView) (plans : ℕ → Plan) : Type 0 where
+  pub planned : (m : ℕ) → m ≤ length lines → IsPlannedAt (standing_at base lines m) matrix (plans m)
+  pub restored : (m k : ℕ) → m ≤ length lines → k ≤ length lines → (state_at base lines m).standing ≡ (state_at base lines k).standing → plans m ≡ plans k
+  pub unchanged : (n : ℕ) → n < length lines → IsSome (refusal_in (step_at base lines n)) → plans (suc n) ≡ plans n
+  pub repaired : (n : ℕ) → n < length lines → AreRelinked (line_at lines n) (refusal_in (step_at base lines n)) (standing_at base lines n) (plans n).next (plans (suc n)).next
+
+-- the most steps of a record, with so many slots after it: none where it is refused
+abbrev pub most_of : Line → ℕ → Option EditFault → ℕ
+most_of (line.Edit edit) slots None = desk.most_steps edit slots
+most_of line slots refused = 0
+
+-- and of so many of the first records
+unfoldable pub most_to : TimetableView → List Line → ℕ → ℕ
+most_to base lines zero = 0
+most_to base lines (suc n) = most_to base lines n + most_of (line_at lines n) (length (standing_at base lines (suc n)).slots) (refusal_in (step_at base lines n))
+
+-- the most steps of all plans: those of the first one, and then those of each record
+abbrev pub most_steps_of : Said → ℕ
+most_steps_of said = most_steps (length said.base.slots) + most_to said.base said.lines (length said.lines)
