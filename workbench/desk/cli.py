@@ -1,0 +1,126 @@
+"""The command line: one word a command, its options, its help, and its status."""
+from __future__ import annotations
+
+import argparse
+import io
+import os
+import re
+import sys
+from collections.abc import Sequence
+from types import ModuleType
+from typing import NoReturn, TextIO
+
+from desk.errors import DeskError, UsageError, complain
+from desk.files import reason
+from desk.versions import version
+from desk import boards, compare, figures, forward, new, notes, page, saved, server
+
+COMMANDS: tuple[ModuleType, ...] = (new, notes, page, server, boards, figures, compare, saved, forward)
+"""The modules of the commands, in the order of the help.
+
+Each has `add_arguments(parser)` and `run(arguments) -> int`. One of a single word has `WORD` and `HELP`; one of several
+has `WORDS`, a table from each word to its help. `arguments.word` is the word that was given, and `add_arguments` finds it as
+`parser.get_default("word")`.
+"""
+
+DESCRIPTION = """\
+From an agency's zip to a plan: drafts what the program reads, tells what looks wrong, and draws.
+Vehicles, blocks, minutes and verdicts come from the proved program blockdesk. The workbench itself is not proved."""
+
+EPILOG = """\
+statuses: 0 all is well, 1 something to look at or an error, 2 the words are of no form; the words of the program end
+with its own statuses. `desk COMMAND --help` tells of a command."""
+
+
+class Parser(argparse.ArgumentParser):
+    """A parser whose errors are one line as all others are."""
+
+    def error(self, message: str) -> NoReturn:
+        """Ends with the message of what is of no form."""
+        raise UsageError(f"{message} (`{self.prog} --help` tells the words)")
+
+    def print_help(self, file: TextIO | None = None) -> None:
+        """Prints the help, and does not pass over an error of the output as the library would."""
+        print(self.format_help(), end="", file=file)
+
+
+class ShowVersion(argparse.Action):
+    """Prints the version, which is looked up only where it is asked."""
+
+    def __call__(self, parser: argparse.ArgumentParser, *unused: object) -> NoReturn:
+        """Prints it and ends."""
+        print(version())
+        parser.exit()
+
+
+def words_of(module: ModuleType) -> dict[str, str]:
+    """The words of a module, each with its help."""
+    return getattr(module, "WORDS", None) or {module.WORD: module.HELP}
+
+
+def make_parser() -> Parser:
+    """The parser of all commands."""
+    parser = Parser(prog="desk", description=DESCRIPTION, epilog=EPILOG,
+                    formatter_class=argparse.RawDescriptionHelpFormatter)
+    parser.add_argument("--version", action=ShowVersion, nargs=0, help="print the commit and the kit, and end")
+    words = parser.add_subparsers(title="commands", metavar="COMMAND", dest="word", required=True)
+    for module in COMMANDS:
+        for word, text in words_of(module).items():
+            of_word = words.add_parser(word, help=text, description=text,
+                                       formatter_class=argparse.RawDescriptionHelpFormatter)
+            of_word.set_defaults(word=word, run=module.run)
+            module.add_arguments(of_word)
+    return parser
+
+
+def with_signs(words: Sequence[str]) -> list[str]:
+    """The words with `--depot -33.9,18.4` as `--depot=-33.9,18.4`, since a minus would begin an option."""
+    joined: list[str] = []
+    for word in words:
+        if re.match("-[0-9]", word) and joined and re.fullmatch("--[a-z][a-z-]*", joined[-1]):
+            joined[-1] += "=" + word
+        else:
+            joined.append(word)
+    return joined
+
+
+def run_words(words: Sequence[str]) -> int:
+    """Runs a command line, whose errors are raised, and gives its status."""
+    try:
+        arguments = make_parser().parse_args(with_signs(words))
+    except SystemExit:
+        return 0
+    return arguments.run(arguments)
+
+
+def release_output() -> None:
+    """Lets go of a standard output that takes no more, so that nothing is tried with it at the end."""
+    try:
+        print(end="", flush=True)
+    except OSError:
+        os.dup2(os.open(os.devnull, os.O_WRONLY), sys.stdout.fileno())
+
+
+def main(words: Sequence[str]) -> int:
+    """Runs a command line and gives its status. No error ends with a traceback."""
+    if isinstance(sys.stdout, io.TextIOWrapper):
+        sys.stdout.reconfigure(encoding="utf-8", errors="surrogateescape")
+    try:
+        status = run_words(words)
+        print(end="", flush=True)
+        return status
+    except DeskError as error:
+        complain(str(error))
+        return error.status
+    except BrokenPipeError:
+        release_output()
+    except OSError as error:
+        complain(f"{error.filename}: {reason(error)}" if error.filename else reason(error))
+        release_output()
+    except KeyboardInterrupt:
+        complain("stopped")
+    except MemoryError:
+        complain("there is not enough memory")
+    except Exception as error:  # pylint: disable=broad-except
+        complain(f"this is a mistake of the workbench itself: {type(error).__name__}: {error}")
+    return 1

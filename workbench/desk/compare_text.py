@@ -1,0 +1,92 @@
+"""What differs between two plans, as a text for the planner, who tells others."""
+from __future__ import annotations
+
+from collections.abc import Iterator
+from typing import Any
+
+Found = dict[str, Any]
+
+
+def compare_text(found: Found) -> str:
+    """The text: the numbers of both, the blocks, and whom to tell what."""
+    parts = [_numbers(found), _same(found), _drivers(found), _depot(found), _passengers(found)]
+    return "\n".join("".join(line + "\n" for line in part) for part in parts if part)
+
+
+def _numbers(found: Found) -> list[str]:
+    """What the program says of each, and how many trips and blocks differ."""
+    lines = []
+    for word, side in (("was", found["first"]), ("is", found["second"])):
+        check = side["check"]
+        said = f"no: {check['reason']}" if check["verdict"] == "no" else f"yes, vehicles {check['vehicles']}, minutes {check['minutes']}"
+        lines.append(f"{word} {side['plan']}: {said}")
+    trips = found["trips"]
+    return lines + [
+        f"blocks: {found['first']['blocks']} were, {found['second']['blocks']} are, {len(found['same'])} the same, "
+        f"{len(found['changed'])} changed, {len(found['gone'])} gone, {len(found['new'])} new",
+        f"trips: {trips['both']} in both, {len(trips['in_other_blocks'])} of them in other blocks, {len(trips['moved'])} at other times, "
+        f"{len(trips['cancelled'])} cancelled, {len(trips['new'])} new"]
+
+
+def _same(found: Found) -> list[str]:
+    """The blocks that are the same under another name."""
+    renamed = [f" {pair['first']} is now {pair['second']}" for pair in found["same"] if pair["first"] != pair["second"]]
+    return ["the same blocks under other names", *renamed] if renamed else []
+
+
+def _drivers(found: Found) -> list[str]:
+    """What the drivers of each block have to be told."""
+    lines: list[str] = []
+    for block in found["changed"]:
+        lines.append(f" {_name(block['first'], block['second'])}")
+        lines += _each("no more", block["lost"], "second", "now", "cancelled")
+        lines += _each("new", block["gained"], "first", "was", "did not run")
+        lines += [f"  at another time: {trip}" for trip in block["moved"]]
+        if not block["lost"] and not block["gained"] and not block["moved"]:
+            lines.append("  the same trips in another order, or with other empty running")
+    for block in found["gone"]:
+        lines.append(f" {block['block']} is gone")
+        lines += _each("no more", block["trips"], "second", "now", "cancelled")
+    for block in found["new"]:
+        lines.append(f" {block['block']} is new")
+        lines += _each("new", block["trips"], "first", "was", "did not run")
+    return ["tell the drivers", *lines] if lines else []
+
+
+def _depot(found: Found) -> list[str]:
+    """What the depot has to be told: vehicles that leave it at other times, are gone, or are new."""
+    lines = []
+    for block in found["changed"]:
+        for word, (old, new) in (("leaves the depot", block["leaves"]), ("ends its last trip", block["ends"])):
+            if old != new:
+                lines.append(f" {_name(block['first'], block['second'])} {word} at {new}, was {old}")
+    lines += [f" {block['block']} does not leave" for block in found["gone"]]
+    lines += [f" {block['block']} leaves at {block['leaves']}, and ends its last trip at {block['ends']}" for block in found["new"]]
+    return ["tell the depot", *lines] if lines else []
+
+
+def _passengers(found: Found) -> list[str]:
+    """What passengers have to be told: trips that do not run, run at another time, or are new."""
+    trips = found["trips"]
+    lines = [f" cancelled: {_trip(trip)}" for trip in trips["cancelled"]]
+    lines += [f" {trip['minutes']:+} min: {_trip(trip)}, was {trip['departed']}" for trip in trips["moved"]]
+    lines += [f" new: {_trip(trip)}" for trip in trips["new"]]
+    return ["tell passengers", *lines] if lines else []
+
+
+def _each(word: str, trips: list[Found], where: str, verb: str, nowhere: str) -> Iterator[str]:
+    """A line for each trip that comes or goes, with the block where it is or was."""
+    for trip in trips:
+        yield f"  {word}: {trip['trip']}, {f'{verb} {trip[where]}' if trip[where] else nowhere}"
+
+
+def _name(old: str, new: str) -> str:
+    """A block by its name in both plans."""
+    return old if old == new else f"{old} (now {new})"
+
+
+def _trip(trip: Found) -> str:
+    """A trip as passengers know it."""
+    line = f"line {trip['line']} " if trip["line"] else ""
+    ends = f" from {trip['from']} to {trip['to']}" if trip["from"] else ""
+    return f"{line}{trip['departs']}{ends} ({trip['trip']})"

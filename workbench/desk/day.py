@@ -1,0 +1,155 @@
+"""The day of a town: the plan of the program, what it says of the plan, and what the town's files say of the trips.
+
+The program runs in a room with the town's files, where a `show` behind the script asks for the plan. So each minute of a block
+is one that the program has said, and nothing is written into the town.
+"""
+from __future__ import annotations
+
+import datetime
+import filecmp
+from dataclasses import dataclass, field
+from pathlib import Path
+
+from desk.errors import DeskError
+from desk.files import read_bytes
+from desk.plans import Block, Ride, ask
+from desk.rooms import SCRIPTS, room_of, state_of
+from desk.scripts import Record, fields_of, judged, refuse_open_quote, with_edits, with_show
+from desk.texts import Json, minute_of
+from desk.times import arrival_minute, departure_minute, parse_minute
+from desk.town import DayTrip, Town
+
+Scripts = dict[str, bytes]
+"""The scripts of a town by the names of their files."""
+
+
+@dataclass(frozen=True, slots=True)
+class Published:
+    """A trip at the minutes from which its shifts count. `trip` is None for one that the script adds."""
+
+    start: str
+    end: str
+    departs: int
+    arrives: int
+    trip: DayTrip | None
+
+
+@dataclass(frozen=True, slots=True)
+class Planners:
+    """The edits of several planners: their records with what the program says of each, and those that stand."""
+
+    records: list[Record]
+    standing: list[Json]
+    cost: tuple[int, int, int]
+
+
+@dataclass(frozen=True, slots=True)
+class Day:
+    """A plan of a town. `cost` is the vehicles without deadheads, the vehicles of the blocks, and their empty minutes.
+
+    `written` says whether the `blocks.csv` of the town is of this plan: `same`, `other`, or `missing`.
+    """
+
+    town: Town
+    state: str
+    blocks: list[Block]
+    cost: tuple[int, int, int]
+    verdict: Json
+    deficits: Json
+    records: list[Record]
+    published: dict[str, Published]
+    written: str
+    planners: Planners | None
+    made: datetime.datetime = field(default_factory=datetime.datetime.now)
+
+
+def scripts_of(town: Town) -> Scripts:
+    """The scripts that stand in a town."""
+    return {name: read_bytes(town.path(name)) for name in SCRIPTS if town.has(name)}
+
+
+def read_day(town: Town, scripts: Scripts | None = None, with_planners: bool = False) -> Day:
+    """The day of a town after its scripts, or after these. Without planners their script is passed over."""
+    state = state_of(town)
+    scripts = scripts_of(town) if scripts is None else scripts
+    own = script = scripts.get("edits.csv", b"")
+    refuse_open_quote("edits.csv", script)
+    planners = read_planners(town, scripts) if with_planners else None
+    if planners:
+        script = with_edits(script, planners.standing)
+    with room_of(town, {"edits.csv": with_show(script)}) as room:
+        told, verdict, deficits = (ask_in(room, town, command) for command in ("blocks", "check", "deficits"))
+        written = _compared(room / "blocks.csv", town.path("blocks.csv"))
+    records = judged("edits.csv", with_show(script), told["records"])
+    if not records[-1].ok:
+        raise DeskError(f"edits.csv: a plan cannot be shown behind it: {records[-1].said}")
+    cost = told["fixed"], told["vehicles"], told["minutes"]
+    if planners and planners.cost != cost:
+        raise DeskError("the numbers of `planners` are not those of `blocks` with the same edits")
+    published = {**_published(town), **_extras(records)}
+    shown = told["records"][-1].get("plan", {"blocks": []})
+    blocks = [_block(block, published, bool(town.table("classes"))) for block in shown["blocks"]]
+    records = records[:len(fields_of("edits.csv", own))]
+    return Day(town, state, blocks, cost, verdict, deficits, records, published, written, planners)
+
+
+def read_planners(town: Town, scripts: Scripts) -> Planners:
+    """What `planners` says of the planners' records."""
+    script = scripts.get("planner_edits.csv", b"")
+    refuse_open_quote("planner_edits.csv", script)
+    with room_of(town, scripts) as room:
+        told = ask_in(room, town, "planners")
+    records = judged("planner_edits.csv", script, told["records"], "planner")
+    return Planners(records, told["standing"], (told["fixed"], told["vehicles"], told["minutes"]))
+
+
+def ask_in(room: Path, town: Town, command: str) -> Json:
+    """What the program answers in a room of a town. Its errors name the town."""
+    try:
+        return ask(command, room)
+    except DeskError as error:
+        raise DeskError(str(error).replace(str(room), str(town.folder))) from error
+
+
+def _compared(planned: Path, stands: Path) -> str:
+    """Whether the `blocks.csv` that stands is the one that is planned."""
+    if not stands.is_file():
+        return "missing"
+    return "same" if filecmp.cmp(planned, stands, shallow=False) else "other"
+
+
+def _published(town: Town) -> dict[str, Published]:
+    """The trips of a town by their names. The program has accepted them, so each has its times."""
+    return {trip.trip_id: Published(trip.start, trip.end, departure_minute(trip.departure or 0), arrival_minute(trip.arrival or 0), trip)
+            for trip in town.day()}
+
+
+def _extras(records: list[Record]) -> dict[str, Published]:
+    """The trips that a script adds, by their names. Where one name is added twice, the first was undone for good."""
+    found = {}
+    for record in records:
+        if record.ok and record.fields[0] == "extra":
+            _, name, start, end, departs, arrives = record.fields
+            found[name] = Published(start, end, parse_minute(departs) or 0, parse_minute(arrives) or 0, None)
+    return found
+
+
+def _block(shown: Json, published: dict[str, Published], has_classes: bool) -> Block:
+    """A block as the program shows it."""
+    rides: list[Ride] = []
+    for part in shown["trips"]:
+        empty, before = (part["deadhead"], rides[-1].end) if rides else (shown["out"], "")
+        rides.append(_ride(part, published, empty, before))
+    vehicle_class = rides[0].start.rpartition("/")[2] if has_classes else None
+    return Block(shown["block"], vehicle_class, tuple(rides), shown["in"])
+
+
+def _ride(shown: Json, published: dict[str, Published], empty: int, before: str) -> Ride:
+    """A trip of a block. It departs and ends as the program says, and what is beyond its arrival is layover."""
+    name, departs, ends = shown["trip"], minute_of(shown["departs"]), minute_of(shown["ends"])
+    if name not in published:
+        raise DeskError(f"the program shows a trip that the workbench does not find in the files: {name}")
+    trip = published[name]
+    shift = departs - trip.departs
+    arrives = trip.arrives + shift
+    return Ride(name, trip.trip, before, empty, trip.start, departs, trip.end, arrives, ends - arrives, shift)

@@ -1,0 +1,24 @@
+"""The errors that end a command. Each is told as one line, `desk: MESSAGE`."""
+import sys
+
+
+class DeskError(Exception):
+    """Something of the feed, the folder or the machine stops the command: status 1."""
+
+    status = 1
+
+
+class UsageError(DeskError):
+    """The words of the command line are of no form: status 2."""
+
+    status = 2
+
+
+def one_line(text: str) -> str:
+    """A text on one line: letters that a terminal does not show stand as their escapes."""
+    return "".join(letter if letter.isprintable() else repr(letter)[1:-1] for letter in text)
+
+
+def complain(message: str) -> None:
+    """Puts an error on standard error, as one line."""
+    print(f"desk: {one_line(message)}", file=sys.stderr)

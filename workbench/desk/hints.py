@@ -1,0 +1,58 @@
+"""What stands beside the program's words after a refusal or a fault: what was found, and how it is mended.
+
+The program's texts stay as they are. Each hint is one line, and where nothing is known there is none.
+"""
+from __future__ import annotations
+
+from collections.abc import Sequence
+from pathlib import Path
+
+from desk.errors import DeskError
+from desk.hints_claims import claim_hints
+from desk.hints_forms import COMMANDS
+from desk.hints_machine import keeper_hints, read_hints, write_hints
+from desk.hints_refusals import refusal_hints
+from desk.hints_scripts import script_hints
+from desk.limits import MOST_TRIPS
+from desk.town import Town
+
+USAGE, REFUSED, READ_FAULT, WRITE_FAULT, KEEPER_FAULT = 2, 3, 5, 6, 7
+"""The statuses of the program of which more is known than it says."""
+
+
+def hints_of(command: str, words: Sequence[str], status: int, text: str) -> list[str]:
+    """The hints of a run of the program: its command, the words behind that, its status and what it put."""
+    if status == 0:
+        return []
+    if status == USAGE:
+        return usage_hints(command, words)
+    if command not in COMMANDS or len(words) != 1:
+        return []
+    try:
+        return _hints(command, Town(words[0]), status, text)
+    except (DeskError, OSError):
+        return []
+
+
+def _hints(command: str, town: Town, status: int, text: str) -> list[str]:
+    """The hints of a run over a town, by its status."""
+    if status == REFUSED:
+        return refusal_hints(town, text.removeprefix("feed refused: ").removesuffix("\n"))
+    if status == READ_FAULT:
+        return read_hints(command, town.folder)
+    if status == WRITE_FAULT:
+        return write_hints(command, town.folder)
+    if status == KEEPER_FAULT:
+        return keeper_hints(town.folder)
+    return script_hints(town, text) + (claim_hints(town, text) if command == "check" else [])
+
+
+def usage_hints(command: str, words: Sequence[str]) -> list[str]:
+    """Why the words behind a command are of no form."""
+    if command == "sample":
+        return [f"sample takes one number from 0 to {MOST_TRIPS}, in digits alone and without a zero in front."]
+    if not words:
+        return [f"{command} takes the folder of a feed, as `./desk {command} town`."]
+    if len(words) > 1 and Path(" ".join(words)).exists():
+        return [f"a folder with a space in its name stands in quotes: `./desk {command} \"{' '.join(words)}\"`."]
+    return [f"{command} takes one folder, and {len(words)} words stand behind it."] if len(words) > 1 else []

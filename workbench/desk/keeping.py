@@ -1,0 +1,51 @@
+"""`keep` from the page: the edits that the journal does not have yet go into it, and the script stays as it is.
+
+`keep` does all records of `edits.csv` again behind those of the journal. Where the script begins with the journal's records, it is
+shortened to what is new while `keep` runs.
+"""
+from __future__ import annotations
+
+from pathlib import Path
+
+from desk import program
+from desk.edits import Script
+from desk.hints_journal import journal_text
+from desk.scripts import Record, fields_of
+from desk.times import format_minute, parse_minute
+from desk.town import Town
+
+NOTHING = "All edits stand in the journal: there is nothing new to keep.\n"
+
+
+def keep(town: Town, script: Script, records: list[Record]) -> str:
+    """Keeps what is new of a script whose records the program has judged. Gives what `keep` puts."""
+    kept = journal_records(town)
+    edits = [record for record in records if record.ok and record.fields[0] != "show"]
+    if not kept or [canonical(record.fields) for record in edits[:len(kept)]] != kept:
+        return run_keep(town)
+    if len(edits) == len(kept):
+        return NOTHING
+    fresh = "".join(record.text + "\n" for record in edits[len(kept):])
+    with script.replaced(fresh.encode("utf-8", "surrogateescape")):
+        return run_keep(town)
+
+
+def run_keep(town: Town) -> str:
+    """What `keep` puts, or its fault."""
+    outcome = program.run(["keep", town.folder])
+    return (outcome.text or outcome.errors).decode("utf-8", "replace")
+
+
+def journal_records(town: Town) -> list[tuple[str, ...]]:
+    """The records of the journal, none where there is no journal."""
+    path: Path = town.path("journal.db")
+    return fields_of("journal", journal_text(path).encode("utf-8", "surrogateescape")) if path.is_file() else []
+
+
+def canonical(fields: tuple[str, ...]) -> tuple[str, ...]:
+    """The fields of an accepted edit as the journal has them: a shift with its sign, minutes as `HH:MM`."""
+    if fields[0] == "shift":
+        return *fields[:2], f"{int(fields[2]):+d}"
+    if fields[0] == "extra":
+        return *fields[:4], *(format_minute(parse_minute(text) or 0) for text in fields[4:])
+    return fields

@@ -1,0 +1,85 @@
+"""`./desk new FEED TOWN`: from an agency's zip to a folder that the program reads, with the planner's files drafted."""
+from __future__ import annotations
+
+import argparse
+import datetime
+import math
+from collections.abc import Callable
+from pathlib import Path
+
+from desk import new_steps
+from desk.calendars import format_date, parse_date
+from desk.deadheads import Pace, find_depot
+from desk.errors import UsageError
+from desk.new_report import Report, counted
+from desk.new_room import left_as_they_were, settle, town_room
+from desk.town import Town
+
+WORD = "new"
+HELP = "make a town of an agency's feed: unpack it, choose a day, draft terminals, deadheads and the depot"
+
+
+def add_arguments(parser: argparse.ArgumentParser) -> None:
+    """The words of the command."""
+    parser.epilog = "example: ./desk new agency.zip town --depot 52.1,-0.45"
+    parser.add_argument("feed", type=Path, metavar="FEED", help="the agency's feed: a zip or a folder in the form of GTFS")
+    parser.add_argument("town", type=Path, metavar="TOWN", help="the folder that is made")
+    parser.add_argument("--date", type=_date, help="the day to plan, as 20260907; else the busiest weekday from today on")
+    parser.add_argument("--speed", type=_number(1, 200), default=25.0, metavar="KMH",
+                        help="the speed of empty vehicles in km/h; else 25")
+    parser.add_argument("--detour", type=_number(1, 10), default=1.3, metavar="FACTOR",
+                        help="how much longer a way is than the straight line; else 1.3")
+    parser.add_argument("--depot", metavar="LAT,LON", help="where the depot is, as 52.1,-0.45, or the stop_id of a stop")
+    parser.add_argument("--replace", action="store_true", help="write the files anew that TOWN has already")
+
+
+def run(arguments: argparse.Namespace) -> int:
+    """Makes the town and prints the report. The status is 1 where something has to be mended before the day is planned."""
+    town = arguments.town.resolve()
+    if arguments.feed.resolve() == town:
+        raise UsageError(f"{arguments.town} is the feed itself: name another folder for the town")
+    report = Report(str(arguments.town))
+    with town_room(town, arguments.replace) as room:
+        _make(room, arguments, report)
+        left = left_as_they_were(room, town)
+        if left:
+            report.draft(", ".join(left), "left as they were")
+        settle(room, town)
+    print(report.text(), end="")
+    return 1 if report.problems else 0
+
+
+def _make(room: Path, arguments: argparse.Namespace, report: Report) -> None:
+    """Makes all files of the town in the room."""
+    new_steps.unpack_feed(arguments.feed, room, report)
+    date = new_steps.choose_day(room, arguments.date, report)
+    town = Town(room, {} if date is None else {"date": format_date(date)})
+    terminals = new_steps.draft_places(town, report)
+    depot = find_depot(arguments.depot, terminals, town.stops) if arguments.depot is not None else None
+    new_steps.draft_settings(town, date, terminals, report)
+    new_steps.draft_running(town, terminals, depot, Pace(arguments.detour, arguments.speed), report)
+    new_steps.judge_limits(town, terminals, report)
+    day = f"on {date:%A} {date}" if date else "without a date"
+    report.title = (f"{arguments.town}: {counted(len(town.day()), 'trip')} {day}, between "
+                    f"{counted(len(terminals), 'terminal')}, from {arguments.feed}")
+
+
+def _date(text: str) -> datetime.date:
+    """The date of `--date`, with hyphens or without."""
+    date = parse_date(text.replace("-", ""))
+    if date is None:
+        raise argparse.ArgumentTypeError(f"{text!r} is no date, as 20260907")
+    return date
+
+
+def _number(least: float, most: float) -> Callable[[str], float]:
+    """The reader of a number from the least to the most."""
+    def read(text: str) -> float:
+        try:
+            number = float(text)
+        except ValueError:
+            number = math.nan
+        if not least <= number <= most:
+            raise argparse.ArgumentTypeError(f"{text!r} is no number from {least} to {most}")
+        return number
+    return read

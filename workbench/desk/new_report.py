@@ -1,0 +1,69 @@
+"""The report at the end of `./desk new`: what was drafted from what, what to look at first, and the next command."""
+from __future__ import annotations
+
+import textwrap
+from collections.abc import Sequence
+from dataclasses import dataclass, field
+
+from desk.errors import one_line
+
+WIDTH = 120
+"""How many characters a line of the report has at most, but for long words."""
+TOLD = 4
+"""How many names of a list the report has."""
+
+
+@dataclass
+class Report:
+    """What is told, collected on the way. Each item names its file first."""
+
+    town: str
+    title: str = ""
+    days: list[str] = field(default_factory=list)
+    drafted: list[str] = field(default_factory=list)
+    problems: list[str] = field(default_factory=list)
+    looks: list[str] = field(default_factory=list)
+
+    def draft(self, files: str, text: str) -> None:
+        """Adds files that were made, and from what."""
+        self.drafted.append(f"{files}: {text}")
+
+    def mend(self, file: str, text: str) -> None:
+        """Adds what is to be mended before the day is planned."""
+        self.problems.append(f"{file}: {text}")
+
+    def look(self, file: str, text: str) -> None:
+        """Adds what to look at first."""
+        self.looks.append(f"{file}: {text}")
+
+    def text(self) -> str:
+        """The report as it is printed."""
+        lines = [one_line(self.title), ""]
+        if self.days:
+            lines += ["Trips by day:", *(f"  {day}" for day in self.days), ""]
+        lines.append("Drafted:")
+        for item in self.drafted:
+            lines += _folded(item, "  ")
+        for title, items in (("To mend:", self.problems), ("Look at first:", self.looks)):
+            lines += ["", title] if items else []
+            for number, item in enumerate(items, 1):
+                lines += _folded(item, f"  {number}. ")
+        lines += ["", f"Next: ./desk notes {one_line(self.town)}"]
+        return "".join(line + "\n" for line in lines)
+
+
+def some(names: Sequence[str]) -> str:
+    """Some names of a list, and how many more there are."""
+    more = len(names) - TOLD
+    return "; ".join(names[:TOLD]) + (f"; and {more:,} more" if more > 0 else "")
+
+
+def counted(number: int, thing: str) -> str:
+    """A number with its thing: `1 stop`, `1,742 trips`."""
+    return f"{number:,} {thing}" + ("" if number == 1 else "s")
+
+
+def _folded(text: str, head: str) -> list[str]:
+    """A text on lines of WIDTH, the first with this head, the others below it."""
+    return textwrap.wrap(one_line(text), WIDTH, initial_indent=head, subsequent_indent=" " * (len(head) + 2),
+                         break_long_words=False, break_on_hyphens=False)

@@ -1,0 +1,60 @@
+"""The draft of `desk.toml`, in which a comment explains each key."""
+from __future__ import annotations
+
+import datetime
+from collections.abc import Sequence
+
+LAYOVER = 5
+"""The layover that is drafted, in minutes."""
+NAMES_SHOWN = 12
+"""How many services stand in the line of an example."""
+
+_DAY = """\
+# The day that is planned, {name}. The agency's calendars say which services run on it.
+date = "{date}"
+"""
+
+_NO_DAY = """\
+# The day that is planned. This feed has no calendar, so all of its trips are planned as if they ran on one day.
+# date = "20260907"
+"""
+
+_REST = """\
+
+# Of the services that run on that day these alone are planned. Without this line all of them are.
+# services = [{services}]
+
+# The minutes that a vehicle stays at the end of each trip before it can go on, 0 to 240.
+layover = {layover}
+
+# The minutes by which an edit may shift a trip earlier and later, 0 to 60. tolerances.csv has those of single trips.
+early = 0
+late = 0
+
+# Blocks are named by this and a number: B1, B2 and so on.
+block_prefix = "B"
+
+# Lines without a table stand above. The tables begin here: a line below [layovers] is the layover of a terminal.
+
+# Layovers of single terminals, by the names of terminals.csv, in quotes where a name is more than one word.
+[layovers]
+# {terminal} = 8
+
+# Vehicles of classes that no block mixes: the class that a route needs, by route_id. Take the marks of both lines away.
+# [classes]
+# {route} = "big"
+"""
+
+
+def settings_text(date: datetime.date | None, services: Sequence[str], terminal: str, route: str) -> str:
+    """The text of `desk.toml` for a day, with services, a terminal and a route of the feed as examples."""
+    head = _NO_DAY if date is None else _DAY.format(name=f"a {date:%A}", date=f"{date:%Y%m%d}")
+    shown = ", ".join(_quoted(name) for name in services[:NAMES_SHOWN]) or '"weekday", "school"'
+    return head + _REST.format(services=shown, layover=LAYOVER, terminal=_quoted(terminal or "Station"),
+                               route=_quoted(route or "line_1"))
+
+
+def _quoted(name: str) -> str:
+    """A name as TOML has it in quotes, on one line."""
+    letters = {'"': '\\"', "\\": "\\\\"}
+    return '"' + "".join(letters.get(letter, letter if letter.isprintable() else "?") for letter in name) + '"'

@@ -1,0 +1,101 @@
+"""Notes on names that are no place: in `deadheads.csv`, `depot.csv` and `terminals.csv`."""
+from __future__ import annotations
+
+from collections import Counter
+from collections.abc import Iterable, Iterator
+
+from desk.hints_names import Finding, Known, advice, difference, folded, shown
+from desk.notes_deadheads import Way
+from desk.notes_note import Note, View, first_records, note_of
+
+SURE = 0.85
+"""How alike the name of a place on the way must be to a terminal, to be told of as a typing error."""
+
+
+def deadheads(view: View) -> Iterator[Note]:
+    """Each name of `deadheads.csv` that is no place of any day. One that lies on the way between two others may be none."""
+    ways = view.ways
+    if not ways or not view.day:
+        return
+    counts = Counter(name for way in ways for name in (way.start, way.end))
+    first = _first((way.record, name) for way in ways for name in (way.start, way.end))
+    between = _between(ways)
+    for name, record in first.items():
+        if name not in between:
+            finding = _without_effect(_about(view, name), counts[name])
+        elif finding := view.places.about(name, SURE):
+            finding = Finding(f"{finding.found}; the program takes it for another place, on the way", finding.do)
+        if finding is not None:
+            yield note_of("no-such-place", "deadheads.csv", record, finding)
+
+
+def _between(ways: Iterable[Way]) -> set[str]:
+    """The places to which a way leads from one place, and from which one leads on to another."""
+    before: dict[str, set[str]] = {}
+    behind: dict[str, set[str]] = {}
+    for way in ways:
+        before.setdefault(way.end, set()).add(way.start)
+        behind.setdefault(way.start, set()).add(way.end)
+    return {name for name, places in before.items() if len(places | behind.get(name, places)) > 1 and name in behind}
+
+
+def _first(pairs: Iterable[tuple[int, str]]) -> dict[str, int]:
+    """Each name with the first record that has it."""
+    found: dict[str, int] = {}
+    for record, name in pairs:
+        found.setdefault(name, record)
+    return found
+
+
+def _about(view: View, name: str) -> Finding | None:
+    """What is wrong with a name; None where it is a place of some day."""
+    finding = view.places.about(name)
+    if finding is None and not view.places.is_known(name):
+        finding = no_place(name)
+    return finding
+
+
+def no_place(name: str) -> Finding:
+    """That nothing is known of a name."""
+    return Finding(f"{shown(name)} is no place of the feed", "Write a terminal of terminals.csv, or a stop that it does not list")
+
+
+def _without_effect(finding: Finding | None, records: int) -> Finding | None:
+    """A finding with the number of records that have no effect."""
+    if finding is None:
+        return None
+    effect = "the record has no effect" if records == 1 else f"{records} records have no effect"
+    return Finding(f"{finding.found}; {effect}", finding.do)
+
+
+def depot(view: View) -> Iterator[Note]:
+    """Each name of `depot.csv` that is no place of any day."""
+    names = first_records(view.town.path("depot.csv"), "terminal")
+    if not names or not view.day:
+        return
+    named = {name for way in view.ways for name in (way.start, way.end)}
+    for name, record in names.items():
+        finding = None if name in named else _without_effect(_about(view, name), 1)
+        if finding is not None:
+            yield note_of("no-such-place", "depot.csv", record, finding)
+
+
+def terminals(view: View) -> Iterator[Note]:
+    """Names of terminals that are nearly the same, and stops of `terminals.csv` that are nearly those of the feed."""
+    path = view.town.path("terminals.csv")
+    spelt: dict[str, str] = {}
+    for name, record in first_records(path, "terminal").items():
+        other = spelt.setdefault(folded(name), name)
+        if other != name:
+            yield Note("two-spellings", "terminals.csv", record,
+                       f"{shown(name)} differs from {shown(other)} {difference(name, other)} alone, and is another terminal",
+                       "Write one of the two, if they are one place")
+    stops = first_records(path, "stop_id")
+    if not stops or not view.town.stops:
+        return
+    ends = [stop for trip in view.day for stop in (trip.first_stop, trip.last_stop)]
+    known = Known([*view.town.stops, *ends])
+    for name, record in stops.items():
+        finding = None if name in known else _without_effect(advice(name, known), 1)
+        if finding is not None:
+            yield note_of("no-such-stop", "terminals.csv", record, finding)

@@ -1,0 +1,115 @@
+"""Comma-separated files as the program reads them, record by record.
+
+A byte-order mark is passed over, blank lines are not counted, and a record that is shorter than the header is padded.
+Bytes that are not UTF-8 stand as surrogates, so that names are compared and written by their bytes.
+"""
+from __future__ import annotations
+
+import csv
+import io
+import re
+from collections.abc import Iterable, Iterator, Sequence
+from contextlib import contextmanager
+from pathlib import Path
+from typing import TextIO
+
+from desk.errors import DeskError
+from desk.files import reason
+
+MOST_FIELD = 1 << 20
+"""The most characters of a field: a quote that is never closed takes in all that is behind it."""
+
+_NEEDS_QUOTES = re.compile('["\r\n]')
+
+
+class Records:
+    """The header and the records of a file. They are read once, while they are asked for."""
+
+    def __init__(self, name: str, lines: Iterable[str]) -> None:
+        self.name = name
+        self._numbered = self._read(lines)
+        self.header: list[str] = [column.strip(" ") for column in next(self._numbered, (0, []))[1]]
+
+    def _read(self, lines: Iterable[str]) -> Iterator[tuple[int, list[str]]]:
+        """The header as record 0, and each record with its number, as wide as the header at least."""
+        csv.field_size_limit(MOST_FIELD)
+        number, width = 0, 0
+        try:
+            for fields in csv.reader(lines):
+                if not fields:
+                    continue
+                if len(fields) < width:
+                    fields += [""] * (width - len(fields))
+                yield number, fields
+                width = width or len(fields)
+                number += 1
+        except csv.Error as error:
+            raise DeskError(f"{self.name} record {number}: {error}: is a quote not closed?") from error
+        except OSError as error:
+            raise DeskError(f"{self.name}: {reason(error)}") from error
+
+    def __iter__(self) -> Iterator[tuple[int, list[str]]]:
+        """Each record with its number. The first one after the header has number 1."""
+        return self._numbered
+
+    def find(self, name: str) -> int | None:
+        """The place of the first column of this name, or None where there is none."""
+        return self.header.index(name) if name in self.header else None
+
+    def column(self, name: str) -> int:
+        """The place of the first column of this name, or a DeskError where there is none."""
+        if not self.header:
+            raise DeskError(f"{self.name}: no header")
+        at = self.find(name)
+        if at is None:
+            raise DeskError(f"{self.name}: no column {name}")
+        return at
+
+
+@contextmanager
+def open_records(path: Path) -> Iterator[Records]:
+    """The records of a file, which is open inside the block. A file that cannot be opened is a DeskError."""
+    try:
+        file = open(path, "rb", buffering=1 << 20)
+    except FileNotFoundError as error:
+        raise DeskError(f"{path.name}: missing in {path.parent}") from error
+    except OSError as error:
+        raise DeskError(f"{path}: {reason(error)}") from error
+    with file, _decoded(file) as lines:
+        yield Records(path.name, lines)
+
+
+def records_of(name: str, text: str) -> Records:
+    """The records of a text, which are told under this name."""
+    return Records(name, io.StringIO(text.removeprefix("\ufeff"), newline=""))
+
+
+def _decoded(file: io.BufferedReader) -> TextIO:
+    """The characters of a file behind its byte-order mark, with its line ends as they are."""
+    if file.peek(3)[:3] == b"\xef\xbb\xbf":
+        file.read(3)
+    return io.TextIOWrapper(file, encoding="utf-8", errors="surrogateescape", newline="")
+
+
+def is_utf8(text: str) -> bool:
+    """Whether a text that was read from a file has no byte that is not UTF-8."""
+    try:
+        text.encode("utf-8")
+    except UnicodeEncodeError:
+        return False
+    return True
+
+
+def record_text(fields: Sequence[str]) -> str:
+    """A record as it is written: in quotes only where a field needs them, with a line feed at its end."""
+    text = ",".join(fields)
+    if not text or _NEEDS_QUOTES.search(text) or text.count(",") >= len(fields):
+        text = ",".join(_quoted(field) for field in fields) or '""'
+    return text + "\n"
+
+
+def _quoted(field: str) -> str:
+    """A field in quotes where it needs them."""
+    if "," in field or _NEEDS_QUOTES.search(field):
+        return '"' + field.replace('"', '""') + '"'
+    return field

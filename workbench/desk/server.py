@@ -1,0 +1,71 @@
+"""`desk open`: the day in a browser of this machine, where edits are tried and written."""
+from __future__ import annotations
+
+import argparse
+import os
+import secrets
+import sys
+import webbrowser
+from pathlib import Path
+
+from desk.edits import writing
+from desk.errors import DeskError, UsageError
+from desk.files import reason
+from desk.program import ROOT
+from desk.session import Session
+from desk.web import WebServer
+
+WORD = "open"
+HELP = "the day in a browser of this machine: see it, change it, and the proof beside it"
+
+BUILT = ROOT / "crates" / "blockdesk" / "out" / "blockdesk"
+"""Where the launcher builds the program, with a checksum of the sources beside it."""
+
+
+def add_arguments(parser: argparse.ArgumentParser) -> None:
+    """The words of `desk open`."""
+    parser.add_argument("town", help="the folder of the feed")
+    parser.add_argument("--planner", metavar="NAME", help="edit as this planner: into planner_edits.csv in place of edits.csv")
+    parser.add_argument("--port", type=int, default=0, metavar="N", help="the port (without it: one that is free)")
+    parser.add_argument("--browser", action="store_true", help="open the page in the browser too")
+
+
+def run(arguments: argparse.Namespace) -> int:
+    """Serves the page until it is stopped."""
+    folder = Path(arguments.town)
+    if arguments.planner == "":
+        raise UsageError("the name of a planner is not empty")
+    if not folder.is_dir():
+        raise DeskError(f"{folder} is no folder")
+    if not 0 <= arguments.port <= 65_535:
+        raise UsageError("a port is a number from 0 to 65535")
+    with writing(folder / "edits.csv"):
+        pass
+    session = Session(folder, arguments.planner)
+    session.day()
+    run_directly()
+    try:
+        server = WebServer(session, secrets.token_urlsafe(24), arguments.port)
+    except OSError as error:
+        raise DeskError(f"port {arguments.port} cannot be had: {reason(error)}") from error
+    with server:
+        serve(server, arguments.browser)
+    return 0
+
+
+def run_directly() -> None:
+    """Names the program that the launcher has just run. The launcher compares all sources in each run, and an edit makes three."""
+    if "BLOCKDESK" not in os.environ and BUILT.with_name("blockdesk.sum").is_file():
+        os.environ["BLOCKDESK"] = str(BUILT)
+
+
+def serve(server: WebServer, browser: bool) -> None:
+    """Says where the page is, and answers until Ctrl+C."""
+    sys.stdout.write(f"open {server.address} in a browser of this machine; Ctrl+C ends\n")
+    sys.stdout.flush()
+    if browser:
+        webbrowser.open(server.address)
+    try:
+        server.serve_forever()
+    except KeyboardInterrupt:
+        sys.stdout.write("\n")

@@ -1,0 +1,149 @@
+"""What `desk open` does to a town: it reads the day, writes edits that the program accepts, and asks for suggestions."""
+from __future__ import annotations
+
+import threading
+from dataclasses import replace
+from pathlib import Path
+
+from desk import program
+from desk.compare import Side, partners, trips_that_differ
+from desk.day import Day, ask_in, read_day, scripts_of
+from desk.edits import Script, record_of, writing
+from desk.errors import DeskError, UsageError
+from desk.keeping import keep
+from desk.plans import StatedBlock, read_plan
+from desk.rooms import FEED_FILES, room_of, state_of
+from desk.scripts import Record, with_edits, with_record
+from desk.texts import Json
+from desk.town import Town
+from desk.view import as_view
+
+SUGGESTIONS = ("shifts", "chains", "audit")
+EXPORTS = {"blocks": ("blocks.csv and prices.csv", "blocks"), "boards": ("boards.csv", "joined"), "feed": ("the written feed", "write")}
+CHANGED = "Another program has changed the folder. It is read again, and nothing was written: look, and then edit again."
+
+
+class Session:
+    """A town that is open, by all planners at once or by the one who is named."""
+
+    def __init__(self, folder: Path, planner: str | None = None) -> None:
+        self.folder = folder
+        self.planner = planner
+        self.script_name = "edits.csv" if planner is None else "planner_edits.csv"
+        self.guard = threading.Lock()
+        self._town: tuple[str, Town] | None = None
+        self._day: Day | None = None
+
+    def state(self) -> Json:
+        """The state of the folder, which is another one when a file of it is written."""
+        return {"state": state_of(Town(self.folder))}
+
+    def day(self) -> Json:
+        """The day as it stands."""
+        with self.guard:
+            return {"day": self._view(self._read())}
+
+    def edit(self, asked: Json) -> Json:
+        """Writes an edit behind the script where the program accepts it, and says what that changes."""
+        record = record_of(asked, self.planner)
+        with self.guard, writing(self.folder / self.script_name) as script:
+            before = self._read()
+            if asked.get("state") != before.state:
+                return {"done": False, "said": CHANGED, "day": self._view(before)}
+            after = self._tried(before, script, record)
+            if state_of(before.town) != before.state:
+                return {"done": False, "said": CHANGED, "day": self._view(self._read())}
+            told = self._records(after)[-1]
+            if not told.ok:
+                return {"done": False, "said": told.said + self._holder(after, told)}
+            script.append(record)
+            self._day = replace(after, state=state_of(after.town))
+            return {"done": True, "said": told.said, "moved": moved(before, after), "day": self._view(self._day)}
+
+    def suggest(self, asked: Json) -> Json:
+        """What the program suggests for the day, or says of the blocks of today."""
+        word = asked.get("word")
+        if word not in SUGGESTIONS:
+            raise UsageError("this is no suggestion")
+        with self.guard:
+            day = self._read()
+        script = scripts_of(day.town).get("edits.csv", b"")
+        if day.planners:
+            script = with_edits(script, day.planners.standing)
+        with room_of(day.town, {"edits.csv": script}) as room:
+            return {"word": word, "found": ask_in(room, day.town, word)}
+
+    def keep(self, asked: Json) -> Json:
+        """Keeps what is new of the script in the journal."""
+        if self.planner is not None or asked:
+            raise UsageError("this cannot be kept")
+        with self.guard, writing(self.folder / "edits.csv") as script:
+            return {"said": keep(Town(self.folder), script, self._read().records)}
+
+    def export(self, asked: Json) -> Json:
+        """Writes files of the plan into the town."""
+        what = asked.get("what")
+        if self.planner is not None or not isinstance(what, str) or what not in EXPORTS:
+            raise UsageError("this cannot be written")
+        words, command = EXPORTS[what]
+        with self.guard, writing(self.folder / "edits.csv"):
+            outcome = program.run([command, self.folder])
+            if command == "blocks":
+                self._day = None
+            said = (outcome.text or outcome.errors).decode("utf-8", "replace").rstrip("\n").rpartition("\n")[2]
+            if outcome.status not in (0, 1):
+                raise DeskError(f"{words} could not be written: {said}")
+            if command == "joined":
+                read_plan(Town(self.folder))
+            return {"said": f"{words} in {self.folder.resolve()}: {said}", "day": self._view(self._read())}
+
+    def _read(self) -> Day:
+        """The day, which is read again where the folder has changed."""
+        town = self._current_town()
+        if self._day is None or self._day.state != state_of(town):
+            self._day = read_day(town, with_planners=self.planner is not None)
+        return self._day
+
+    def _current_town(self) -> Town:
+        """The town, whose feed is read again where it has changed."""
+        state = state_of(Town(self.folder), FEED_FILES)
+        if self._town is None or self._town[0] != state:
+            self._town = state, Town(self.folder)
+        return self._town[1]
+
+    def _tried(self, before: Day, script: Script, record: bytes) -> Day:
+        """The day with a record behind the script, which is not written."""
+        scripts = scripts_of(before.town) | {self.script_name: with_record(script.content, record)}
+        return read_day(before.town, scripts, with_planners=self.planner is not None)
+
+    def _records(self, day: Day) -> list[Record]:
+        """The records of the script that is written."""
+        return day.records if day.planners is None else day.planners.records
+
+    def _holder(self, day: Day, told: Record) -> str:
+        """Whose record holds an undo, where one does."""
+        held = told.said.rpartition("held by record ")[2] if day.planners else ""
+        if not held.isdigit() or "held by record" not in told.said:
+            return ""
+        planner, *edit = self._records(day)[int(held) - 1].fields
+        return f" ({planner}: {', '.join(edit)})"
+
+    def _view(self, day: Day) -> Json:
+        """The day as the page reads it, with who edits."""
+        return as_view(day) | {"planner": self.planner}
+
+
+def moved(before: Day, after: Day) -> list[str]:
+    """The trips that are in other blocks than before, at other times, or new."""
+    sides = _side(before), _side(after)
+    differ = trips_that_differ(*sides, partners(*sides))
+    return sorted({trip["trip"] for kind in ("in_other_blocks", "moved", "new") for trip in differ[kind]})
+
+
+def _side(day: Day) -> Side:
+    """A day as a plan that is compared."""
+    stated = {block.name: StatedBlock(block.name, tuple(ride.name for ride in block.rides), tuple(ride.empty for ride in block.rides))
+              for block in day.blocks}
+    times = {ride.name: (ride.departs, ride.ends) for block in day.blocks for ride in block.rides}
+    names = {ride.name: block.name for block in day.blocks for ride in block.rides}
+    return Side(day.town.folder.name, day.town, day.verdict, stated, times, names)

@@ -1,0 +1,116 @@
+/** Bars in the row of a vehicle: trips with their layover, empty running, and waiting. */
+
+import { svg } from "./elements.js";
+import { firstThatFits, shortened } from "./labels.js";
+import { markOf } from "./lines.js";
+import { signed } from "./times.js";
+import { tell } from "./day.js";
+
+const FAMILY = "'DejaVu Sans', Verdana, 'Segoe UI', sans-serif";
+const LABEL = `11px ${FAMILY}`;
+const PLACE = `9.5px ${FAMILY}`;
+const FREE = 160;
+
+/** The heights of rows: the whole row, the bar in it, and whether places stand below. */
+export const SIZES = {
+  high: { row: 38, top: 5, bar: 18, places: true, labels: true },
+  middle: { row: 24, top: 3, bar: 18, places: false, labels: true },
+  low: { row: 11, top: 1.5, bar: 8, places: false, labels: false },
+};
+
+/** The fills that all drawings of the page share. */
+export function drawFills() {
+  const stripes = (id, turn) => svg("pattern",
+    { id, width: 5, height: 5, patternUnits: "userSpaceOnUse", patternTransform: `rotate(${turn})` },
+    svg("rect", { width: 5, height: 5, fill: "#fff" }), svg("rect", { width: 1.7, height: 5, fill: "#4d5866" }));
+  const fills = svg("defs", {}, stripes("hatch", 45), stripes("hatch-depot", -45));
+  return svg("svg", { class: "fills", width: 0, height: 0, "aria-hidden": "true" }, fills);
+}
+
+/** Draws a bar. `look` has the styles of lines, and what is dim, found, or changed. */
+export function drawBar(bar, scale, size, look) {
+  const x = scale.x(bar.from);
+  const until = Math.max(scale.x(bar.until), x + 1);
+  const parts = bar.kind === "trip" ? drawTrip(bar.trip, scale, size, look) : drawBetween(bar, x, until, size);
+  const told = tell(bar);
+  const states = [bar.kind, ...look.statesOf(bar)];
+  return svg("g", {
+    class: `bar ${states.join(" ")}`, role: look.roleOf(bar), tabindex: "-1", "aria-label": told.join(", "),
+    "data-row": bar.row, "data-at": bar.at, "data-trip": bar.trip?.id,
+  }, ...parts);
+}
+
+/** The parts of a bar between trips. */
+function drawBetween(bar, x, until, size) {
+  const middle = size.top + size.bar / 2;
+  if (bar.kind === "wait") {
+    const reach = svg("rect", { class: "body reach", x, y: size.top, width: until - x, height: size.bar });
+    return [reach, svg("line", { class: "waiting", x1: x, x2: until, y1: middle, y2: middle })];
+  }
+  const fill = bar.kind === "empty" ? "url(#hatch)" : "url(#hatch-depot)";
+  const height = size.bar * 0.6;
+  const body = svg("rect", { class: "body running", x, y: middle - height / 2, width: until - x, height, fill });
+  if (bar.kind === "empty") {
+    return [body];
+  }
+  const depot = bar.kind === "out" ? x : until;
+  return [body, svg("line", { class: "depot", x1: depot, x2: depot, y1: size.top, y2: size.top + size.bar })];
+}
+
+/** The parts of a trip: layover, body, mark, label and places. */
+function drawTrip(trip, scale, size, look) {
+  const [x, arrives, ends] = [trip.departs, trip.arrives, trip.ends].map((minute) => scale.x(minute));
+  const until = Math.max(arrives, x + 1);
+  const style = look.lines.of(trip.line);
+  const box = { y: size.top, height: size.bar };
+  const parts = [];
+  if (ends > until) {
+    parts.push(svg("rect", { class: "layover", x: until, width: ends - until, ...box, stroke: style.edge }));
+  }
+  parts.push(svg("rect", { class: "body", x, width: until - x, ...box, fill: style.fill, stroke: style.edge }));
+  parts.push(markOf(style, x, until, size.top, size.bar));
+  if (size.labels) {
+    parts.push(labelOf(trip, x, until, size));
+  }
+  if (look.isChanged(trip)) {
+    parts.push(svg("path", { class: "changed-mark", d: `M${x} ${size.top}h9l-9 9z` }));
+  }
+  return parts;
+}
+
+/** The label of a trip: its line and its name, or as much as fits. */
+function labelOf(trip, x, until, size) {
+  const shift = trip.shift ? ` ${signed(trip.shift)}` : "";
+  const texts = [`${trip.line} ${trip.id}${shift}`, `${trip.line}${shift}`, trip.line].map((text) => text.trim());
+  const text = firstThatFits(texts, until - x - 6, LABEL);
+  return text ? svg("text", { class: "label", x: x + 4, y: size.top + size.bar / 2 + 4 }, text) : null;
+}
+
+/** The places of a block below its bars: where it begins and ends, where it stays, and both ends of empty running. */
+export function drawPlaces(block, scale, size) {
+  const trips = block.bars.filter((bar) => bar.kind === "trip").map((bar) => bar.trip);
+  const half = (trip) => (scale.x(trip.arrives) - scale.x(trip.departs)) / 2;
+  const [first, last] = [trips[0], trips.at(-1)];
+  const parts = [
+    placeAt(first.from, "end", scale.x(first.departs) + 4, FREE, size),
+    placeAt(last.to, "start", scale.x(last.arrives) - 4, FREE, size),
+  ];
+  for (let at = 1; at < trips.length; at += 1) {
+    const [before, after] = [trips[at - 1], trips[at]];
+    const [from, until] = [scale.x(before.arrives) - half(before), scale.x(after.departs) + half(after)];
+    if (before.to === after.from) {
+      parts.push(placeAt(before.to, "middle", (scale.x(before.arrives) + scale.x(after.departs)) / 2, until - from - 6, size));
+    } else {
+      const middle = (from + until) / 2;
+      parts.push(placeAt(before.to, "end", middle - 3, middle - from - 6, size));
+      parts.push(placeAt(after.from, "start", middle + 3, until - middle - 6, size));
+    }
+  }
+  return parts;
+}
+
+/** The name of a place, as much of it as fits. */
+function placeAt(place, anchor, x, room, size) {
+  const text = shortened(place, room, PLACE);
+  return text ? svg("text", { class: "place", x, y: size.top + size.bar + 11, "text-anchor": anchor }, text) : null;
+}

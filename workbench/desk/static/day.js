@@ -1,0 +1,117 @@
+/** A day: the program's plan as bars in the rows of its blocks. */
+
+import { clock, count, exactClock, signed } from "./times.js";
+
+/** What the bars are called. */
+export const KINDS = { out: "out of the depot", trip: "trip", empty: "empty running", wait: "waiting", home: "home to the depot" };
+
+export class Day {
+  constructor(view) {
+    this.view = view;
+    this.trips = view.trips;
+    this.blocks = view.blocks.map((block, row) => withBars(block, row, view.trips));
+    this.bars = new Map();
+    for (const block of this.blocks) {
+      for (const bar of block.bars) {
+        if (bar.kind === "trip") {
+          this.bars.set(bar.trip.id, bar);
+        }
+      }
+    }
+    this.lines = sorted(new Set(view.trips.map((trip) => trip.line)));
+    this.terminals = sorted(new Set(view.trips.flatMap((trip) => [trip.from, trip.to])));
+    this.begin = 60 * Math.floor(least(this.blocks.map((block) => block.leaves), 300) / 60);
+    this.end = Math.max(60 * Math.ceil(-least(this.blocks.map((block) => -block.returns), -1320) / 60), this.begin + 60);
+  }
+
+  /** The vehicles in service as steps: each minute at which their number changes, with the number from then on. */
+  service() {
+    const changes = new Map();
+    for (const block of this.blocks) {
+      changes.set(block.leaves, (changes.get(block.leaves) ?? 0) + 1);
+      changes.set(block.returns, (changes.get(block.returns) ?? 0) - 1);
+    }
+    let number = 0;
+    return [...changes].sort((one, other) => one[0] - other[0]).map(([minute, change]) => [minute, number += change]);
+  }
+
+  /** The trips that do not run. */
+  cancelled() {
+    return this.trips.filter((trip) => !trip.runs);
+  }
+}
+
+/** The least of these numbers, or another one where there are none. */
+function least(numbers, without) {
+  return numbers.reduce((one, other) => Math.min(one, other), numbers.length ? Infinity : without);
+}
+
+/** Texts in the order that people expect, `2` before `10`. */
+function sorted(texts) {
+  return [...texts].sort((one, other) => one.localeCompare(other, "en", { numeric: true }));
+}
+
+/** A block with its bars in the order of the day, and its ends. */
+function withBars(block, row, trips) {
+  const bars = [];
+  const add = (kind, from, until, start, end, trip = null) => {
+    if (until > from || kind === "trip") {
+      bars.push({ kind, from, until, start, end, trip, row, at: bars.length, block: block.name });
+    }
+  };
+  let before = null;
+  for (const [number, empty] of block.rides) {
+    const trip = trips[number];
+    if (before === null) {
+      add("out", trip.departs - empty, trip.departs, "depot", trip.from);
+    } else {
+      add("empty", before.ends, before.ends + empty, before.to, trip.from);
+      add("wait", before.ends + empty, trip.departs, trip.from, trip.from);
+    }
+    add("trip", trip.departs, trip.ends, trip.from, trip.to, trip);
+    before = trip;
+  }
+  add("home", before.ends, before.ends + block.home, before.to, "depot");
+  return { ...block, row, bars, leaves: bars[0].from, returns: bars.at(-1).until };
+}
+
+/** All of a bar, line by line: a heading, and then what is known of it. */
+export function tell(bar) {
+  const time = `${clock(bar.from)} to ${clock(bar.until)}`;
+  if (bar.kind === "trip") {
+    return [`${bar.trip.line} ${bar.trip.id}`.trim(), ...tellTrip(bar.trip), `block ${bar.block}`];
+  }
+  const way = bar.kind === "wait" ? `at ${bar.start}` : `${bar.start} to ${bar.end}`;
+  return [KINDS[bar.kind], way, `${time}, ${count(bar.until - bar.from, "minute")}`, `block ${bar.block}`];
+}
+
+/** What is known of a trip. */
+function tellTrip(trip) {
+  const told = [`${clock(trip.departs)} ${trip.from}`, `${clock(trip.arrives)} ${trip.to}`];
+  if (trip.ends > trip.arrives) {
+    told.push(`layover ${count(trip.ends - trip.arrives, "minute")}, until ${clock(trip.ends)}`);
+  }
+  if (trip.headsign) {
+    told.push(`to passengers: ${trip.headsign}`);
+  }
+  if (trip.published) {
+    told.push(`published ${trip.published.map(exactClock).join(" to ")}`);
+  }
+  if (trip.service) {
+    told.push(`service ${trip.service}`);
+  }
+  if (trip.extra) {
+    told.push("extra trip of the script");
+  }
+  if (trip.shift) {
+    told.push(`shifted by ${count(trip.shift, "minute").replace(/^(\d)/, "+$1")}`);
+  }
+  const allowed = `may be shifted by ${signed(-trip.early)} to ${signed(trip.late)} in all`;
+  told.push(trip.early || trip.late ? allowed : "may not be shifted");
+  return told;
+}
+
+/** By how many minutes a trip may still be shifted: the least and the greatest number. */
+export function room(trip) {
+  return [-trip.early - trip.shift, trip.late - trip.shift];
+}

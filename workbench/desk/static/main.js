@@ -1,0 +1,250 @@
+/** The page: a day that stands in it, or the day of `desk open`, which can be changed. */
+
+import { byId } from "./elements.js";
+import { SIZES, drawFills } from "./bars.js";
+import { Chart } from "./chart.js";
+import { Day } from "./day.js";
+import { Editing } from "./editing.js";
+import { Filters } from "./filters.js";
+import { changeWords, paperTitle, showHead, showUndo, toggleKeys } from "./head.js";
+import { legendOf } from "./legend.js";
+import { LineStyles } from "./lines.js";
+import { layPaper } from "./paper.js";
+import { forgive, refuse } from "./refusal.js";
+import { Scale } from "./scale.js";
+import { ScriptPanel } from "./script.js";
+import { ask, tellServer } from "./server.js";
+import { showSide } from "./side.js";
+import { BlockTable } from "./table.js";
+import { makeTabs } from "./tabs.js";
+import { Terminals } from "./terminals.js";
+import { signed } from "./times.js";
+import { Tip } from "./tip.js";
+import { Vehicles } from "./vehicles.js";
+
+const EVERY = 2000;
+const LONG = 15000;
+const MANY = 40;
+const VIEWS = ["Vehicles", "Terminals", "Blocks"];
+
+class Page {
+  constructor(canEdit) {
+    this.canEdit = canEdit;
+    this.moved = new Set();
+    this.scale = new Scale();
+    this.tip = new Tip();
+    const panels = makeTabs(canEdit ? [...VIEWS, "Edits"] : VIEWS, () => this.turn());
+    this.vehicles = new Vehicles(panels[0], this.scale, this);
+    this.terminals = new Terminals(panels[1], this.scale);
+    this.table = new BlockTable(panels[2], (block) => this.go(block.bars[0]));
+    this.chart = new Chart([this.vehicles, this.terminals], this.scale, this.tip, (event, bar) => this.editing?.key(event, bar));
+    this.filters = new Filters(() => this.draw(), (bar, focus) => this.find(bar, focus));
+    byId("row-size").addEventListener("input", () => this.draw());
+    byId("print").addEventListener("click", () => window.print());
+    byId("help").addEventListener("click", (event) => toggleKeys(event.target, canEdit));
+    window.addEventListener("beforeprint", () => layPaper(this.day, this.shown, this.lines, paperTitle(this.day.view)));
+    if (canEdit) {
+      this.listenToEdits(panels[3]);
+    }
+  }
+
+  /** Makes what changes the day. */
+  listenToEdits(panel) {
+    this.sending = (edit, element) => this.send(edit, element);
+    this.editing = new Editing(this.chart, this.tip, this.sending);
+    const go = (trip) => this.go(this.day.bars.get(trip));
+    this.script = new ScriptPanel(panel, this.sending, (name, body) => this.tell(name, body), go);
+    this.vehicles.rows.sheet.addEventListener("focusin", () => this.choose(this.chart.current));
+    byId("edit-buttons").hidden = false;
+    byId("side").hidden = false;
+    for (const edit of ["undo", "redo"]) {
+      byId(edit).addEventListener("click", (event) => this.send({ edit }, event.target));
+    }
+    document.addEventListener("keydown", (event) => event.key === "Escape" && forgive());
+  }
+
+  /** Another tab has come to the front. */
+  turn() {
+    forgive();
+    this.chart?.resize();
+  }
+
+  /** Shows a day. */
+  show(view) {
+    const first = !this.day;
+    this.day = new Day(view);
+    this.lines = new LineStyles(this.day.lines);
+    this.scale.setHours(this.day.begin, this.day.end);
+    if (first) {
+      byId("row-size").value = this.day.blocks.length > MANY ? "middle" : "high";
+      this.scale.fit(this.vehicles.rows.room);
+    }
+    this.filters.offer(this.day);
+    showHead(view, this.before);
+    byId("legend").replaceChildren(...legendOf(this.day.lines, this.lines));
+    this.draw();
+    if (this.canEdit) {
+      showUndo(view);
+      this.script.show(this.day);
+      this.choose(this.day.bars.get(this.chosen?.trip?.id));
+    }
+  }
+
+  /** Shows a bar beside the vehicles, with what can be done to it; without one how to choose one. */
+  choose(bar) {
+    this.chosen = bar;
+    showSide(bar, this.day.view, this.sending);
+  }
+
+  /** Draws what passes the filter. */
+  draw() {
+    this.vehicles.size = SIZES[byId("row-size").value];
+    this.shown = this.filters.rows(this.day);
+    this.vehicles.show(this.day, this.shown);
+    this.terminals.show(this.day, this.filters.value("terminal"));
+    this.table.show(this.day, this.shown);
+    this.chart.settle();
+  }
+
+  /** The states of a bar that its drawing shows. */
+  statesOf(bar) {
+    const states = [];
+    if (this.filters.active && !this.filters.passes(bar)) {
+      states.push("dim");
+    }
+    if (bar === this.foundBar) {
+      states.push("found");
+    }
+    if (bar.trip && this.isChanged(bar.trip)) {
+      states.push("changed");
+    }
+    return states;
+  }
+
+  /** Whether a trip is in another block, or at another time, than before the last edit. */
+  isChanged(trip) {
+    return this.moved.has(trip.id);
+  }
+
+  /** What a bar is to somebody who does not see it. */
+  roleOf(bar) {
+    return this.canEdit && bar.kind === "trip" ? "button" : "img";
+  }
+
+  /** Shows a bar that a search has found, or that none is found any more. */
+  find(bar, focus) {
+    this.foundBar = bar;
+    this.vehicles.rows.redraw();
+    if (bar) {
+      this.uncover(bar);
+      this.vehicles.reveal(bar);
+      if (focus) {
+        this.chart.focus(bar);
+      }
+    }
+  }
+
+  /** Shows a bar among the vehicles, whatever is in front. */
+  go(bar) {
+    if (bar) {
+      byId("tab-Vehicles").click();
+      this.uncover(bar);
+      this.chart.focus(bar);
+    }
+  }
+
+  /** Leaves a filter that hides a bar. */
+  uncover(bar) {
+    if (!this.vehicles.positions.has(bar.row)) {
+      this.filters.clear();
+    }
+  }
+
+  /** Sends an edit, and shows its answer where the hand is. Gives whether it was done. */
+  async send(edit, element) {
+    if (this.busy) {
+      return false;
+    }
+    forgive();
+    this.say("");
+    const answer = await this.tell("edit", { ...edit, state: this.day.view.state });
+    const words = [edit.edit, edit.trip, edit.shift && signed(edit.shift)].filter((part) => part).join(" ");
+    if (!answer.done) {
+      refuse(words, answer.error ?? answer.said, this.placeOf(edit.trip, element));
+      return false;
+    }
+    this.say(`${words}: ${changeWords(this.before, this.day.view.numbers, this.moved.size)}`);
+    return true;
+  }
+
+  /** Says something for a while. */
+  say(words) {
+    clearTimeout(this.saying);
+    byId("said").textContent = words;
+    this.saying = setTimeout(() => this.say(""), LONG);
+  }
+
+  /** Tells the server something, and shows the day that it answers with. */
+  async tell(name, body) {
+    this.busy = true;
+    document.body.classList.add("busy");
+    const answer = await tellServer(name, body);
+    document.body.classList.remove("busy");
+    this.busy = false;
+    if (answer.day) {
+      this.before = answer.done ? this.day.view.numbers : null;
+      this.moved = new Set(answer.moved ?? []);
+      this.show(answer.day);
+    }
+    return answer;
+  }
+
+  /** The element beside which words about a trip stand: that of the hand, or where it is gone the trip's bar. */
+  placeOf(trip, element) {
+    const bar = this.day.bars.get(trip);
+    return element?.isConnected || !bar ? element : this.vehicles.element(bar);
+  }
+
+  /** Looks whether the folder has changed, and reads it again. */
+  async look() {
+    if (document.hidden || this.busy || this.looking || this.editing.held) {
+      return;
+    }
+    this.looking = true;
+    const { state } = await ask("state");
+    if (state && !this.busy && state !== this.day?.view.state && state !== this.looked) {
+      this.looked = state;
+      await this.reload();
+      this.say("The folder has changed, and the day was read again.");
+    }
+    this.looking = false;
+  }
+
+  /** Reads the day again. */
+  async reload() {
+    const answer = await ask("day");
+    if (answer.day && !this.busy) {
+      this.moved = new Set();
+      this.before = null;
+      this.show(answer.day);
+    } else if (answer.error) {
+      refuse("The day cannot be read", answer.error, null);
+    }
+  }
+}
+
+/** Begins with the day that stands in the page, or asks the server for it. */
+async function begin() {
+  const stands = byId("day");
+  document.body.append(drawFills());
+  const page = new Page(stands === null);
+  if (stands) {
+    page.show(JSON.parse(stands.textContent));
+  } else {
+    await page.reload();
+    setInterval(() => page.look(), EVERY);
+  }
+  document.body.classList.add("ready");
+}
+
+begin();

@@ -1,0 +1,133 @@
+/** Rows over the hours of the day, of which only those in view are drawn. The hours and the names stay while the rows scroll. */
+
+import { html, svg } from "./elements.js";
+import { drawHours } from "./scale.js";
+
+const MORE = 6;
+const HOURS = 26;
+
+export class Rows {
+  /** `source` has `day` once there is one, `count()`, `height()`, `draw(row)` and `name(row)`; it may have `top`, a height, and `drawTop()`. */
+  constructor(host, scale, source, left) {
+    this.scale = scale;
+    this.source = source;
+    this.left = left;
+    this.drawn = new Map();
+    this.pinned = null;
+    this.topHeight = source.top ?? 0;
+    this.corner = html("div", { class: "corner" });
+    this.head = svg("svg", { class: "head", "aria-hidden": "true" });
+    this.names = svg("svg", { class: "names", "aria-hidden": "true" });
+    this.sheet = svg("svg", { class: "sheet", role: "group", "aria-label": source.label });
+    this.frame = html("div", { class: "frame" }, this.corner, this.head, this.names, this.sheet);
+    this.frame.addEventListener("scroll", () => this.renderSoon());
+    host.append(this.frame);
+    this.frame.style.setProperty("--left", `${left}px`);
+  }
+
+  /** How wide the hours of the day may be without scrolling. */
+  get room() {
+    return this.frame.clientWidth - this.left - 2;
+  }
+
+  /** Draws all anew, as after a zoom or with another day. */
+  redraw() {
+    if (!this.source.day) {
+      return;
+    }
+    const [width, height] = [this.scale.width, Math.max(this.source.count() * this.source.height(), 1)];
+    setSize(this.head, width, HOURS + this.topHeight);
+    setSize(this.names, this.left, height);
+    setSize(this.sheet, width, height);
+    this.corner.style.height = `${HOURS + this.topHeight}px`;
+    this.sheet.style.backgroundSize = `${60 * this.scale.perMinute}px 100%`;
+    this.head.replaceChildren(drawHours(this.scale, HOURS));
+    if (this.source.drawTop) {
+      const top = this.source.drawTop();
+      top.setAttribute("transform", `translate(0 ${HOURS})`);
+      this.head.append(top);
+    }
+    const kept = document.activeElement;
+    this.drawn.clear();
+    this.names.replaceChildren();
+    this.sheet.replaceChildren();
+    this.render();
+    this.refocus(kept);
+  }
+
+  /** Gives the focus back to the bar that had it before it was drawn anew. */
+  refocus(kept) {
+    if (kept?.dataset?.row !== undefined && !kept.isConnected) {
+      this.bar(Number(kept.dataset.row), Number(kept.dataset.at))?.focus({ preventScroll: true });
+    }
+  }
+
+  /** Draws what has come into view once the browser paints next. */
+  renderSoon() {
+    this.waiting ??= requestAnimationFrame(() => {
+      this.waiting = undefined;
+      this.render();
+    });
+  }
+
+  /** Draws the rows that have come into view, and takes away those that have left it. */
+  render() {
+    const height = this.source.height();
+    const first = Math.max(Math.floor(this.frame.scrollTop / height) - MORE, 0);
+    const last = Math.min(Math.ceil((this.frame.scrollTop + this.frame.clientHeight) / height) + MORE, this.source.count()) - 1;
+    for (const [row, parts] of this.drawn) {
+      if ((row < first || row > last) && row !== this.pinned) {
+        parts.forEach((part) => part.remove());
+        this.drawn.delete(row);
+      }
+    }
+    for (let row = first; row <= last; row += 1) {
+      this.ensure(row);
+    }
+  }
+
+  /** Draws a row where it is not drawn. Rows stand in their order, as somebody hears them who does not see them. */
+  ensure(row) {
+    if (this.drawn.has(row) || row < 0 || row >= this.source.count()) {
+      return;
+    }
+    const at = `translate(0 ${row * this.source.height()})`;
+    const [group, name] = [this.source.draw(row), this.source.name(row)];
+    group.setAttribute("transform", at);
+    name.setAttribute("transform", at);
+    group.position = row;
+    const next = [...this.sheet.children].find((other) => other.position > row);
+    this.sheet.insertBefore(group, next ?? null);
+    this.names.append(name);
+    this.drawn.set(row, [group, name]);
+  }
+
+  /** The element of a bar, where it is drawn. */
+  bar(row, at) {
+    return this.sheet.querySelector(`[data-row="${row}"][data-at="${at}"]`);
+  }
+
+  /** Scrolls so far that a row and its hours from one minute to another are in view. */
+  show(row, from, until) {
+    const height = this.source.height();
+    const [top, bottom] = [row * height, (row + 1) * height + HOURS + this.topHeight];
+    const frame = this.frame;
+    if (top < frame.scrollTop) {
+      frame.scrollTop = top;
+    } else if (bottom > frame.scrollTop + frame.clientHeight) {
+      frame.scrollTop = bottom - frame.clientHeight;
+    }
+    const [left, right] = [this.scale.x(from) - 20, this.scale.x(until) + 20];
+    if (left < frame.scrollLeft || right > frame.scrollLeft + this.room) {
+      frame.scrollLeft = Math.max(left - this.room / 3, 0);
+    }
+    this.pinned = row;
+    this.render();
+  }
+}
+
+/** Gives a drawing its size. */
+function setSize(drawing, width, height) {
+  drawing.setAttribute("width", width);
+  drawing.setAttribute("height", height);
+}

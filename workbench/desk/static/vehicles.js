@@ -1,0 +1,83 @@
+/** The vehicles as rows, with the curve of vehicles in service above them. */
+
+import { svg } from "./elements.js";
+import { SIZES, drawBar, drawPlaces } from "./bars.js";
+import { Rows } from "./rows.js";
+import { stepPath } from "./steps.js";
+
+const NAMES = 64;
+const CURVE = 44;
+
+export class Vehicles {
+  constructor(host, scale, look) {
+    this.scale = scale;
+    this.look = look;
+    this.label = "Vehicles as rows over the hours. The arrow keys go from bar to bar.";
+    this.top = CURVE;
+    this.size = SIZES.high;
+    this.shown = [];
+    this.rows = new Rows(host, scale, this, NAMES);
+    this.rows.corner.append("in service");
+  }
+
+  /** Shows these blocks of a day, by their rows. */
+  show(day, shown) {
+    this.day = day;
+    this.shown = shown;
+    this.positions = new Map(shown.map((row, position) => [row, position]));
+    this.rows.pinned = null;
+    this.rows.redraw();
+  }
+
+  count() {
+    return this.shown.length;
+  }
+
+  height() {
+    return this.size.row;
+  }
+
+  /** The row at a position. */
+  draw(position) {
+    const block = this.day.blocks[this.shown[position]];
+    const stripe = position % 2 ? svg("rect", { class: "stripe", width: this.scale.width, height: this.size.row }) : null;
+    const places = this.size.places ? drawPlaces(block, this.scale, this.size) : [];
+    return svg("g", { role: "group", "aria-label": `block ${block.name}` }, stripe, ...places,
+      ...block.bars.map((bar) => drawBar(bar, this.scale, this.size, this.look)));
+  }
+
+  /** The name of the row at a position. */
+  name(position) {
+    const block = this.day.blocks[this.shown[position]];
+    const y = this.size.top + this.size.bar / 2 + (this.size.labels ? 4 : 3);
+    const kind = this.size.labels ? "name" : "name low";
+    return svg("g", {}, svg("text", { class: kind, x: NAMES - 8, y, "text-anchor": "end" }, block.name));
+  }
+
+  /** The curve of vehicles in service. */
+  drawTop() {
+    const steps = this.day.service();
+    const most = Math.max(1, ...steps.map(([, number]) => number));
+    const peak = steps.find(([, number]) => number === most);
+    const y = (number) => CURVE - 4 - (number / most) * (CURVE - 18);
+    const path = stepPath(steps, (minute) => this.scale.x(minute), y, this.scale.begin, this.scale.end);
+    const parts = [svg("path", { class: "service", d: `${path}V${y(0)}Z` })];
+    if (peak) {
+      parts.push(svg("text", { class: "peak", x: this.scale.x(peak[0]) + 3, y: y(most) - 3 }, String(most)));
+    }
+    return svg("g", {}, ...parts);
+  }
+
+  /** Scrolls a bar into view. */
+  reveal(bar) {
+    const position = this.positions.get(bar.row);
+    if (position !== undefined) {
+      this.rows.show(position, bar.from, bar.until);
+    }
+  }
+
+  /** The element of a bar, where it is drawn. */
+  element(bar) {
+    return this.rows.bar(bar.row, bar.at);
+  }
+}

@@ -1,0 +1,65 @@
+"""Names of a feed that would hide where a line or a trip of the program's texts ends.
+
+The texts put names as they are. A trip that is named `X 06:00 06:30; Y` would be read as two, and nothing of the text tells.
+"""
+from __future__ import annotations
+
+from collections.abc import Iterator
+from pathlib import Path
+
+from desk.errors import DeskError
+from desk.files import read_text
+from desk.records import open_records, records_of
+from desk.town import Town
+
+TRIPS = (("trips.txt", ("trip_id",)),)
+BLOCKS = (("trips.txt", ("trip_id", "block_id")),)
+PLACES = (("terminals.csv", ("terminal",)), ("deadheads.csv", ("from", "to")), ("stop_times.txt", ("stop_id",)))
+
+NAMES = {"fixed": TRIPS, "blocks": TRIPS, "audit": BLOCKS, "deficits": PLACES, "joined": PLACES, "chains": PLACES}
+"""The columns whose names each command puts as they are; of the others only names in scripts are."""
+
+JOINED_BY_SEMICOLONS = ("fixed", "blocks", "chains")
+"""The commands with lines whose parts are joined by `; `."""
+
+
+EDITS = ("shift", "cancel", "restore", "extra")
+"""The words of the edits that name a trip."""
+
+
+def refuse_hidden_ends(command: str, folder: Path) -> None:
+    """A DeskError where a name in the text of this command has a line end, or in lines with parts a `; `."""
+    for where, name in _names(command, folder):
+        ends_in_part = command in JOINED_BY_SEMICOLONS and ("; " in name or name.endswith(";"))
+        if "\n" in name or ends_in_part:
+            raise DeskError(f"{where}: the name {name!r} hides where names end in the text of {command}: it has no JSON")
+
+
+def _names(command: str, folder: Path) -> Iterator[tuple[str, str]]:
+    """Each name that the text of a command may put, with where it stands."""
+    for file, columns in NAMES.get(command, ()):
+        if (folder / file).is_file():
+            yield from _column_names(folder / file, columns)
+    yield from _script_names(folder / "edits.csv", 0)
+    if command == "planners":
+        yield from _script_names(folder / "planner_edits.csv", 1)
+    town = Town(folder)
+    for name in (town.settings.get("block_prefix", ""), *town.table("classes").values()):
+        yield "desk.toml", str(name)
+
+
+def _column_names(path: Path, columns: tuple[str, ...]) -> Iterator[tuple[str, str]]:
+    """The names in these columns of a file, of which one need not be there."""
+    with open_records(path) as records:
+        places = [place for column in columns if (place := records.find(column)) is not None]
+        for number, fields in records:
+            for place in places:
+                yield f"{path.name} record {number}", fields[place]
+
+
+def _script_names(path: Path, word: int) -> Iterator[tuple[str, str]]:
+    """The trips of a script, and where the word of an edit is the second field the planners before it."""
+    if path.is_file():
+        for number, fields in records_of(path.name, "script\n" + read_text(path)):
+            if len(fields) > word + 1 and fields[word].strip(" ") in EDITS:
+                yield from ((f"{path.name} record {number}", name) for name in (*fields[:word], fields[word + 1]))

@@ -1,0 +1,186 @@
+"""A town: the folder with an agency's files and a planner's own, and the trips of the day that it selects."""
+from __future__ import annotations
+
+import datetime
+import tomllib
+from dataclasses import dataclass
+from functools import cached_property
+from pathlib import Path
+from typing import Any
+
+from desk.calendars import Calendars, parse_date, read_calendars
+from desk.errors import DeskError
+from desk.files import read_text
+from desk.records import Records, open_records
+from desk.stops import Stop, read_stops
+from desk.times import is_no_time, parse_time
+
+
+@dataclass(slots=True)
+class DayTrip:
+    """A selected trip. `start` and `end` are places as the program names them; times are seconds, or None without one."""
+
+    trip_id: str
+    record: int
+    service_id: str
+    route_id: str
+    headsign: str
+    block_id: str
+    vehicle_class: str | None
+    rows: int = 0
+    first_stop: str = ""
+    last_stop: str = ""
+    start: str = ""
+    end: str = ""
+    departure: int | None = None
+    arrival: int | None = None
+    first_sequence: int = 1 << 62
+    last_sequence: int = -1
+
+
+class Town:
+    """The files of a folder. Each is read when it is first asked for, and once."""
+
+    def __init__(self, folder: Path | str, settings: dict[str, Any] | None = None) -> None:
+        """The town of a folder. With `settings`, these stand in place of what its `desk.toml` says."""
+        self.folder = Path(folder)
+        if settings is not None:
+            self.settings = settings
+
+    def path(self, name: str) -> Path:
+        """Where a file of the town stands, or would stand."""
+        return self.folder / name
+
+    def has(self, name: str) -> bool:
+        """Whether a file of this name stands in the town."""
+        return self.path(name).is_file()
+
+    def agency_path(self, name: str) -> Path:
+        """Where a file of the agency stands that the program does not read: in `agency/`, else in the town itself."""
+        unpacked = self.folder / "agency" / name
+        return unpacked if unpacked.is_file() else self.path(name)
+
+    @cached_property
+    def settings(self) -> dict[str, Any]:
+        """What `desk.toml` says; nothing where it is not there."""
+        if not self.has("desk.toml"):
+            return {}
+        try:
+            return tomllib.loads(read_text(self.path("desk.toml")))
+        except (ValueError, RecursionError) as error:
+            raise DeskError(f"desk.toml: not TOML: {error}") from error
+
+    def table(self, key: str) -> dict[str, Any]:
+        """A table of `desk.toml`, empty where there is none."""
+        value = self.settings.get(key)
+        return value if isinstance(value, dict) else {}
+
+    @property
+    def date(self) -> datetime.date | None:
+        """The date of the day that is planned, or None where `desk.toml` has none in form."""
+        value = self.settings.get("date")
+        return parse_date(value) if isinstance(value, str) else None
+
+    @cached_property
+    def calendars(self) -> Calendars:
+        """The agency's calendars."""
+        return read_calendars(self.folder)
+
+    @cached_property
+    def terminals(self) -> dict[str, str]:
+        """The terminal of each stop that `terminals.csv` names."""
+        if not self.has("terminals.csv"):
+            return {}
+        with open_records(self.path("terminals.csv")) as records:
+            stop, terminal = records.column("stop_id"), records.column("terminal")
+            return {fields[stop]: fields[terminal] for _, fields in records}
+
+    @cached_property
+    def stops(self) -> dict[str, Stop]:
+        """The agency's stops by their names in `stop_id`; none where there is no `stops.txt`."""
+        path = self.agency_path("stops.txt")
+        return read_stops(path) if path.is_file() else {}
+
+    def terminal(self, stop: str) -> str:
+        """The terminal of a stop: that of `terminals.csv`, else one that is named as the stop."""
+        return self.terminals.get(stop, stop)
+
+    def layover(self, terminal: str) -> int:
+        """The minutes that a vehicle stays at a terminal, by `desk.toml`."""
+        value = self.table("layovers").get(terminal, self.settings.get("layover", 0))
+        return value if type(value) is int else 0
+
+    def selects(self) -> tuple[set[str] | None, set[str] | None]:
+        """The services that `desk.toml` lists and those that run on its date; None for each that it does not name."""
+        listed = self.settings.get("services")
+        running = self.calendars.services_on(self.date) if self.date else None
+        names = {name for name in listed if isinstance(name, str)} if isinstance(listed, list) else None
+        return names, running
+
+    def day(self) -> list[DayTrip]:
+        """The selected trips, in the order of `trips.txt`, with their ends and times."""
+        return self._day
+
+    @cached_property
+    def _day(self) -> list[DayTrip]:
+        trips = self._selected()
+        with open_records(self.path("stop_times.txt")) as records:
+            _read_ends(records, trips)
+        for trip in trips.values():
+            post = "" if trip.vehicle_class is None else f"/{trip.vehicle_class}"
+            trip.start = self.terminal(trip.first_stop) + post
+            trip.end = self.terminal(trip.last_stop) + post
+        return list(trips.values())
+
+    def _selected(self) -> dict[str, DayTrip]:
+        """The trips that `trips.txt` has of the selected services, by their names."""
+        listed, running = self.selects()
+        classes = self.table("classes")
+        trips: dict[str, DayTrip] = {}
+        with open_records(self.path("trips.txt")) as records:
+            service, name = records.column("service_id"), records.column("trip_id")
+            others = [records.find(column) for column in ("route_id", "trip_headsign", "block_id")]
+            for number, fields in records:
+                if not (listed is None or fields[service] in listed) or not (running is None or fields[service] in running):
+                    continue
+                route, headsign, block = ("" if at is None else fields[at] for at in others)
+                vehicles = str(classes.get(route, "")) if classes else None
+                trips[fields[name]] = DayTrip(fields[name], number, fields[service], route, headsign, block, vehicles)
+        return trips
+
+
+def _read_ends(records: Records, trips: dict[str, DayTrip]) -> None:
+    """Gives each trip its first and last stop with their times, from the rows of `stop_times.txt`."""
+    name, arrives, departs, stop, place = (
+        records.column(column) for column in ("trip_id", "arrival_time", "departure_time", "stop_id", "stop_sequence"))
+    for number, fields in records:
+        trip = trips.get(fields[name])
+        if trip is None:
+            continue
+        sequence = sequence_in(records.name, number, fields[place])
+        trip.rows += 1
+        if sequence < trip.first_sequence:
+            trip.first_sequence, trip.first_stop = sequence, fields[stop]
+            trip.departure = time_in(records.name, number, fields[departs], fields[arrives])
+        if sequence > trip.last_sequence:
+            trip.last_sequence, trip.last_stop = sequence, fields[stop]
+            trip.arrival = time_in(records.name, number, fields[arrives], fields[departs])
+
+
+def sequence_in(name: str, number: int, text: str) -> int:
+    """The number of a `stop_sequence`, or a DeskError that names it."""
+    digits = text.strip(" ")
+    if not 1 <= len(digits) <= 9 or not (digits.isascii() and digits.isdecimal()):
+        raise DeskError(f"{name} record {number}: bad stop_sequence")
+    return int(digits)
+
+
+def time_in(name: str, number: int, first: str, second: str) -> int | None:
+    """The time of a row: the first of two fields, or where it is empty the second; None where both are."""
+    text = second if is_no_time(first) else first
+    if is_no_time(text):
+        return None
+    seconds = parse_time(text)
+    if seconds is None:
+        raise DeskError(f"{name} record {number}: bad time {text!r}")
+    return seconds

@@ -1,0 +1,72 @@
+"""The agency's files, from a zip or a folder, copied unchanged into a folder."""
+from __future__ import annotations
+
+from collections.abc import Callable, Iterator
+from contextlib import contextmanager
+from pathlib import Path, PurePosixPath
+from typing import BinaryIO
+
+from desk.errors import DeskError
+from desk.files import reason
+from desk.zips import DAMAGES, MOST_BYTES, Files, zip_files
+
+PIECE = 1 << 20
+"""How many bytes are copied at a time."""
+
+NAMES_TOLD = 8
+"""How many names of files a message lists."""
+
+
+def unpack(feed: Path, agency: Path) -> list[str]:
+    """Copies the files of the feed that lie beside its `trips.txt` into this folder, and gives their names."""
+    if not feed.exists():
+        raise DeskError(f"{feed} is not there")
+    names, in_all = [], 0
+    with (folder_files(feed) if feed.is_dir() else zip_files(feed)) as files:
+        inside = feed_folder(feed, list(files))
+        for path, opened in files.items():
+            if path.parent == inside:
+                in_all += _copy(path.name, opened, agency / path.name, MOST_BYTES - in_all)
+                names.append(path.name)
+    return names
+
+
+@contextmanager
+def folder_files(folder: Path) -> Iterator[Files]:
+    """The files of a folder and of the folders in it, by their names."""
+    try:
+        paths = [*folder.iterdir(), *folder.glob("*/*")]
+        files = sorted(path for path in paths if path.is_file())
+    except OSError as error:
+        raise DeskError(f"{folder}: {reason(error)}") from error
+    yield {PurePosixPath(path.relative_to(folder)): lambda path=path: open(path, "rb") for path in files}
+
+
+def feed_folder(feed: Path, paths: list[PurePosixPath]) -> PurePosixPath:
+    """The one folder in which `trips.txt` lies, the top before others. None and several are a DeskError."""
+    folders = sorted(path.parent for path in paths if path.name == "trips.txt" and "__MACOSX" not in path.parts)
+    if PurePosixPath() in folders:
+        return PurePosixPath()
+    if len(folders) > 1:
+        raise DeskError(f"{feed}: trips.txt lies in several of its folders: {', '.join(map(str, folders))}")
+    if not folders:
+        told = ", ".join(map(str, paths[:NAMES_TOLD])) + (", .." if len(paths) > NAMES_TOLD else "")
+        raise DeskError(f"{feed}: no trips.txt in it; " + (f"it has {told}" if paths else "it has no file"))
+    return folders[0]
+
+
+def _copy(name: str, opened: Callable[[], BinaryIO], path: Path, most: int) -> int:
+    """Copies a file of at most so many bytes, and gives how many it has."""
+    copied = 0
+    try:
+        with opened() as source, open(path, "xb") as target:
+            while piece := source.read(PIECE):
+                copied += len(piece)
+                if copied > most:
+                    raise DeskError(f"{name}: with it the files have more than {MOST_BYTES:,} bytes in all")
+                target.write(piece)
+    except DAMAGES as error:
+        raise DeskError(f"{name} cannot be unpacked: {error}") from error
+    except OSError as error:
+        raise DeskError(f"{name} cannot be unpacked: {reason(error)}") from error
+    return copied

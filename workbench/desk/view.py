@@ -1,0 +1,122 @@
+"""A day as the page reads it: plain tables of texts and minutes, which go to the browser as JSON."""
+from __future__ import annotations
+
+import json
+
+from desk.boards_page import day_text
+from desk.day import Day, Published
+from desk.figures import block_figures
+from desk.lines import LineNames
+from desk.plans import Block
+from desk.records import open_records
+from desk.scripts import Record, standing
+from desk.texts import Json, minute_of
+from desk.texts_written import edit_text, vehicles_text
+from desk.town import Town
+
+PROVED = "No plan has fewer vehicles, and none with as many has fewer empty minutes: checked by prices."
+
+
+def as_view(day: Day) -> Json:
+    """All that the page shows of a day."""
+    lines = LineNames(day.town)
+    trips = _trips(day, lines)
+    numbers = {trip["id"]: number for number, trip in enumerate(trips)}
+    done, undone = standing(day.records)
+    fixed, vehicles, minutes = day.cost
+    return {
+        "title": day.town.folder.resolve().name,
+        "date": day_text(day.town),
+        "state": day.state,
+        "made": f"{day.made:%Y-%m-%d %H:%M:%S}",
+        "written": day.written,
+        "numbers": {"vehicles": vehicles, "minutes": minutes, "fixed": fixed},
+        "verdict": _verdict(day.verdict),
+        "trips": trips,
+        "blocks": [_block(block, numbers) for block in day.blocks],
+        "places": [_place(place) for place in day.deficits["places"]],
+        "script": [_record(record) for record in day.records],
+        "undo": done[-1].text if done else None,
+        "redo": undone[-1].text if undone else None,
+        "planners": _planners(day),
+    }
+
+
+def as_text(view: Json) -> str:
+    """A view as JSON that may stand inside a page: it has no `<`, and a byte that is no UTF-8 is a question mark."""
+    text = json.dumps(view, ensure_ascii=False, separators=(",", ":")).replace("<", "\\u003c")
+    return text.encode("utf-8", "replace").decode("utf-8")
+
+
+def _verdict(verdict: Json) -> Json:
+    """What `check` says, as its line and in words."""
+    if verdict["verdict"] == "yes":
+        return {"yes": True, "text": f"yes, {vehicles_text(verdict)}", "words": PROVED}
+    return {"yes": False, "text": f"no: {verdict['reason']}", "words": "The plan is not proved."}
+
+
+def _trips(day: Day, lines: LineNames) -> list[Json]:
+    """The trips of the files in their order, those that do not run too."""
+    tolerances = _tolerances(day.town)
+    early, late = (_number(day.town.settings.get(key)) for key in ("early", "late"))
+    rides = {ride.name: ride for block in day.blocks for ride in block.rides}
+    trips = []
+    for name, published in day.published.items():
+        ride = rides.get(name)
+        shown = _published(name, published, lines)
+        shown["early"], shown["late"] = tolerances.get(name, (early, late)) if published.trip else (early, late)
+        shown |= {"runs": ride is not None, "shift": ride.shift if ride else 0}
+        if ride:
+            shown |= {"departs": ride.departs, "arrives": ride.arrives, "ends": ride.ends}
+        trips.append(shown)
+    return trips
+
+
+def _published(name: str, published: Published, lines: LineNames) -> Json:
+    """What the files say of a trip."""
+    trip = published.trip
+    shown: Json = {"id": name, "from": published.start, "to": published.end, "departs": published.departs, "arrives": published.arrives,
+                   "ends": published.arrives, "extra": trip is None, "line": "", "headsign": "", "service": "", "published": None}
+    if trip:
+        line = lines.names.get(trip.route_id, trip.route_id)
+        shown |= {"line": line, "headsign": trip.headsign, "service": trip.service_id, "published": [trip.departure, trip.arrival]}
+    return shown
+
+
+def _number(value: object) -> int:
+    """A number of `desk.toml`, 0 without one."""
+    return value if isinstance(value, int) else 0
+
+
+def _tolerances(town: Town) -> dict[str, tuple[int, int]]:
+    """By how many minutes each trip of `tolerances.csv` may be moved earlier and later."""
+    if not town.has("tolerances.csv"):
+        return {}
+    with open_records(town.path("tolerances.csv")) as records:
+        name, early, late = (records.column(column) for column in ("trip_id", "early", "late"))
+        return {fields[name]: (int(fields[early]), int(fields[late])) for _, fields in records}
+
+
+def _block(block: Block, numbers: dict[str, int]) -> Json:
+    """A block: its rides as the numbers of their trips, each with the empty minutes before it."""
+    return {"name": block.name, "class": block.vehicle_class, "home": block.home, "figures": block_figures(block),
+            "rides": [[numbers[ride.name], ride.empty] for ride in block.rides]}
+
+
+def _place(place: Json) -> Json:
+    """The deficit function of a place."""
+    steps = [[minute_of(step["at"]), step["deficit"]] for step in place["steps"]]
+    return {"name": place["place"], "max": place["max"], "at": minute_of(place["at"]), "steps": steps}
+
+
+def _record(record: Record) -> Json:
+    """A record of a script with what the program says of it."""
+    return {"text": record.text, "ok": record.ok, "said": record.said}
+
+
+def _planners(day: Day) -> Json | None:
+    """The planners' records, and which of their edits stand."""
+    if day.planners is None:
+        return None
+    edits = [{"planner": edit["planner"], "trip": edit["trip"], "text": edit_text(edit)} for edit in day.planners.standing]
+    return {"records": [_record(record) for record in day.planners.records], "standing": edits}

@@ -1,0 +1,168 @@
+"""The web side of `desk open`: which requests are answered, and how.
+
+A request is answered where it comes to this machine by its number or as localhost, from the page itself, with the token in its
+address, for a name that stands in a table. No part of a request is ever a path of a file.
+"""
+from __future__ import annotations
+
+import hmac
+import json
+from collections.abc import Callable
+from http import HTTPStatus
+from http.server import BaseHTTPRequestHandler, ThreadingHTTPServer
+from pathlib import Path
+
+from desk.errors import DeskError, UsageError, one_line
+from desk.session import Session
+from desk.texts import Json
+from desk.view import as_text
+
+STATIC = Path(__file__).resolve().parent / "static"
+"""The folder of the page's own files, which are read when the server begins."""
+
+KINDS = {".html": "text/html; charset=utf-8", ".css": "text/css; charset=utf-8", ".js": "text/javascript; charset=utf-8"}
+JSON_KIND = "application/json"
+MOST_BODY = 65_536
+"""The most bytes of the body of a request."""
+
+POLICY = ("default-src 'none'; script-src 'self'; style-src 'self'; img-src data:; connect-src 'self'; "
+          "base-uri 'none'; form-action 'none'; frame-ancestors 'none'")
+HEADERS = {
+    "Content-Security-Policy": POLICY, "Cache-Control": "no-store", "Referrer-Policy": "no-referrer",
+    "X-Content-Type-Options": "nosniff", "X-Frame-Options": "DENY", "Cross-Origin-Resource-Policy": "same-origin",
+    "Cross-Origin-Opener-Policy": "same-origin"}
+
+
+class Refusal(Exception):
+    """A request that is not answered, with its status."""
+
+    def __init__(self, status: HTTPStatus, why: str) -> None:
+        super().__init__(why)
+        self.status = status
+
+
+class WebServer(ThreadingHTTPServer):
+    """The server of one session on 127.0.0.1, with its token and the page's own files."""
+
+    daemon_threads = True
+
+    def __init__(self, session: Session, token: str, port: int = 0) -> None:
+        self.session = session
+        self.token = token
+        self.pages = {path.name: (KINDS[path.suffix], path.read_bytes()) for path in STATIC.iterdir() if path.suffix in KINDS}
+        self.pages[""] = self.pages["index.html"]
+        self.asked: dict[str, Callable[[], Json]] = {"day": session.day, "state": session.state}
+        self.told: dict[str, Callable[[Json], Json]] = {
+            "edit": session.edit, "suggest": session.suggest, "keep": session.keep, "export": session.export}
+        super().__init__(("127.0.0.1", port), Handler)
+
+    def handle_error(self, *unused: object) -> None:
+        """A line that breaks off is nobody's mistake, and nothing is put of it."""
+
+    @property
+    def hosts(self) -> tuple[str, ...]:
+        """The names by which this server may be asked."""
+        return f"127.0.0.1:{self.server_port}", f"localhost:{self.server_port}"
+
+    @property
+    def address(self) -> str:
+        """The address of the page."""
+        return f"http://{self.hosts[0]}/{self.token}/"
+
+
+class Handler(BaseHTTPRequestHandler):
+    """A request."""
+
+    server: WebServer
+    timeout = 30
+    server_version = "desk"
+    sys_version = ""
+
+    def do_GET(self) -> None:
+        """Answers with a file of the page, or what is asked of the session."""
+        self._answer(self._get)
+
+    def do_POST(self) -> None:
+        """Answers to what the session is told."""
+        self._answer(self._post)
+
+    def _answer(self, found: Callable[[], tuple[str, bytes]]) -> None:
+        """Puts an answer, or why there is none."""
+        status = HTTPStatus.OK
+        try:
+            self._judge()
+            kind, body = found()
+        except Refusal as refusal:
+            status, kind, body = refusal.status, *_in_words(str(refusal))
+        except UsageError as error:
+            status, kind, body = HTTPStatus.BAD_REQUEST, *_in_words(str(error))
+        except (DeskError, OSError) as error:
+            kind, body = _in_words(str(error))
+        except Exception as error:  # pylint: disable=broad-except
+            kind, body = _in_words(f"this is a mistake of the workbench itself: {type(error).__name__}: {error}")
+        self._put(status, kind, body)
+
+    def _judge(self) -> None:
+        """Refuses a request that does not come from the page."""
+        hosts, origins = self.headers.get_all("Host", []), self.headers.get_all("Origin", [])
+        if len(hosts) != 1 or hosts[0] not in self.server.hosts:
+            raise Refusal(HTTPStatus.FORBIDDEN, "the request is for another host")
+        if any(origin != f"http://{hosts[0]}" for origin in origins) or len(origins) != 1 and self.command == "POST":
+            raise Refusal(HTTPStatus.FORBIDDEN, "the request comes from another origin")
+        if self.headers.get("Sec-Fetch-Site", "none") not in ("same-origin", "none"):
+            raise Refusal(HTTPStatus.FORBIDDEN, "the request comes from another site")
+        token = self.path.split("/")[1] if self.path.startswith("/") else ""
+        if not hmac.compare_digest(token.encode("utf-8", "surrogateescape"), self.server.token.encode()):
+            raise Refusal(HTTPStatus.NOT_FOUND, "the address is not the one that `./desk open` has put")
+
+    @property
+    def _name(self) -> str:
+        """What is asked for: the address behind the token."""
+        return self.path[len(self.server.token) + 2:]
+
+    def _get(self) -> tuple[str, bytes]:
+        """A file of the page, or what is asked of the session."""
+        if self._name in self.server.asked:
+            return JSON_KIND, as_text(self.server.asked[self._name]()).encode()
+        if self._name not in self.server.pages or not self.path.endswith("/" + self._name):
+            raise Refusal(HTTPStatus.NOT_FOUND, "there is nothing of this name")
+        return self.server.pages[self._name]
+
+    def _post(self) -> tuple[str, bytes]:
+        """Tells the session something."""
+        if self._name not in self.server.told:
+            raise Refusal(HTTPStatus.NOT_FOUND, "there is nothing of this name")
+        return JSON_KIND, as_text(self.server.told[self._name](self._body())).encode()
+
+    def _body(self) -> Json:
+        """The body of a request, which is JSON of an object."""
+        if self.headers.get_content_type() != JSON_KIND:
+            raise Refusal(HTTPStatus.UNSUPPORTED_MEDIA_TYPE, "the body is not JSON")
+        length = self.headers.get("Content-Length", "")
+        if "Transfer-Encoding" in self.headers or not (length.isascii() and length.isdecimal()):
+            raise Refusal(HTTPStatus.LENGTH_REQUIRED, "the length of the body is not told")
+        if len(length) > 9 or int(length) > MOST_BODY:
+            raise Refusal(HTTPStatus.REQUEST_ENTITY_TOO_LARGE, "the body is too long")
+        try:
+            body = json.loads(self.rfile.read(int(length)))
+        except (ValueError, RecursionError) as error:
+            raise Refusal(HTTPStatus.BAD_REQUEST, "the body is not JSON") from error
+        if not isinstance(body, dict):
+            raise Refusal(HTTPStatus.BAD_REQUEST, "the body is no object")
+        return body
+
+    def _put(self, status: HTTPStatus, kind: str, body: bytes) -> None:
+        """Puts an answer with the headers that keep the page to itself."""
+        self.send_response(status)
+        for name, value in {"Content-Type": kind, "Content-Length": str(len(body)), **HEADERS}.items():
+            self.send_header(name, value)
+        self.end_headers()
+        self.wfile.write(body)
+
+    def log_message(self, *unused: object) -> None:
+        """Nothing is logged: an address has the token."""
+
+
+def _in_words(error: str) -> tuple[str, bytes]:
+    """The answer that says an error."""
+    return JSON_KIND, as_text({"error": one_line(error)}).encode()

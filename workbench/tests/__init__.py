@@ -1,0 +1,1 @@
+"""Tests of the workbench: `cd workbench && python3 -m unittest` runs all."""

@@ -1,0 +1,172 @@
+"""A browser for the tests: headless Chromium, spoken to by its driver in the protocol of the W3C, with the standard library alone."""
+from __future__ import annotations
+
+import base64
+import json
+import re
+import shutil
+import subprocess
+import tempfile
+import time
+import unittest
+import urllib.error
+import urllib.request
+from collections.abc import Callable
+from typing import Any
+
+DRIVER = shutil.which("chromedriver")
+CHROMIUM = shutil.which("chromium")
+
+needs_browser = unittest.skipUnless(DRIVER and CHROMIUM, "chromium and chromium-driver are not installed")
+"""Marks a test that needs a browser. It is skipped where there is none."""
+
+ELEMENT = "element-6066-11e4-a52e-4f735466cecf"
+"""How the protocol names an element."""
+
+PATIENCE = 300.0
+"""How many seconds the page is waited for. An unproved program on a busy machine takes long."""
+
+KEYS = {"Shift": "\ue008", "Control": "\ue009", "Enter": "\ue007", "Escape": "\ue00c", "Tab": "\ue004", "Delete": "\ue017",
+        "ArrowLeft": "\ue012", "ArrowUp": "\ue013", "ArrowRight": "\ue014", "ArrowDown": "\ue015", "Home": "\ue011", "End": "\ue010"}
+
+Json = Any
+
+
+class Browser:
+    """A window of the browser."""
+
+    def __init__(self, width: int = 1400, height: int = 1000) -> None:
+        self.profile = tempfile.mkdtemp(prefix="desk-browser-")
+        self.driver = subprocess.Popen([DRIVER or "", "--port=0"], stdout=subprocess.PIPE, stderr=subprocess.DEVNULL, text=True)
+        self.address = f"http://127.0.0.1:{self._port()}/session"
+        options = {"binary": CHROMIUM, "args": ["--headless=new", "--no-sandbox", "--disable-gpu", f"--user-data-dir={self.profile}",
+                                                f"--window-size={width},{height}"]}
+        wanted = {"capabilities": {"alwaysMatch": {"goog:chromeOptions": options, "goog:loggingPrefs": {"browser": "ALL"},
+                                                   "timeouts": {"script": 120_000, "pageLoad": 120_000}}}}
+        try:
+            self.address += "/" + self._tell("", wanted)["sessionId"]
+        except BaseException:
+            self._end_driver()
+            raise
+
+    def close(self) -> None:
+        """Ends the browser and its driver."""
+        try:
+            self._ask("DELETE", "")
+        finally:
+            self._end_driver()
+
+    def _end_driver(self) -> None:
+        """Ends the driver, and takes away what the browser has written."""
+        self.driver.terminate()
+        self.driver.wait()
+        if self.driver.stdout:
+            self.driver.stdout.close()
+        shutil.rmtree(self.profile, ignore_errors=True)
+
+    def _port(self) -> str:
+        """The port on which the driver listens, which it prints."""
+        for line in self.driver.stdout or ():
+            if found := re.search(r"successfully on port (\d+)", line):
+                return found[1]
+        raise AssertionError("the driver of the browser has not started")
+
+    def _ask(self, method: str, name: str, body: Json = None) -> Json:
+        """What the driver answers."""
+        data = None if body is None else json.dumps(body).encode()
+        request = urllib.request.Request(self.address + name, data, {"Content-Type": "application/json"}, method=method)
+        try:
+            with urllib.request.urlopen(request, timeout=PATIENCE) as answer:
+                return json.load(answer)["value"]
+        except urllib.error.HTTPError as error:
+            raise AssertionError(f"{name}: {json.load(error)['value']['message']}") from error
+
+    def _tell(self, name: str, body: Json) -> Json:
+        return self._ask("POST", name, body)
+
+    def open(self, address: str) -> None:
+        """Opens a page, and waits until it is ready."""
+        self._tell("/url", {"url": address})
+        self.wait(lambda: self.run("return document.body.classList.contains('ready')"))
+
+    def run(self, script: str, *arguments: Json) -> Json:
+        """What a script in the page returns."""
+        return self._tell("/execute/sync", {"script": script, "args": list(arguments)})
+
+    def wait(self, holds: Callable[[], Json]) -> Json:
+        """Waits until something holds, and gives it."""
+        until = time.monotonic() + PATIENCE
+        while not (found := holds()):
+            if time.monotonic() > until:
+                raise AssertionError("waited in vain: " + "; ".join(self.errors()))
+            time.sleep(0.05)
+        return found
+
+    def find(self, selector: str) -> str:
+        """The first element of a selector."""
+        return self._tell("/element", {"using": "css selector", "value": selector})[ELEMENT]
+
+    def text(self, selector: str) -> str:
+        """The text of an element as it stands, also where it is hidden."""
+        return self.run("return document.querySelector(arguments[0]).textContent", selector)
+
+    def texts(self, selector: str) -> list[str]:
+        """The texts of all elements of a selector."""
+        return self.run("return [...document.querySelectorAll(arguments[0])].map((found) => found.textContent)", selector)
+
+    def click(self, selector: str) -> None:
+        """Clicks an element."""
+        self._tell(f"/element/{self.find(selector)}/click", {})
+
+    def type(self, selector: str, text: str) -> None:
+        """Writes a text into a field, over what stands in it."""
+        element = self.find(selector)
+        self._tell(f"/element/{element}/clear", {})
+        self._tell(f"/element/{element}/value", {"text": text})
+
+    def keys(self, *names: str) -> None:
+        """Presses keys one after the other. `Shift+ArrowRight` holds the first while it presses the second."""
+        actions = []
+        for name in names:
+            pressed = [KEYS.get(part, part) for part in (name.split("+") if len(name) > 1 else name)]
+            actions += [{"type": "keyDown", "value": key} for key in pressed]
+            actions += [{"type": "keyUp", "value": key} for key in reversed(pressed)]
+        self._tell("/actions", {"actions": [{"type": "key", "id": "keys", "actions": actions}]})
+
+    def drag(self, selector: str, pixels: int) -> None:
+        """Drags an element to the right, or to the left."""
+        self.hold(selector, pixels)
+        self.let_go()
+
+    def hold(self, selector: str, pixels: int) -> None:
+        """Takes an element by the mouse and moves it, and holds it there."""
+        moves = [{"type": "pointerMove", "duration": 0, "x": 0, "y": 0, "origin": {ELEMENT: self.find(selector)}}]
+        moves += [{"type": "pointerDown", "button": 0}]
+        for part in (pixels // 2, pixels - pixels // 2):
+            moves += [{"type": "pointerMove", "duration": 40, "x": part, "y": 0, "origin": "pointer"}]
+        self._pointer(moves)
+
+    def let_go(self) -> None:
+        """Lets go of the mouse."""
+        self._pointer([{"type": "pointerUp", "button": 0}])
+
+    def point(self, selector: str) -> None:
+        """Moves the mouse over an element."""
+        self._pointer([{"type": "pointerMove", "duration": 0, "x": 0, "y": 0, "origin": {ELEMENT: self.find(selector)}}])
+
+    def _pointer(self, actions: list[Json]) -> None:
+        mouse = {"type": "pointer", "id": "mouse", "parameters": {"pointerType": "mouse"}, "actions": actions}
+        self._tell("/actions", {"actions": [mouse]})
+
+    def printed(self, width: float, height: float) -> bytes:
+        """The page as it is printed on paper of this size, in centimetres."""
+        sized = {"paperWidth": width / 2.54, "paperHeight": height / 2.54, "landscape": True, "preferCSSPageSize": False}
+        return base64.b64decode(self._tell("/goog/cdp/execute", {"cmd": "Page.printToPDF", "params": sized})["data"])
+
+    def picture(self) -> bytes:
+        """What is seen, as PNG."""
+        return base64.b64decode(self._ask("GET", "/screenshot"))
+
+    def errors(self) -> list[str]:
+        """What the page has complained of since this was asked last."""
+        return [entry["message"] for entry in self._tell("/se/log", {"type": "browser"}) if entry["level"] in ("SEVERE", "WARNING")]

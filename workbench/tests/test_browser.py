@@ -1,0 +1,362 @@
+"""The page in a browser: what is seen, what is reached by keys, what is printed, and what edits do."""
+from __future__ import annotations
+
+import re
+import shutil
+import threading
+from pathlib import Path
+
+from desk.page import static_page
+from desk.plans import read_blocks
+from desk.program import ROOT, run
+from desk.session import Session
+from desk.view import as_text, as_view
+from desk.web import WebServer
+from tests.browser import Browser, needs_browser
+from tests.feeds import FolderTest, needs_program
+from tests.made_days import made_day
+
+LEAST_CONTRAST = 4.5
+
+CONTRASTS = """
+const parts = (text) => text.match(/[\\d.]+/g).map(Number);
+const linear = (part) => (part <= 0.03928 ? part / 12.92 : ((part + 0.055) / 1.055) ** 2.4);
+const light = (text) => {
+  const [red, green, blue] = parts(text).map((part) => linear(part / 255));
+  return 0.2126 * red + 0.7152 * green + 0.0722 * blue;
+};
+const ground = (element) => {
+  for (let at = element; at; at = at.parentElement) {
+    const colour = getComputedStyle(at).backgroundColor;
+    if ((parts(colour)[3] ?? 1) > 0.5) return colour;
+  }
+  return 'rgb(255, 255, 255)';
+};
+const found = [];
+for (const element of document.querySelectorAll('#screen *')) {
+  const isText = [...element.childNodes].some((node) => node.nodeType === 3 && node.data.trim());
+  if (!isText || !element.getClientRects().length || element.disabled) continue;
+  const style = getComputedStyle(element);
+  const bar = element.closest('.trip')?.querySelector('.body');
+  const inks = [light(element instanceof SVGElement ? style.fill : style.color), light(bar ? getComputedStyle(bar).fill : ground(element))];
+  const contrast = (Math.max(...inks) + 0.05) / (Math.min(...inks) + 0.05);
+  if (contrast < arguments[0]) found.push([element.textContent.slice(0, 30), contrast]);
+}
+return found;
+"""
+"""The texts that stand out less from what is behind them than they should, by the rule of the W3C."""
+
+REACHABLE = """
+const able = 'button, input, select, a[href], [tabindex="0"]';
+return [...document.querySelectorAll(able)].filter((one) => one.tabIndex >= 0 && !one.disabled && one.getClientRects().length)
+  .map((one) => one.id || one.dataset.trip || one.textContent);
+"""
+
+FOCUSED = "const one = document.activeElement; return one === document.body ? null : one.id || one.dataset.trip || one.textContent"
+
+
+class BrowserTest(FolderTest):
+    """A test with a browser."""
+
+    def setUp(self) -> None:
+        super().setUp()
+        self.browser = Browser()
+        self.addCleanup(self.browser.close)
+
+    def names(self, selector: str) -> list[str]:
+        """The names of the trips of a selector."""
+        return self.browser.run("return [...document.querySelectorAll(arguments[0])].map((bar) => bar.dataset.trip)", selector)
+
+    def choose(self, selector: str, value: str) -> None:
+        """Chooses a value of a field."""
+        self.browser.run("const field = document.querySelector(arguments[0]); field.value = arguments[1]; "
+                         "field.dispatchEvent(new Event('input'))", selector, value)
+
+    def bar(self, trip: str) -> str:
+        """The selector of a trip."""
+        return f'.sheet [data-trip="{trip}"]'
+
+    def labels(self, selector: str) -> list[str]:
+        """What all elements of a selector are called."""
+        script = "return [...document.querySelectorAll(arguments[0])].map((found) => found.getAttribute('aria-label'))"
+        return self.browser.run(script, selector)
+
+    def box(self, selector: str) -> dict[str, float]:
+        """Where an element stands in the window."""
+        return self.browser.run("return document.querySelector(arguments[0]).getBoundingClientRect().toJSON()", selector)
+
+
+@needs_browser
+class LookTest(BrowserTest):
+    """The static page of made days."""
+
+    def open(self, trips: int) -> None:
+        """Opens the page of so many trips."""
+        self.day = made_day(trips)
+        path = self.room / "day.html"
+        path.write_text(static_page(as_text(as_view(self.day))))
+        self.browser.open(path.as_uri())
+
+    def drawn(self) -> list[str]:
+        """The names of the rows that are drawn, from above."""
+        return self.labels("#panel-Vehicles .sheet > g")
+
+    def test_many_trips(self) -> None:
+        """Of 4,096 trips the rows in view are drawn, in their order, and hours and names stay while they scroll."""
+        self.open(4096)
+        self.assertEqual(self.browser.texts("#numbers dd"), ["453", "12,913", "462"])
+        self.assertIn("No plan has fewer vehicles", self.browser.text("#verdict"))
+        before = self.drawn()
+        self.assertEqual(before, [f"block B{number}" for number in range(1, len(before) + 1)])
+        self.assertLess(len(before), 60)
+        frame = "#panel-Vehicles .frame"
+        for _ in range(6):
+            self.browser.click("#zoom-in")
+        self.browser.run("const frame = document.querySelector(arguments[0]); frame.scrollTo(600, frame.scrollHeight)", frame)
+        self.browser.wait(lambda: "block B453" in self.drawn())
+        self.assertEqual(self.drawn()[-1], "block B453")
+        self.assertLess(len(self.drawn()), 60)
+        top, left = self.box(frame)["top"], self.box(frame)["left"]
+        self.assertEqual((self.box(f"{frame} .head")["top"], self.box(f"{frame} .names")["left"]), (top, left))
+        self.assertEqual(self.browser.errors(), [])
+
+    def test_search_and_filter(self) -> None:
+        """A search goes from trip to trip, and a filter leaves rows and the rest of their trips back."""
+        self.open(400)
+        self.browser.type("#search", "L3-")
+        self.assertRegex(self.browser.text("#search-count"), r"^1 of \d+ trips$")
+        self.browser.keys("Enter")
+        self.assertRegex(self.browser.text("#search-count"), "^2 of ")
+        found, = self.names(".bar.found")
+        self.assertTrue(found.startswith("L3-"))
+        self.browser.keys("Escape")
+        self.assertEqual(self.browser.run(FOCUSED), found)
+        self.choose("#filter-line", "line 3")
+        rows = [block.name for block in self.day.blocks if any(ride.trip and ride.trip.route_id == "line 3" for ride in block.rides)]
+        self.assertEqual(self.drawn(), [f"block {name}" for name in rows][:len(self.drawn())])
+        dim, all_trips = (self.names(selector) for selector in (".bar.trip.dim", ".bar.trip"))
+        self.assertEqual([trip for trip in all_trips if trip not in dim], [trip for trip in all_trips if trip.startswith("L3-")])
+        self.browser.click("#filter-clear")
+        self.browser.type("#filter-from", "25:99")
+        self.assertEqual(self.browser.run("return document.getElementById('filter-from').getAttribute('aria-invalid')"), "true")
+        self.browser.type("#filter-from", "22:00")
+        late = [block.name for block in self.day.blocks if any(ride.ends >= 1320 for ride in block.rides)]
+        self.browser.wait(lambda: self.drawn() == [f"block {name}" for name in late][:len(self.drawn())])
+
+    def test_keys(self) -> None:
+        """The arrow keys go from bar to bar, tell what each is, and scroll to it; keys zoom."""
+        self.open(400)
+        first = self.day.blocks[0]
+        self.browser.run("document.querySelector('.sheet [tabindex=\"0\"]').focus()")
+        focused = "return document.activeElement.getAttribute('aria-label')"
+        self.assertIn("out of the depot, depot to " + first.rides[0].start, self.browser.run(focused))
+        self.browser.keys("ArrowRight")
+        self.assertIn(first.rides[0].name, self.browser.run(focused))
+        self.assertIn(first.rides[0].name, self.browser.text("#tip"))
+        self.assertFalse(self.browser.run("return document.getElementById('tip').hidden"))
+        self.browser.keys("ArrowDown")
+        self.assertIn("block B2", self.browser.run(focused))
+        self.browser.keys("End", "+", "+", "+", "+")
+        self.assertIn("home to the depot", self.browser.run(focused))
+        self.browser.keys("Home", "End")
+        box, frame = self.box(".bar:focus"), self.box("#panel-Vehicles .frame")
+        self.assertTrue(frame["left"] <= box["left"] and box["right"] <= frame["right"])
+        wide = self.box(".sheet")["width"]
+        self.browser.keys("0")
+        self.assertLess(self.box(".sheet")["width"], wide)
+
+    def test_without_colour(self) -> None:
+        """Lines have marks that differ without colour, and hatching, dashes and lines tell the other bars."""
+        self.open(400)
+        marks = self.browser.run("""return [...document.querySelectorAll('#legend svg')].slice(0, 7).map((sample) => {
+          const mark = sample.querySelector('.mark');
+          return mark ? mark.getAttribute('y1') + mark.getAttribute('stroke-dasharray') : 'none'; })""")
+        self.assertEqual(len(set(marks)), 7)
+        self.assertEqual(self.browser.texts("#legend span")[-4:], ["layover", "empty running", "from and to the depot", "waiting"])
+        fills = self.browser.run("return [...document.querySelectorAll('.bar .running')].map((bar) => bar.getAttribute('fill'))")
+        self.assertEqual(set(fills), {"url(#hatch)", "url(#hatch-depot)"})
+
+    def test_contrast(self) -> None:
+        """All texts stand out from what is behind them."""
+        self.open(400)
+        for tab in ("Vehicles", "Terminals", "Blocks"):
+            self.browser.click(f"#tab-{tab}")
+            self.assertEqual(self.browser.run(CONTRASTS, LEAST_CONTRAST), [], tab)
+
+    def test_reach(self) -> None:
+        """The Tab key reaches all that can be used, in the order in which it stands."""
+        self.open(400)
+        wanted = self.browser.run(REACHABLE)
+        reached: list[str] = []
+        for _ in range(len(wanted) + 3):
+            self.browser.keys("Tab")
+            focused = self.browser.run(FOCUSED)
+            if focused is None or focused in reached:
+                break
+            reached.append(focused)
+        self.assertEqual([name for name in wanted if name not in reached], [])
+        self.assertEqual([name for name in reached if name in wanted], wanted)
+
+    def test_roles(self) -> None:
+        """Tabs, panels, rows and fields say what they are."""
+        self.open(400)
+        self.assertEqual(self.browser.texts('[role="tab"]'), ["Vehicles", "Terminals", "Blocks"])
+        self.browser.run("document.getElementById('tab-Vehicles').focus()")
+        self.browser.keys("ArrowRight")
+        self.assertEqual(self.browser.run("return document.querySelector('[aria-selected=\"true\"]').id"), "tab-Terminals")
+        panels = self.browser.run("return [...document.querySelectorAll('[role=tabpanel]:not([hidden])')].map((one) => one.id)")
+        self.assertEqual(panels, ["panel-Terminals"])
+        nameless = self.browser.run("""return [...document.querySelectorAll('input, select, button')]
+          .filter((one) => !one.labels?.length && !one.getAttribute('aria-label') && !one.textContent.trim())
+          .map((one) => one.outerHTML)""")
+        self.assertEqual(nameless, [])
+        self.assertTrue(all(self.labels(".bar")))
+        self.assertEqual(self.labels(".bar:not([role])"), [])
+
+    def test_table(self) -> None:
+        """The table is sorted by its headings, and leads to the vehicles."""
+        self.open(400)
+        self.browser.click("#tab-Blocks")
+        self.browser.click("thead th:nth-child(2) button")
+        trips = [int(text) for text in self.browser.texts("table.blocks tbody td:nth-child(2)")]
+        self.assertEqual(trips, sorted(len(block.rides) for block in self.day.blocks))
+        self.browser.click("thead th:nth-child(2) button")
+        self.assertEqual([int(text) for text in self.browser.texts("table.blocks tbody td:nth-child(2)")], trips[::-1])
+        name = self.browser.text("table.blocks tbody th button")
+        self.browser.click("table.blocks tbody th button")
+        self.assertIn(f"block {name}", self.browser.run("return document.activeElement.getAttribute('aria-label')"))
+
+    def test_paper(self) -> None:
+        """On A4 and on A3 each page has the title and, above drawings, the hours."""
+        self.open(600)
+        pages = []
+        for width, height in ((21.0, 29.7), (29.7, 42.0)):
+            paper = self.browser.printed(width, height)
+            self.assertTrue(paper.startswith(b"%PDF"))
+            pages.append(len(re.findall(rb"/Type\s*/Page\b(?!s)", paper)))
+        self.assertGreater(pages[0], pages[1])
+        self.assertGreaterEqual(pages[1], 3)
+        heads = self.browser.texts("#paper thead")
+        self.assertEqual(len(heads), 3)
+        for head in heads:
+            self.assertIn("made town, all services: ", head)
+        self.assertTrue(all("07:0008:00" in head for head in heads[:2]))
+        rows = self.browser.texts("#paper .sheet-of-paper:nth-of-type(1) tbody th")
+        self.assertEqual(rows, [block.name for block in self.day.blocks])
+
+
+@needs_browser
+@needs_program
+class OpenTest(BrowserTest):
+    """The page of `desk open` on an example, beside the program's text and the script."""
+
+    def setUp(self) -> None:
+        super().setUp()
+        self.town = self.room / "small_town"
+        shutil.copytree(ROOT / "examples" / "small_town", self.town, ignore=shutil.ignore_patterns("expected"))
+        self.server = WebServer(Session(self.town), "the-token-of-the-tests")
+        thread = threading.Thread(target=self.server.serve_forever, kwargs={"poll_interval": 0.02}, daemon=True)
+        thread.start()
+        self.addCleanup(thread.join)
+        self.addCleanup(self.server.server_close)
+        self.addCleanup(self.server.shutdown)
+        self.browser.open(self.server.address)
+
+    def script(self) -> str:
+        path: Path = self.town / "edits.csv"
+        return path.read_text() if path.exists() else ""
+
+    def wait_for(self, words: str) -> str:
+        """Waits until the page says that an edit was done, or was refused, and gives what it says."""
+        said = "return [...document.querySelectorAll('#said, #refusal:not([hidden])')].map((box) => box.textContent).join()"
+        return self.browser.wait(lambda: (text := self.browser.run(said)) if words in self.browser.run(said) else "")
+
+    def test_as_the_program_says(self) -> None:
+        """Numbers, blocks, trips and deficits of the page are those of the program."""
+        blocks = run(["blocks", self.town]).text.decode()
+        fixed, vehicles, minutes = re.findall(r"\d+", blocks)
+        self.assertEqual(self.browser.texts("#numbers dd"), [vehicles, minutes, fixed])
+        self.assertIn(run(["check", self.town]).text.decode().strip(), self.browser.text("#run"))
+        drawn = self.browser.run("""return [...document.querySelectorAll('#panel-Vehicles .sheet > g')].map((row) =>
+          [row.getAttribute('aria-label'), [...row.querySelectorAll('.trip')].map((trip) => trip.dataset.trip)])""")
+        self.assertEqual(drawn, [[f"block {block.name}", list(block.trips)] for block in read_blocks(self.town / "blocks.csv")])
+        for trip, departs, ends in re.findall(r"(\S+) (\d\d:\d\d) (\d\d:\d\d)", run(["fixed", self.town]).text.decode()):
+            label, = self.labels(self.bar(trip))
+            self.assertIn(f" {departs} ", label)
+            self.assertIn(ends, label)
+        self.browser.click("#tab-Terminals")
+        told = self.labels("#panel-Terminals .sheet > g")
+        said = re.findall(r"(.+) max (\d+) at (\d+:\d+)", run(["deficits", self.town]).text.decode())
+        self.assertEqual(told, [f"{name}: maximum {most} at {at}" for name, most, at in said])
+        self.assertEqual(self.browser.errors(), [])
+
+    def test_drag_and_undo(self) -> None:
+        """A drag within the tolerance is one record; undo and redo are records too; each says what it changes."""
+        trip = self.bar("wd_2_o_0735")
+        self.browser.hold(trip, 400)
+        self.assertIn("wd_2_o_0735 +10", self.browser.text("#tip"))
+        self.browser.let_go()
+        self.assertIn("the numbers are as before", self.wait_for("shift wd_2_o_0735 +10: "))
+        self.assertEqual(self.script(), "shift,wd_2_o_0735,+10\n")
+        self.assertIn("shifted by +10 minutes", self.labels(trip)[0])
+        self.assertEqual(self.names(".bar.changed"), ["wd_2_o_0735"])
+        self.browser.keys("Control+z")
+        self.wait_for("undo: ")
+        self.browser.click("#redo")
+        self.wait_for("redo: ")
+        self.assertEqual(self.script(), "shift,wd_2_o_0735,+10\nundo\nredo\n")
+        self.assertEqual(self.browser.errors(), [])
+
+    def test_keys_and_cancel(self) -> None:
+        """Keys shift and cancel the trip with the focus, which keeps it; the numbers say by how much."""
+        self.browser.click(self.bar("wd_1_o_0740"))
+        self.browser.keys("Shift+ArrowRight", "Shift+ArrowRight", "Shift+ArrowLeft", "Escape")
+        self.assertEqual(self.script(), "")
+        self.browser.keys("Shift+ArrowLeft", "Enter")
+        self.wait_for("shift wd_1_o_0740 -1: ")
+        self.assertEqual(self.browser.run(FOCUSED), "wd_1_o_0740")
+        self.browser.keys("Delete")
+        self.wait_for("cancel wd_1_o_0740: ")
+        self.assertEqual(self.script(), "shift,wd_1_o_0740,-1\ncancel,wd_1_o_0740\n")
+        self.browser.click("#tab-Edits")
+        self.assertEqual(self.browser.texts("#records code"), ["shift,wd_1_o_0740,-1", "cancel,wd_1_o_0740"])
+        self.browser.click("#cancelled button")
+        self.wait_for("restore wd_1_o_0740: ")
+        self.assertEqual(self.browser.errors(), [])
+
+    def test_refused(self) -> None:
+        """The program's words for a refused edit stand where the hand is, and the script stays."""
+        self.browser.click(self.bar("sc_S_o_0825"))
+        self.browser.type("#shift-minutes", "7")
+        self.browser.keys("Enter")
+        self.assertIn("record 1: refused, sc_S_o_0825: outside tolerance (+7)", self.wait_for("refused"))
+        words, field = self.box("#refusal"), self.box("#shift-minutes")
+        self.assertLess(abs(words["top"] - field["bottom"]), 150)
+        self.assertEqual(self.script(), "")
+        self.browser.click("#refusal button")
+        self.assertEqual(self.browser.run(FOCUSED), "shift-minutes")
+        self.browser.hold(self.bar("sc_S_o_0745"), 90)
+        self.assertIn("allow nothing", self.browser.text("#tip"))
+        self.browser.let_go()
+        self.assertEqual(self.script(), "")
+
+    def test_changed_folder(self) -> None:
+        """What another program writes into the folder is seen without a hand."""
+        (self.town / "edits.csv").write_text("cancel,sc_S_o_0825\n")
+        self.wait_for("The folder has changed")
+        self.browser.wait(lambda: not self.browser.run("return !!document.querySelector(arguments[0])", self.bar("sc_S_o_0825")))
+        self.browser.click("#tab-Edits")
+        self.assertIn("record 1: ok", self.browser.text("#records"))
+
+    def test_suggestions_and_files(self) -> None:
+        """Suggestions, keeping and writing say what the program says."""
+        self.browser.click("#tab-Edits")
+        self.browser.click("#suggest-audit")
+        self.browser.wait(lambda: "12 vehicles, 0 empty minutes; 1 vehicle above the least" in self.browser.text("#suggested"))
+        self.browser.click("#export-blocks")
+        self.browser.wait(lambda: "fixed 11, vehicles 11, minutes 0" in self.browser.text("#answered"))
+        self.assertTrue((self.town / "prices.csv").is_file())
+        self.browser.click("#keep")
+        self.browser.wait(lambda: "kept 0 records" in self.browser.text("#answered"))
+        self.assertEqual(self.browser.run(CONTRASTS, LEAST_CONTRAST), [])
+        self.assertEqual(self.browser.errors(), [])

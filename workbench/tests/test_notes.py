@@ -1,0 +1,490 @@
+"""Notes: each mistake that the program accepts in silence has one, and a clean town has none."""
+from __future__ import annotations
+
+import json
+import sqlite3
+import unittest
+from contextlib import closing
+from pathlib import Path
+
+from desk import program
+from desk.errors import DeskError
+from desk.notes import MOST_OF_A_KIND, notes_of
+from desk.notes_note import Note
+from desk.town import Town
+from tests.feeds import Feed, FolderTest, demonstration, needs_program, table, write_feed, zip_feed
+
+TIMES = "trip_id,arrival_time,departure_time,stop_id,stop_sequence"
+
+CLEAN: Feed = {
+    "stops.txt": """stop_id,stop_name,stop_lat,stop_lon,parent_station
+stn,Station,52.10,-0.45,
+stn_a,"Station, bay A",52.10,-0.45,stn
+stn_b,"Station, bay B",52.10,-0.45,stn
+har_1,Harbour Gate,52.13,-0.41,
+hos_1,Hospital,52.07,-0.48,
+zoo_1,Zoo,52.05,-0.48,
+""",
+    "calendar.txt": """service_id,monday,tuesday,wednesday,thursday,friday,saturday,sunday,start_date,end_date
+weekday,1,1,1,1,1,0,0,20260901,20261231
+saturday,0,0,0,0,0,1,0,20260901,20261231
+""",
+    "trips.txt": """route_id,service_id,trip_id,block_id
+line_1,weekday,W1,today.1
+line_1,weekday,W2,today.1
+line_2,weekday,W3,today.2
+line_1,saturday,S1,rest.1
+""",
+    "stop_times.txt": TIMES + """
+W1,06:00:00,06:00:00,stn_a,1
+W1,06:20:00,06:20:00,har_1,2
+W2,06:30:00,06:30:00,har_1,1
+W2,06:50:30,06:50:30,stn_b,2
+W3,07:00:00,07:00:00,stn_b,1
+W3,07:20:00,07:20:00,hos_1,2
+S1,09:00:00,09:00:00,stn_a,1
+S1,09:30:00,09:30:00,zoo_1,2
+""",
+    "desk.toml": 'date = "20260907"\nlayover = 5\nblock_prefix = "V"\n\n[layovers]\nStation = 8\nZoo = 3\n',
+    "terminals.csv": 'stop_id,terminal\nstn_a,Station\nstn_b,Station\nhar_1,Harbour\nhos_1,"Station, Hospital"\nzoo_1,Zoo\n',
+    "deadheads.csv": table("from,to,minutes", [
+        ("Station", "Harbour", 12), ("Harbour", "Station", 14), ("Station", "Station, Hospital", 9), ("Station, Hospital", "Station", 9),
+        ("Harbour", "Station, Hospital", 20), ("Station, Hospital", "Harbour", 20), ("Depot", "Station", 4), ("Station", "Depot", 4),
+        ("Depot", "Harbour", 9), ("Harbour", "Depot", 9)]),
+    "depot.csv": 'terminal,pull_out,pull_in\nStation,4,4\nHarbour,9,9\n"Station, Hospital",8,8\nZoo,7,7\n',
+    "tolerances.csv": "trip_id,early,late\nW1,0,2\nS1,5,5\n",
+    "edits.csv": "shift,W1,+1\nshow\n",
+}
+"""A town that has no notes. A terminal, a layover, a pull and a tolerance are of other days, and the depot is a place on the way."""
+
+SILENT = {
+    "a date outside the calendar": ("desk.toml", "20260907", "20270907", "no-trips"),
+    "a day on which nothing runs": ("desk.toml", "20260907", "20260906", "no-trips"),
+    "a service in capitals": ("desk.toml", 'date = "20260907"', 'services = ["Weekday"]', "no-such-service"),
+    "a layover of a misspelt terminal": ("desk.toml", "Station = 8", "Staton = 8", "no-such-key"),
+    "a tolerance below the layovers": ("desk.toml", "Station = 8", "late = 3", "key-below-table"),
+    "a misspelt name of a deadhead": ("deadheads.csv", "Station,Harbour,12", "Station,Harbur,12", "no-such-place"),
+    "a platform in the deadheads": ("deadheads.csv", "Depot,Station,4", "Depot,stn_a,4", "no-such-place"),
+    "a space in a name of the deadheads": ("deadheads.csv", "Station,Harbour,12", "Station, Harbour,12", "no-such-place"),
+    "a space in a quoted name": ("deadheads.csv", 'Station,"Station, Hospital"', 'Station,"Station,Hospital"', "no-such-place"),
+    "a misspelt name in the depot": ("depot.csv", "Harbour", "Harbuor", "no-such-place"),
+    "a platform in the depot": ("depot.csv", "Station,4", "stn_b,4", "no-such-place"),
+    "no blocks of today": ("trips.txt", ",block_id", ",other", "no-block-id"),
+    "blocks of other days": ("trips.txt", "rest.1", "V1", "blocks-of-other-days"),
+}
+"""Mistakes that the program accepts: the file, what stands in it, what is written in its place, and the kind of the note."""
+
+
+def silent_feed(name: str) -> Feed:
+    """The clean town with a mistake."""
+    file, right, wrong, _ = SILENT[name]
+    if right not in CLEAN[file]:
+        raise AssertionError(f"{right} is not in {file}")
+    return CLEAN | {file: CLEAN[file].replace(right, wrong, 1)}
+
+
+class NotesTest(FolderTest):
+    """A test of the notes of a town."""
+
+    def notes(self, feed: Feed | None = None, **changed: str) -> list[Note]:
+        """The notes of a feed, or of the clean town, where other texts stand in some files."""
+        names = {name: name.replace("__", ".") for name in changed}
+        write_feed(self.room / "town", (CLEAN if feed is None else feed) | {names[name]: text for name, text in changed.items()})
+        return notes_of(Town(self.room / "town"))
+
+    def only(self, kind: str, notes: list[Note]) -> Note:
+        """The one note of a kind."""
+        of_kind = [note for note in notes if note.kind == kind]
+        self.assertEqual(len(of_kind), 1, notes)
+        return of_kind[0]
+
+    def keep(self, *lines: str) -> None:
+        """Makes the journal of the town with these lines."""
+        with closing(sqlite3.connect(self.room / "town" / "journal.db")) as database, database:
+            database.execute("CREATE TABLE journal(seq INTEGER PRIMARY KEY, line TEXT NOT NULL)")
+            database.executemany("INSERT INTO journal(line) VALUES (?)", [(line,) for line in lines])
+
+
+class TestSilentMistakes(NotesTest):
+    """What the program accepts in silence."""
+
+    def test_a_clean_town_has_no_notes(self) -> None:
+        self.assertEqual(self.notes(), [])
+
+    def test_each_mistake_has_a_note(self) -> None:
+        for name, (file, _, _, kind) in SILENT.items():
+            with self.subTest(name):
+                note = self.only(kind, self.notes(silent_feed(name)))
+                self.assertEqual(note.file, file)
+                self.assertTrue(note.found and note.do)
+
+    @needs_program
+    def test_the_program_accepts_each_of_them(self) -> None:
+        for name in SILENT:
+            with self.subTest(name):
+                feed = {file: text for file, text in silent_feed(name).items() if file != "edits.csv"}
+                outcome = program.run(["blocks", write_feed(self.room / "town", feed)])
+                self.assertEqual((outcome.status, outcome.errors), (0, b""))
+
+    @needs_program
+    def test_the_program_accepts_the_clean_town(self) -> None:
+        outcome = program.run(["check", write_feed(self.room / "town", CLEAN)])
+        self.assertNotEqual(outcome.status, 3, outcome.text)
+
+
+class TestDays(NotesTest):
+    """Notes on the day and its services."""
+
+    def toml(self, text: str) -> list[Note]:
+        """The notes of the clean town with this `desk.toml`."""
+        return self.notes(desk__toml=text)
+
+    def test_dates_near_to_one_without_trips_are_told(self) -> None:
+        note = self.only("no-trips", self.toml('date = "20260906"\n'))
+        self.assertIn("20260905 (Saturday, 1 trips)", note.do)
+        self.assertIn("20260907 (Monday, 3 trips)", note.do)
+        self.assertIn("20260906, a Sunday", note.found)
+
+    def test_the_range_of_the_calendars_is_told(self) -> None:
+        note = self.only("no-trips", self.toml('date = "20300101"\n'))
+        self.assertIn("from 20260901 to 20261231", note.found)
+        self.assertIn("20261231 (Thursday, 3 trips)", note.do)
+
+    def test_a_day_without_trips_makes_no_other_notes(self) -> None:
+        self.assertEqual({note.kind for note in self.toml('date = "20260906"\n')}, {"no-trips"})
+
+    def test_no_calendar_covers_the_time(self) -> None:
+        calendar = CLEAN["calendar.txt"].replace("1,1,1,1,1", "0,0,0,0,0").replace("1,0,202", "0,0,202")
+        self.assertIn("Ask the agency", self.only("no-trips", self.notes(calendar__txt=calendar)).do)
+
+    def test_a_date_without_calendars(self) -> None:
+        note = self.only("no-trips", self.notes({name: text for name, text in CLEAN.items() if name != "calendar.txt"}))
+        self.assertIn("Copy them", note.do)
+
+    def test_a_feed_without_trips(self) -> None:
+        self.assertIn("no trip", self.only("no-trips", self.notes(trips__txt="service_id,trip_id\n")).found)
+
+    def test_a_service_of_other_capitals_is_told_with_the_right_one(self) -> None:
+        note = self.only("no-such-service", self.toml('services = ["Weekday", "saturday"]\n'))
+        self.assertIn('Write "weekday"', note.do)
+
+    def test_a_service_that_is_unlike_all_is_told_with_those_there_are(self) -> None:
+        self.assertIn('"weekday", "saturday"', self.only("no-such-service", self.toml('services = ["x", "weekday"]\n')).do)
+
+    def test_an_empty_list_of_services(self) -> None:
+        self.assertIn("empty", self.only("no-such-service", self.toml("services = []\n")).found)
+
+    def test_a_service_that_does_not_run_that_day(self) -> None:
+        note = self.only("no-service-that-day", self.toml('date = "20260907"\nservices = ["weekday", "saturday"]\nblock_prefix = "V"\n'))
+        self.assertIn('"saturday" does not run on 20260907, a Monday', note.found)
+
+    def test_all_days_at_once(self) -> None:
+        note = self.only("all-days", self.toml("layover = 5\n"))
+        self.assertIn("2 services", note.found)
+        self.assertIn('date = "20260901"', note.do)
+
+    def test_one_service_needs_no_date(self) -> None:
+        trips = CLEAN["trips.txt"].replace("line_1,saturday,S1,rest.1\n", "")
+        self.assertNotIn("all-days", {note.kind for note in self.notes(trips__txt=trips, desk__toml='block_prefix = "V"\n')})
+
+
+class TestSettings(NotesTest):
+    """Notes on the tables of `desk.toml`."""
+
+    def keys(self, lines: str, kind: str = "no-such-key") -> Note:
+        """The note of a table behind the date."""
+        return self.only(kind, self.notes(desk__toml='date = "20260907"\nlayover = 5\nblock_prefix = "V"\n' + lines))
+
+    def test_the_nearest_terminal_is_told(self) -> None:
+        self.assertIn('Write "Station"', self.keys("[layovers]\nStaton = 8\n").do)
+
+    def test_a_platform_in_the_layovers(self) -> None:
+        self.assertIn('"stn_a" is a platform of the terminal "Station"', self.keys("[layovers]\nstn_a = 8\n").found)
+
+    def test_a_station_in_the_layovers(self) -> None:
+        self.assertIn('whose platforms are the terminal "Station"', self.keys("[layovers]\nstn = 8\n").found)
+
+    def test_the_name_of_a_stop_in_words(self) -> None:
+        self.assertIn('Write "Harbour"', self.keys('[layovers]\n"Harbour Gate" = 8\n').do)
+
+    def test_a_name_that_is_unlike_all(self) -> None:
+        self.assertIn('"Qq" is no place of the feed', self.keys("[layovers]\nQq = 8\n").found)
+
+    def test_each_key_of_the_top_is_told_below_a_table(self) -> None:
+        for key in ("late", "early", "layover", "date"):
+            with self.subTest(key):
+                note = self.keys(f"[layovers]\n{key} = 8\n", "key-below-table")
+                self.assertIn(f"`{key}` stands below [layovers]", note.found)
+                self.assertIn("above [layovers]", note.do)
+
+    def test_a_prefix_below_the_classes(self) -> None:
+        note = self.keys('[classes]\nblock_prefix = "X"\n', "key-below-table")
+        self.assertIn("the class of a route", note.found)
+
+    def test_a_class_of_no_route(self) -> None:
+        self.assertIn('Write "line_1"', self.keys('[classes]\nLine_1 = "big"\n').do)
+        self.assertIn("is no route", self.keys('[classes]\nqq = "big"\n').found)
+
+    def test_a_class_of_a_route_has_no_note(self) -> None:
+        settings = 'date = "20260907"\nblock_prefix = "V"\n[classes]\nline_1 = "big"\n[layovers]\nHarbour = 2\n'
+        self.assertEqual(self.notes(desk__toml=settings), [])
+
+    def test_a_terminal_that_is_named_as_a_key(self) -> None:
+        terminals = CLEAN["terminals.csv"].replace("Harbour", "late")
+        ways, depot = (CLEAN[name].replace("Harbour", "late") for name in ("deadheads.csv", "depot.csv"))
+        toml = CLEAN["desk.toml"] + "late = 3\n"
+        self.assertEqual(self.notes(terminals__csv=terminals, deadheads__csv=ways, depot__csv=depot, desk__toml=toml), [])
+
+
+class TestFiles(NotesTest):
+    """Notes on names of files."""
+
+    def test_files_with_names_like_those_that_are_read(self) -> None:
+        for wrong, right in (("terminal.csv", "terminals.csv"), ("deadhead.csv", "deadheads.csv"), ("desk.toml.txt", "desk.toml"),
+                             ("Depot.csv", "depot.csv"), ("deadheads.xlsx", "deadheads.csv"), ("tolerances (1).csv", "tolerances.csv"),
+                             ("dead heads.csv", "deadheads.csv"), ("calender.txt", "calendar.txt"), ("edits.txt", "edits.csv")):
+            with self.subTest(wrong):
+                folder = write_feed(self.room / wrong, CLEAN)
+                (folder / right).rename(folder / wrong)
+                note = self.only("file-name", notes_of(Town(folder)))
+                self.assertEqual(note.file, wrong)
+                self.assertIn(right, note.do)
+
+    def test_both_names_stand_in_the_folder(self) -> None:
+        note = self.only("file-name", self.notes(CLEAN | {"deadhead.csv": "from,to,minutes\n"}))
+        self.assertIn("deadheads.csv is, which stands there too", note.found)
+
+    def test_copies_and_files_of_the_agency_have_no_note(self) -> None:
+        others = ["desk.toml.bak", "edits_old.csv", "deadheads (1).csv", "edits2.csv", "edits-20260907.csv", "Copy of depot.csv",
+                  "trips.txt~", "stops.txt", "routes.txt", "shapes.txt", "trips_blocks.txt", "stop_times_blocks.txt", "blocks.csv",
+                  "prices.csv", "boards.csv", "notes.txt", "desk.html", ".desk.toml.swp", "deadheads.xlsx", "before-keep-edits.csv",
+                  "tolerances.py"]
+        self.assertEqual(self.notes(CLEAN | dict.fromkeys(others, "stop_id,stop_name\n")), [])
+
+
+class TestPlaces(NotesTest):
+    """Notes on names in `deadheads.csv`, `depot.csv` and `terminals.csv`."""
+
+    def test_the_record_and_the_terminal_are_told(self) -> None:
+        note = self.only("no-such-place", self.notes(silent_feed("a platform in the deadheads")))
+        self.assertEqual(note.record, 7)
+        self.assertIn('"stn_a" is a platform of the terminal "Station"', note.found)
+
+    def test_spaces_and_capitals_are_told(self) -> None:
+        for name, words in ((" Harbour", "by spaces"), ("harbour", "by capitals"), ("HAR BOUR", "by spaces and capitals")):
+            with self.subTest(name):
+                ways = CLEAN["deadheads.csv"].replace("Station,Harbour,12", f"Station,{name},12")
+                self.assertIn(words, self.only("no-such-place", self.notes(deadheads__csv=ways)).found)
+
+    def test_a_name_of_several_records_is_told_once(self) -> None:
+        ways = CLEAN["deadheads.csv"] + "Qq,Station,3\nStation,Qq,3\n"
+        note = self.only("no-such-place", self.notes(deadheads__csv=ways))
+        self.assertEqual(note.record, 11)
+        self.assertIn("2 records have no effect", note.found)
+
+    def test_a_misspelt_name_that_stands_for_its_terminal_everywhere(self) -> None:
+        note = self.only("no-such-place", self.notes(deadheads__csv=CLEAN["deadheads.csv"].replace("Harbour", "Harbuor")))
+        self.assertIn("takes it for another place", note.found)
+
+    def test_a_terminal_of_other_days_has_no_note(self) -> None:
+        ways = CLEAN["deadheads.csv"] + "Zoo,Station,30\nStation,Zoo,30\n"
+        self.assertEqual(self.notes(deadheads__csv=ways), [])
+
+    def test_a_name_that_the_depot_alone_has(self) -> None:
+        note = self.only("no-such-place", self.notes(depot__csv=CLEAN["depot.csv"] + "Nowhere,1,1\n"))
+        self.assertEqual((note.file, note.record), ("depot.csv", 5))
+
+    def test_two_spellings_of_a_terminal(self) -> None:
+        note = self.only("two-spellings", self.notes(terminals__csv=CLEAN["terminals.csv"].replace("stn_b,Station", "stn_b,station")))
+        self.assertEqual(note.record, 2)
+
+    def test_a_stop_that_is_misspelt(self) -> None:
+        note = self.only("no-such-stop", self.notes(terminals__csv=CLEAN["terminals.csv"].replace("zoo_1", "Zoo_1")))
+        self.assertIn('"zoo_1"', note.do)
+
+
+class TestWays(NotesTest):
+    """Notes on the ways of `deadheads.csv`."""
+
+    def ways(self, *records: tuple[str, str, int]) -> list[Note]:
+        """The notes of the clean town with these ways and no depot."""
+        return self.notes(deadheads__csv=table("from,to,minutes", records))
+
+    def test_a_terminal_that_no_deadhead_reaches(self) -> None:
+        notes = self.ways(("Station", "Harbour", 12), ("Harbour", "Station", 12))
+        self.assertIn('to or away from "Station, Hospital"', self.only("no-way", notes).found)
+
+    def test_a_terminal_that_no_deadhead_leaves(self) -> None:
+        notes = self.ways(("Station", "Harbour", 12), ("Harbour", "Station", 12), ("Harbour", "Station, Hospital", 9))
+        self.assertIn('leads away from "Station, Hospital"', self.only("no-way", notes).found)
+        self.assertIn('from "Station, Hospital" to "Harbour"', self.only("one-way", notes).do)
+        self.assertEqual(self.only("one-way", notes).record, 3)
+
+    def test_a_town_without_deadheads_has_no_such_note(self) -> None:
+        self.assertEqual(self.notes({name: text for name, text in CLEAN.items() if name != "deadheads.csv"}), [])
+
+    def test_a_way_that_takes_much_longer_than_over_others(self) -> None:
+        ways = CLEAN["deadheads.csv"].replace('Harbour,"Station, Hospital",20', 'Harbour,"Station, Hospital",200')
+        note = self.only("slow-way", self.notes(deadheads__csv=ways))
+        self.assertEqual(note.record, 5)
+        self.assertIn('by way of "Station" it takes 22', note.found)
+
+    def test_a_way_that_takes_much_longer_than_the_way_back(self) -> None:
+        notes = self.ways(("Station", "Harbour", 12), ("Harbour", "Station", 120))
+        self.assertIn("the way back takes 12, record 1", self.only("slow-way", notes).found)
+
+    def test_a_way_that_is_a_little_longer_has_no_note(self) -> None:
+        notes = self.ways(("Station", "Harbour", 12), ("Harbour", "Station", 15))
+        self.assertNotIn("slow-way", {note.kind for note in notes})
+
+
+class TestTrips(NotesTest):
+    """Notes on repeated trips, blocks, tolerances and whole minutes."""
+
+    def test_repeated_trips_are_told(self) -> None:
+        feed = demonstration() | {"desk.toml": 'date = "20070606"\n'}
+        notes = [note for note in self.notes(feed) if note.kind == "repeated-trip"]
+        self.assertEqual([(note.file, note.record) for note in notes], [("frequencies.txt", number) for number in (1, 2, 3)])
+        self.assertIn('"STBA" runs every 1800 seconds from 6:00:00 to 22:00:00', notes[0].found)
+
+    def test_a_repeated_trip_of_another_day_has_no_note(self) -> None:
+        self.assertEqual(self.notes(CLEAN | {"frequencies.txt": "trip_id,start_time,end_time,headway_secs\nS1,6:00:00,8:00:00,600\n"}), [])
+
+    def test_repeated_trips_that_were_written_out_have_no_note(self) -> None:
+        self.desk("new", zip_feed(self.room / "demo.zip", demonstration()), self.room / "town")
+        notes = notes_of(Town(self.room / "town"))
+        self.assertNotIn("repeated-trip", {note.kind for note in notes})
+
+    def test_some_trips_have_no_block_of_today(self) -> None:
+        note = self.only("no-block-id", self.notes(trips__txt=CLEAN["trips.txt"].replace("W2,today.1", "W2,")))
+        self.assertEqual(note.record, 2)
+        self.assertIn("1 of 3 trips", note.found)
+
+    def test_a_free_prefix_is_told(self) -> None:
+        note = self.only("blocks-of-other-days", self.notes(trips__txt=CLEAN["trips.txt"].replace("rest.1", "B2"),
+                                                            desk__toml='date = "20260907"\n'))
+        self.assertEqual(note.record, 4)
+        self.assertIn('block_prefix = "V"', note.do)
+
+    def test_a_block_that_write_cannot_name_has_no_note(self) -> None:
+        for block in ("B4", "B02", "B", "b2", "B2x"):
+            with self.subTest(block):
+                self.assertEqual(self.notes(trips__txt=CLEAN["trips.txt"].replace("rest.1", block), desk__toml='date = "20260907"\n'), [])
+
+    def test_a_tolerance_of_no_trip(self) -> None:
+        for name, words in ((" W2", "by spaces"), ("w2", "by capitals"), ("Qqqqq", "is no trip")):
+            with self.subTest(name):
+                note = self.only("no-such-trip", self.notes(tolerances__csv=f"trip_id,early,late\n{name},1,1\n"))
+                self.assertIn(words, note.found)
+                self.assertEqual(note.record, 1)
+
+    def test_trips_that_miss_each_other_by_less_than_a_minute(self) -> None:
+        times = CLEAN["stop_times.txt"].replace("06:50:30", "06:50:10").replace("07:00:00", "06:58:40")
+        note = self.only("whole-minutes", self.notes(stop_times__txt=times))
+        self.assertIn('"W3" departs at 06:58:40 and "W2" arrives there at 06:50:10 with a layover of 8 minutes', note.found)
+        self.assertIn("shift,W3,+1", note.do)
+
+    def test_trips_that_fit_or_miss_by_more_have_no_such_note(self) -> None:
+        for arrives, departs in (("06:50:00", "06:58:40"), ("06:50:10", "06:59:00"), ("06:50:10", "06:58:05"), ("06:50:50", "06:58:40")):
+            with self.subTest(f"{arrives} {departs}"):
+                times = CLEAN["stop_times.txt"].replace("06:50:30", arrives).replace("07:00:00", departs)
+                self.assertEqual(self.notes(stop_times__txt=times), [])
+
+
+class TestScripts(NotesTest):
+    """Notes on `edits.csv` and the journal."""
+
+    def script(self, script: str, *kept: str) -> list[Note]:
+        """The notes of the clean town with this script and these lines in its journal."""
+        write_feed(self.room / "town", CLEAN | {"edits.csv": script})
+        self.keep(*kept)
+        return notes_of(Town(self.room / "town"))
+
+    def test_a_script_that_begins_with_the_journal(self) -> None:
+        notes = self.script("shift,W1,1\ncancel,W2\ncancel,W3\n", "shift,W1,+1", "cancel,W2")
+        self.assertIn("records 1 to 2", self.only("kept-twice", notes).found)
+        self.assertEqual(self.only("not-kept", notes).record, 3)
+
+    def test_a_script_that_was_kept_and_goes_on(self) -> None:
+        notes = self.script("shift,W1,+1\nshow\ncancel,W2\n", "undo", "shift,W1,+1")
+        self.assertIn("record 1 is in the journal", self.only("kept-twice", notes).found)
+        self.assertEqual(self.only("not-kept", notes).record, 3)
+
+    def test_a_script_that_is_the_journal(self) -> None:
+        self.assertEqual([note.kind for note in self.script("cancel,W2\n", "cancel,W2")], ["kept-twice"])
+
+    def test_a_script_that_was_not_kept(self) -> None:
+        note = self.only("not-kept", self.script("cancel,W3\nshow\nnonsense\n", "cancel,W2"))
+        self.assertIn("1 edit is not in the journal, and `kept` would write over them", note.found)
+
+    def test_a_journal_that_is_no_database(self) -> None:
+        self.assertIn("no database", self.only("unreadable", self.notes(CLEAN | {"journal.db": "x" * 2000})).found)
+
+
+class TestAnswers(NotesTest):
+    """How notes are told."""
+
+    def test_the_text_and_the_status(self) -> None:
+        town = write_feed(self.room / "town", silent_feed("a platform in the depot"))
+        status, text, errors = self.desk("notes", town)
+        self.assertEqual(status, 1)
+        self.assertNotIn("desk:", errors)
+        self.assertEqual(text, 'depot.csv record 1: "stn_b" is a platform of the terminal "Station"; the record has no effect. '
+                               'Write "Station".\nnotes 1\n')
+
+    def test_a_clean_town_has_status_0(self) -> None:
+        self.assertEqual(self.desk("notes", write_feed(self.room / "town", CLEAN))[:2], (0, "notes 0\n"))
+
+    def test_json(self) -> None:
+        town = write_feed(self.room / "town", silent_feed("a platform in the depot"))
+        status, text, _ = self.desk("notes", town, "--json")
+        self.assertEqual(status, 1)
+        self.assertEqual([sorted(note) for note in json.loads(text)["notes"]], [["do", "file", "found", "kind", "record"]])
+        self.assertEqual(self.desk("notes", write_feed(self.room / "other", CLEAN), "--json")[:2], (0, '{\n  "notes": []\n}\n'))
+
+    def test_many_notes_of_a_kind_are_counted(self) -> None:
+        rows = [(f"Qq{number}", "Station", 5) for number in range(30)] + [("Station", f"Qq{number}", 5) for number in range(30)]
+        write_feed(self.room / "town", CLEAN | {"deadheads.csv": CLEAN["deadheads.csv"] + table("Station,Qq0,5", rows[:30])})
+        _, text, _ = self.desk("notes", self.room / "town")
+        self.assertIn(f"{30 - MOST_OF_A_KIND} more notes are like the last ones of no-such-place", text)
+
+    def test_a_file_that_cannot_be_read_is_a_note_and_others_are_told(self) -> None:
+        notes = self.notes(deadheads__csv="from;to;minutes\nStation;Harbour;9\n", depot__csv=CLEAN["depot.csv"].replace("Harbour", "har_1"))
+        note = self.only("unreadable", notes)
+        self.assertEqual((note.file, note.found), ("deadheads.csv", "no column from"))
+        self.assertIn("semicolons", note.do)
+
+    def test_settings_that_are_not_toml(self) -> None:
+        for text, words in (("layover: 5\n", "line 1"), ("layover = " + "9" * 5000, "too large"), ("x = " + "[" * 5000, "too deep"),
+                            ("layover = 0x" + "f" * 5000, "too large")):
+            with self.subTest(words):
+                note, = self.notes(desk__toml=text)
+                self.assertEqual((note.kind, note.file), ("unreadable", "desk.toml"))
+                self.assertIn(words, note.do)
+
+    def test_a_feed_without_trips_txt(self) -> None:
+        notes = self.notes({name: text for name, text in CLEAN.items() if name != "trips.txt"} | {"Trips.txt": CLEAN["trips.txt"]})
+        self.assertIn("Rename it", self.only("unreadable", notes).do)
+        self.assertEqual(self.only("file-name", notes).file, "Trips.txt")
+
+    def test_more_trips_than_may_be_planned(self) -> None:
+        trips = table("service_id,trip_id,block_id", [("weekday", f"T{number}", "x") for number in range(5000)])
+        note = self.only("unreadable", self.notes(trips__txt=trips))
+        self.assertIn("5000 trips", note.do)
+
+    def test_what_is_no_folder_is_an_error_in_words(self) -> None:
+        town = write_feed(self.room / "town", CLEAN)
+        for word, said in ((zip_feed(self.room / "agency.zip", CLEAN), "is a zip"), (town / "trips.txt", f"Give its folder, {town}"),
+                           (self.room / "twon", f"{self.room / 'town'}")):
+            with self.subTest(word.name):
+                status, text, errors = self.desk("notes", word)
+                self.assertEqual((status, text), (1, ""))
+                self.assertIn(said, errors)
+
+    def test_a_folder_of_another_feed_is_told_by_an_exception(self) -> None:
+        with self.assertRaises(DeskError):
+            notes_of(Town(Path(self.room / "nowhere")))
+
+
+if __name__ == "__main__":
+    unittest.main()

@@ -1,0 +1,349 @@
+"""The server of `desk open`: whom it answers, and what a session writes."""
+from __future__ import annotations
+
+import http.client
+import json
+import re
+import shutil
+import signal
+import socket
+import subprocess
+import threading
+from pathlib import Path
+from typing import Any
+
+from desk.errors import DeskError, UsageError
+from desk.keeping import NOTHING, canonical
+from desk.program import ROOT
+from desk.session import CHANGED, Session
+from desk.web import MOST_BODY, STATIC, WebServer
+from tests.feeds import FolderTest, needs_program
+
+TOKEN = "the-token-of-the-tests"
+
+
+class StandIn:
+    """A session that says what it was told."""
+
+    def __init__(self) -> None:
+        self.told: list[Any] = []
+
+    def day(self) -> dict[str, Any]:
+        return {"day": {"title": "</script>\udcff"}}
+
+    def state(self) -> dict[str, Any]:
+        raise DeskError("two\nlines")
+
+    def edit(self, asked: dict[str, Any]) -> dict[str, Any]:
+        self.told.append(asked)
+        return {"done": True}
+
+    def suggest(self, asked: dict[str, Any]) -> dict[str, Any]:
+        raise UsageError("this is no suggestion")
+
+    keep = export = edit
+
+
+class WebTest(FolderTest):
+    """Requests of all kinds to a server whose session is a stand-in."""
+
+    def setUp(self) -> None:
+        super().setUp()
+        self.session = StandIn()
+        self.server = WebServer(self.session, TOKEN)  # type: ignore[arg-type]
+        thread = threading.Thread(target=self.server.serve_forever, kwargs={"poll_interval": 0.02}, daemon=True)
+        thread.start()
+        self.addCleanup(thread.join)
+        self.addCleanup(self.server.server_close)
+        self.addCleanup(self.server.shutdown)
+        self.host = f"127.0.0.1:{self.server.server_port}"
+
+    def ask(self, method: str, path: str, headers: dict[str, str] | None = None,
+            body: bytes | None = None) -> tuple[int, dict[str, str], bytes]:
+        """The status, the headers and the body of an answer."""
+        connection = http.client.HTTPConnection("127.0.0.1", self.server.server_port, timeout=30)
+        try:
+            connection.putrequest(method, path, skip_host=True)
+            for name, value in ({"Host": self.host} | (headers or {})).items():
+                if value:
+                    connection.putheader(name, value)
+            connection.endheaders(body)
+            answer = connection.getresponse()
+            return answer.status, {name.lower(): value for name, value in answer.getheaders()}, answer.read()
+        finally:
+            connection.close()
+
+    def tell(self, name: str, body: bytes, **headers: str) -> int:
+        """The status of an answer to a body, with the headers of the page itself or with these."""
+        of_page = {"Origin": f"http://{self.host}", "Content-Type": "application/json", "Content-Length": str(len(body))}
+        given = {key.replace("_", "-"): value for key, value in headers.items()}
+        return self.ask("POST", f"/{TOKEN}/{name}", of_page | given, body)[0]
+
+    def test_page(self) -> None:
+        """The page and all that it names are answered, with headers that keep it to itself."""
+        for name in ("", "index.html", "page.css", *(path.name for path in STATIC.glob("*.js"))):
+            status, headers, body = self.ask("GET", f"/{TOKEN}/{name}")
+            self.assertEqual((status, body), (200, (STATIC / (name or "index.html")).read_bytes()), name)
+            policy = headers["content-security-policy"]
+            self.assertIn("default-src 'none'; script-src 'self'; style-src 'self'", policy)
+            self.assertNotIn("unsafe", policy)
+            self.assertIn("frame-ancestors 'none'", policy)
+            others = [headers[name] for name in ("cache-control", "referrer-policy", "x-content-type-options")]
+            self.assertEqual(others, ["no-store", "no-referrer", "nosniff"])
+        self.assertEqual(self.server.server_address[0], "127.0.0.1")
+
+    def test_names_alone(self) -> None:
+        """Nothing but the fixed names is answered, whatever way leads to a file."""
+        secret = ROOT / "workbench" / "desk" / "web.py"
+        self.assertTrue(secret.is_file())
+        for name in ("../web.py", "..%2fweb.py", "%2e%2e/web.py", str(secret), "/" + str(secret), "index.html/", "index.html?x",
+                     "index.html#x", "./index.html", "//index.html", "INDEX.HTML", "day/", "edit", "__init__.py", "edits.csv",
+                     "page.css%00", "\\..\\web.py", "static/page.css"):
+            status, _, body = self.ask("GET", f"/{TOKEN}/{name}")
+            self.assertEqual(status, 404, name)
+            self.assertNotIn(b"import", body)
+
+    def test_token(self) -> None:
+        """Without the token nothing is answered."""
+        for path in ("/", "/index.html", "/day", f"/{TOKEN}", f"/{TOKEN}x/", f"/{TOKEN[:-1]}/", f"/x/{TOKEN}/", f"/?{TOKEN}/", "*",
+                     f"http://{self.host}/{TOKEN}/", "/%74he-token-of-the-tests/"):
+            self.assertEqual(self.ask("GET", path)[0], 404, path)
+        self.assertEqual(self.tell("../edit", b"{}"), 404)
+        self.assertEqual(self.session.told, [])
+
+    def test_host(self) -> None:
+        """A request for another host is refused, as one by a name that leads to this machine."""
+        port = self.server.server_port
+        for host in ("evil.example", f"evil.example:{port}", "127.0.0.1", "127.0.0.1:1", f"127.0.0.2:{port}",
+                     f"{self.host}.evil.example", f"evil.example@{self.host}", "localhost", ""):
+            status, _, body = self.ask("GET", f"/{TOKEN}/day", {"Host": host})
+            self.assertEqual(status, 403, host)
+            self.assertNotIn(b"script", body)
+            self.assertEqual(self.tell("edit", b"{}", Host=host), 403, host)
+        self.assertEqual(self.ask("GET", f"/{TOKEN}/day", {"Host": f"localhost:{port}"})[0], 200)
+        self.assertEqual(self.session.told, [])
+
+    def test_two_hosts(self) -> None:
+        """A request that names two hosts is refused."""
+        with socket.create_connection(("127.0.0.1", self.server.server_port), timeout=30) as line:
+            line.sendall(f"GET /{TOKEN}/day HTTP/1.1\r\nHost: {self.host}\r\nHost: evil.example\r\n\r\n".encode())
+            self.assertIn(b" 403 ", line.makefile("rb").readline())
+
+    def test_origin(self) -> None:
+        """A request of another origin is refused, and one that tells something has to name its own."""
+        for origin in ("http://evil.example", "https://" + self.host, "null", f"http://localhost:{self.server.server_port}",
+                       f"http://{self.host}/", "http://127.0.0.1"):
+            self.assertEqual(self.tell("edit", b"{}", Origin=origin), 403, origin)
+            self.assertEqual(self.ask("GET", f"/{TOKEN}/day", {"Origin": origin})[0], 403, origin)
+        self.assertEqual(self.tell("edit", b"{}", Origin=""), 403)
+        for site in ("cross-site", "same-site"):
+            self.assertEqual(self.tell("edit", b"{}", Sec_Fetch_Site=site), 403)
+        self.assertEqual(self.session.told, [])
+        self.assertEqual(self.tell("edit", b'{"edit":"undo"}', Sec_Fetch_Site="same-origin"), 200)
+        self.assertEqual(self.session.told, [{"edit": "undo"}])
+
+    def test_bodies(self) -> None:
+        """A body is JSON of an object, of a length that is told and is not too long."""
+        long = b'{"edit":"' + b"x" * MOST_BODY + b'"}'
+        self.assertEqual(self.tell("edit", long), 413)
+        self.assertEqual(self.tell("edit", b"{}", Content_Length="99999999999999999999"), 413)
+        for length in ("", "-1", "1e3", "0x2", " ", "\xb2"):
+            self.assertEqual(self.tell("edit", b"{}", Content_Length=length), 411, length)
+        self.assertEqual(self.tell("edit", b"2\r\n{}\r\n0\r\n\r\n", Transfer_Encoding="chunked"), 411)
+        for kind in ("", "text/plain", "application/x-www-form-urlencoded", "multipart/form-data"):
+            self.assertEqual(self.tell("edit", b"{}", Content_Type=kind), 415, kind)
+        for body in (b"", b"{", b"[]", b"7", b'"edit"', b"null", b"[" * 60_000, b"\xff{}"):
+            self.assertEqual(self.tell("edit", body), 400, body[:9])
+        self.assertEqual(self.session.told, [])
+        fits = b'{"edit":"' + b"x" * (MOST_BODY - 11) + b'"}'
+        self.assertEqual((len(fits), self.tell("edit", fits)), (MOST_BODY, 200))
+
+    def test_other_methods(self) -> None:
+        """There is nothing but asking and telling."""
+        for method in ("PUT", "DELETE", "OPTIONS", "HEAD", "TRACE", "CONNECT", "PATCH", "get"):
+            self.assertEqual(self.ask(method, f"/{TOKEN}/day")[0], 501, method)
+
+    def test_errors(self) -> None:
+        """Errors are told in words on one line, and names in JSON never end a script."""
+        self.assertEqual(json.loads(self.ask("GET", f"/{TOKEN}/state")[2]), {"error": "two\\nlines"})
+        self.assertEqual(self.tell("suggest", b"{}"), 400)
+        body = self.ask("GET", f"/{TOKEN}/day")[2]
+        self.assertNotIn(b"<", body)
+        self.assertEqual(json.loads(body), {"day": {"title": "</script>?"}})
+
+    def test_noise(self) -> None:
+        """Bytes that are no request end their connection, and the next request is answered."""
+        for noise in (b"\x00\xff\n\n", b"GET\r\n\r\n", b"GET / HTTP/9.9\r\n\r\n", b"A" * 70_000 + b"\r\n\r\n",
+                      b"POST / HTTP/1.1\r\n" + b"X: y\r\n" * 200 + b"\r\n"):
+            with socket.create_connection(("127.0.0.1", self.server.server_port), timeout=30) as line:
+                line.sendall(noise)
+                line.shutdown(socket.SHUT_WR)
+                try:
+                    while line.recv(65_536):
+                        pass
+                except ConnectionResetError:
+                    pass
+        self.assertEqual(self.ask("GET", f"/{TOKEN}/")[0], 200)
+
+
+class OpenWordsTest(FolderTest):
+    """The words of `desk open`, where it does not come to serve."""
+
+    def test_words(self) -> None:
+        """Words of no form, a folder that is not there, and a port that is none."""
+        self.assertEqual(self.desk("open")[0], 2)
+        self.assertEqual(self.desk("open", self.room / "nowhere")[::2], (1, f"desk: {self.room / 'nowhere'} is no folder\n"))
+        self.assertEqual(self.desk("open", self.room, "--planner", "")[0], 2)
+        for port in ("-1", "65536", "x"):
+            self.assertEqual(self.desk("open", self.room, f"--port={port}")[0], 2)
+
+
+@needs_program
+class OpenTest(FolderTest):
+    """`desk open` as it is run."""
+
+    def test_open(self) -> None:
+        """It puts the address, answers there and nowhere else, and ends with status 0 when it is stopped."""
+        town = self.room / "town"
+        shutil.copytree(ROOT / "examples" / "depot", town, ignore=shutil.ignore_patterns("expected"))
+        with subprocess.Popen([ROOT / "desk", "open", town], stdout=subprocess.PIPE, stderr=subprocess.PIPE, text=True) as running:
+            self.addCleanup(running.kill)
+            line = running.stdout.readline()
+            found = re.fullmatch(r"open http://(127\.0\.0\.1:\d+)(/[\w-]{32}/) in a browser of this machine; Ctrl\+C ends\n", line)
+            self.assertIsNotNone(found, line)
+            connection = http.client.HTTPConnection(found[1], timeout=60)
+            connection.request("GET", found[2] + "day")
+            day = json.load(connection.getresponse())["day"]
+            self.assertEqual(day["numbers"], {"fixed": 2, "vehicles": 1, "minutes": 45})
+            running.send_signal(signal.SIGINT)
+            self.assertEqual((running.wait(30), running.stderr.read()), (0, ""))
+
+    def test_refused_feed(self) -> None:
+        """A feed that the program refuses is told before a page is served."""
+        self.assertEqual(self.desk("open", self.room)[::2], (1, f"desk: {self.room}: feed refused: trips.txt: missing\n"))
+
+
+@needs_program
+class SessionTest(FolderTest):
+    """What a session writes into a town, with the answers of the program."""
+
+    def setUp(self) -> None:
+        super().setUp()
+        self.town = self.room / "town"
+        shutil.copytree(ROOT / "examples" / "edits", self.town, ignore=shutil.ignore_patterns("expected", "*.csv"))
+        for name in ("deadheads.csv", "tolerances.csv"):
+            shutil.copy(ROOT / "examples" / "edits" / name, self.town)
+        self.session = Session(self.town)
+
+    def script(self, name: str = "edits.csv") -> str:
+        path: Path = self.town / name
+        return path.read_text() if path.is_file() else ""
+
+    def edit(self, **edit: object) -> dict[str, Any]:
+        """The answer to an edit of the day as it stands."""
+        return self.session.edit(edit | {"state": self.session.day()["day"]["state"]})
+
+    def test_edits(self) -> None:
+        """An accepted edit is one record, and says what it changes; a refused one leaves nothing but its words."""
+        answer = self.edit(edit="shift", trip="U2", shift=1)
+        self.assertEqual((answer["done"], answer["said"]), (True, "record 1: ok, fixed 2, vehicles 1, minutes 31"))
+        self.assertEqual((answer["moved"], answer["day"]["numbers"]), (["U2"], {"vehicles": 1, "minutes": 31, "fixed": 2}))
+        self.assertEqual(self.script(), "shift,U2,+1\n")
+        refused = self.edit(edit="shift", trip="U2", shift=1)
+        self.assertEqual(refused, {"done": False, "said": "record 2: refused, U2: outside tolerance (+2)"})
+        self.assertEqual(self.script(), "shift,U2,+1\n")
+        self.assertTrue(self.edit(edit="undo")["done"])
+        again = self.edit(edit="redo")
+        self.assertEqual((self.script(), again["day"]["undo"], again["day"]["redo"]), ("shift,U2,+1\nundo\nredo\n", "shift,U2,+1", None))
+        self.assertFalse((self.town / "blocks.csv").exists())
+
+    def test_extra_and_cancel(self) -> None:
+        """Extra trips come in, cancelled ones go and come back."""
+        answer = self.edit(edit="extra", trip="E, 1", **{"from": "B", "to": "C"}, departs="6:40", arrives="06:50")
+        self.assertEqual([trip["id"] for trip in answer["day"]["trips"] if trip["runs"]], ["U1", "U2", "E, 1"])
+        cancelled = self.edit(edit="cancel", trip="E, 1")["day"]
+        self.assertEqual([trip["id"] for trip in cancelled["trips"] if not trip["runs"]], ["E, 1"])
+        self.assertTrue(self.edit(edit="restore", trip="E, 1")["done"])
+        self.assertEqual(self.script(), 'extra,"E, 1",B,C,6:40,06:50\ncancel,"E, 1"\nrestore,"E, 1"\n')
+
+    def test_changed_folder(self) -> None:
+        """Where another program has changed the folder, the day is read again and nothing is written."""
+        state = self.session.day()["day"]["state"]
+        (self.town / "edits.csv").write_text("cancel,U1\n")
+        self.assertNotEqual(self.session.state()["state"], state)
+        answer = self.session.edit({"edit": "shift", "trip": "U2", "shift": 1, "state": state})
+        self.assertEqual((answer["done"], answer["said"], answer["day"]["script"][0]["text"]), (False, CHANGED, "cancel,U1"))
+        self.assertEqual(self.script(), "cancel,U1\n")
+
+    def test_changed_meanwhile(self) -> None:
+        """What another program writes while the program tries an edit is not lost."""
+        state = self.session.day()["day"]["state"]
+        tried = self.session._tried
+
+        def try_and_change(*words: Any) -> Any:
+            """Tries an edit, and writes into the folder as somebody else would."""
+            after = tried(*words)
+            (self.town / "edits.csv").write_text("cancel,U1\n")
+            return after
+
+        self.session._tried = try_and_change  # type: ignore[method-assign]
+        answer = self.session.edit({"edit": "shift", "trip": "U2", "shift": 1, "state": state})
+        self.assertEqual((answer["done"], answer["said"], self.script()), (False, CHANGED, "cancel,U1\n"))
+
+    def test_open_quote(self) -> None:
+        """A script behind which no record can be put is told, and stays."""
+        (self.town / "edits.csv").write_text('cancel,"U1\n')
+        with self.assertRaisesRegex(DeskError, "quote"):
+            self.session.day()
+        self.assertEqual(self.script(), 'cancel,"U1\n')
+
+    def test_suggestions(self) -> None:
+        """The suggestions are those of the program, of the day as it stands."""
+        self.assertEqual(self.session.suggest({"word": "shifts"})["found"], {"refused": [], "shifts": [], "sum": 2})
+        self.assertEqual(self.session.suggest({"word": "audit"})["found"]["vehicles"], 2)
+        for word in ("blocks", "keep", None, ["audit"]):
+            with self.assertRaises(UsageError):
+                self.session.suggest({"word": word})
+
+    def test_keep(self) -> None:
+        """What is kept already is not kept again."""
+        self.edit(edit="shift", trip="U2", shift=1)
+        self.assertEqual(self.session.keep({})["said"], "journal 0 records\nrecord 1: ok\nkept 1 records\n")
+        self.assertEqual(self.session.keep({})["said"], NOTHING)
+        self.edit(edit="cancel", trip="U1")
+        self.assertEqual(self.session.keep({})["said"], "journal 1 records\nrecord 1: ok\nkept 2 records\n")
+        self.assertEqual(self.script(), "shift,U2,+1\ncancel,U1\n")
+        self.assertEqual(canonical(("extra", "E", "A", "B", "7:05", " 08:00")), ("extra", "E", "A", "B", "07:05", "08:00"))
+
+    def test_export(self) -> None:
+        """The files of the plan are written into the town, and the page says that they are of it."""
+        self.assertEqual(self.session.day()["day"]["written"], "missing")
+        answer = self.session.export({"what": "blocks"})
+        self.assertIn("fixed 2, vehicles 2, minutes 0", answer["said"])
+        self.assertEqual(answer["day"]["written"], "same")
+        self.assertIn("sum 2, blocks 2", self.session.export({"what": "boards"})["said"])
+        self.assertIn("wrote trips_blocks.txt", self.session.export({"what": "feed"})["said"])
+        self.assertTrue(self.edit(edit="shift", trip="U2", shift=1)["done"])
+        self.assertEqual(self.session.day()["day"]["written"], "other")
+        for what in ("../x", None, ["blocks"], {}):
+            with self.assertRaises(UsageError):
+                self.session.export({"what": what})
+
+    def test_planners(self) -> None:
+        """A planner's edits have the name before them, and an undo that is held says by whom."""
+        ann, bob = Session(self.town, "ann"), Session(self.town, "bob")
+
+        def edit(session: Session, **words: object) -> dict[str, Any]:
+            return session.edit(words | {"state": session.day()["day"]["state"]})
+
+        self.assertTrue(edit(ann, edit="shift", trip="U2", shift=1)["done"])
+        self.assertTrue(edit(bob, edit="cancel", trip="U2")["done"])
+        held = edit(ann, edit="undo")
+        self.assertEqual((held["done"], held["said"]), (False, "planner 3: refused, U2: held by record 2 (bob: cancel, U2)"))
+        self.assertEqual(self.script("planner_edits.csv"), "ann,shift,U2,+1\nbob,cancel,U2\n")
+        day = ann.day()["day"]
+        standing = [(edit["planner"], edit["text"]) for edit in day["planners"]["standing"]]
+        self.assertEqual(standing, [("ann", "shift,U2,+1"), ("bob", "cancel,U2")])
+        self.assertEqual((day["planner"], day["numbers"]["vehicles"], self.script()), ("ann", 1, ""))
+        with self.assertRaises(UsageError):
+            ann.keep({})
