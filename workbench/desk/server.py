@@ -8,18 +8,15 @@ import sys
 import webbrowser
 from pathlib import Path
 
+from desk import program
 from desk.edits import writing
 from desk.errors import DeskError, UsageError
 from desk.files import reason
-from desk.program import ROOT
 from desk.session import Session
 from desk.web import WebServer
 
 WORD = "open"
 HELP = "the day in a browser of this machine: see it, change it, and the proof beside it"
-
-BUILT = ROOT / "crates" / "blockdesk" / "out" / "blockdesk"
-"""Where the launcher builds the program, with a checksum of the sources beside it."""
 
 
 def add_arguments(parser: argparse.ArgumentParser) -> None:
@@ -54,9 +51,11 @@ def run(arguments: argparse.Namespace) -> int:
 
 
 def run_directly() -> None:
-    """Names the program that the launcher has just run. The launcher compares all sources in each run, and an edit makes three."""
-    if "BLOCKDESK" not in os.environ and BUILT.with_name("blockdesk.sum").is_file():
-        os.environ["BLOCKDESK"] = str(BUILT)
+    """Names the program itself, where the launcher tells its path. The launcher compares all sources in each run, and an edit makes three."""
+    if "BLOCKDESK" not in os.environ:
+        told = program.run(["--program"])
+        if told.status == 0:
+            os.environ["BLOCKDESK"] = os.fsdecode(told.text).rstrip("\n")
 
 
 def serve(server: WebServer, browser: bool) -> None:

@@ -123,12 +123,15 @@ class LookTest(BrowserTest):
     def test_search_and_filter(self) -> None:
         """A search goes from trip to trip, and a filter leaves rows and the rest of their trips back."""
         self.open(400)
+        self.browser.click("#tab-Terminals")
         self.browser.type("#search", "L3-")
         self.assertRegex(self.browser.text("#search-count"), r"^1 of \d+ trips$")
         self.browser.keys("Enter")
         self.assertRegex(self.browser.text("#search-count"), "^2 of ")
         found, = self.names(".bar.found")
         self.assertTrue(found.startswith("L3-"))
+        box, frame = self.box(".bar.found"), self.box("#panel-Vehicles .frame")
+        self.assertTrue(frame["top"] < box["top"] and box["bottom"] < frame["bottom"])
         self.browser.keys("Escape")
         self.assertEqual(self.browser.run(FOCUSED), found)
         self.choose("#filter-line", "line 3")
@@ -173,8 +176,9 @@ class LookTest(BrowserTest):
           return mark ? mark.getAttribute('y1') + mark.getAttribute('stroke-dasharray') : 'none'; })""")
         self.assertEqual(len(set(marks)), 7)
         self.assertEqual(self.browser.texts("#legend span")[-4:], ["layover", "empty running", "from and to the depot", "waiting"])
-        fills = self.browser.run("return [...document.querySelectorAll('.bar .running')].map((bar) => bar.getAttribute('fill'))")
-        self.assertEqual(set(fills), {"url(#hatch)", "url(#hatch-depot)"})
+        falls = self.browser.run("""return ['.empty .hatch path', '.out .hatch path', '.home .hatch path']
+          .map((kind) => document.querySelector(kind).getAttribute('d').match(/^M\\S+ (\\S+)L/)[1] === '0')""")
+        self.assertEqual(falls, [False, True, True])
 
     def test_contrast(self) -> None:
         """All texts stand out from what is behind them."""

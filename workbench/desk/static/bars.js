@@ -1,6 +1,7 @@
 /** Bars in the row of a vehicle: trips with their layover, empty running, and waiting. */
 
 import { svg } from "./elements.js";
+import { hatched } from "./hatch.js";
 import { firstThatFits, shortened } from "./labels.js";
 import { markOf } from "./lines.js";
 import { signed } from "./times.js";
@@ -17,15 +18,6 @@ export const SIZES = {
   middle: { row: 24, top: 3, bar: 18, places: false, labels: true },
   low: { row: 11, top: 1.5, bar: 8, places: false, labels: false },
 };
-
-/** The fills that all drawings of the page share. */
-export function drawFills() {
-  const stripes = (id, turn) => svg("pattern",
-    { id, width: 5, height: 5, patternUnits: "userSpaceOnUse", patternTransform: `rotate(${turn})` },
-    svg("rect", { width: 5, height: 5, fill: "#fff" }), svg("rect", { width: 1.7, height: 5, fill: "#4d5866" }));
-  const fills = svg("defs", {}, stripes("hatch", 45), stripes("hatch-depot", -45));
-  return svg("svg", { class: "fills", width: 0, height: 0, "aria-hidden": "true" }, fills);
-}
 
 /** Draws a bar. `look` has the styles of lines, and what is dim, found, or changed. */
 export function drawBar(bar, scale, size, look) {
@@ -47,14 +39,13 @@ function drawBetween(bar, x, until, size) {
     const reach = svg("rect", { class: "body reach", x, y: size.top, width: until - x, height: size.bar });
     return [reach, svg("line", { class: "waiting", x1: x, x2: until, y1: middle, y2: middle })];
   }
-  const fill = bar.kind === "empty" ? "url(#hatch)" : "url(#hatch-depot)";
-  const height = size.bar * 0.6;
-  const body = svg("rect", { class: "body running", x, y: middle - height / 2, width: until - x, height, fill });
+  const height = Math.round(size.bar * 0.6);
+  const running = hatched({ x, y: middle - height / 2, width: until - x, height }, until - x, bar.kind !== "empty");
   if (bar.kind === "empty") {
-    return [body];
+    return running;
   }
   const depot = bar.kind === "out" ? x : until;
-  return [body, svg("line", { class: "depot", x1: depot, x2: depot, y1: size.top, y2: size.top + size.bar })];
+  return [...running, svg("line", { class: "depot", x1: depot, x2: depot, y1: size.top, y2: size.top + size.bar })];
 }
 
 /** The parts of a trip: layover, body, mark, label and places. */

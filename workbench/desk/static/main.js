@@ -1,7 +1,7 @@
 /** The page: a day that stands in it, or the day of `desk open`, which can be changed. */
 
 import { byId } from "./elements.js";
-import { SIZES, drawFills } from "./bars.js";
+import { SIZES } from "./bars.js";
 import { Chart } from "./chart.js";
 import { Day } from "./day.js";
 import { Editing } from "./editing.js";
@@ -147,14 +147,16 @@ class Page {
   /** Shows a bar among the vehicles, whatever is in front. */
   go(bar) {
     if (bar) {
-      byId("tab-Vehicles").click();
       this.uncover(bar);
       this.chart.focus(bar);
     }
   }
 
-  /** Leaves a filter that hides a bar. */
+  /** Brings the vehicles to the front, and leaves a filter that hides a bar. */
   uncover(bar) {
+    if (byId("panel-Vehicles").hidden) {
+      byId("tab-Vehicles").click();
+    }
     if (!this.vehicles.positions.has(bar.row)) {
       this.filters.clear();
     }
@@ -236,7 +238,6 @@ class Page {
 /** Begins with the day that stands in the page, or asks the server for it. */
 async function begin() {
   const stands = byId("day");
-  document.body.append(drawFills());
   const page = new Page(stands === null);
   if (stands) {
     page.show(JSON.parse(stands.textContent));

@@ -4,6 +4,7 @@ Places are in shares of the width, so any paper is filled. Labels are chosen so 
 
 import { drawPlaces } from "./bars.js";
 import { byId, html, svg } from "./elements.js";
+import { hatched } from "./hatch.js";
 import { firstThatFits } from "./labels.js";
 import { legendOf } from "./legend.js";
 import { markOf } from "./lines.js";
@@ -12,6 +13,7 @@ import { clock } from "./times.js";
 
 const FEW = 16;
 const WIDTH = 940;
+const WIDEST = 1600;
 const STEPS = 42;
 const FONT = "9px 'DejaVu Sans', Verdana, 'Segoe UI', sans-serif";
 
@@ -116,12 +118,13 @@ class Sheet {
     if (bar.kind === "wait") {
       return [svg("line", { class: "waiting", x1: this.at(bar.from), x2: this.at(bar.until), y1: middle, y2: middle })];
     }
-    const fill = bar.kind === "empty" ? "url(#hatch)" : "url(#hatch-depot)";
-    const running = this.box(bar.from, bar.until, middle - 4, 8, { class: "running", fill });
+    const share = this.share(bar.until) - this.share(bar.from);
+    const box = { x: this.at(bar.from), y: middle - 4, width: `${share}%`, height: 8 };
+    const running = hatched(box, (share / 100) * WIDEST, bar.kind !== "empty");
     if (bar.kind === "empty") {
-      return [running];
+      return running;
     }
-    return [running, this.upright("depot", bar.kind === "out" ? bar.from : bar.until, top, top + height)];
+    return [...running, this.upright("depot", bar.kind === "out" ? bar.from : bar.until, top, top + height)];
   }
 
   /** A trip, with its line and its departure or its name where they fit. */

@@ -7,7 +7,9 @@ const MORE = 6;
 const HOURS = 26;
 
 export class Rows {
-  /** `source` has `day` once there is one, `count()`, `height()`, `draw(row)` and `name(row)`; it may have `top`, a height, and `drawTop()`. */
+  /** `source` has `day`, once there is one, and `count()`, `height()`, `draw(row)` and `name(row)`.
+
+  What it draws above the rows is as high as its `top`, and comes from `drawTop()`. */
   constructor(host, scale, source, left) {
     this.scale = scale;
     this.source = source;
