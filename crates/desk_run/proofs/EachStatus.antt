@@ -1,6 +1,6 @@
 -- When each status of a command comes, from what its run did.
-use Rattle.std.proofs.Common.{◌≡◌, ◌⊎◌, ℕ, ◌+◌, ◌≤◌, inl, inr, Bool, true, false, List, [], ◌∷◌, get_or, take, Some, None, refl, sym, ap, ◌∙◌, subst, arith}
-use Rattle.std.specs.Prelude.{Option, IfSome, IsSome, is_some, option_map}
+use Rattle.std.proofs.Common.{◌≡◌, ◌⊎◌, ℕ, inl, inr, Bool, true, false, List, [], ◌∷◌, get_or, take, Some, None, refl, sym, ap, ◌∙◌, subst, arith}
+use Rattle.std.specs.Prelude.{Option, IsSome, is_some}
 use Rattle.std.proofs.lemmas.List.Folds.{map_fixed}
 use Rattle.std.proofs.lemmas.Simd.{map-map}
 use Rattle.desk_io.specs.Faults.{Rose, NoneCounted}
@@ -9,7 +9,7 @@ use Rattle.gtfs_tables.specs.declared.paper.Paper.{Paper}
 use Rattle.desk_keeper.specs.Keeper.{Journal, KeeperState}
 use Rattle.desk_run.specs.Becomes.{with_writings, with_appended}
 use Rattle.desk_run.specs.Causes.{HasCause, IsComplete}
-use Rattle.desk_run.specs.Commands.{Asked, IsCounted, IsEnding, IsReadIn, told, told_both, told_journal}
+use Rattle.desk_run.specs.Commands.{Asked, IsEnding, IsReadIn}
 use Rattle.desk_run.specs.Outcome.{status_of}
 use Rattle.desk_run.specs.Reading.{ReadView, AreRead, IsLoaded, page_in, pages_in}
 use Rattle.desk_run.specs.Runs.{HasEnded, IsCutShort, IsUnkept, RunsAs}
@@ -26,23 +26,6 @@ pages_told files papers pages read =
     sym (map_fixed (λ (page : Page). page_in files page.paper) pages (λ k d lt i. record { paper = (get_or pages k d).paper; found = sym (read.told k d lt) i }))
     ∙ sym (map-map (page_in files) (λ (page : Page). page.paper) pages) ∙ ap (λ ps. pages_in ps files) read.named
 
--- what a command has read is what is told, where it is
-told_by : (papers : List Paper) (keeps : Bool) (files : Option Files) (journal : Option Journal) (read : ReadView) → AreRead files papers read.pages → IsLoaded keeps journal read.journal
-    → IfSome (told_both (option_map (pages_in papers) files) (told_journal keeps journal)) (λ all. read ≡ all)
-told_by papers keeps None journal read pages loaded = tt
-told_by papers false (Some files) journal read pages loaded = λ i. record { pages = pages_told files papers read.pages pages i; journal = loaded i }
-told_by papers true (Some files) None read pages loaded = tt
-told_by papers true (Some files) (Some journal) read pages loaded = λ i. record { pages = pages_told files papers read.pages pages i; journal = loaded i }
-
--- what is said of what an option holds
-each_some : {A : Type 0} {P Q : A → Type 0} (o : Option A) → ((a : A) → P a → Q a) → IfSome o P → IfSome o Q
-each_some None go p = tt
-each_some (Some a) go p = go a p
-
-any_some : {A : Type 0} {P : A → Type 0} (o : Option A) → ((a : A) → P a) → IfSome o P
-any_some None all = tt
-any_some (Some a) all = all a
-
 -- what was read of the papers and of the journal that a command asks for is what it reads of the world
 pub read_in : (asked : Asked) (before : World) (papers : List Paper) (keeps : Bool) (read : ReadView) → papers ≡ asked.papers → keeps ≡ asked.keeps
     → AreRead before.shelf.files papers read.pages → IsLoaded keeps before.keeper.journal read.journal → IsReadIn asked before read
@@ -50,11 +33,6 @@ read_in asked before papers keeps read papers_are keeps_are pages loaded = recor
   pages = subst (λ papers. AreRead before.shelf.files papers read.pages) papers_are pages;
   journal = subst (λ keeps. IsLoaded keeps before.keeper.journal read.journal) keeps_are loaded;
 }
-
--- steps that are no more than what was read allows are no more than what is told allows
-pub counted_by : (asked : Asked) (before : World) (read : ReadView) (old new : ℕ) → IsReadIn asked before read → new ≤ old + asked.most read → IsCounted asked before old new
-counted_by asked before read old new from few =
-    each_some (told asked before) (λ all is. subst (λ r. new ≤ old + asked.most r) is few) (told_by asked.papers asked.keeps before.shelf.files before.keeper.journal read from.pages from.journal)
 
 no_usage : (e : Ending) → status_of e ≡ USAGE → ⊥
 no_usage ending.Done is = omega (arith, is)
@@ -79,14 +57,13 @@ keeps_lines false lines none some = sym (ap is_some (none refl)) ∙ some
 not_risen : (before now : ℕ) → NoneCounted before now → Rose before now → ⊥
 not_risen before now none rose = omega (arith, none.same, none.below, rose)
 
-module _ (asked : Asked) (before after : World) (status : ℕ) where
-  ended_by : HasEnded asked before after status → IfSome (told asked before) (λ read. IsEnding asked read status)
+module _ (asked : Asked) (found : Option ReadView) (before after : World) (status : ℕ) where
+  ended_by : HasEnded asked found before after status → IsEnding asked found status
   ended_by ended =
       let chosen = ended.chosen in
-      each_some (told asked before) (λ read is. record { ending = chosen.outcome.ending; ends = subst (λ r. asked.Ends r chosen.outcome.ending) is chosen.given.ends; answered = ended.answered })
-      (told_by asked.papers asked.keeps before.shelf.files before.keeper.journal chosen.read chosen.told.pages chosen.told.journal)
+      record { read = chosen.read; is = chosen.is; ending = chosen.outcome.ending; ends = chosen.given.ends; answered = ended.answered }
 
-  quiet : HasEnded asked before after status → NoCountRose before after
+  quiet : HasEnded asked found before after status → NoCountRose before after
   quiet ended =
       let outcome = ended.chosen.outcome in
       record {
@@ -96,16 +73,16 @@ module _ (asked : Asked) (before after : World) (status : ℕ) where
         keeper_faults = ap (λ (w : World). w.keeper.faults) ended.carried ∙ appended_quiet outcome.lines before.keeper;
       }
 
-  write_rose : IsCutShort asked before after → Rose before.shelf.write_faults after.shelf.write_faults ⊎ Rose before.sink.faults after.sink.faults
+  write_rose : IsCutShort asked found before after → Rose before.shelf.write_faults after.shelf.write_faults ⊎ Rose before.sink.faults after.sink.faults
   write_rose (chosen, inl file) =
       inl (subst (λ n. Rose n after.shelf.write_faults) (written_quiet (take file.shelf.count chosen.outcome.writes) before.shelf).1 file.shelf.shelf.rose)
   write_rose (chosen, inr text) = inr text.sink.rose
 
-  keeper_rose : IsUnkept asked before after → (asked.keeps ≡ true) × Rose before.keeper.faults after.keeper.faults
+  keeper_rose : IsUnkept asked found before after → (asked.keeps ≡ true) × Rose before.keeper.faults after.keeper.faults
   keeper_rose (inl unloaded) = (unloaded.asked, unloaded.keeper.rose)
   keeper_rose (inr (chosen, lines)) = (keeps_lines asked.keeps chosen.outcome.lines chosen.given.unkept lines.some, lines.keeper.rose)
 
-  pub has_cause : RunsAs asked before after status → HasCause asked before after status
+  pub has_cause : RunsAs asked found before after status → HasCause asked found before after status
   has_cause runs = record {
     ended = λ low. ended_by (runs.ended low);
     no_usage = λ two. (let ended = runs.ended (omega (arith, two)) in no_usage ended.chosen.outcome.ending (sym ended.answered ∙ two));
@@ -116,19 +93,19 @@ module _ (asked : Asked) (before after : World) (status : ℕ) where
     no_other = runs.no_other;
   }
 
-  pub is_complete : RunsAs asked before after status → IsComplete asked before after status
-  is_complete runs = elim runs.no_other [
-    | inl low ↦ each_some (told asked before) (λ read is none. inl is) (ended_by (runs.ended low))
+  pub is_complete : RunsAs asked found before after status → IsComplete asked found before after status
+  is_complete runs none = elim runs.no_other [
+    | inl low ↦ inl (ended_by (runs.ended low))
     | inr other ↦ elim other [
-      | inl five ↦ any_some (told asked before) (λ read none. absurd (not_risen _ _ none.read_faults (runs.read_fault five).shelf.rose))
+      | inl five ↦ absurd (not_risen _ _ none.read_faults (runs.read_fault five).shelf.rose)
       | inr more ↦ elim more [
-        | inl six ↦ any_some (told asked before) (λ read none. elim (write_rose (runs.write_fault six)) [
+        | inl six ↦ elim (write_rose (runs.write_fault six)) [
           | inl write ↦ absurd (not_risen _ _ none.write_faults write)
           | inr put ↦ absurd (not_risen _ _ none.sink_faults put)
-        ])
+        ]
         | inr last ↦ elim last [
-          | inl seven ↦ any_some (told asked before) (λ read none. absurd (not_risen _ _ none.keeper_faults (keeper_rose (runs.keeper_fault seven)).1))
-          | inr eight ↦ any_some (told asked before) (λ read none. inr eight)
+          | inl seven ↦ absurd (not_risen _ _ none.keeper_faults (keeper_rose (runs.keeper_fault seven)).1)
+          | inr eight ↦ inr eight
         ]
       ]
     ]

@@ -1,13 +1,14 @@
 -- When each status of a command comes.
-use Rattle.std.specs.Prelude.{◌≡◌, ◌≢◌, ◌⊎◌, ℕ, ◌≤◌, true, IfSome}
+use Rattle.std.specs.Prelude.{◌≡◌, ◌≢◌, ◌⊎◌, ℕ, ◌≤◌, true, Option}
 use Rattle.desk_io.specs.Faults.{Rose}
-use Rattle.desk_run.specs.Commands.{Asked, IsEnding, told}
+use Rattle.desk_run.specs.Commands.{Asked, IsEnding}
+use Rattle.desk_run.specs.Reading.{ReadView}
 use Rattle.desk_run.specs.World.{World, NoCountRose, NoFaultCounted}
 use Rattle.desk_run.specs.declared.status.TheConstants.{USAGE, NO, READ_FAULT, WRITE_FAULT, KEEPER_FAULT, NO_MEMORY}
 
-pub record HasCause (asked : Asked) (before after : World) (status : ℕ) : Type 0 where
-  -- the status of an ending to which what is told leads
-  pub ended : status ≤ NO → IfSome (told asked before) (λ read. IsEnding asked read status)
+pub record HasCause (asked : Asked) (found : Option ReadView) (before after : World) (status : ℕ) : Type 0 where
+  -- the status of an ending to which what was read leads
+  pub ended : status ≤ NO → IsEnding asked found status
   -- the status of words of no form is no command's
   pub no_usage : status ≢ USAGE
   -- a read failed
@@ -20,7 +21,6 @@ pub record HasCause (asked : Asked) (before after : World) (status : ℕ) : Type
   pub quiet : status ≤ NO → NoCountRose before after
   pub no_other : (status ≤ NO) ⊎ (status ≡ READ_FAULT) ⊎ (status ≡ WRITE_FAULT) ⊎ (status ≡ KEEPER_FAULT) ⊎ (status ≡ NO_MEMORY)
 
--- which status comes where what a command reads is told and no fault was counted
-abbrev pub IsComplete : Asked → World → World → ℕ → Type 0
-IsComplete asked before after status =
-    IfSome (told asked before) (λ read. NoFaultCounted before after → IsEnding asked read status ⊎ (status ≡ NO_MEMORY))
+-- which status comes where no fault was counted
+abbrev pub IsComplete : Asked → Option ReadView → World → World → ℕ → Type 0
+IsComplete asked found before after status = NoFaultCounted before after → IsEnding asked found status ⊎ (status ≡ NO_MEMORY)

@@ -1,14 +1,17 @@
 -- All that is promised of the run of a command.
-use Rattle.std.specs.Prelude.{ℕ}
+use Rattle.std.specs.Prelude.{ℕ, IfSome, Option}
 use Rattle.desk_run.specs.Causes.{HasCause, IsComplete}
-use Rattle.desk_run.specs.Commands.{Asked, IsCounted}
+use Rattle.desk_run.specs.Commands.{Asked, IsCounted, IsReadIn}
+use Rattle.desk_run.specs.Reading.{ReadView}
 use Rattle.desk_run.specs.Runs.{RunsAs}
 use Rattle.desk_run.specs.World.{World}
 
--- By the status: what was written, appended and put; its cause; whether it is one that comes where all is told and no fault was
--- counted. And how many steps were counted at the most.
+-- What was read, where all reads succeeded. By that and the status: what was written, appended and put; its cause; whether it is
+-- one that comes where no fault was counted. And how many steps were counted at the most.
 pub record Performs (asked : Asked) (before after : World) (status old new : ℕ) : Type 0 where
-  pub run : RunsAs asked before after status
-  pub cause : HasCause asked before after status
-  pub complete : IsComplete asked before after status
-  pub counted : IsCounted asked before old new
+  pub found : Option ReadView
+  pub told : IfSome found (IsReadIn asked before)
+  pub run : RunsAs asked found before after status
+  pub cause : HasCause asked found before after status
+  pub complete : IsComplete asked found before after status
+  pub counted : IsCounted asked found old new

@@ -1,6 +1,5 @@
-ghost use Rattle.desk_run.specs.Commands.{IsCounted};
 ghost use Rattle.desk_run.specs.Performs.{Performs};
-ghost use Rattle.desk_run.specs.Runs.{Attempts, RunsAs};
+ghost use Rattle.desk_run.specs.Runs.{Attempts, Follows, RunsAs};
 ghost use Rattle.desk_run.specs.World.{world};
 
 use crate::carrying::carry_out;
@@ -22,9 +21,8 @@ fn attempt<C: Command, S: Shelf, O: Sink, K: Keeper, L: Ledger>(
     keeper: &mut K,
     steps: &mut Steps<L>,
 ) -> Result<u8, RunFault>
-    ensures attempts { let at = world S.state O.state K.state in
-        Attempts (C.asked command.now) result (at shelf.old out.old keeper.old) (at shelf.new out.new keeper.new) }
-    ensures counted { IsCounted (C.asked command.now) (world S.state O.state K.state shelf.old out.old keeper.old) steps.old steps.new }
+    ensures { let at = world S.state O.state K.state in let before = at shelf.old out.old keeper.old in
+        Follows (C.asked command.now) before (λ found. Attempts (C.asked command.now) found result before (at shelf.new out.new keeper.new)) steps.old steps.new }
 {
     let pages = read_papers(alloc, shelf, command.papers())?;
     let journal = load(alloc, keeper, command.keeps())?;
@@ -33,7 +31,7 @@ fn attempt<C: Command, S: Shelf, O: Sink, K: Keeper, L: Ledger>(
     carry_out(alloc, &outcome, shelf, out, keeper)
 }
 
-// The run of a command, apart from `perform`, whose contract follows from these two clauses.
+// The run of a command, apart from `perform`, whose contract follows from this one.
 fn answered<C: Command, S: Shelf, O: Sink, K: Keeper, L: Ledger>(
     command: &C,
     alloc: Global,
@@ -42,9 +40,8 @@ fn answered<C: Command, S: Shelf, O: Sink, K: Keeper, L: Ledger>(
     keeper: &mut K,
     steps: &mut Steps<L>,
 ) -> u8
-    ensures run { let at = world S.state O.state K.state in
-        RunsAs (C.asked command.now) (at shelf.old out.old keeper.old) (at shelf.new out.new keeper.new) result }
-    ensures counted { IsCounted (C.asked command.now) (world S.state O.state K.state shelf.old out.old keeper.old) steps.old steps.new }
+    ensures { let at = world S.state O.state K.state in let before = at shelf.old out.old keeper.old in
+        Follows (C.asked command.now) before (λ found. RunsAs (C.asked command.now) found before (at shelf.new out.new keeper.new) result) steps.old steps.new }
 {
     match attempt(command, alloc, shelf, out, keeper, steps) {
         Ok(status) => status,

@@ -1,6 +1,6 @@
 -- One chain after the other.
 use Rattle.std.proofs.Common.{◌≡◌, ℕ, ◌+◌, ◌<◌, List, [], ◌∷◌, ◌++◌, All, length, ◌≤◌, ℤ, pos, Option, None, Some, sym, ap, subst, ◌∙◌, arith}
-use Rattle.std.specs.Prelude.{codes, ◌↔◌, unsigned_abs}
+use Rattle.std.specs.Prelude.{codes, ◌↔◌, ◌+ℤ◌, unsigned_abs}
 use Rattle.std.proofs.lemmas.List.Elements.{All-cons, All-head, All-nil, All-tail}
 use Rattle.trip_model.specs.declared.trip.Move.{Move}
 use Rattle.trip_model.specs.Deficit.{deficit}
@@ -13,7 +13,7 @@ use Rattle.dh_chains.specs.Chains.{GoesOn, IsDeadhead, IsFirstChain, IsUnitChain
 use Rattle.dh_chains.specs.Lines.{IsBetween, chain_text}
 use Rattle.dh_chains.specs.declared.chain.Chain.{Chain}
 use Rattle.dh_chains.specs.declared.chain.Deadhead.{Deadhead}
-use Rattle.lowering_commands.specs.Chains.{IsChainsText, with_chain}
+use Rattle.lowering_commands.specs.Chains.{IsChainsText, IsPutIn, with_chain}
 use Rattle.lowering_commands.specs.Fleet.{fleet_of, total_line}
 use Rattle.lowering_commands.specs.Step.{HasPut, sum_kept}
 
@@ -63,6 +63,17 @@ sum-held total deficits moves places sum valid held rows is =
 pub sum-moves : SumHeld → (deficits : List (List ℤ)) (moves : List Move) (sum : ℕ) → IsDeficits deficits → Holds deficits moves → pos sum ≡ sum_kept deficits → pos sum ≡ sum_of_maxima (deficit moves) (length deficits)
 sum-moves total deficits moves sum valid held is = is ∙ total deficits moves valid held
 
+-- what was put in is put in with the moves that are held
+put-in-held : SumHeld → ChainsHeld → (matrix : MatrixView) (moves : List Move) (old new : List (List ℤ)) (chain : Chain) → IsDeficits old → IsDeficits new → Holds old moves → Holds new (with_chain moves chain)
+    → length old ≡ length matrix.walks → length new ≡ length old → IsFirstChain (places_of old matrix) chain.first (following chain.second chain.third) → (sum_kept new +ℤ pos 1) ≡ sum_kept old
+    → IsPutIn matrix moves chain
+put-in-held total same matrix moves old new chain valid after held held' rows places first fell = record {
+  first = first-held old moves matrix valid held rows same chain.first (following chain.second chain.third) first;
+  lowers =
+      (λ i. sym (total new (with_chain moves chain) after held' ∙ ap (sum_of_maxima (deficit (with_chain moves chain))) (places ∙ rows)) i +ℤ pos 1)
+      ∙ fell ∙ total old moves valid held ∙ ap (sum_of_maxima (deficit moves)) rows;
+}
+
 -- a chain before the text of the others
 pub chain-before : SumHeld → ChainsHeld → (timetable : TimetableView) (matrix : MatrixView) (moves : List Move) (number : ℕ) (old new : List (List ℤ)) (text_old text_new rest : List ℕ)
     → length timetable.places ≡ length matrix.walks → length old ≡ length matrix.walks → IsDeficits old → IsDeficits new → Holds old moves
@@ -71,7 +82,7 @@ pub chain-before : SumHeld → ChainsHeld → (timetable : TimetableView) (matri
     → IsChainsText timetable matrix moves number (chain_text timetable (number + 1) put.chain put.sum ++ rest)
 chain-before total same timetable matrix moves number old new text_old text_new rest places rows valid after held put is = record {
   chains = put.chain ∷ is.chains;
-  are = (first-held old moves matrix valid held rows same put.chain.first (following put.chain.second put.chain.third) put.first, is.are);
+  are = (put-in-held total same matrix moves old new put.chain valid after held (put.held moves held) rows put.places put.first put.fell, is.are);
   printed = λ i. chain_text timetable (number + 1) put.chain
       (sum-held total new (with_chain moves put.chain) (length timetable.places) put.sum after (put.held moves held) (put.places ∙ rows ∙ sym places) put.sum_is i) ++ is.printed i;
 }

@@ -1,6 +1,7 @@
 -- What `chains` asks, and what it puts of a feed.
-use Rattle.std.specs.Prelude.{◌≡◌, ℕ, ◌+◌, ◌*◌, List, [], ◌∷◌, ◌++◌, length, codes}
+use Rattle.std.specs.Prelude.{◌≡◌, ℕ, ◌+◌, ◌*◌, List, [], ◌∷◌, ◌++◌, length, codes, pos, ◌+ℤ◌}
 use Rattle.trip_model.specs.Deficit.{deficit, live_moves}
+use Rattle.trip_model.specs.Maximum.{sum_of_maxima}
 use Rattle.trip_model.specs.Timetable.{TimetableView}
 use Rattle.trip_model.specs.declared.trip.Move.{Move}
 use Rattle.deadhead_matrix.specs.Matrix.{MatrixView}
@@ -17,10 +18,19 @@ use Rattle.lowering_commands.specs.Fleet.{fleet_of, total_line}
 abbrev pub with_chain : List Move → Chain → List Move
 with_chain moves chain = moves ++ moves_of (deadheads chain)
 
--- chains, each of which is the first one where those before it are put in as moves; and with all of them there is none
+-- the sum of the maxima is smaller by exactly one with a chain besides
+abbrev pub Lowers : MatrixView → List Move → Chain → Type 0
+Lowers matrix moves chain = (sum_of_maxima (deficit (with_chain moves chain)) (length matrix.walks) +ℤ pos 1) ≡ sum_of_maxima (deficit moves) (length matrix.walks)
+
+-- the first chain where those before it are put in as moves, which lowers the sum
+pub record IsPutIn (matrix : MatrixView) (moves : List Move) (chain : Chain) : Type 0 where
+  pub first : IsFirstChain (places_with (deficit moves) matrix) chain.first (following chain.second chain.third)
+  pub lowers : Lowers matrix moves chain
+
+-- chains that are put in one after the other; and with all of them there is none
 abbrev pub AreChains : MatrixView → List Move → List Chain → Type 0
 AreChains matrix moves [] = NoChain (places_with (deficit moves) matrix)
-AreChains matrix moves (c ∷ cs) = IsFirstChain (places_with (deficit moves) matrix) c.first (following c.second c.third) × AreChains matrix (with_chain moves c) cs
+AreChains matrix moves (c ∷ cs) = IsPutIn matrix moves c × AreChains matrix (with_chain moves c) cs
 
 -- their lines, of which so many were put before, each with the sum of the maxima with it; and then how many there are
 abbrev pub chains_text : TimetableView → List Move → ℕ → List Chain → List ℕ

@@ -1,6 +1,6 @@
 -- What `blocks` has written, `check` accepts.
 use Rattle.std.proofs.Common.{◌≡◌, ℕ, ◌≤◌, false, List, [], ◌++◌, length, Option, Some, None, Result, Ok, Err, refl, sym, ap, subst, ◌∙◌, arith}
-use Rattle.std.specs.Prelude.{IfSome}
+use Rattle.std.proofs.lemmas.Option.{none-some, same_Some}
 use Rattle.std.specs.FinMap.{get}
 use Rattle.desk_io.specs.Shelf.{Files, found_as, found_in}
 use Rattle.desk_io.specs.Sink.{put_bytes}
@@ -39,11 +39,10 @@ use Rattle.desk_commands.specs.Answers.{answer_text}
 use Rattle.desk_commands.specs.Blocks.{IsPlan, blocks_asked}
 use Rattle.desk_feed.specs.Feed.{Said, feed_papers, kept_on, lines_by, said_by, said_with, standing}
 use Rattle.desk_feed.specs.Judging.{Does, refused_of, said_in}
-use Rattle.plan_commands.specs.Check.{IsChecked, check_asked, claim_papers, claim_in, claim_outcome, verdict_outcome, yes_line}
+use Rattle.plan_commands.specs.Check.{IsChecked, check_asked, claim_in, claim_outcome, claim_papers, verdict_outcome, yes_line}
 use Rattle.desk_feed.proofs.ScriptLemmas.{standing-places}
-use Rattle.plan_commands.proofs.Given.{put-alone}
 use Rattle.plan_commands.proofs.ScheduleLemmas.{outcome-same}
-use Rattle.two_runs.specs.Confirmed.{IsShort, IsConfirmed}
+use Rattle.two_runs.specs.Confirmed.{IsConfirmed, IsShort, StandAgain}
 use Rattle.two_runs.proofs.TwoFiles.{first-stands, found-short, is_name, others-stand, second-stands, with_two, with_two_told}
 
 -- the files with those of blocks and of prices
@@ -95,15 +94,6 @@ planned_said read outcome given low = by (said_in read) refl given.gives
     by (Ok said) is does = (said, is, does)
     by (Err refused) is does = absurd (omega (arith, low, ap (λ (o : OutcomeView). status_of o.ending) does))
 
--- a run of `check` writes no file
-writes_none : (read : ReadView) (outcome : OutcomeView) → IsGiven check_asked read outcome → outcome.writes ≡ []
-unfolding check_asked
-writes_none read outcome given = by (said_in read) given.gives
-  where
-    by : (result : Result Said FeedFault) → Does (IsChecked read) result outcome → outcome.writes ≡ []
-    by (Ok said) does = ap (λ (o : OutcomeView). o.writes) does.done ∙ (put-alone (refused_of said) (standing said) does.matrix (claim_in read said)).0
-    by (Err refused) does = ap (λ (o : OutcomeView). o.writes) does
-
 -- the files of a shelf with two more, where it tells them
 abbrev with_texts : List ℕ → List ℕ → Option Files → Option Files
 with_texts blocks prices = with_two_told (file_name_of paper.Blocks) blocks (file_name_of paper.Prices) prices
@@ -112,7 +102,7 @@ with_texts blocks prices = with_two_told (file_name_of paper.Blocks) blocks (fil
 abbrev pub MakesMoves : Type 0
 MakesMoves = (timetable : TimetableView) → IsTimetable timetable → AreMoves (length timetable.places) (trip_moves timetable.slots)
 
-module _ (makes : MakesMoves) (before middle after : World) (first second : ℕ) (one : HasEnded blocks_asked before middle first) (two : HasEnded check_asked middle after second) (all : first ≤ EDITS_REFUSED) where
+module _ (makes : MakesMoves) (seen again : Option ReadView) (before left later after : World) (first second : ℕ) (one : HasEnded blocks_asked seen before left first) (two : HasEnded check_asked again later after second) (all : first ≤ EDITS_REFUSED) where
   abbrev planned : (said : Said) × (said_in one.chosen.read ≡ Ok said) × IsPlan said one.chosen.outcome
   planned = planned_said one.chosen.read one.chosen.outcome one.chosen.given (omega (arith, all, one.answered))
 
@@ -139,24 +129,21 @@ module _ (makes : MakesMoves) (before middle after : World) (first second : ℕ)
   text_of_prices = prices_text (standing said) last_plan.leave last_plan.enter
 
   -- the files after the first run, where the shelf tells them
-  files_between : middle.shelf.files ≡ with_texts text_of_blocks text_of_prices before.shelf.files
-  files_between = ap (λ (w : World). w.shelf.files) one.carried ∙ ap (λ (o : OutcomeView). (with_writings o.writes before.shelf).files) plan.planned.done
+  files_left : left.shelf.files ≡ with_texts text_of_blocks text_of_prices before.shelf.files
+  files_left = ap (λ (w : World). w.shelf.files) one.carried ∙ ap (λ (o : OutcomeView). (with_writings o.writes before.shelf).files) plan.planned.done
 
   -- the blocks and the prices are accepted
   accepted : IsAccepted (standing said) plan.matrix said.settings.prefix blocks last_plan.leave last_plan.enter
   accepted = plan.accepted
 
-  module _ (files : Files) (told : before.shelf.files ≡ Some files) (blocks_short : IsShort (written files text_of_blocks text_of_prices) paper.Blocks) (prices_short : IsShort (written files text_of_blocks text_of_prices) paper.Prices) where
-    now : middle.shelf.files ≡ Some (written files text_of_blocks text_of_prices)
-    now = files_between ∙ ap (with_texts text_of_blocks text_of_prices) told
-
+  module _ (files : Files) (told : before.shelf.files ≡ Some files) (found : Files) (told_later : later.shelf.files ≡ Some found) (stands : StandAgain (written files text_of_blocks text_of_prices) found) (blocks_short : IsShort (written files text_of_blocks text_of_prices) paper.Blocks) (prices_short : IsShort (written files text_of_blocks text_of_prices) paper.Prices) where
     read_first : one.chosen.read.pages ≡ pages_in feed_papers files
     unfolding blocks_asked
     read_first = pages_told files feed_papers one.chosen.read.pages (subst (λ fs. AreRead fs feed_papers one.chosen.read.pages) told one.chosen.told.pages)
 
     read_second : two.chosen.read.pages ≡ pages_in claim_papers (written files text_of_blocks text_of_prices)
     unfolding check_asked
-    read_second = pages_told (written files text_of_blocks text_of_prices) claim_papers two.chosen.read.pages (subst (λ fs. AreRead fs claim_papers two.chosen.read.pages) now two.chosen.told.pages)
+    read_second = pages_told found claim_papers two.chosen.read.pages (subst (λ fs. AreRead fs claim_papers two.chosen.read.pages) told_later two.chosen.told.pages) ∙ stands
 
     says : said_in two.chosen.read ≡ Ok said
     says = ap (λ pages. said_by (found_of pages)) read_second ∙ said_kept files text_of_blocks text_of_prices ∙ sym (ap (λ pages. said_by (found_of pages)) read_first) ∙ planned.1
@@ -188,7 +175,7 @@ module _ (makes : MakesMoves) (before middle after : World) (first second : ℕ)
         ∙ ap (claim_outcome (refused_of said) (standing said) plan.matrix) claim
         ∙ ap (verdict_outcome (refused_of said) (standing said) accepted.0) accepted.2
 
-    confirmed : IsConfirmed before after second
+    confirmed : IsConfirmed before left later after second
     confirmed = record {
       answers = answers_by (answer_text plan.matrix said.settings.prefix) said.base said.lines plan.planned.plans (length said.lines);
       refused = refused_of said;
@@ -196,21 +183,20 @@ module _ (makes : MakesMoves) (before middle after : World) (first second : ℕ)
       vehicles = vehicles;
       minutes = minutes;
       yes = two.answered ∙ ap (λ (o : OutcomeView). status_of o.ending) yes;
-      put = ap (λ (w : World). w.sink) two.carried ∙ (λ i. put_bytes (yes i).text ((ap (λ (w : World). w.sink) one.carried ∙ ap (λ (o : OutcomeView). put_bytes o.text before.sink) plan.planned.done) i));
+      planned = ap (λ (w : World). w.sink) one.carried ∙ ap (λ (o : OutcomeView). put_bytes o.text before.sink) plan.planned.done;
+      checked = ap (λ (w : World). w.sink) two.carried ∙ ap (λ (o : OutcomeView). put_bytes o.text later.sink) yes;
     }
 
-  -- and after both
-  files_after : after.shelf.files ≡ with_texts text_of_blocks text_of_prices before.shelf.files
-  files_after =
-      ap (λ (w : World). w.shelf.files) two.carried
-      ∙ ap (λ writes. (with_writings writes middle.shelf).files) (writes_none two.chosen.read two.chosen.outcome two.chosen.given)
-      ∙ files_between
-
-  pub confirms : IfSome after.shelf.files (λ files. IsShort files paper.Blocks → IsShort files paper.Prices → IsConfirmed before after second)
-  confirms = subst (λ fs. IfSome fs (λ files. IsShort files paper.Blocks → IsShort files paper.Prices → IsConfirmed before after second)) (sym files_after) (by before.shelf.files refl)
+  pub confirms : (files found : Files) → left.shelf.files ≡ Some files → later.shelf.files ≡ Some found → StandAgain files found → IsShort files paper.Blocks → IsShort files paper.Prices
+      → IsConfirmed before left later after second
+  confirms files found told_left told_later stands blocks_short prices_short = by before.shelf.files refl
     where
-      by : (o : Option Files) → before.shelf.files ≡ o
-          → IfSome (with_texts text_of_blocks text_of_prices o)
-          (λ files. IsShort files paper.Blocks → IsShort files paper.Prices → IsConfirmed before after second)
-      by None told = tt
-      by (Some files) told = λ blocks_short prices_short. confirmed files told blocks_short prices_short
+      abbrev with_both : Option Files → Option Files
+      with_both = with_texts text_of_blocks text_of_prices
+
+      by : (o : Option Files) → before.shelf.files ≡ o → IsConfirmed before left later after second
+      by None told = absurd (none-some files (sym (ap with_both told) ∙ sym files_left ∙ told_left))
+      by (Some base) told =
+          let same : files ≡ written base text_of_blocks text_of_prices = same_Some files (written base text_of_blocks text_of_prices) (sym told_left ∙ files_left ∙ ap with_both told) in
+          confirmed base told found told_later (subst (λ fs. StandAgain fs found) same stands) (subst (λ fs. IsShort fs paper.Blocks) same blocks_short)
+          (subst (λ fs. IsShort fs paper.Prices) same prices_short)

@@ -19,7 +19,7 @@ use Rattle.stated_again.specs.Laws.{WrittenFeedStatesPlan}
 use Rattle.stated_again.specs.Planned.{IsFeed}
 use Rattle.desk_run.specs.Becomes.{with_writings}
 use Rattle.desk_run.specs.Outcome.{OutcomeView, status_of}
-use Rattle.desk_run.specs.Reading.{AreRead, found_of, pages_in}
+use Rattle.desk_run.specs.Reading.{ReadView, AreRead, found_of, pages_in}
 use Rattle.desk_run.specs.Runs.{HasEnded}
 use Rattle.desk_run.specs.World.{World}
 use Rattle.desk_run.specs.declared.status.TheConstants.{EDITS_REFUSED}
@@ -94,7 +94,7 @@ module _ (states : WrittenFeedStatesPlan) (makes : MakesMoves) (files laid : Fil
       let parts = has-parts before said says in
       subst TellsOf (sym parts.said_is) (tells-parts said parts first_is second_is)
 
-module _ (states : WrittenFeedStatesPlan) (makes : MakesMoves) (before middle again after : World) (first second : ℕ) (one : HasEnded write_asked before middle first) (two : HasEnded audit_asked again after second) (all : first ≤ EDITS_REFUSED) where
+module _ (states : WrittenFeedStatesPlan) (makes : MakesMoves) (seen heard : Option ReadView) (before middle again after : World) (first second : ℕ) (one : HasEnded write_asked seen before middle first) (two : HasEnded audit_asked heard again after second) (all : first ≤ EDITS_REFUSED) where
   abbrev said : (said : Said) × (said_in one.chosen.read ≡ Ok said) × HasWritten said (trips_in one.chosen.read) (stop_times_in one.chosen.read) one.chosen.outcome
   said = written-said one.chosen.read one.chosen.outcome one.chosen.given (omega (arith, all, one.answered))
 

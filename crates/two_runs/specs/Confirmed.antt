@@ -1,5 +1,5 @@
--- `blocks`, and then `check` over the same shelf.
-use Rattle.std.specs.Prelude.{◌≡◌, ◌≢◌, ℕ, ◌≤◌, List, ◌++◌, IfSome}
+-- `blocks`, and a `check` of what it wrote, at once or later.
+use Rattle.std.specs.Prelude.{◌≡◌, ◌≢◌, ℕ, ◌≤◌, List, ◌++◌, Some}
 use Rattle.desk_io.specs.Shelf.{Files, found_in}
 use Rattle.desk_io.specs.Sink.{put_bytes}
 use Rattle.desk_io.specs.declared.shelf.Found.TheVariants.{TooLong}
@@ -8,37 +8,45 @@ use Rattle.gtfs_tables.specs.declared.paper.Paper.{Paper}
 use Rattle.gtfs_tables.specs.declared.paper.Paper.TheVariants as paper
 use Rattle.gtfs_tables.specs.declared.paper.TheConstants.{MOST_BYTES}
 use Rattle.desk_run.specs.Performs.{Performs}
+use Rattle.desk_run.specs.Reading.{pages_in}
 use Rattle.desk_run.specs.World.{World}
 use Rattle.desk_run.specs.declared.status.TheConstants.{DONE, EDITS_REFUSED, NO}
 use Rattle.desk_feed.specs.Numbers.{numbers_line}
 use Rattle.desk_commands.specs.Blocks.{blocks_asked}
-use Rattle.plan_commands.specs.Check.{check_asked, yes_line}
+use Rattle.plan_commands.specs.Check.{check_asked, claim_papers, yes_line}
 
 -- the file of a paper is not longer than a file may be
 abbrev pub IsShort : Files → Paper → Type 0
 IsShort files paper = found_in files (file_name_of paper) MOST_BYTES ≢ TooLong
 
--- the second run says yes to what the first has written: it puts the vehicles and the empty minutes that the first has put
--- last; before that the first has put what became of each record of the script, and the second the lines of the refused ones
-pub record IsConfirmed (before after : World) (second : ℕ) : Type 0 where
+-- Later files have each paper of `check` as the run of `blocks` left it. Other files may have changed.
+abbrev pub StandAgain : Files → Files → Type 0
+StandAgain left found = pages_in claim_papers found ≡ pages_in claim_papers left
+
+-- The check says yes to what `blocks` wrote: it puts the vehicles and the empty minutes that `blocks` put last. Before them
+-- `blocks` put an answer for each record of the script, and the check puts the lines of the refused records.
+pub record IsConfirmed (before left later after : World) (second : ℕ) : Type 0 where
   pub answers : List ℕ
   pub refused : List ℕ
   pub fixed : ℕ
   pub vehicles : ℕ
   pub minutes : ℕ
   pub yes : second ≡ DONE
-  pub put : after.sink ≡ put_bytes (refused ++ yes_line vehicles minutes) (put_bytes (answers ++ numbers_line fixed vehicles minutes) before.sink)
+  pub planned : left.sink ≡ put_bytes (answers ++ numbers_line fixed vehicles minutes) before.sink
+  pub checked : after.sink ≡ put_bytes (refused ++ yes_line vehicles minutes) later.sink
 
--- Where the first run has done all, also where it refused edits, and the second came to its end, and the shelf tells its files, of which neither of the two
--- that were written is too long, it is so.
-abbrev pub Confirms : World → World → ℕ → ℕ → Type 0
-Confirms before after first second =
-    first ≤ EDITS_REFUSED → second ≤ NO → IfSome after.shelf.files (λ files. IsShort files paper.Blocks → IsShort files paper.Prices → IsConfirmed before after second)
+-- It is so where `blocks` did all or refused edits, the check came to its end, both shelves tell their files, and neither of the
+-- two files is too long.
+abbrev pub Confirms : World → World → World → World → ℕ → ℕ → Type 0
+Confirms before left later after first second =
+    first ≤ EDITS_REFUSED → second ≤ NO → (files found : Files) → left.shelf.files ≡ Some files → later.shelf.files ≡ Some found → StandAgain files found
+    → IsShort files paper.Blocks → IsShort files paper.Prices → IsConfirmed before left later after second
 
--- The first run is one of `blocks`, and the second one of `check` that begins where the first has left the world: each of the
--- two is all that the command promises when it runs alone.
+-- A run of `blocks`, and one of `check` that begins in the world which the first left. Each is all that its command promises when
+-- it runs alone, and the second confirms the first.
 pub record RunsInTurn (before after : World) (first second old new : ℕ) : Type 0 where
   pub between : World
   pub steps : ℕ
   pub blocks : Performs blocks_asked before between first old steps
   pub check : Performs check_asked between after second steps new
+  pub confirmed : Confirms before between between after first second

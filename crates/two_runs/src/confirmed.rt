@@ -1,4 +1,8 @@
-ghost use Rattle.desk_run.specs.World.{world};
+ghost use Rattle.std.specs.Prelude.{ℕ};
+ghost use Rattle.desk_run.specs.Performs.{Performs};
+ghost use Rattle.desk_run.specs.World.{World, world};
+ghost use Rattle.desk_commands.specs.Blocks.{blocks_asked};
+ghost use Rattle.plan_commands.specs.Check.{check_asked};
 ghost use Rattle.two_runs.specs.Confirmed.{Confirms, RunsInTurn};
 
 use desk_commands::run_blocks;
@@ -9,8 +13,16 @@ use std::alloc::Global;
 use std::sync::ledger::Ledger;
 use trip_model::laws::plain_law;
 
-/// `blocks`, and then `check` over the same shelf. Where both come to their end, the shelf tells its files and neither of the
-/// two that are written is too long, it says yes, with the same vehicles and empty minutes. It answers both statuses.
+/// A law: a `check` says yes to what `blocks` wrote, with the same vehicles and empty minutes. It may run at any later time, on
+/// another shelf, with another sink. Each paper that it reads has to be as `blocks` left it.
+pub fn later_law()
+    ensures { (before left later after : World) (first second n m k l : ℕ) → Performs blocks_asked before left first n m
+        → Performs check_asked later after second k l → Confirms before left later after first second }
+{
+    plain_law();
+}
+
+/// `blocks`, and then `check` over the same shelf, which confirms it. It answers both statuses.
 pub fn run_blocks_and_check<S: Shelf, O: Sink, K: Keeper, L: Ledger>(
     alloc: Global,
     shelf: &mut S,
@@ -18,12 +30,10 @@ pub fn run_blocks_and_check<S: Shelf, O: Sink, K: Keeper, L: Ledger>(
     keeper: &mut K,
     steps: &mut Steps<L>,
 ) -> (u8, u8)
-    ensures runs { let at = world S.state O.state K.state in
+    ensures { let at = world S.state O.state K.state in
         RunsInTurn (at shelf.old out.old keeper.old) (at shelf.new out.new keeper.new) result.0 result.1 steps.old steps.new }
-    ensures confirmed { let at = world S.state O.state K.state in
-        Confirms (at shelf.old out.old keeper.old) (at shelf.new out.new keeper.new) result.0 result.1 }
 {
-    plain_law();
+    later_law();
     let first = run_blocks(alloc, shelf, out, keeper, steps);
     let second = run_check(alloc, shelf, out, keeper, steps);
     (first, second)

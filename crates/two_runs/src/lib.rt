@@ -1,6 +1,7 @@
 //! Runs one after the other.
 //!
-//! [`run_blocks_and_check`] is `blocks`, and then `check` over the same shelf, which says yes to what was written.
+//! [`run_blocks_and_check`] is `blocks`, and then `check` over the same shelf, which says yes to what was written. [`later_law`]
+//! says so of a `check` at any later time.
 //! [`run_write_and_audit`] is `write`, and then `audit` over a shelf on which the written feed is laid, which finds the written
 //! blocks least.
 //!
@@ -17,4 +18,4 @@ mod audited;
 mod confirmed;
 
 pub use audited::run_write_and_audit;
-pub use confirmed::run_blocks_and_check;
+pub use confirmed::{later_law, run_blocks_and_check};

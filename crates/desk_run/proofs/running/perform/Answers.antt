@@ -3,8 +3,10 @@ use Rattle.desk_run.proofs.running.perform.Goals as goal
 
 pub returns : goal.returns
 returns g c = record {
-  run = c.answered.ensures.run;
-  cause = has_cause _ _ _ _ c.answered.ensures.run;
-  complete = is_complete _ _ _ _ c.answered.ensures.run;
+  found = c.answered.ensures.found;
+  told = c.answered.ensures.told;
+  run = c.answered.ensures.does;
+  cause = has_cause _ _ _ _ _ c.answered.ensures.does;
+  complete = is_complete _ _ _ _ _ c.answered.ensures.does;
   counted = c.answered.ensures.counted;
 }
