@@ -1,4 +1,3 @@
-pub mod EntriesLemmas
 pub mod NamesLemmas
 pub mod DeskLemmas
 pub mod DocumentLemmas

@@ -5,17 +5,16 @@ use Rattle.std.specs.Option.{ok_or}
 use Rattle.std.specs.Ordering.{nat_cmp, is_lt}
 use Rattle.std.specs.Str.{is_utf8, bytes_eq}
 use Rattle.desk_io.specs.declared.shelf.Found.{Found}
-use Rattle.desk_io.specs.declared.shelf.Found.TheVariants.{File, Missing, TooLong}
 use Rattle.trip_model.specs.declared.limits.TheConstants.{MOST_LAYOVER, MOST_TOLERANCE}
 use Rattle.trip_model.specs.Place.{has_slash}
 use Rattle.gtfs_tables.specs.declared.fault.FeedFault.{FeedFault}
 use Rattle.gtfs_tables.specs.declared.fault.FeedFault.TheVariants as fault
 use Rattle.gtfs_tables.specs.declared.paper.Paper.TheVariants as paper
-use Rattle.gtfs_tables.specs.Reading.{◌>>=◌, provided}
+use Rattle.gtfs_tables.specs.Reading.{◌>>=◌, provided, optional_in}
+use Rattle.gtfs_tables.specs.Entries.{Name, Entries}
 use Rattle.service_days.specs.Dates.{date_of}
 use Rattle.toml.specs.Data.{Data, Items, no_items, item, Members, no_members, member, is_before, as_integer, as_str, as_array, as_table}
 use Rattle.toml.specs.Parse.{parse_document}
-use Rattle.desk_settings.specs.Entries.{Name, Entries}
 use Rattle.desk_settings.specs.Names.{with_name}
 use Rattle.desk_settings.specs.declared.desk.Desk.{Desk}
 
@@ -123,6 +122,4 @@ document_in bytes = provided (is_utf8 bytes) fault.NotToml (ok_or (parse_documen
 
 -- what the file says; without one the standard holds
 abbrev pub desk_of : Found → Result Desk FeedFault
-desk_of Missing = Ok standard_desk
-desk_of TooLong = Err (fault.TooLong paper.Settings)
-desk_of (File bytes) = document_in bytes >>= desk_from standard_desk
+desk_of found = optional_in paper.Settings standard_desk (λ bytes. document_in bytes >>= desk_from standard_desk) found

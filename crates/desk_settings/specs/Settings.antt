@@ -3,7 +3,7 @@ use Rattle.std.specs.Prelude.{ℕ, ◌==◌, Bool, true, not, List, [], length, 
 use Rattle.desk_io.specs.declared.shelf.Found.{Found}
 use Rattle.gtfs_tables.specs.declared.fault.FeedFault.{FeedFault}
 use Rattle.gtfs_tables.specs.Reading.{◌>>=◌}
-use Rattle.desk_settings.specs.Entries.{Name, Entries, value_of}
+use Rattle.gtfs_tables.specs.Entries.{Name, Entries, value_of}
 use Rattle.desk_settings.specs.Names.{each_once, is_among, kept_among}
 use Rattle.desk_settings.specs.Desk.{desk_of}
 use Rattle.desk_settings.specs.Terminals.{terminals_of}

@@ -6,11 +6,10 @@ ghost use Rattle.desk_settings.specs.Desk as spec;
 
 use crate::class::Class;
 use crate::date::Date;
-use crate::entries::Entries;
 use crate::minutes::{Layover, Tolerance};
 use crate::names::Names;
 use desk_io::{Found, Memory, Text};
-use gtfs_tables::{FeedFault, Paper};
+use gtfs_tables::{Entries, FeedFault, Paper, optional_bytes};
 use service_days::read_date;
 use std::alloc::Global;
 use toml::{Table, Value};
@@ -237,9 +236,8 @@ fn desk_from(alloc: Global, table: &Table) -> Result<Desk, FeedFault>
 pub(crate) fn desk_of(alloc: Global, found: &Found) -> Result<Desk, FeedFault>
     ensures { Gives (λ desk. desk) result (spec.desk_of found.now) }
 {
-    match found {
-        Found::Missing => Ok(Desk::standard(alloc)?),
-        Found::TooLong => Err(FeedFault::TooLong(Paper::Settings)),
-        Found::File(bytes) => desk_from(alloc, &document_in(alloc, bytes.as_slice())?),
+    match optional_bytes(Paper::Settings, found)? {
+        Some(bytes) => desk_from(alloc, &document_in(alloc, bytes)?),
+        None => Ok(Desk::standard(alloc)?),
     }
 }

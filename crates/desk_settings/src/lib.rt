@@ -22,14 +22,13 @@
 //! ```
 //!
 //! The contracts cite `Settings` (what the settings are seen as, and what they answer), `Desk` (the table of `desk.toml`,
-//! key after key), `Terminals` and `Tolerances` (the two tables, record after record), `Entries` (names with a value
-//! each) and `Names` (names without repeats).
+//! key after key), `Terminals` and `Tolerances` (the two tables, record after record), `Names` (names without repeats), and
+//! `Entries` of `gtfs_tables`.
 #![tactic(auto)]
 
 mod class;
 mod date;
 mod desk;
-mod entries;
 pub mod laws;
 mod minutes;
 mod names;

@@ -7,7 +7,7 @@ use Rattle.gtfs_tables.specs.declared.paper.Column.TheVariants as column
 use Rattle.gtfs_tables.specs.declared.paper.Paper.TheVariants as paper
 use Rattle.gtfs_tables.specs.Fold.{paper_read}
 use Rattle.gtfs_tables.specs.Reading.{◌>>=◌, column_in, field_at, text_in, filled_in, number_in, time_in}
-use Rattle.desk_settings.specs.Entries.{Name}
+use Rattle.gtfs_tables.specs.Entries.{Name}
 use Rattle.feed_read.specs.declared.stop_times.Columns.{Columns}
 use Rattle.feed_read.specs.declared.stop_time.StopTime.{StopTime}
 

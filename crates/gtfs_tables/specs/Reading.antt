@@ -65,6 +65,21 @@ header_in paper Missing = Err (fault.Missing paper)
 header_in paper TooLong = Err (fault.TooLong paper)
 header_in paper (File bytes) = header_from paper (records bytes)
 
+-- the bytes of a file that need not be there, if it is
+abbrev pub optional_bytes : Paper → Found → Result (Option (List ℕ)) FeedFault
+optional_bytes paper Missing = Ok None
+optional_bytes paper TooLong = Err (fault.TooLong paper)
+optional_bytes paper (File bytes) = Ok (Some bytes)
+
+-- what bytes give, and what there is without them
+abbrev pub or_none : {A : Type 0} → A → (List ℕ → Result A FeedFault) → Option (List ℕ) → Result A FeedFault
+or_none none read None = Ok none
+or_none none read (Some bytes) = read bytes
+
+-- what the bytes of a file give that need not be there
+abbrev pub optional_in : {A : Type 0} → Paper → A → (List ℕ → Result A FeedFault) → Found → Result A FeedFault
+optional_in paper none read found = optional_bytes paper found >>= or_none none read
+
 -- nothing was to be read, and nothing is refused
 abbrev pub nothing : Result (Unit {0}) FeedFault
 nothing = Ok tt

@@ -1,4 +1,4 @@
-ghost use Rattle.std.specs.Prelude.{◌≡◌, ◌≤◌, IfOk, IfSome};
+ghost use Rattle.std.specs.Prelude.{◌≡◌, ◌≤◌, IfOk, IfSome, option_map};
 ghost use Rattle.gtfs_tables.specs.Papers.{IsWithinLimit};
 ghost use Rattle.gtfs_tables.specs.Reading as spec;
 ghost use Rattle.gtfs_tables.specs.Reading.{Gives};
@@ -22,6 +22,17 @@ pub fn table_in(alloc: Global, paper: Paper, found: &Found) -> Result<Table, Fee
             Err(TableFault::RowTooLong(number)) => Err(FeedFault::RowTooLong(paper, number)),
             Err(TableFault::Memory) => Err(FeedFault::Memory),
         },
+    }
+}
+
+/// The bytes of a file that need not be there, None where it is not.
+pub fn optional_bytes(paper: Paper, found: &Found) -> Result<Option<&[u8]>, FeedFault>
+    ensures { Gives (option_map (λ bytes. bytes.now)) result (spec.optional_bytes paper found.now) }
+{
+    match found {
+        Found::Missing => Ok(None),
+        Found::TooLong => Err(FeedFault::TooLong(paper)),
+        Found::File(bytes) => Ok(Some(bytes.as_slice())),
     }
 }
 

@@ -12,7 +12,7 @@ use Rattle.gtfs_tables.specs.declared.paper.Paper.TheVariants as paper
 use Rattle.gtfs_tables.specs.Papers.{column_name_of}
 use Rattle.gtfs_tables.specs.Reading.{column_in, field_at, filled_in, number_in, text_in, time_in}
 use Rattle.gtfs_tables.specs.Table.{TableView, IsTable, table_of}
-use Rattle.desk_settings.specs.Entries.{Name}
+use Rattle.gtfs_tables.specs.Entries.{Name}
 use Rattle.trip_model.specs.Timetable.{TimetableView, number_of, slot_names}
 use Rattle.feed_read.specs.StopTimes.{StopTimeView, columns_in, stop_time_in, stop_times_for, with_stop_time, with_stop_time_of}
 use Rattle.block_writer.specs.Fields.{place_of, slot_in}

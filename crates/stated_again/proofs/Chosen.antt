@@ -15,7 +15,7 @@ use Rattle.gtfs_tables.specs.declared.paper.Paper.TheVariants as paper
 use Rattle.gtfs_tables.specs.Fold.{Step, paper_read}
 use Rattle.gtfs_tables.specs.Reading.{◌>>=◌, column_in, each_record, filled_in, text_in}
 use Rattle.gtfs_tables.specs.Table.{TableView, table_of}
-use Rattle.desk_settings.specs.Entries.{Name}
+use Rattle.gtfs_tables.specs.Entries.{Name}
 use Rattle.desk_settings.specs.Names.{is_among}
 use Rattle.desk_settings.specs.Settings.{SettingsView, class_of, is_chosen, is_classed}
 use Rattle.trip_model.specs.Timetable.{TimetableView, Slot, slot_names}
