@@ -11,7 +11,7 @@ ghost use Rattle.desk_run.specs.World.{world};
 ghost use Rattle.audit_commands.specs.Audit.{IsCosted, IsJudged, audit_asked, trips_in};
 ghost use Rattle.audit_commands.specs.Auditable.{IsAuditable, Judges};
 
-use crate::judging::{bad_name, chosen_in};
+use crate::judging::bad_name;
 use crate::lines::{costs_text, misfits_text};
 use block_audit::laws::blocking_law;
 use block_audit::{Stated, misfits, stated_blocks, stated_cost};
@@ -23,7 +23,7 @@ use desk_feed::{
 use desk_io::{Memory, Shelf, Sink, Steps, Text};
 use desk_keeper::Keeper;
 use desk_run::{Ending, Outcome, Read, perform};
-use desk_settings::Settings;
+use desk_settings::{Settings, chosen_in};
 use edit_script::Line;
 use feed_schedule::schedule_of;
 use gtfs_tables::{Column, FeedFault, Paper, Table, table_in};

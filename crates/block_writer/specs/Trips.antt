@@ -5,8 +5,9 @@ use Rattle.std.specs.List.{list_any, position_from, range_with_len}
 use Rattle.gtfs_tables.specs.Papers.{column_name_of}
 use Rattle.gtfs_tables.specs.Table.{TableView}
 use Rattle.gtfs_tables.specs.declared.paper.Column.TheVariants as column
+use Rattle.gtfs_tables.specs.Reading.{place_of, field_at}
 use Rattle.trip_model.specs.Timetable.{TimetableView, slot_at}
-use Rattle.block_writer.specs.Fields.{place_of, field_at, with_field, slot_in, table_text}
+use Rattle.block_writer.specs.Fields.{with_field, slot_in, table_text}
 
 -- whether the trip of a slot is one of a block
 abbrev pub is_in : ℕ → List ℕ → Bool

@@ -8,11 +8,12 @@ ghost use Rattle.trip_model.specs.Timetable.{number_of, slot_names};
 ghost use Rattle.block_writer.specs.Texts.{IsRefusedPaper, IsTextPaper};
 ghost use Rattle.block_writer.specs.StopTimes as spec;
 
-use crate::fields::{fields_of, place_of, text_of};
+use crate::fields::{fields_of, text_of};
 use crate::texts::texts_of;
 use desk_io::{Bytes, Found, Memory, Text};
 use gtfs_tables::{
-    Column, FeedFault, Paper, RecordReader, RecordWriter, Row, read_header, read_records, read_time,
+    Column, FeedFault, Paper, RecordReader, RecordWriter, Row, place_of, read_header, read_records,
+    read_time,
 };
 use std::alloc::Global;
 use trip_model::Timetable;
@@ -222,9 +223,9 @@ impl<'a> RecordReader for StopTimes<'a> {
             header,
         )?;
         Ok(Columns {
-            trip: place_of(header, Column::TripId),
-            arrival: place_of(header, Column::ArrivalTime),
-            departure: place_of(header, Column::DepartureTime),
+            trip: place_of(Column::TripId, header),
+            arrival: place_of(Column::ArrivalTime, header),
+            departure: place_of(Column::DepartureTime, header),
         })
     }
 

@@ -3,3 +3,4 @@ pub mod DeskLemmas
 pub mod DocumentLemmas
 pub mod FirstBadKey
 pub mod SettingsLemmas
+pub mod SelectedLemmas

@@ -3,3 +3,4 @@ pub mod Desk
 pub mod Terminals
 pub mod Tolerances
 pub mod Settings
+pub mod Selected

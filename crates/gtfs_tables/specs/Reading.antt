@@ -1,5 +1,5 @@
 -- Reading one part of a feed after another, up to the first refusal.
-use Rattle.std.specs.Prelude.{◌≡◌, ℕ, ◌+◌, Bool, not, ◌==◌, List, [], ◌∷◌, length, nat_le, slice_index_or, Option, Some, None, option_map, Result, Ok, Err, ⊤, if◌then◌else◌}
+use Rattle.std.specs.Prelude.{◌≡◌, ℕ, ◌+◌, Bool, not, ◌==◌, List, [], ◌∷◌, length, nat_le, slice_index_or, Option, Some, None, option_map, unwrap_or, Result, Ok, Err, ⊤, if◌then◌else◌}
 use Rattle.std.specs.Option.{ok_or}
 use Rattle.std.specs.Str.{is_utf8}
 use Rattle.desk_io.specs.declared.shelf.Found.{Found}
@@ -91,6 +91,10 @@ judged paper found = table_in paper found >>= λ _. nothing
 -- the number, from 0, of a column that must be there
 abbrev pub column_in : Paper → Column → List (List ℕ) → Result ℕ FeedFault
 column_in paper column header = ok_or (column_of (column_name_of column) header) (fault.NoColumn paper column)
+
+-- the number, from 0, of a column that need not be there; where it is not, of the next column
+abbrev pub place_of : Column → List (List ℕ) → ℕ
+place_of column header = unwrap_or (column_of (column_name_of column) header) (length header)
 
 -- the field of a record in the column of that number
 abbrev pub field_at : List (List ℕ) → ℕ → List ℕ

@@ -6,8 +6,8 @@
 //! minute, and [`RecordWriter`] writes records.
 //! [`Paper`] and [`Column`] name the files and their columns, and [`feed_line`] is the line of a [`FeedFault`].
 //! [`table_in`], [`column_in`], [`text_in`], [`filled_in`], [`number_in`] and [`time_in`] read a feed's table step by step,
-//! each up to its own refusal. [`read_optional`] and [`optional_bytes`] read a file that need not be there. [`Entries`] are
-//! names with a value each, each of one record.
+//! each up to its own refusal; [`place_of`] finds a column that need not be there. [`read_optional`] and [`optional_bytes`]
+//! read a file that need not be there. [`Entries`] are names with a value each.
 //!
 //! The contract that the crates above use: what a fold gives is its definition over the record list of the bytes, as `csv`
 //! promises to read them, or the first refusal, or there was no memory; a time and a number are the values of their
@@ -48,7 +48,7 @@ pub use fold::{RecordReader, judge_table, read_header, read_optional, read_recor
 pub use numbers::read_number;
 pub use paper::{Column, MOST_BYTES, MOST_RECORDS, Paper};
 pub use reading::{
-    column_in, filled_in, number_in, optional_bytes, table_in, text_in, time_in,
+    column_in, filled_in, number_in, optional_bytes, place_of, table_in, text_in, time_in,
 };
 pub use records::read_rows;
 pub use row::Row;

@@ -45,6 +45,14 @@ pub fn column_in(paper: Paper, column: Column, header: &Row) -> Result<usize, Fe
         .ok_or(FeedFault::NoColumn(paper, column))
 }
 
+/// The number, from 0, of a column that the header need not name; where it does not, of the next column, in which each field
+/// is empty.
+pub fn place_of(column: Column, header: &Row) -> usize
+    ensures { result ≡ spec.place_of column header.now }
+{
+    header.place(column.name()).unwrap_or(header.len())
+}
+
 /// The text of a field, which must be UTF-8. Records count from 1 after the header.
 pub fn text_in(paper: Paper, number: u32, column: Column, bytes: &[u8]) -> Result<&str, FeedFault>
     ensures { Gives (λ text. text.now) result (spec.text_in paper number column bytes.now) }

@@ -6,9 +6,10 @@ use Rattle.std.proofs.lemmas.Int.{ints}
 use Rattle.std.proofs.lemmas.List.{get_or_past}
 use Rattle.gtfs_tables.specs.Times.{seconds_of}
 use Rattle.gtfs_tables.specs.declared.paper.Column.TheVariants as column
+use Rattle.gtfs_tables.specs.Reading.{place_of, field_at}
 use Rattle.trip_model.specs.Timetable.{TimetableView, IsTimetable, Slot, slot_at}
 use Rattle.trip_model.specs.Trip.{IsValidTrip}
-use Rattle.block_writer.specs.Fields.{place_of, field_at, slot_in}
+use Rattle.block_writer.specs.Fields.{slot_in}
 use Rattle.block_writer.specs.StopTimes.{moved, offset_of}
 use Rattle.round_trip.specs.Laws as spec
 use Rattle.round_trip.specs.Written.{IsEarly, IsRowWritable, StaysWritable}

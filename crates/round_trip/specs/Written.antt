@@ -4,9 +4,10 @@ use Rattle.std.specs.Option.{IfSome}
 use Rattle.gtfs_tables.specs.Table.{TableView}
 use Rattle.gtfs_tables.specs.Times.{seconds_of}
 use Rattle.gtfs_tables.specs.declared.paper.Column.TheVariants as column
+use Rattle.gtfs_tables.specs.Reading.{place_of, field_at}
 use Rattle.trip_model.specs.declared.trip.Trip.{Trip}
 use Rattle.trip_model.specs.Timetable.{TimetableView, Slot, slot_at}
-use Rattle.block_writer.specs.Fields.{place_of, field_at, slot_in}
+use Rattle.block_writer.specs.Fields.{slot_in}
 use Rattle.block_writer.specs.StopTimes.{moved, offset_of}
 
 -- a trip at the minutes at which it stands, and where it does not run, at its own
