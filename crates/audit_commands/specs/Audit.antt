@@ -13,7 +13,7 @@ use Rattle.trip_model.specs.Network.{Network}
 use Rattle.trip_model.specs.Timetable.{TimetableView}
 use Rattle.deadhead_matrix.specs.Matrix.{MatrixView}
 use Rattle.deadhead_matrix.specs.Prices.{Plan}
-use Rattle.price_check.specs.Claim.{network_of}
+use Rattle.deadhead_matrix.specs.Fitting.{network_of}
 use Rattle.block_audit.specs.declared.cost.Above.TheVariants.{Nothing}
 use Rattle.block_audit.specs.declared.misfit.Misfit.{Misfit}
 use Rattle.block_audit.specs.Laws.{Says, standing as standing_of}

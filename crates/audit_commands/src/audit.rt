@@ -1,7 +1,8 @@
 ghost use Rattle.std.specs.Prelude.{◌≡◌, ◌+◌, ◌≤◌, [], length, All, IfOk};
 ghost use Rattle.trip_model.specs.Blocking.{IsBlocking};
 ghost use Rattle.trip_model.specs.Plain.{AreMoves, trip_moves};
-ghost use Rattle.price_check.specs.Claim.{Runs, network_of};
+ghost use Rattle.deadhead_matrix.specs.Fitting.{network_of};
+ghost use Rattle.price_check.specs.Claim.{Runs};
 ghost use Rattle.block_audit.specs.Misfits.{misfits_in};
 ghost use Rattle.block_audit.specs.Stated.{AreNames, slots_by};
 ghost use Rattle.desk_feed.specs.Feed.{HasPapers};

@@ -13,7 +13,7 @@ use Rattle.trip_model.specs.Timetable.{TimetableView, AreDistinct, IsTimetable, 
 use Rattle.edit_script.specs.Machine.{Numbered, machine, timetable_at}
 use Rattle.feed_read.specs.Base.{base_of}
 use Rattle.deadhead_matrix.specs.Matrix.{MatrixView}
-use Rattle.price_check.specs.Claim.{network_of}
+use Rattle.deadhead_matrix.specs.Fitting.{network_of}
 use Rattle.block_writer.specs.StopTimes.{stop_times_written}
 use Rattle.block_writer.specs.Trips.{trips_written, with_blocks}
 use Rattle.block_audit.specs.Stated.{slots_by, stated_in, stated_names}
