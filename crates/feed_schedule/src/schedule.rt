@@ -1,8 +1,7 @@
 ghost use Rattle.std.specs.Prelude.{◌≡◌, ◌+◌, ◌*◌, ◌≤◌, ◌<◌, length, pos, All, IfOk};
 ghost use Rattle.deadhead_matrix.specs.Prices.{IsPlanFor};
 ghost use Rattle.desk_feed.specs.Schedule.{IsScheduled};
-ghost use Rattle.trip_model.specs.Deficit.{deficit, live_moves};
-ghost use Rattle.trip_model.specs.Maximum.{sum_of_maxima};
+ghost use Rattle.trip_model.specs.Fleet.{deficit_sum};
 
 use block_build::{Blocks, blocks_of};
 use deadhead_matrix::Matrix;
@@ -74,7 +73,7 @@ pub fn fixed_of<L: Ledger>(
     timetable: &Timetable,
     steps: &mut Steps<L>,
 ) -> Result<u64, Memory>
-    ensures sum { IfOk result (λ fixed. pos fixed ≡ sum_of_maxima (deficit (live_moves timetable.now.slots)) (length timetable.now.places)) }
+    ensures sum { IfOk result (λ fixed. pos fixed ≡ deficit_sum timetable.now) }
     ensures counted { steps.new ≤ steps.old + 28 * length timetable.now.slots }
 {
     held_law();

@@ -4,7 +4,8 @@ ghost use Rattle.desk_run.specs.Performs.{Performs};
 ghost use Rattle.desk_run.specs.World.{world};
 ghost use Rattle.lowering_commands.specs.Shifts.{IsShiftsText, shift_line, shifts_asked, steps_of_search};
 ghost use Rattle.lowering_commands.specs.Step.{HasShifted};
-ghost use Rattle.shift_moves.specs.Lowering.{IsLowering, deficit_sum};
+ghost use Rattle.trip_model.specs.Fleet.{deficit_sum};
+ghost use Rattle.shift_moves.specs.Lowering.{IsLowering};
 
 use deadhead_matrix::{Deadheads, Pulls};
 use deficit_steps::deficits_of;
