@@ -1,9 +1,10 @@
-ghost use Rattle.std.specs.Prelude.{◌≡◌, ◌<◌, ◌^◌, true, length, All, unwrap_or};
+ghost use Rattle.std.specs.Prelude.{◌≡◌, ◌<◌, ◌^◌, true, length, All, unwrap_or, ◌≤◌, []};
 ghost use Rattle.deadhead_matrix.specs.Fitting.{network_of};
 ghost use Rattle.trip_model.specs.Blocking as spec;
 ghost use Rattle.trip_model.specs.Blocking.{IsBlock, IsBlocking};
 ghost use Rattle.trip_model.specs.Network.{Fits};
 ghost use Rattle.trip_model.specs.Timetable.{slot_at};
+ghost use Rattle.trip_model.specs.declared.limits.TheConstants.{LAST_MINUTE};
 
 use crate::Blocks;
 use deadhead_matrix::Matrix;

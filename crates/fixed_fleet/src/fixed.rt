@@ -3,7 +3,7 @@ ghost use Rattle.trip_model.specs.Blocking.{IsFewest};
 ghost use Rattle.trip_model.specs.Fleet.{deficit_sum};
 ghost use Rattle.trip_model.specs.Links.{AreLinks, link_count, blocks_along};
 ghost use Rattle.trip_model.specs.Order as order;
-ghost use Rattle.trip_model.specs.Plain.{plain_network, trip_moves};
+ghost use Rattle.trip_model.specs.Plain.{plain_network, trip_moves, move_at};
 ghost use Rattle.trip_model.specs.Timetable.{slot_at};
 ghost use Rattle.fixed_fleet.specs.Rule as rule;
 

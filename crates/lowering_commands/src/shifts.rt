@@ -1,15 +1,13 @@
-ghost use Rattle.std.specs.Prelude.{◌≡◌, ◌+◌, ◌*◌, ◌<◌, ◌≤◌, [], ◌∷◌, ◌++◌, ℕ, ℤ, true, false, length, pos, codes, IfOk, IsUtf8, Ok, OnOk, string_bytes};
+ghost use Rattle.std.specs.Prelude.{◌≡◌, ◌+◌, ◌*◌, ◌<◌, ◌≤◌, [], ◌∷◌, ◌++◌, ℕ, ℤ, true, false, length, codes, IfOk, IsUtf8, Ok, OnOk, string_bytes};
 ghost use Rattle.gtfs_tables.specs.Writing.{record_text};
 ghost use Rattle.desk_run.specs.Performs.{Performs};
 ghost use Rattle.desk_run.specs.World.{world};
 ghost use Rattle.lowering_commands.specs.Shifts.{IsShiftsText, shift_line, shifts_asked, steps_of_search};
 ghost use Rattle.lowering_commands.specs.Step.{HasShifted};
-ghost use Rattle.trip_model.specs.Fleet.{deficit_sum};
 ghost use Rattle.shift_moves.specs.Lowering.{IsLowering};
 
 use deadhead_matrix::{Deadheads, Pulls};
-use deficit_steps::deficits_of;
-use deficit_steps::laws::held_law;
+use deficit_steps::{deficits_of, fixed_of};
 use desk_feed::{AfterScript, OnFeed, TextCommand};
 use desk_io::{Memory, Shelf, Sink, Steps, Text};
 use desk_keeper::Keeper;
@@ -51,22 +49,6 @@ fn push_shift(
     Ok(())
 }
 
-// The sum of the maxima of the deficits of the trips that run.
-fn sum_of<L: Ledger>(
-    alloc: Global,
-    timetable: &Timetable,
-    steps: &mut Steps<L>,
-) -> Result<u64, Memory>
-    ensures sum { IfOk result (λ sum. pos sum ≡ deficit_sum timetable.now) }
-    ensures few { IfOk result (λ sum. sum ≤ length timetable.now.slots) }
-    ensures counted { steps.new ≤ steps.old + 28 * length timetable.now.slots }
-{
-    held_law();
-    let deficits = deficits_of(alloc, timetable, steps)?;
-    let _places = deficits.places();
-    Ok(deficits.total())
-}
-
 // Makes the first shift, where there is one, and puts its line.
 fn put_next<L: Ledger>(
     alloc: Global,
@@ -101,10 +83,10 @@ fn shifts_text<L: Ledger>(
     let mut moved = timetable.copy(alloc)?;
     let mut text = String::new(alloc);
     let mut number = 0u32;
-    let mut sum = sum_of(alloc, &moved, steps)?;
+    let mut sum = fixed_of(alloc, &moved, steps)?;
     while put_next(alloc, &mut text, &mut moved, steps)? {
         number += 1;
-        sum = sum_of(alloc, &moved, steps)?;
+        sum = fixed_of(alloc, &moved, steps)?;
     }
     writeln!(text, "shifts {number}, sum {sum}")?;
     Ok(Text::wrap(text))
