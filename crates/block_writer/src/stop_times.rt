@@ -4,6 +4,7 @@ ghost use Rattle.gtfs_tables.specs.declared.paper.Paper.{Paper};
 ghost use Rattle.gtfs_tables.specs.Papers.{IsWithinLimit};
 ghost use Rattle.gtfs_tables.specs.Reading.{table_in};
 ghost use Rattle.gtfs_tables.specs.Writing.{record_text};
+ghost use Rattle.gtfs_tables.specs.declared.times.TheConstants.{LAST_SECOND};
 ghost use Rattle.trip_model.specs.Timetable.{number_of, slot_names};
 ghost use Rattle.block_writer.specs.Texts.{IsRefusedPaper, IsTextPaper};
 ghost use Rattle.block_writer.specs.StopTimes as spec;
@@ -29,7 +30,7 @@ const STOP_TIME_COLUMNS: [Column; 5] = [
 
 // A second of the service day moved by so many minutes, and not below midnight.
 fn moved(offset: i8, seconds: u32) -> u32
-    requires { seconds ≤ 359999 }
+    requires { seconds ≤ LAST_SECOND }
     ensures value { result ≡ spec.moved offset seconds }
 {
     let by = 60 * u32::from(offset.unsigned_abs());

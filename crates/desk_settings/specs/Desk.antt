@@ -17,6 +17,7 @@ use Rattle.toml.specs.Data.{Data, Items, no_items, item, Members, no_members, me
 use Rattle.toml.specs.Parse.{parse_document}
 use Rattle.desk_settings.specs.Names.{with_name}
 use Rattle.desk_settings.specs.declared.desk.Desk.{Desk}
+use Rattle.desk_settings.specs.declared.desk.TheConstants.{MOST_CLASS, MOST_PREFIX}
 
 -- an integer from 0 to `most`
 abbrev pub count_from : ℕ → Option ℤ → Option ℕ
@@ -29,7 +30,7 @@ minutes_in most value = count_from most (as_integer value)
 
 -- a text of at most 32 bytes
 abbrev pub short_text : List ℕ → Option (List ℕ)
-short_text text = if nat_le (length text) 32 then Some text else None
+short_text text = if nat_le (length text) MOST_PREFIX then Some text else None
 
 -- a value that is a string of at most 32 bytes
 abbrev pub prefix_in : Data → Option (List ℕ)
@@ -55,7 +56,7 @@ layovers_in value = option_and_then (entries_from (minutes_in MOST_LAYOVER) []) 
 
 -- whether a text is a class of vehicles: 1 to 16 bytes without `/`
 abbrev pub is_class : List ℕ → Bool
-is_class text = nat_le 1 (length text) && nat_le (length text) 16 && not (has_slash text)
+is_class text = nat_le 1 (length text) && nat_le (length text) MOST_CLASS && not (has_slash text)
 
 -- a value that is a class
 abbrev pub if_class : List ℕ → Option Name

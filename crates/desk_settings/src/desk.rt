@@ -15,6 +15,12 @@ use std::alloc::Global;
 use toml::{Table, Value};
 use trip_model::{MOST_LAYOVER, MOST_TOLERANCE};
 
+/// The most bytes of what the names of blocks begin with.
+pub const MOST_PREFIX: usize = 32;
+
+/// The most bytes of a class of vehicles.
+pub const MOST_CLASS: usize = 16;
+
 /// What `desk.toml` says.
 #[derive(Drop)]
 pub(crate) struct Desk {
@@ -52,7 +58,7 @@ fn prefix_in(value: &Value) -> Option<&str>
     ensures { option_map (λ text. text.now) result ≡ spec.prefix_in (view value.now) }
 {
     match value.as_str() {
-        Some(text) if text.len() <= 32 => Some(text),
+        Some(text) if text.len() <= MOST_PREFIX => Some(text),
         _ => None,
     }
 }
@@ -109,7 +115,7 @@ fn layovers_in(alloc: Global, value: &Value) -> Result<Option<Entries<Layover>>,
 fn is_class(text: &str) -> bool
     ensures { result ≡ spec.is_class text.now }
 {
-    !text.is_empty() && text.len() <= 16 && !text.as_bytes().contains(&b'/')
+    !text.is_empty() && text.len() <= MOST_CLASS && !text.as_bytes().contains(&b'/')
 }
 
 // A class.

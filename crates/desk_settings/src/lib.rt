@@ -38,6 +38,7 @@ mod settings;
 mod terminals;
 mod tolerances;
 
+pub use desk::{MOST_CLASS, MOST_PREFIX};
 pub use names::Names;
 pub use selected::chosen_in;
 pub use settings::Settings;

@@ -53,5 +53,5 @@ pub use reading::{
 pub use records::read_rows;
 pub use row::Row;
 pub use table::{Table, TableFault};
-pub use times::{minute_down, minute_text, minute_up, read_minute, read_time};
+pub use times::{LAST_SECOND, minute_down, minute_text, minute_up, read_minute, read_time};
 pub use writing::RecordWriter;

@@ -2,6 +2,7 @@ ghost use Rattle.std.specs.Prelude.{◌≡◌, ◌≤◌, IfOk, IfSome, option_m
 ghost use Rattle.gtfs_tables.specs.Papers.{IsWithinLimit};
 ghost use Rattle.gtfs_tables.specs.Reading as spec;
 ghost use Rattle.gtfs_tables.specs.Reading.{Gives};
+ghost use Rattle.gtfs_tables.specs.declared.times.TheConstants.{LAST_SECOND};
 
 use crate::spaces::without_spaces;
 use crate::{Column, FeedFault, Paper, Row, Table, TableFault, read_number, read_time};
@@ -102,7 +103,7 @@ pub fn time_in(
     text: &str,
 ) -> Result<Option<u32>, FeedFault>
     ensures gives { Gives (λ seconds. seconds) result (spec.time_in paper number column text.now) }
-    ensures within { IfOk result (λ seconds. IfSome seconds (λ s. s ≤ 359999)) }
+    ensures within { IfOk result (λ seconds. IfSome seconds (λ s. s ≤ LAST_SECOND)) }
 {
     if without_spaces(text.as_bytes()).is_empty() {
         return Ok(None);

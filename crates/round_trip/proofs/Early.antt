@@ -33,7 +33,7 @@ offset-hour standing base (Some s) is = by (nat_lt s base && (slot_at standing s
     by true = slot-hour standing s is
     by false = omega (arith, ints)
 
-moved-before : (offset : ℤ) (seconds : ℕ) → offset ≤ℤ pos 60 → seconds < 356400 → moved offset seconds < 360000
+moved-before : (offset : ℤ) (seconds : ℕ) → offset ≤ℤ pos 60 → seconds < 356400 → moved offset seconds ≤ 359999
 moved-before (pos n) seconds hour early =
     let few : n ≤ 60 = omega (arith, ints, hour) in
     rw (moved-later n seconds) (omega arith)
@@ -42,7 +42,7 @@ moved-before (negsuc n) seconds hour early = omega arith
 stays-writable : (offset : ℤ) (field : List ℕ) → offset ≤ℤ pos 60 → IsEarly field → StaysWritable offset field
 stays-writable offset field hour early = by (seconds_of field) early
   where
-    by : (found : Option ℕ) → IfSome found (λ seconds. seconds < 356400) → IfSome found (λ seconds. moved offset seconds < 360000)
+    by : (found : Option ℕ) → IfSome found (λ seconds. seconds < 356400) → IfSome found (λ seconds. moved offset seconds ≤ 359999)
     by None early = tt
     by (Some seconds) early = moved-before offset seconds hour early
 
