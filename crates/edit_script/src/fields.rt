@@ -1,6 +1,7 @@
 ghost use Rattle.std.specs.Prelude.{◌≡◌, ◌<◌, ◌≤◌, IfSome, length, pos, unsigned_abs};
 ghost use Rattle.std.specs.Option.{option_map};
-ghost use Rattle.edit_script.specs.declared.edit.TheConstants.{MOST_MINUTE, MOST_SHIFT};
+ghost use Rattle.trip_model.specs.declared.limits.TheConstants.{LAST_DEPARTURE};
+ghost use Rattle.edit_script.specs.declared.edit.TheConstants.{MOST_SHIFT};
 ghost use Rattle.edit_script.specs.Forms as spec;
 ghost use Rattle.gtfs_tables.specs.Spaces as spaces;
 
@@ -73,7 +74,7 @@ pub(crate) fn name_in(field: &[u8]) -> Option<&str>
 /// The minute in a field.
 pub(crate) fn minute_in(field: &[u8]) -> Option<u16>
     ensures minute { result ≡ spec.minute_in field.now }
-    ensures within { IfSome result (λ minute. minute ≤ MOST_MINUTE) }
+    ensures within { IfSome result (λ minute. minute ≤ LAST_DEPARTURE) }
 {
     read_minute(text_in(field)?)
 }

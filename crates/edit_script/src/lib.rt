@@ -41,7 +41,7 @@ mod script;
 mod touched;
 mod writing;
 
-pub use edit::{Edit, Line, MOST_MINUTE, MOST_SHIFT, MOST_SHOWS};
+pub use edit::{Edit, Line, MOST_SHIFT, MOST_SHOWS};
 pub use fault::{EditFault, Side, fault_text};
 pub use reading::{read_edit, read_script};
 pub use script::Script;
