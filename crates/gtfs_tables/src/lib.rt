@@ -2,8 +2,8 @@
 //!
 //! [`read_records`] takes the records of a file one by one into a [`RecordReader`], [`judge_table`] tells whether a file is
 //! a table, [`Table::read`] gives a header and rows of as many fields, and [`read_rows`] the records of a file that has no
-//! header. [`read_time`], [`read_minute`] and [`read_number`] read values with spaces round them, [`minute_text`] prints a
-//! minute, and [`RecordWriter`] writes records.
+//! header. [`read_time`], [`read_minute`] and [`read_number`] read values with spaces round them, which [`without_spaces`]
+//! takes off, and [`digits_number`] reads digits alone. [`minute_text`] prints a minute, and [`RecordWriter`] writes records.
 //! [`Paper`] and [`Column`] name the files and their columns, and [`feed_line`] is the line of a [`FeedFault`].
 //! [`table_in`], [`column_in`], [`text_in`], [`filled_in`], [`number_in`] and [`time_in`] read a feed's table step by step,
 //! each up to its own refusal; [`place_of`] finds a column that need not be there. [`read_optional`] and [`optional_bytes`]
@@ -45,13 +45,14 @@ mod writing;
 pub use entries::Entries;
 pub use fault::{FeedFault, feed_line};
 pub use fold::{RecordReader, judge_table, read_header, read_optional, read_records};
-pub use numbers::read_number;
+pub use numbers::{digits_number, read_number};
 pub use paper::{Column, MOST_BYTES, MOST_RECORDS, Paper};
 pub use reading::{
     column_in, filled_in, number_in, optional_bytes, place_of, table_in, text_in, time_in,
 };
 pub use records::read_rows;
 pub use row::Row;
+pub use spaces::without_spaces;
 pub use table::{Table, TableFault};
 pub use times::{LAST_SECOND, minute_down, minute_text, minute_up, read_minute, read_time};
 pub use writing::RecordWriter;
