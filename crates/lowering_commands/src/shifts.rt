@@ -13,22 +13,12 @@ use desk_io::{Memory, Shelf, Sink, Steps, Text};
 use desk_keeper::Keeper;
 use desk_run::perform;
 use desk_settings::Settings;
-use gtfs_tables::RecordWriter;
-use gtfs_tables::laws::written_text_law;
+use edit_script::shift_line;
 use shift_moves::{Shift, next_shift};
 use std::alloc::Global;
 use std::fmt::Write;
 use std::sync::ledger::Ledger;
 use trip_model::Timetable;
-
-// Appends the record of a shift. What is text stays so.
-fn push_record(records: &mut RecordWriter, trip: &str, by: &str) -> Result<(), Memory>
-    ensures written { OnOk result (records.new ≡ records.old ++ record_text (codes "shift" ∷ trip.now ∷ by.now ∷ [])) }
-    ensures text { OnOk result (IsUtf8 records.old → IsUtf8 records.new) }
-{
-    written_text_law();
-    records.push(&["shift".as_bytes(), trip.as_bytes(), by.as_bytes()])
-}
 
 // Appends the canonical line of a shift.
 fn push_shift(
@@ -40,12 +30,8 @@ fn push_shift(
     requires { shift.slot < length timetable.now.slots }
     ensures { OnOk result (string_bytes text.new ≡ string_bytes text.old ++ shift_line timetable.now shift) }
 {
-    let sign = if shift.by < 0 { "-" } else { "+" };
-    let by = format!(in alloc; "{sign}{}", shift.by.unsigned_abs())?;
-    let mut records = RecordWriter::new(alloc);
-    push_record(&mut records, timetable.name(shift.slot), &by)?;
-    let line = records.into_text()?;
-    text.push_str(line.as_str())?;
+    let line = shift_line(alloc, timetable.name(shift.slot), shift.by)?;
+    writeln!(text, "{}", line.as_str())?;
     Ok(())
 }
 
