@@ -1,5 +1,5 @@
 -- What `desk.toml` says. The members of its table stand in the byte order of their keys.
-use Rattle.std.specs.Prelude.{◌≡◌, ◌⊎◌, ℕ, ◌==◌, ◌&&◌, Bool, true, false, not, ⊤, ◌++◌, ℤ, pos, List, [], ◌∷◌, length, nat_le, Option, Some, None, is_some, option_map, option_and_then, Result, Ok, Err, codes, if◌then◌else◌}
+use Rattle.std.specs.Prelude.{◌≡◌, ◌⊎◌, ℕ, ◌==◌, ◌&&◌, Bool, true, false, not, ⊤, ◌++◌, ℤ, pos, List, [], ◌∷◌, length, nat_le, Option, Some, None, is_some, option_map, option_and_then, Result, Ok, codes, if◌then◌else◌}
 use Rattle.std.specs.Cmp.Lexicographic.{slice_cmp}
 use Rattle.std.specs.Option.{ok_or}
 use Rattle.std.specs.Ordering.{nat_cmp, is_lt}
