@@ -1,5 +1,5 @@
 -- What a log is seen as, and how much it may hold.
-use Rattle.std.specs.Prelude.{ℕ, ◌+◌, ◌-◌, ◌<◌, ◌≤◌, List, length, drop, slice_get, Option, refl}
+use Rattle.std.specs.Prelude.{◌+◌, ◌-◌, ◌<◌, ◌≤◌, List, length, drop, slice_get, Option, refl}
 use Rattle.std.specs.Coded.{Coded, code_by, coded×, coded_list}
 use Rattle.undo_log.specs.declared.log.TheConstants.{UNDO_DEPTH}
 
