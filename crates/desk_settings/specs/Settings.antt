@@ -16,14 +16,14 @@ use Rattle.desk_settings.specs.declared.desk.Desk.{Desk}
 pub record SettingsView : Type 0 where
   pub services : Option (List (List ℕ))
   pub date : Option ℕ
-  pub classes : List (List ℕ × List ℕ)
+  pub classes : Entries Name
   pub layover : ℕ
-  pub layovers : List (List ℕ × ℕ)
+  pub layovers : Entries ℕ
   pub early : ℕ
   pub late : ℕ
   pub prefix : List ℕ
-  pub terminals : List (List ℕ × List ℕ)
-  pub tolerances : List (List ℕ × (ℕ × ℕ))
+  pub terminals : Entries Name
+  pub tolerances : Entries (ℕ × ℕ)
 
 -- the settings of a desk with its terminals and tolerances
 abbrev pub settings_with : Desk → Entries Name → Entries (ℕ × ℕ) → SettingsView
