@@ -5,13 +5,14 @@ use Rattle.std.proofs.lemmas.List.{length-map}
 use Rattle.gtfs_tables.specs.Table.{TableView}
 use Rattle.gtfs_tables.specs.declared.paper.Column.TheVariants as column
 use Rattle.gtfs_tables.specs.declared.fault.FeedFault.{FeedFault}
+use Rattle.gtfs_tables.specs.Reading.{place_of}
 use Rattle.trip_model.specs.Blocking.{IsBlocking}
 use Rattle.trip_model.specs.Network.{Network}
 use Rattle.trip_model.specs.Plain.{trip_moves, AreMoves}
 use Rattle.trip_model.specs.Timetable.{TimetableView}
 use Rattle.deadhead_matrix.specs.Matrix.{MatrixView}
+use Rattle.desk_settings.specs.Selected.{chosen_in, is_selected}
 use Rattle.desk_settings.specs.Settings.{SettingsView}
-use Rattle.block_writer.specs.Fields.{place_of}
 use Rattle.block_audit.specs.declared.misfit.Misfit.{Misfit}
 use Rattle.block_audit.specs.Misfits.{misfits_in}
 use Rattle.block_audit.specs.Stated.{AreNames, NamedBlock, slots_by, stated_in}
@@ -27,7 +28,7 @@ use Rattle.desk_feed.specs.Judging.{IsGivenOf, ending_of, refused_of}
 use Rattle.desk_feed.specs.Schedule.{IsMatrixFor}
 use Rattle.desk_feed.specs.Script.{some_refused}
 use Rattle.audit_commands.specs.declared.audit.Auditable.TheVariants.{Trips, Refused}
-use Rattle.audit_commands.specs.Audit.{AuditsBy, EndsBy, IsAudited, IsJudged, IsRefusedName, audit_does, chosen_in, ending_by, is_selected, stated_of, trips_in}
+use Rattle.audit_commands.specs.Audit.{AuditsBy, EndsBy, IsAudited, IsJudged, IsRefusedName, audit_does, ending_by, stated_of, trips_in}
 use Rattle.audit_commands.specs.Auditable.{IsAuditable, Judges}
 use Rattle.desk_feed.proofs.OneNetwork.{network-same}
 

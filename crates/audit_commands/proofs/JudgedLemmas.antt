@@ -7,7 +7,7 @@ use Rattle.trip_model.specs.Blocking.{IsBlocking}
 use Rattle.trip_model.specs.Timetable.{TimetableView}
 use Rattle.deadhead_matrix.specs.Matrix.{MatrixView}
 use Rattle.deadhead_matrix.specs.Prices.{Plan}
-use Rattle.price_check.specs.Claim.{network_of}
+use Rattle.deadhead_matrix.specs.Fitting.{network_of}
 use Rattle.block_audit.specs.declared.misfit.Misfit.{Misfit}
 use Rattle.block_audit.specs.Stated.{AreStated, NamedBlock, slots_by}
 use Rattle.block_audit.proofs.AboveLemmas.{says-standing, standing-least}

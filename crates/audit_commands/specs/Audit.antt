@@ -1,20 +1,19 @@
 -- What `audit` asks, and what it puts of a feed and of the blocks that it states.
-use Rattle.std.specs.Prelude.{◌≡◌, ◌≢◌, ◌⊎◌, ℕ, ◌+◌, ◌<◌, ◌&&◌, Bool, true, false, List, [], ◌∷◌, length, map, slice_index_or, Result, Ok, Err}
-use Rattle.std.specs.Str.{IsUtf8, is_utf8}
+use Rattle.std.specs.Prelude.{◌≡◌, ◌≢◌, ◌⊎◌, ℕ, ◌+◌, ◌<◌, Bool, true, false, List, [], ◌∷◌, length, slice_index_or, Result, Ok, Err}
+use Rattle.std.specs.Str.{IsUtf8}
 use Rattle.gtfs_tables.specs.Reading.{table_in}
 use Rattle.gtfs_tables.specs.Table.{TableView}
 use Rattle.gtfs_tables.specs.declared.fault.FeedFault.{FeedFault}
 use Rattle.gtfs_tables.specs.declared.fault.FeedFault.TheVariants as fault
 use Rattle.gtfs_tables.specs.declared.paper.Column.TheVariants as column
 use Rattle.gtfs_tables.specs.declared.paper.Paper.TheVariants as paper
-use Rattle.desk_settings.specs.Settings.{SettingsView, is_chosen}
+use Rattle.desk_settings.specs.Selected.{chosen_in}
 use Rattle.trip_model.specs.Blocking.{IsBlocking, IsLeast, empty_minutes}
 use Rattle.trip_model.specs.Network.{Network}
 use Rattle.trip_model.specs.Timetable.{TimetableView}
 use Rattle.deadhead_matrix.specs.Matrix.{MatrixView}
 use Rattle.deadhead_matrix.specs.Prices.{Plan}
-use Rattle.price_check.specs.Claim.{network_of}
-use Rattle.block_writer.specs.Fields.{field_at, place_of}
+use Rattle.deadhead_matrix.specs.Fitting.{network_of}
 use Rattle.block_audit.specs.declared.cost.Above.TheVariants.{Nothing}
 use Rattle.block_audit.specs.declared.misfit.Misfit.{Misfit}
 use Rattle.block_audit.specs.Laws.{Says, standing as standing_of}
@@ -34,18 +33,6 @@ use Rattle.audit_commands.specs.Lines.{costs_text, misfits_text}
 -- the table of the trips, or why it is none; an accepted feed has one
 abbrev pub trips_in : ReadView → Result TableView FeedFault
 trips_in read = table_in paper.Trips (found_of read.pages paper.Trips)
-
--- a service is text and is chosen
-abbrev pub is_text_chosen : SettingsView → List ℕ → Bool
-is_text_chosen settings service = is_utf8 service && is_chosen settings service
-
--- a record is selected where its service, in the column of that number, is one
-abbrev pub is_selected : SettingsView → ℕ → List (List ℕ) → Bool
-is_selected settings place row = is_text_chosen settings (field_at row place)
-
--- which records of `trips.txt` are selected
-abbrev pub chosen_in : SettingsView → TableView → List Bool
-chosen_in settings trips = map (is_selected settings (place_of column.ServiceId trips.header)) trips.rows
 
 -- a record, counted from 0, is the first selected one whose `block_id` is not text
 pub record IsFirstBad (trips : TableView) (chosen : List Bool) (r : ℕ) : Type 0 where

@@ -2,6 +2,7 @@
 use Rattle.std.specs.Prelude.{◌≡◌, Bool, List, Result, Ok, Err}
 use Rattle.gtfs_tables.specs.Table.{TableView}
 use Rattle.gtfs_tables.specs.declared.fault.FeedFault.{FeedFault}
+use Rattle.desk_settings.specs.Selected.{chosen_in}
 use Rattle.desk_settings.specs.Settings.{SettingsView}
 use Rattle.deadhead_matrix.specs.Matrix.{MatrixView}
 use Rattle.block_audit.specs.Misfits.{misfits_in}
@@ -9,7 +10,7 @@ use Rattle.block_audit.specs.Stated.{AreNames, stated_in}
 use Rattle.desk_run.specs.Outcome.{OutcomeView}
 use Rattle.desk_feed.specs.declared.script.Edited.{Edited}
 use Rattle.desk_feed.specs.Judging.{refusing}
-use Rattle.audit_commands.specs.Audit.{IsJudged, IsRefusedName, chosen_in}
+use Rattle.audit_commands.specs.Audit.{IsJudged, IsRefusedName}
 use Rattle.audit_commands.specs.declared.audit.Auditable.{Auditable}
 use Rattle.audit_commands.specs.declared.audit.Auditable.TheVariants.{Trips, Refused}
 

@@ -1,7 +1,8 @@
 ghost use Rattle.std.specs.Prelude.{◌≡◌, ◌+◌, ◌≤◌, [], length, All, IfOk};
 ghost use Rattle.trip_model.specs.Blocking.{IsBlocking};
 ghost use Rattle.trip_model.specs.Plain.{AreMoves, trip_moves};
-ghost use Rattle.price_check.specs.Claim.{Runs, network_of};
+ghost use Rattle.deadhead_matrix.specs.Fitting.{network_of};
+ghost use Rattle.price_check.specs.Claim.{Runs};
 ghost use Rattle.block_audit.specs.Misfits.{misfits_in};
 ghost use Rattle.block_audit.specs.Stated.{AreNames, slots_by};
 ghost use Rattle.desk_feed.specs.Feed.{HasPapers};
@@ -11,7 +12,7 @@ ghost use Rattle.desk_run.specs.World.{world};
 ghost use Rattle.audit_commands.specs.Audit.{IsCosted, IsJudged, audit_asked, trips_in};
 ghost use Rattle.audit_commands.specs.Auditable.{IsAuditable, Judges};
 
-use crate::judging::{bad_name, chosen_in};
+use crate::judging::bad_name;
 use crate::lines::{costs_text, misfits_text};
 use block_audit::laws::blocking_law;
 use block_audit::{Stated, misfits, stated_blocks, stated_cost};
@@ -23,7 +24,7 @@ use desk_feed::{
 use desk_io::{Memory, Shelf, Sink, Steps, Text};
 use desk_keeper::Keeper;
 use desk_run::{Ending, Outcome, Read, perform};
-use desk_settings::Settings;
+use desk_settings::{Settings, chosen_in};
 use edit_script::Line;
 use feed_schedule::schedule_of;
 use gtfs_tables::{Column, FeedFault, Paper, Table, table_in};

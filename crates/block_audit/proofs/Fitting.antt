@@ -5,7 +5,7 @@ use Rattle.std.specs.Option.{is_some}
 use Rattle.trip_model.specs.Blocking.{Follow, IsBlock}
 use Rattle.trip_model.specs.Timetable.{TimetableView}
 use Rattle.deadhead_matrix.specs.Matrix.{MatrixView}
-use Rattle.price_check.specs.Claim.{network_of}
+use Rattle.deadhead_matrix.specs.Fitting.{network_of}
 use Rattle.block_audit.specs.declared.misfit.Misfit.{Misfit}
 use Rattle.block_audit.specs.Misfits.{with_misfit, misfits_after, block_misfits, misfits_from}
 use Rattle.block_audit.specs.Stated.{NamedBlock, slots_by}

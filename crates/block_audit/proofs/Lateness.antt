@@ -13,9 +13,8 @@ use Rattle.trip_model.specs.Trip.{move_of}
 use Rattle.trip_model.specs.declared.trip.Trip.{Trip}
 use Rattle.trip_model.proofs.Counting.{times-cons}
 use Rattle.trip_model.proofs.OrderLemmas.{StandsOnce-by_departure, slot-live, slot-move}
-use Rattle.deadhead_matrix.specs.Fitting.{empty_between, in_time}
+use Rattle.deadhead_matrix.specs.Fitting.{empty_between, in_time, network_of}
 use Rattle.deadhead_matrix.specs.Matrix.{MatrixView, walk}
-use Rattle.price_check.specs.Claim.{network_of}
 use Rattle.block_audit.specs.declared.misfit.Misfit.{Misfit}
 use Rattle.block_audit.specs.Laws.{AreLate, IsLate}
 use Rattle.block_audit.specs.Misfits.{with_misfit, misfit_between, misfits_after, block_misfits, misfits_from, short_by}

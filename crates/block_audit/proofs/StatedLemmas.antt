@@ -16,7 +16,7 @@ use Rattle.trip_model.specs.Timetable.{TimetableView, IsTimetable}
 use Rattle.trip_model.proofs.Counting.{StandsOnce-filter_range, length-ones, runs-within, sum_by-standing}
 use Rattle.trip_model.proofs.OrderLemmas.{StandsOnce-by_departure, RiseBy-by_departure}
 use Rattle.deadhead_matrix.specs.Matrix.{MatrixView}
-use Rattle.price_check.specs.Claim.{network_of}
+use Rattle.deadhead_matrix.specs.Fitting.{network_of}
 use Rattle.block_audit.specs.Laws.{EachStands, AreBlocking, HaveNoMisfit, StandInOrder}
 use Rattle.block_audit.specs.Stated.{name_at, is_alone, is_of, is_first, begins, block_from, blocks_by, stated_in, stated_names, slots_by}
 use Rattle.block_audit.proofs.Fitting.{blocks-from, blocks-to}

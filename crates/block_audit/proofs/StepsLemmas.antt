@@ -8,7 +8,8 @@ use Rattle.std.proofs.lemmas.List.Elements.{All-from_recursion, All-head, All-ta
 use Rattle.trip_model.specs.Timetable.{TimetableView}
 use Rattle.trip_model.proofs.StepsLemmas.{range_with_len-more}
 use Rattle.deadhead_matrix.specs.Matrix.{MatrixView}
-use Rattle.price_check.specs.Claim.{Runs, network_of}
+use Rattle.deadhead_matrix.specs.Fitting.{network_of}
+use Rattle.price_check.specs.Claim.{Runs}
 use Rattle.block_audit.specs.declared.misfit.Misfit.{Misfit}
 use Rattle.block_audit.specs.Misfits.{short_by, with_misfit, misfits_after, block_misfits, misfits_from, misfits_in}
 use Rattle.block_audit.specs.Stated.{NamedBlock, block_at, blocks_by, slots_by}

@@ -5,7 +5,7 @@ use Rattle.trip_model.specs.Blocking.{times, StandsOnce, IsBlock, IsBlocking, Is
 use Rattle.trip_model.specs.Network.{Network}
 use Rattle.trip_model.specs.Timetable.{TimetableView, IsTimetable}
 use Rattle.deadhead_matrix.specs.Matrix.{MatrixView}
-use Rattle.price_check.specs.Claim.{network_of}
+use Rattle.deadhead_matrix.specs.Fitting.{network_of}
 use Rattle.block_audit.specs.declared.cost.Above.{Above}
 use Rattle.block_audit.specs.declared.cost.Above.TheVariants.{Nothing, Vehicles, Minutes}
 use Rattle.block_audit.specs.declared.misfit.Misfit.{Misfit}

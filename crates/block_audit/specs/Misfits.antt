@@ -1,8 +1,8 @@
 -- The pairs of neighbours of stated blocks of which the second trip does not fit after the first.
 use Rattle.std.specs.Prelude.{ℕ, ◌+◌, ◌-◌, List, [], ◌∷◌, ◌++◌, Option, None, Some, is_some, option_map, if◌then◌else◌}
 use Rattle.deadhead_matrix.specs.Matrix.{MatrixView, walk}
+use Rattle.deadhead_matrix.specs.Fitting.{network_of}
 use Rattle.trip_model.specs.Timetable.{TimetableView, slot_at}
-use Rattle.price_check.specs.Claim.{network_of}
 use Rattle.block_build.specs.Lines.{walk_between}
 use Rattle.block_audit.specs.declared.misfit.Misfit.{Misfit}
 use Rattle.block_audit.specs.Stated.{NamedBlock}

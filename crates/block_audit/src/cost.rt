@@ -3,7 +3,7 @@ ghost use Rattle.trip_model.specs.Blocking as blocking;
 ghost use Rattle.trip_model.specs.Blocking.{IsBlock, IsBlocking};
 ghost use Rattle.trip_model.specs.Network.{Fits};
 ghost use Rattle.trip_model.specs.Timetable.{slot_at};
-ghost use Rattle.price_check.specs.Claim.{network_of};
+ghost use Rattle.deadhead_matrix.specs.Fitting.{network_of};
 ghost use Rattle.block_audit.specs.Above as spec;
 ghost use Rattle.block_audit.specs.Stated.{slots_by};
 

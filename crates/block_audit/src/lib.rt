@@ -12,7 +12,8 @@
 //! ```
 //!
 //! The contracts cite `Stated` (the stated blocks), `Misfits` (the pairs that do not fit), `Above` and `Laws`; of `trip_model`
-//! `Blocking`, `Order` and `Timetable`; and of `price_check` the network along which a timetable and a matrix are judged.
+//! `Blocking`, `Order` and `Timetable`; of `deadhead_matrix` the network of a timetable and a matrix (`Fitting`); and of
+//! `price_check` which trips run.
 #![tactic(auto)]
 
 mod cost;

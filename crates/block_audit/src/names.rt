@@ -2,9 +2,9 @@ ghost use Rattle.std.specs.Prelude.{◌≡◌, ◌++◌, [], ◌∷◌, true, co
 ghost use Rattle.block_audit.specs.Stated as spec;
 ghost use Rattle.block_audit.specs.Stated.{AreNames};
 
-use block_writer::{place_of, text_of};
+use block_writer::text_of;
 use desk_io::Memory;
-use gtfs_tables::{Column, Table};
+use gtfs_tables::{Column, Table, place_of};
 use std::alloc::Global;
 use std::marker::Model;
 
@@ -39,7 +39,7 @@ pub fn names_in<'a>(alloc: Global, trips: &'a Table, chosen: &[bool]) -> Result<
     requires names { AreNames trips.now chosen.now }
     ensures { IfOk result (λ names. names ≡ spec.stated_names trips.now chosen.now) }
 {
-    let place = place_of(trips.header(), Column::BlockId);
+    let place = place_of(Column::BlockId, trips.header());
     let mut names = Vec::new(alloc);
     for before in 0..trips.records() {
         let field = trips.row(before + 1).field(place);

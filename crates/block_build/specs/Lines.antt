@@ -8,9 +8,13 @@ use Rattle.deadhead_matrix.specs.Matrix.{MatrixView, walk}
 use Rattle.deadhead_matrix.specs.Pulls.{pull_at}
 use Rattle.trip_model.specs.Timetable.{TimetableView, Slot, slot_at}
 
--- the name of the block of that number, counted from 0: the prefix, and its number counted from 1
+-- the name of the block of that number, counted from 1: the prefix and the number
+abbrev pub name_numbered : List ℕ → ℕ → List ℕ
+name_numbered prefix number = prefix ++ decimal number
+
+-- that of the block of that number, counted from 0
 abbrev pub block_name : List ℕ → ℕ → List ℕ
-block_name prefix number = prefix ++ decimal (number + 1)
+block_name prefix number = name_numbered prefix (number + 1)
 
 -- a trip: its name, its departure and its end
 unfoldable pub trip_text : Slot → List ℕ

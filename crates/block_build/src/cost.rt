@@ -1,11 +1,10 @@
-ghost use Rattle.std.specs.Prelude.{◌≡◌, ◌<◌, ◌≤◌, ◌^◌, true, [], length, All, unwrap_or};
-ghost use Rattle.deadhead_matrix.specs.Fitting.{deadhead_network};
-ghost use Rattle.trip_model.specs.declared.limits.TheConstants.{LAST_MINUTE};
+ghost use Rattle.std.specs.Prelude.{◌≡◌, ◌<◌, ◌^◌, true, length, All, unwrap_or, ◌≤◌, []};
+ghost use Rattle.deadhead_matrix.specs.Fitting.{network_of};
 ghost use Rattle.trip_model.specs.Blocking as spec;
 ghost use Rattle.trip_model.specs.Blocking.{IsBlock, IsBlocking};
 ghost use Rattle.trip_model.specs.Network.{Fits};
-ghost use Rattle.trip_model.specs.Plain.{trip_moves};
 ghost use Rattle.trip_model.specs.Timetable.{slot_at};
+ghost use Rattle.trip_model.specs.declared.limits.TheConstants.{LAST_MINUTE};
 
 use crate::Blocks;
 use deadhead_matrix::Matrix;
@@ -18,8 +17,8 @@ fn minutes_between(timetable: &Timetable, matrix: &Matrix, before: u16, slot: u1
     requires before { before < length timetable.now.slots }
     requires slot { slot < length timetable.now.slots }
     requires places { length timetable.now.places ≡ length matrix.now.walks }
-    requires fits { Fits (deadhead_network (trip_moves timetable.now.slots) matrix.now) before slot }
-    ensures { result ≡ unwrap_or ((deadhead_network (trip_moves timetable.now.slots) matrix.now).empty before slot) 0 }
+    requires fits { Fits (network_of timetable.now matrix.now) before slot }
+    ensures { result ≡ unwrap_or ((network_of timetable.now matrix.now).empty before slot) 0 }
 {
     let to = timetable.trip(before).to;
     let from = timetable.trip(slot).from;
@@ -29,10 +28,10 @@ fn minutes_between(timetable: &Timetable, matrix: &Matrix, before: u16, slot: u1
 // The empty minutes of a block, which are fewer than 2 to the 32.
 fn block_minutes(timetable: &Timetable, matrix: &Matrix, block: &[u16]) -> u32
     requires places { length timetable.now.places ≡ length matrix.now.walks }
-    requires block { IsBlock (deadhead_network (trip_moves timetable.now.slots) matrix.now) block.now }
+    requires block { IsBlock (network_of timetable.now matrix.now) block.now }
     requires live { All (λ s. (slot_at timetable.now s).trip.live ≡ true) block.now }
-    requires few { spec.block_minutes (deadhead_network (trip_moves timetable.now.slots) matrix.now) block.now < 2 ^ 32 }
-    ensures { result ≡ spec.block_minutes (deadhead_network (trip_moves timetable.now.slots) matrix.now) block.now }
+    requires few { spec.block_minutes (network_of timetable.now matrix.now) block.now < 2 ^ 32 }
+    ensures { result ≡ spec.block_minutes (network_of timetable.now matrix.now) block.now }
 {
     let first = timetable.trip(block[0]);
     let last = timetable.trip(block[block.len() - 1]);
@@ -46,8 +45,8 @@ fn block_minutes(timetable: &Timetable, matrix: &Matrix, block: &[u16]) -> u32
 /// The empty minutes of blocks: those out of the depot, of the walks between their trips, and home.
 pub fn empty_minutes(timetable: &Timetable, matrix: &Matrix, blocks: &Blocks) -> u32
     requires places { length timetable.now.places ≡ length matrix.now.walks }
-    requires blocking { IsBlocking (deadhead_network (trip_moves timetable.now.slots) matrix.now) blocks.now }
-    ensures { result ≡ spec.empty_minutes (deadhead_network (trip_moves timetable.now.slots) matrix.now) blocks.now }
+    requires blocking { IsBlocking (network_of timetable.now matrix.now) blocks.now }
+    ensures { result ≡ spec.empty_minutes (network_of timetable.now matrix.now) blocks.now }
 {
     plain_law();
     deadhead_law();

@@ -11,8 +11,9 @@ use Rattle.gtfs_tables.proofs.Written.{records-back}
 use Rattle.gtfs_tables.specs.Rows.{padded}
 use Rattle.gtfs_tables.specs.Table.{TableView, is_longer, table_from, table_of}
 use Rattle.gtfs_tables.specs.declared.paper.Column.TheVariants as column
+use Rattle.gtfs_tables.specs.Reading.{place_of, field_at}
 use Rattle.trip_model.specs.Timetable.{TimetableView}
-use Rattle.block_writer.specs.Fields.{place_of, field_at, with_field, table_text, slot_in}
+use Rattle.block_writer.specs.Fields.{with_field, table_text, slot_in}
 use Rattle.block_writer.specs.Laws as spec
 use Rattle.block_writer.specs.StopTimes.{moved_field, offset_of, stop_time_written, with_times}
 use Rattle.block_writer.specs.Trips.{block_numbers, header_written, trip_written, trips_rows, with_blocks}

@@ -6,7 +6,7 @@ use Rattle.std.proofs.lemmas.List.{append-nil}
 use Rattle.std.proofs.lemmas.List.Elements.{All-cons, All-nil}
 use Rattle.gtfs_tables.proofs.ReadingLemmas.{Fails-due}
 use Rattle.gtfs_tables.specs.Fold.{table_read}
-use Rattle.gtfs_tables.specs.Reading.{◌>>=◌, each_record, Fails}
+use Rattle.gtfs_tables.specs.Reading.{◌>>=◌, each_record, Fails, place_of}
 use Rattle.gtfs_tables.specs.Table.{TableView}
 use Rattle.gtfs_tables.specs.Writing.{record_text, records_text}
 use Rattle.gtfs_tables.specs.declared.fault.FeedFault.{FeedFault}
@@ -18,7 +18,6 @@ use Rattle.gtfs_tables.specs.declared.paper.Paper.TheVariants as paper
 use Rattle.trip_model.specs.Timetable.{TimetableView}
 use Rattle.block_writer.proofs.TextsTold.{Tells, tells}
 use Rattle.block_writer.specs.declared.stop_times.Columns.{Columns}
-use Rattle.block_writer.specs.Fields.{place_of}
 use Rattle.block_writer.specs.StopTimes.{columns_in, stop_time_columns, stop_time_written, stop_times_written, with_stop_time, with_times}
 use Rattle.block_writer.specs.Texts.{AreTexts, IsFirstBadField, IsRefusedFor, IsRefusedPaper, IsTextPaper, bad_field, column_at, record_at, texts_in, unless_bad, with_written}
 

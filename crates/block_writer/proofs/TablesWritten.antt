@@ -7,8 +7,8 @@ use Rattle.block_build.proofs.FilesWritten.{record-more}
 use Rattle.gtfs_tables.specs.Table.{TableView}
 use Rattle.gtfs_tables.specs.Writing.{record_text, records_text}
 use Rattle.gtfs_tables.specs.declared.paper.Column.TheVariants as column
+use Rattle.gtfs_tables.specs.Reading.{place_of}
 use Rattle.trip_model.specs.Timetable.{TimetableView}
-use Rattle.block_writer.specs.Fields.{place_of}
 use Rattle.block_writer.specs.StopTimes.{moved_by, moved_row}
 use Rattle.block_writer.specs.Trips.{block_numbers, header_written, trip_written, with_blocks, trips_written}
 

@@ -1,18 +1,9 @@
 -- Fields of the records of a table that is written.
-use Rattle.std.specs.Prelude.{ℕ, List, [], ◌∷◌, ◌++◌, length, nat_lt, slice_index_or, slice_set, Option, unwrap_or, if◌then◌else◌}
-use Rattle.gtfs_tables.specs.Papers.{column_name_of}
-use Rattle.gtfs_tables.specs.Table.{TableView, column_of}
+use Rattle.std.specs.Prelude.{ℕ, List, [], ◌∷◌, ◌++◌, length, nat_lt, slice_set, Option, if◌then◌else◌}
+use Rattle.gtfs_tables.specs.Reading.{field_at}
+use Rattle.gtfs_tables.specs.Table.{TableView}
 use Rattle.gtfs_tables.specs.Writing.{records_text}
-use Rattle.gtfs_tables.specs.declared.paper.Column.{Column}
 use Rattle.trip_model.specs.Timetable.{TimetableView, number_of, slot_names}
-
--- the number, from 0, of the first column of that name in a header; where there is none, of the next column
-abbrev pub place_of : Column → List (List ℕ) → ℕ
-place_of column header = unwrap_or (column_of (column_name_of column) header) (length header)
-
--- the field of a record in the column of that number
-abbrev pub field_at : List (List ℕ) → ℕ → List ℕ
-field_at row place = slice_index_or row place []
 
 -- a record with another field in that column, which comes at the end where it is new
 abbrev pub with_field : List (List ℕ) → ℕ → List ℕ → List (List ℕ)

@@ -1,6 +1,6 @@
 -- The records of `stop_times.txt`, written with the times of shifted trips moved.
 use Rattle.std.specs.Prelude.{ℕ, ◌+◌, ◌-◌, ◌*◌, ◌/◌, ◌%◌, ◌==◌, ◌&&◌, ℤ, pos, int_lt, unsigned_abs, List, [], ◌∷◌, ◌++◌, map, nat_lt, slice_set, Option, None, Some, Result, Ok, if◌then◌else◌}
-use Rattle.gtfs_tables.specs.Reading.{◌>>=◌}
+use Rattle.gtfs_tables.specs.Reading.{◌>>=◌, place_of, field_at}
 use Rattle.gtfs_tables.specs.Table.{TableView}
 use Rattle.gtfs_tables.specs.Times.{seconds_of, two_digits}
 use Rattle.gtfs_tables.specs.declared.fault.FeedFault.{FeedFault}
@@ -9,7 +9,7 @@ use Rattle.gtfs_tables.specs.declared.paper.Column.TheVariants as column
 use Rattle.gtfs_tables.specs.declared.paper.Paper.TheVariants as paper
 use Rattle.trip_model.specs.Timetable.{TimetableView, slot_at}
 use Rattle.block_writer.specs.declared.stop_times.Columns.{Columns}
-use Rattle.block_writer.specs.Fields.{place_of, field_at, slot_in, table_text}
+use Rattle.block_writer.specs.Fields.{slot_in, table_text}
 use Rattle.block_writer.specs.Texts.{texts_in, with_written}
 
 -- a second of the service day moved by so many minutes, and not below midnight

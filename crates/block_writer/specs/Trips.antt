@@ -1,12 +1,13 @@
 -- The records of `trips.txt`, written with the block of each selected trip.
 use Rattle.std.specs.Prelude.{ℕ, ◌==◌, Bool, false, List, [], ◌∷◌, ◌++◌, length, map, nat_lt, slice_index_or, Option, None, Some, if◌then◌else◌}
-use Rattle.std.specs.Fmt.{decimal}
 use Rattle.std.specs.List.{list_any, position_from, range_with_len}
 use Rattle.gtfs_tables.specs.Papers.{column_name_of}
 use Rattle.gtfs_tables.specs.Table.{TableView}
 use Rattle.gtfs_tables.specs.declared.paper.Column.TheVariants as column
+use Rattle.gtfs_tables.specs.Reading.{place_of, field_at}
 use Rattle.trip_model.specs.Timetable.{TimetableView, slot_at}
-use Rattle.block_writer.specs.Fields.{place_of, field_at, with_field, slot_in, table_text}
+use Rattle.block_build.specs.Lines.{name_numbered}
+use Rattle.block_writer.specs.Fields.{with_field, slot_in, table_text}
 
 -- whether the trip of a slot is one of a block
 abbrev pub is_in : ℕ → List ℕ → Bool
@@ -28,7 +29,7 @@ block_numbers slots blocks = map (number_in blocks) (range_with_len 0 slots)
 -- the name of the block of that number: the prefix and the number; empty where there is no block
 abbrev pub name_of : List ℕ → Option ℕ → List ℕ
 name_of prefix None = []
-name_of prefix (Some number) = prefix ++ decimal number
+name_of prefix (Some number) = name_numbered prefix number
 
 -- the block of a selected trip: the name of that in which its slot stands; empty where it does not run
 abbrev pub block_of : TimetableView → List (Option ℕ) → List ℕ → Option ℕ → List ℕ

@@ -1,19 +1,8 @@
 ghost use Rattle.std.specs.Prelude.{◌≡◌, [], ◌∷◌, ◌++◌, IfOk, IsUtf8, OnOk, map};
-ghost use Rattle.block_writer.specs.Fields as spec;
 
 use desk_io::Memory;
-use gtfs_tables::{Column, Row};
+use gtfs_tables::Row;
 use std::alloc::Global;
-
-/// The number, from 0, of the first column of that name in a header; where there is none, of the next column.
-pub fn place_of(header: &Row, column: Column) -> usize
-    ensures { result ≡ spec.place_of column header.now }
-{
-    match header.place(column.name()) {
-        Some(place) => place,
-        None => header.len(),
-    }
-}
 
 /// The text of a field that is UTF-8.
 pub fn text_of(field: &[u8]) -> &str

@@ -2,7 +2,7 @@
 //!
 //! [`stop_times_text`] makes the text of `stop_times_blocks.txt` in one pass over `stop_times.txt` that keeps no record.
 //! [`trips_text`] makes that of `trips_blocks.txt` of the table of `trips.txt`, which [`read_texts`] reads. All fields of both
-//! files must be UTF-8, and the first that is not is refused. [`place_of`] and [`text_of`] are for those who read such fields.
+//! files must be UTF-8, and the first that is not is refused. [`text_of`] is for those who read such fields.
 //!
 //! The contract that the crates above use: a text has the records that were read, in their order, with nothing else than
 //! `block_id` of selected trips and the times of shifted ones replaced; it reads back as that table.
@@ -13,7 +13,7 @@
 //! let trips = trips_text(alloc, &trips, &timetable, &chosen, &blocks, "B")?;
 //! ```
 //!
-//! The contracts cite `Texts` (tables of texts, and why a paper is refused), `Fields` (columns and fields of a record),
+//! The contracts cite `Texts` (tables of texts, and why a paper is refused), `Fields` (fields of a record),
 //! `Trips` and `StopTimes` (the tables that are written, and their texts), and the laws `Laws`; and of `gtfs_tables` `Table`,
 //! `Fold` and `Writing`.
 #![tactic(auto)]
@@ -24,7 +24,7 @@ mod stop_times;
 mod texts;
 mod trips;
 
-pub use fields::{place_of, text_of};
+pub use fields::text_of;
 pub use stop_times::stop_times_text;
 pub use texts::read_texts;
 pub use trips::trips_text;

@@ -4,15 +4,17 @@ ghost use Rattle.gtfs_tables.specs.declared.paper.Paper.{Paper};
 ghost use Rattle.gtfs_tables.specs.Papers.{IsWithinLimit};
 ghost use Rattle.gtfs_tables.specs.Reading.{table_in};
 ghost use Rattle.gtfs_tables.specs.Writing.{record_text};
+ghost use Rattle.gtfs_tables.specs.declared.times.TheConstants.{LAST_SECOND};
 ghost use Rattle.trip_model.specs.Timetable.{number_of, slot_names};
 ghost use Rattle.block_writer.specs.Texts.{IsRefusedPaper, IsTextPaper};
 ghost use Rattle.block_writer.specs.StopTimes as spec;
 
-use crate::fields::{fields_of, place_of, text_of};
+use crate::fields::{fields_of, text_of};
 use crate::texts::texts_of;
 use desk_io::{Bytes, Found, Memory, Text};
 use gtfs_tables::{
-    Column, FeedFault, Paper, RecordReader, RecordWriter, Row, read_header, read_records, read_time,
+    Column, FeedFault, Paper, RecordReader, RecordWriter, Row, place_of, read_header, read_records,
+    read_time,
 };
 use std::alloc::Global;
 use trip_model::Timetable;
@@ -28,7 +30,7 @@ const STOP_TIME_COLUMNS: [Column; 5] = [
 
 // A second of the service day moved by so many minutes, and not below midnight.
 fn moved(offset: i8, seconds: u32) -> u32
-    requires { seconds ≤ 359999 }
+    requires { seconds ≤ LAST_SECOND }
     ensures value { result ≡ spec.moved offset seconds }
 {
     let by = 60 * u32::from(offset.unsigned_abs());
@@ -222,9 +224,9 @@ impl<'a> RecordReader for StopTimes<'a> {
             header,
         )?;
         Ok(Columns {
-            trip: place_of(header, Column::TripId),
-            arrival: place_of(header, Column::ArrivalTime),
-            departure: place_of(header, Column::DepartureTime),
+            trip: place_of(Column::TripId, header),
+            arrival: place_of(Column::ArrivalTime, header),
+            departure: place_of(Column::DepartureTime, header),
         })
     }
 

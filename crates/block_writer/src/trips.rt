@@ -5,10 +5,10 @@ ghost use Rattle.block_writer.specs.Fields.{with_field};
 ghost use Rattle.block_writer.specs.Texts.{AreTexts};
 ghost use Rattle.block_writer.specs.Trips as spec;
 
-use crate::fields::{fields_of, place_of, text_of};
+use crate::fields::{fields_of, text_of};
 use block_build::Blocks;
 use desk_io::{Bytes, Memory, Text};
-use gtfs_tables::{Column, RecordWriter, Row, Table};
+use gtfs_tables::{Column, RecordWriter, Row, Table, place_of};
 use std::alloc::Global;
 use trip_model::Timetable;
 
@@ -138,8 +138,8 @@ pub fn trips_text(
     ensures { IfOk result (λ text. text ≡ spec.trips_written trips.now timetable.now chosen.now blocks.now prefix.now) }
 {
     let header = trips.header();
-    let trip = place_of(header, Column::TripId);
-    let block = place_of(header, Column::BlockId);
+    let trip = place_of(Column::TripId, header);
+    let block = place_of(Column::BlockId, header);
     let numbers = block_numbers(alloc, timetable.slots(), blocks)?;
     let mut records = RecordWriter::new(alloc);
     push_header(alloc, &mut records, header, block)?;

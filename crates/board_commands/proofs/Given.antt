@@ -9,11 +9,10 @@ use Rattle.gtfs_tables.specs.declared.paper.Paper.TheVariants as paper
 use Rattle.trip_model.specs.Blocking.{IsBlocking, IsLeast}
 use Rattle.trip_model.specs.Deficit.{deficit}
 use Rattle.trip_model.specs.Maximum.{sum_of_maxima}
-use Rattle.trip_model.specs.Plain.{trip_moves}
 use Rattle.trip_model.specs.Timetable.{TimetableView, IsTimetable}
 use Rattle.deadhead_matrix.specs.declared.entry.Entry.{Entry}
 use Rattle.deadhead_matrix.specs.Deadheads.{deadheads_of}
-use Rattle.deadhead_matrix.specs.Fitting.{deadhead_network}
+use Rattle.deadhead_matrix.specs.Fitting.{network_of}
 use Rattle.deadhead_matrix.specs.Matrix.{MatrixView, AreLeastWalks}
 use Rattle.joined_deficits.specs.Joined.{TakeTime, joined_moves}
 use Rattle.desk_run.specs.Outcome.{OutcomeView}
@@ -53,7 +52,7 @@ EntriesTakeTime = (found : Found) (timetable after : TimetableView) (entries : L
 
 abbrev pub JoinedIsLeast : Type 0
 JoinedIsLeast = (timetable : TimetableView) (matrix : MatrixView) (blocks : List (List ℕ)) → IsTimetable timetable → AreLeastWalks matrix → length matrix.walks ≡ length timetable.places → TakeTime matrix.entries
-    → IsLeast (deadhead_network (trip_moves timetable.slots) matrix) blocks → sum_of_maxima (deficit (joined_moves timetable matrix blocks)) (length timetable.places) ≡ pos (length blocks)
+    → IsLeast (network_of timetable matrix) blocks → sum_of_maxima (deficit (joined_moves timetable matrix blocks)) (length timetable.places) ≡ pos (length blocks)
 
 -- the entries of an accepted feed take time
 entries-said : EntriesTakeTime → (found : Paper → Found) (said : Said) → said_by found ≡ Ok said → TakeTime said.entries
@@ -69,10 +68,10 @@ entries-said law found said e =
 
 -- what is drawn is a blocking of the trips that run
 pub drawn-blocking : (base : TimetableView) (lines : List Line) (matrix : MatrixView) (drawn : Drawn) → HasDrawn base lines matrix drawn
-    → IsBlocking (deadhead_network (trip_moves drawn.desk.script.timetable.slots) drawn.desk.matrix) drawn.blocks
+    → IsBlocking (network_of drawn.desk.script.timetable drawn.desk.matrix) drawn.blocks
 drawn-blocking base lines matrix drawn has =
-    subst (λ (t : TimetableView). IsBlocking (deadhead_network (trip_moves t.slots) drawn.desk.matrix) drawn.blocks) (sym has.timetable)
-    (subst (λ matrix. IsBlocking (deadhead_network (trip_moves (standing_after base lines).slots) matrix) drawn.blocks) (sym has.matrix_is)
+    subst (λ (t : TimetableView). IsBlocking (network_of t drawn.desk.matrix) drawn.blocks) (sym has.timetable)
+    (subst (λ matrix. IsBlocking (network_of (standing_after base lines) matrix) drawn.blocks) (sym has.matrix_is)
     (drawn-scheduled base lines matrix drawn.desk.plan drawn.blocks has.plan).least.fewest.blocking)
 
 pub joined-given : {E : Type 0} (read : ReadView) (said : Said) (matrix : MatrixView) (drawn : Drawn) → JoinedIsLeast → EntriesTakeTime → said_in read ≡ Ok said

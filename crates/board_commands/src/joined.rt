@@ -1,11 +1,10 @@
 ghost use Rattle.std.specs.Prelude.{◌≡◌, ◌+◌, ◌*◌, ◌≤◌, IfOk};
 ghost use Rattle.board_commands.specs.Joined.{boards_outcome, joined_asked, joined_of};
-ghost use Rattle.deadhead_matrix.specs.Fitting.{deadhead_network};
+ghost use Rattle.deadhead_matrix.specs.Fitting.{network_of};
 ghost use Rattle.desk_run.specs.Performs.{Performs};
 ghost use Rattle.desk_run.specs.World.{world};
 ghost use Rattle.joined_deficits.specs.declared.limits.TheConstants.{MOST_MOVES};
 ghost use Rattle.trip_model.specs.Blocking.{IsBlocking};
-ghost use Rattle.trip_model.specs.Plain.{trip_moves};
 
 use deadhead_matrix::{Deadheads, Pulls};
 use desk_feed::{FEED_PAPERS, FeedCommand, OnFeed, matrix_of};
@@ -28,7 +27,7 @@ fn joined_text<L: Ledger>(
     drawn: &Drawn,
     steps: &mut Steps<L>,
 ) -> Result<Text, Memory>
-    requires blocking { IsBlocking (deadhead_network (trip_moves drawn.now.desk.script.timetable.slots) drawn.now.desk.matrix) drawn.now.blocks }
+    requires blocking { IsBlocking (network_of drawn.now.desk.script.timetable drawn.now.desk.matrix) drawn.now.blocks }
     ensures text { IfOk result (λ text. text ≡ joined_of drawn.now.desk.script.timetable drawn.now.desk.matrix drawn.now.blocks) }
     ensures counted { steps.new ≤ steps.old + 28 * MOST_MOVES }
 {
@@ -46,7 +45,7 @@ fn boarded<L: Ledger>(
     drawn: &Drawn,
     steps: &mut Steps<L>,
 ) -> Result<Outcome, Memory>
-    requires blocking { IsBlocking (deadhead_network (trip_moves drawn.now.desk.script.timetable.slots) drawn.now.desk.matrix) drawn.now.blocks }
+    requires blocking { IsBlocking (network_of drawn.now.desk.script.timetable drawn.now.desk.matrix) drawn.now.blocks }
     ensures boarded { IfOk result (λ outcome.
         outcome ≡ boards_outcome drawn.now.refused drawn.now.ending settings.now.prefix drawn.now.desk.script.timetable drawn.now.desk.matrix drawn.now.blocks) }
     ensures counted { steps.new ≤ steps.old + 28 * MOST_MOVES }

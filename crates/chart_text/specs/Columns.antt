@@ -3,6 +3,7 @@ use Rattle.std.specs.Prelude.{ℕ, ◌≤◌, ◌+◌, ◌-◌, ◌*◌, ◌/◌
 use Rattle.std.specs.List.{range_with_len, reduce}
 use Rattle.std.specs.Option.{option_map_or}
 use Rattle.trip_model.specs.declared.trip.Move.{Move}
+use Rattle.chart_text.specs.declared.columns.TheConstants.{COLUMN_MINUTES}
 
 -- the least departure of the moves, if there are any
 abbrev pub first_departure : List Move → Option ℕ
@@ -14,7 +15,7 @@ last_end moves = fold max 0 (map (λ m. m.arrives) moves)
 
 -- the columns in order of number, from that of the first departure to that of the last end, and none without moves
 unfoldable pub columns_of : List Move → List ℕ
-columns_of moves = option_map_or (λ first. range_with_len (first / 10) (last_end moves / 10 + 1 - first / 10)) (first_departure moves) []
+columns_of moves = option_map_or (λ first. range_with_len (first / COLUMN_MINUTES) (last_end moves / COLUMN_MINUTES + 1 - first / COLUMN_MINUTES)) (first_departure moves) []
 
 -- a column that begins by 105:00, by which all trips have ended
 abbrev pub IsColumn : ℕ → Type 0
@@ -22,4 +23,4 @@ IsColumn column = column ≤ 630
 
 -- the ten minutes of the column of a number
 unfoldable pub minutes_of : ℕ → List ℕ
-minutes_of column = range_with_len (10 * column) 10
+minutes_of column = range_with_len (COLUMN_MINUTES * column) COLUMN_MINUTES

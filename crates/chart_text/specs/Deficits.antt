@@ -5,6 +5,7 @@ use Rattle.std.specs.List.{flat_map, enumerate_from}
 use Rattle.gtfs_tables.specs.Times.{minute_digits}
 use Rattle.trip_model.specs.Deficit.{live_moves}
 use Rattle.trip_model.specs.Timetable.{TimetableView, place_names}
+use Rattle.chart_text.specs.declared.columns.TheConstants.{COLUMN_MINUTES}
 use Rattle.chart_text.specs.Columns.{columns_of, minutes_of}
 
 -- the value at a minute in a list of values, one for each minute from 0 on
@@ -13,7 +14,7 @@ value_in values minute = slice_index_or values minute (pos 0)
 
 -- the greatest value of d in the minutes of a column
 unfoldable pub greatest_in : (ℕ → ℤ) → ℕ → ℤ
-greatest_in d column = fold int_max (d (10 * column)) (map d (minutes_of column))
+greatest_in d column = fold int_max (d (COLUMN_MINUTES * column)) (map d (minutes_of column))
 
 -- a value as one character: its digit from 0 to 9, `+` above 9 and `-` below 0
 abbrev pub mark_of : ℤ → ℕ
@@ -28,7 +29,7 @@ place_line columns name d = map (λ c. mark_of (greatest_in d c)) columns ++ cod
 unfoldable pub chart_of : List ℕ → List (List ℕ) → (ℕ → ℕ → ℤ) → List ℕ
 chart_of [] names d = codes "no trips" ++ 10 ∷ []
 chart_of (first ∷ rest) names d =
-    codes "chart from " ++ minute_digits (10 * first) ++ 10 ∷ [] ++ flat_map (λ place. place_line (first ∷ rest) place.1 (d place.0)) (enumerate_from 0 names)
+    codes "chart from " ++ minute_digits (COLUMN_MINUTES * first) ++ 10 ∷ [] ++ flat_map (λ place. place_line (first ∷ rest) place.1 (d place.0)) (enumerate_from 0 names)
 
 -- the chart of the places of a timetable, over the columns of its trips that run
 abbrev pub deficit_chart_text : TimetableView → (ℕ → ℕ → ℤ) → List ℕ

@@ -4,7 +4,7 @@ ghost use Rattle.deadhead_matrix.specs.Matrix.{walk};
 ghost use Rattle.chart_text.specs.Blocks as spec;
 ghost use Rattle.chart_text.specs.Columns.{IsColumn};
 
-use crate::columns::column_list;
+use crate::columns::{COLUMN_MINUTES, column_list};
 use block_build::Blocks;
 use deadhead_matrix::Matrix;
 use desk_io::{Memory, Text};
@@ -17,8 +17,8 @@ pub fn has_minute(column: u16, from: u64, to: u64) -> bool
     requires { IsColumn column }
     ensures { result ≡ spec.has_minute column from to }
 {
-    let first = u64::from(10 * column);
-    from.max(first) < to.min(first + 10)
+    let first = u64::from(COLUMN_MINUTES * column);
+    from.max(first) < to.min(first + COLUMN_MINUTES as u64)
 }
 
 // Whether some trip of the block runs in the column.

@@ -7,6 +7,9 @@ use desk_io::Memory;
 use std::alloc::Global;
 use trip_model::Timetable;
 
+/// How many minutes a column of a chart stands for.
+pub const COLUMN_MINUTES: u16 = 10;
+
 // The first departure of the trips that run and the last end. Where no trip runs, the first departure is later than
 // any minute, and the last end is 0.
 fn first_and_last(timetable: &Timetable) -> (u16, u16)
@@ -34,5 +37,5 @@ pub fn column_list(alloc: Global, timetable: &Timetable) -> Result<Vec<u16>, Mem
     ensures valid { IsTimetable timetable.now }
 {
     let (first, last) = first_and_last(timetable);
-    Ok((first / 10..last / 10 + 1).collect(alloc)?)
+    Ok((first / COLUMN_MINUTES..last / COLUMN_MINUTES + 1).collect(alloc)?)
 }

@@ -7,7 +7,7 @@ ghost use Rattle.deficit_steps.specs.Holds.{Holds};
 ghost use Rattle.chart_text.specs.Columns.{IsColumn};
 ghost use Rattle.chart_text.specs.Deficits as spec;
 
-use crate::columns::column_list;
+use crate::columns::{COLUMN_MINUTES, column_list};
 use crate::laws::chart_law;
 use deficit_steps::Deficits;
 use desk_io::{Memory, Text};
@@ -45,9 +45,9 @@ fn greatest_in(values: &[i32], column: u16) -> i32
     requires column { IsColumn column }
     ensures { result ≡ spec.greatest_in (spec.value_in values.now) column }
 {
-    let first = usize::from(10 * column);
+    let first = usize::from(COLUMN_MINUTES * column);
     let mut high = values[first];
-    for minute in 0..10 {
+    for minute in 0..COLUMN_MINUTES as usize {
         high = high.max(values[first + minute]);
     }
     high
@@ -118,7 +118,7 @@ pub fn deficit_chart(
         return Text::of(alloc, "no trips\n");
     };
     let mut text = String::new(alloc);
-    let minute = minute_text(alloc, 10 * *first)?;
+    let minute = minute_text(alloc, COLUMN_MINUTES * *first)?;
     writeln!(text, "chart from {}", minute.as_str())?;
     for place in 0..deficits.places() {
         push_place(

@@ -23,4 +23,5 @@ mod deficits;
 pub mod laws;
 
 pub use blocks::block_chart;
+pub use columns::COLUMN_MINUTES;
 pub use deficits::deficit_chart;

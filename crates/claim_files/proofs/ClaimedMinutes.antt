@@ -5,12 +5,12 @@ use Rattle.std.specs.List.{AllByRecursion}
 use Rattle.std.specs.Option.{is_some}
 use Rattle.std.proofs.lemmas.Bool.{false≢true}
 use Rattle.std.proofs.lemmas.Option.{same_Some}
-use Rattle.deadhead_matrix.specs.Fitting.{empty_between, in_time, out_before}
+use Rattle.deadhead_matrix.specs.Fitting.{empty_between, in_time, out_before, network_of}
 use Rattle.deadhead_matrix.specs.Matrix.{MatrixView, walk}
 use Rattle.deadhead_matrix.specs.Prices.{IsDay}
 use Rattle.deadhead_matrix.proofs.Duality.{fitting}
 use Rattle.price_check.specs.declared.claim.BlockRow.{BlockRow}
-use Rattle.price_check.specs.Claim.{begin_with, block_row, network_of}
+use Rattle.price_check.specs.Claim.{begin_with, block_row}
 use Rattle.price_check.specs.Certificate.{AreShown}
 use Rattle.price_check.specs.Reasons.{minutes_before}
 use Rattle.price_check.proofs.CertificateLemmas.{network-departures}

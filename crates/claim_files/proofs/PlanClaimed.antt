@@ -5,9 +5,10 @@ use Rattle.std.proofs.lemmas.Bool.{eqb-true, or_parts}
 use Rattle.std.proofs.lemmas.List.FromFn.{fill_by_all}
 use Rattle.deadhead_matrix.specs.Matrix.{MatrixView}
 use Rattle.deadhead_matrix.specs.Prices.{Plan, price, IsCertified}
+use Rattle.deadhead_matrix.specs.Fitting.{network_of}
 use Rattle.price_check.specs.declared.claim.PriceRow.{PriceRow}
 use Rattle.price_check.specs.declared.verdict.Verdict.TheVariants.{Yes}
-use Rattle.price_check.specs.Claim.{ClaimedView, AreKnown, block_slots, blocks_in, network_of, price_slots}
+use Rattle.price_check.specs.Claim.{ClaimedView, AreKnown, block_slots, blocks_in, price_slots}
 use Rattle.price_check.specs.Certificate.{IsCertificate, NameOnce, next_in, plan_of, row_of, slots_named, AreShown}
 use Rattle.price_check.specs.Reasons.{verdict_by}
 use Rattle.price_check.proofs.ChainLemmas.{slots_in-blocks}

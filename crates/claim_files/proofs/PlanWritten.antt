@@ -9,8 +9,9 @@ use Rattle.deadhead_matrix.specs.Matrix.{MatrixView}
 use Rattle.deadhead_matrix.specs.Prices.{Plan, IsDay}
 use Rattle.deadhead_matrix.proofs.Days.{IsDay-deadhead}
 use Rattle.deadhead_matrix.proofs.GreatestPrice.{certified-most}
+use Rattle.deadhead_matrix.specs.Fitting.{network_of}
 use Rattle.price_check.specs.declared.claim.BlockRow.{BlockRow}
-use Rattle.price_check.specs.Claim.{Runs, network_of}
+use Rattle.price_check.specs.Claim.{Runs}
 use Rattle.price_check.proofs.CertificateLemmas.{network-departures, network-within}
 use Rattle.trip_model.specs.Blocking.{times, slots_in, StandsOnce, IsBlock, IsBlocking}
 use Rattle.trip_model.specs.Links.{block_from}

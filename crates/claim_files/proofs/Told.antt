@@ -6,12 +6,13 @@ use Rattle.std.specs.List.{range_with_len}
 use Rattle.std.specs.Option.{option_and_then, option_or}
 use Rattle.deadhead_matrix.specs.Matrix.{MatrixView}
 use Rattle.deadhead_matrix.specs.Prices.{weight}
+use Rattle.deadhead_matrix.specs.Fitting.{network_of}
 use Rattle.gtfs_tables.specs.declared.paper.Paper.{Paper}
 use Rattle.gtfs_tables.specs.declared.paper.Paper.TheVariants.{Blocks, Prices}
 use Rattle.price_check.specs.declared.verdict.Reason.{Reason}
 use Rattle.price_check.specs.declared.verdict.Reason.TheVariants.{UnknownTrip, TripTwice, TripMissing, NotFit, MinutesDiffer, PriceLow, SumsDiffer}
 use Rattle.price_check.specs.declared.verdict.Verdict.TheVariants.{No}
-use Rattle.price_check.specs.Claim.{ClaimedView, ArePriceRows, NamesLive, block_row, block_slots, network_of, price_row, price_slots, slot_before}
+use Rattle.price_check.specs.Claim.{ClaimedView, ArePriceRows, NamesLive, block_row, block_slots, price_row, price_slots, slot_before}
 use Rattle.price_check.specs.Reasons.{differing, differs, first_at, first_low_from, first_of, low, low_from, lower, minutes_before, misnamed, missing, price_sum, reason_of, twice, unequal, unfit, unknown, unproved, verdict_by, verdict_of, weight_sum}
 use Rattle.trip_model.specs.Network.{Network}
 use Rattle.trip_model.specs.Timetable.{TimetableView}

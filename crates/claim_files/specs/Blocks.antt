@@ -1,7 +1,6 @@
 -- The records of `blocks.csv` as they are read: one for each trip, block by block.
 use Rattle.std.specs.Prelude.{ℕ, ◌+◌, ◌==◌, nat_lt, List, [], ◌∷◌, ◌++◌, length, Option, None, Some, Result, Ok}
 use Rattle.desk_io.specs.declared.shelf.Found.{Found}
-use Rattle.desk_settings.specs.Entries.{Name}
 use Rattle.desk_settings.specs.Names.{with_name}
 use Rattle.gtfs_tables.specs.declared.fault.FeedFault.{FeedFault}
 use Rattle.gtfs_tables.specs.declared.fault.FeedFault.TheVariants as fault
@@ -9,6 +8,7 @@ use Rattle.gtfs_tables.specs.declared.paper.Column.TheVariants as column
 use Rattle.gtfs_tables.specs.declared.paper.Paper.TheVariants as paper
 use Rattle.gtfs_tables.specs.Fold.{paper_read}
 use Rattle.gtfs_tables.specs.Reading.{◌>>=◌, provided, nothing, column_in, field_at, text_in, filled_in, number_in}
+use Rattle.gtfs_tables.specs.Entries.{Name}
 use Rattle.price_check.specs.declared.claim.BlockRow.{BlockRow}
 use Rattle.trip_model.specs.declared.limits.TheConstants.{MOST_SLOTS}
 use Rattle.trip_model.specs.Timetable.{TimetableView, number_of}

@@ -6,11 +6,12 @@ use Rattle.block_build.specs.Files.{blocks_text, minutes_before, prices_text}
 use Rattle.deadhead_matrix.specs.Matrix.{MatrixView}
 use Rattle.deadhead_matrix.specs.Prices.{Plan, price, IsPlanFor}
 use Rattle.deadhead_matrix.specs.Pulls.{IsPull}
+use Rattle.deadhead_matrix.specs.Fitting.{network_of}
 use Rattle.price_check.specs.declared.claim.BlockRow.{BlockRow}
 use Rattle.price_check.specs.declared.claim.PriceRow.{PriceRow}
 use Rattle.price_check.specs.declared.claim.TheConstants.{MOST_PRICE}
 use Rattle.price_check.specs.declared.verdict.Verdict.TheVariants.{Yes}
-use Rattle.price_check.specs.Claim.{ClaimedView, Runs, network_of}
+use Rattle.price_check.specs.Claim.{ClaimedView, Runs}
 use Rattle.price_check.specs.Reasons.{verdict_of}
 use Rattle.trip_model.specs.declared.limits.TheConstants.{MOST_SLOTS}
 use Rattle.trip_model.specs.Blocking.{empty_minutes, slots_in}

@@ -2,9 +2,10 @@
 ghost use Rattle.std.specs.Prelude.{◌≡◌, ℕ, List, length, Ok};
 ghost use Rattle.deadhead_matrix.specs.Matrix.{MatrixView};
 ghost use Rattle.deadhead_matrix.specs.Prices.{Plan};
+ghost use Rattle.deadhead_matrix.specs.Fitting.{network_of};
 ghost use Rattle.desk_io.specs.declared.shelf.Found.{Found};
 ghost use Rattle.price_check.specs.Certificate.{IsCertificate};
-ghost use Rattle.price_check.specs.Claim.{ClaimedView, AreBlockRows, ArePriceRows, network_of};
+ghost use Rattle.price_check.specs.Claim.{ClaimedView, AreBlockRows, ArePriceRows};
 ghost use Rattle.price_check.specs.declared.verdict.Reason.{Reason};
 ghost use Rattle.price_check.specs.declared.verdict.Verdict.TheVariants.{No};
 ghost use Rattle.price_check.specs.Reasons.{verdict_of};

@@ -1,7 +1,6 @@
 pub mod ClassLemmas
 pub mod Closed
 pub mod Days
-pub mod DepotLemmas
 pub mod Duality
 pub mod GreatestPrice
 pub mod LeftLemmas

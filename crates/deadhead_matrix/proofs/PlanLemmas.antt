@@ -8,7 +8,7 @@ use Rattle.trip_model.specs.Plain.{move_at, move_of_slot, trip_moves}
 use Rattle.trip_model.specs.Timetable.{TimetableView, IsTimetable}
 use Rattle.trip_model.proofs.OrderLemmas.{StandsOnce-by_departure}
 use Rattle.trip_model.proofs.PlainLemmas.{AreMoves-trips}
-use Rattle.deadhead_matrix.specs.Fitting.{deadhead_network}
+use Rattle.deadhead_matrix.specs.Fitting.{deadhead_network, network_of}
 use Rattle.deadhead_matrix.specs.Matrix.{MatrixView}
 use Rattle.deadhead_matrix.specs.Prices.{Plan, IsPlanFor}
 use Rattle.deadhead_matrix.specs.Pulls.{IsPull}
@@ -16,7 +16,7 @@ use Rattle.deadhead_matrix.proofs.Days.{AreDepartures-deadhead, IsDay-deadhead}
 use Rattle.deadhead_matrix.proofs.Duality.{IsLeast-certified}
 
 pub IsLeast-plan : (t : TimetableView) (matrix : MatrixView) (plan : Plan) → IsTimetable t → All IsPull matrix.pulls → IsPlanFor t matrix plan
-    → IsLeast (deadhead_network (trip_moves t.slots) matrix) (blocks_along plan.next (by_departure (trip_moves t.slots)))
+    → IsLeast (network_of t matrix) (blocks_along plan.next (by_departure (trip_moves t.slots)))
 IsLeast-plan t matrix plan valid pulls proved =
     let moves = trip_moves t.slots in
     let are = AreMoves-trips t valid in

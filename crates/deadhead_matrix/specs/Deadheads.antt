@@ -3,12 +3,11 @@ use Rattle.std.specs.Prelude.{ℕ, not, ◌==◌, ◌&&◌, nat_lt, Bool, List, 
 use Rattle.std.specs.List.{list_any}
 use Rattle.std.specs.Str.{bytes_eq}
 use Rattle.desk_io.specs.declared.shelf.Found.{Found}
-use Rattle.desk_io.specs.declared.shelf.Found.TheVariants.{Missing}
 use Rattle.gtfs_tables.specs.declared.fault.FeedFault.{FeedFault}
 use Rattle.gtfs_tables.specs.declared.fault.FeedFault.TheVariants as fault
 use Rattle.gtfs_tables.specs.declared.paper.Column.TheVariants as column
 use Rattle.gtfs_tables.specs.declared.paper.Paper.TheVariants as paper
-use Rattle.gtfs_tables.specs.Fold.{paper_read}
+use Rattle.gtfs_tables.specs.Fold.{optional_read}
 use Rattle.gtfs_tables.specs.Reading.{◌>>=◌, provided, column_in, field_at, text_in, filled_in, number_in}
 use Rattle.trip_model.specs.declared.limits.TheConstants.{MOST_PLACES}
 use Rattle.trip_model.specs.Place.{Place}
@@ -114,8 +113,7 @@ begun timetable = record { timetable = timetable; entries = []; unplaced = [] }
 -- the timetable and the entries of the file, record by record, for the classes of the places that it has before; without a
 -- file there are no entries
 abbrev pub deadheads_of : Found → TimetableView → Result (TimetableView × List Entry) FeedFault
-deadheads_of Missing timetable = Ok (timetable, [])
-deadheads_of found timetable = paper_read paper.Deadheads columns_in (with_deadhead (classes_of timetable)) (begun timetable) found
+deadheads_of found timetable = optional_read paper.Deadheads columns_in (with_deadhead (classes_of timetable)) (begun timetable) found
     >>= λ read. Ok (read.timetable, read.entries)
 
 -- the ends that a set of names holds in order

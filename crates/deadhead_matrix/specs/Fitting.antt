@@ -1,7 +1,8 @@
 -- Which trips one vehicle can make one after the other where it may run empty in between.
 use Rattle.std.specs.Prelude.{ℕ, ◌+◌, nat_le, List, Option, None, Some, is_some, if◌then◌else◌}
 use Rattle.trip_model.specs.Network.{Network}
-use Rattle.trip_model.specs.Plain.{move_at}
+use Rattle.trip_model.specs.Plain.{move_at, trip_moves}
+use Rattle.trip_model.specs.Timetable.{TimetableView}
 use Rattle.trip_model.specs.declared.trip.Move.{Move}
 use Rattle.deadhead_matrix.specs.declared.pulls.Pull.{Pull}
 use Rattle.deadhead_matrix.specs.Matrix.{MatrixView, walk}
@@ -36,3 +37,7 @@ deadhead_network moves matrix = record {
   out = λ s. out_before matrix.pulls (move_at moves s);
   home = λ s. home_after matrix.pulls (move_at moves s);
 }
+
+-- the network of a timetable and a matrix: that of the trips of its slots
+abbrev pub network_of : TimetableView → MatrixView → Network
+network_of timetable matrix = deadhead_network (trip_moves timetable.slots) matrix

@@ -4,11 +4,10 @@ use Rattle.std.specs.List.{range_with_len}
 use Rattle.std.specs.Option.{option_map}
 use Rattle.trip_model.specs.declared.limits.TheConstants.{LAST_MINUTE, MOST_SLOTS}
 use Rattle.deadhead_matrix.specs.declared.limits.TheConstants.{MOST_DEADHEAD, VEHICLE_WEIGHT}
-use Rattle.deadhead_matrix.specs.Fitting.{deadhead_network}
+use Rattle.deadhead_matrix.specs.Fitting.{network_of}
 use Rattle.deadhead_matrix.specs.Matrix.{MatrixView}
 use Rattle.trip_model.specs.Links.{next_of, AreLinks}
 use Rattle.trip_model.specs.Network.{Network}
-use Rattle.trip_model.specs.Plain.{trip_moves}
 use Rattle.trip_model.specs.Timetable.{TimetableView}
 
 -- what it saves to make j next after i: a vehicle, and the empty minutes home after i and out to j, less those of the walk;
@@ -72,4 +71,4 @@ pub record IsLoose (network : Network) (plan : Plan) (a b : Option ℕ) : Type 0
 -- a plan for a timetable and a matrix: of as many slots, and certified for the network of their moves and walks
 pub record IsPlanFor (timetable : TimetableView) (matrix : MatrixView) (plan : Plan) : Type 0 where
   pub slots : length plan.next ≡ length timetable.slots
-  pub certified : IsCertified (deadhead_network (trip_moves timetable.slots) matrix) plan
+  pub certified : IsCertified (network_of timetable matrix) plan

@@ -1,4 +1,5 @@
-ghost use Rattle.std.specs.Prelude.{◌≡◌, [], ◌∷◌, ◌++◌, None, IfOk, IfSome, OnOk};
+ghost use Rattle.std.specs.Prelude.{◌≡◌, IfOk, IfSome};
+ghost use Rattle.gtfs_tables.specs.Entries.{value_of, with_record};
 ghost use Rattle.gtfs_tables.specs.Papers.{IsWithinLimit};
 ghost use Rattle.gtfs_tables.specs.Reading.{Gives};
 ghost use Rattle.deadhead_matrix.specs.Depot as spec;
@@ -6,12 +7,11 @@ ghost use Rattle.deadhead_matrix.specs.Pulls.{IsPull};
 
 use crate::limits::MOST_DEADHEAD;
 use crate::pulls::{NO_PULL, Pull};
-use desk_io::{Found, Memory};
+use desk_io::Found;
 use gtfs_tables::{
-    Column, FeedFault, Paper, RecordReader, Row, column_in, filled_in, number_in, read_records,
-    text_in,
+    Column, Entries, FeedFault, Paper, RecordReader, Row, column_in, filled_in, number_in,
+    read_optional, text_in,
 };
-use indexmap::IndexMap;
 use std::alloc::Global;
 use std::marker::Model;
 
@@ -49,30 +49,32 @@ fn depot_row_in<'a>(
 /// The pulls that a file gives terminals, by their names, in the order of its records.
 #[derive(Drop)]
 pub(crate) struct Depot {
-    rows: IndexMap<String, Pull>,
+    rows: Entries<Pull>,
 }
 
 impl Model for Depot {
-    ghost use Rattle.std.specs.Prelude.{List, All};
-    ghost use Rattle.deadhead_matrix.specs.Depot.{DepotRow, rows_from};
+    ghost use Rattle.std.specs.Prelude.{All};
+    ghost use Rattle.gtfs_tables.specs.Entries.{Entries};
+    ghost use Rattle.deadhead_matrix.specs.declared.pulls.Pull.{Pull};
     ghost use Rattle.deadhead_matrix.specs.Pulls.{IsPull};
 
-    ghost Value = { List DepotRow };
+    ghost Value = { Entries Pull };
 
-    ghost view = { λ d. rows_from d.rows.entries };
+    ghost view = { λ d. d.rows };
 
-    ghost invariant = { λ d. All (λ row. IsPull row.1) (rows_from d.rows.entries) };
+    ghost invariant = { λ d. All (λ row. IsPull row.1) d.rows };
 }
 
 impl RecordReader for Depot {
-    ghost use Rattle.std.specs.Prelude.{List};
+    ghost use Rattle.gtfs_tables.specs.Entries.{Entries};
+    ghost use Rattle.deadhead_matrix.specs.declared.pulls.Pull.{Pull};
     ghost use Rattle.deadhead_matrix.specs.Depot as spec;
 
     type Columns = Columns;
 
     ghost Kept = { Unit {0} };
 
-    ghost State = { List spec.DepotRow };
+    ghost State = { Entries Pull };
 
     ghost kept = { λ _. tt };
 
@@ -80,7 +82,7 @@ impl RecordReader for Depot {
 
     ghost columns_in = { spec.columns_in };
 
-    ghost step = { λ _. spec.with_record };
+    ghost step = { λ _. spec.with_row };
 
     ghost Leaves = { λ _ _ _ _ _ _. Unit {0} };
 
@@ -105,33 +107,18 @@ impl RecordReader for Depot {
 impl Depot {
     // The pulls of the row of a terminal.
     fn find(&self, terminal: &str) -> Option<Pull>
-        ensures value { result ≡ spec.row_pull self.now terminal.now }
+        ensures value { result ≡ value_of terminal.now self.now }
         ensures valid { IfSome result IsPull }
     {
-        self.rows.get(terminal).copied()
-    }
-
-    // Appends the row of a new terminal.
-    fn push(&mut self, terminal: &str, pull: Pull) -> Result<(), Memory>
-        requires new { spec.row_pull self.old terminal.now ≡ None }
-        requires valid { IsPull pull }
-        ensures { OnOk result (self.new ≡ self.old ++ (terminal.now, pull) ∷ []) }
-    {
-        let terminal = String::from_str(*self.rows.allocator(), terminal)?;
-        self.rows.insert(terminal, pull)?;
-        Ok(())
+        self.rows.find(terminal).copied()
     }
 
     // Appends the row of a record, where no earlier one is of its terminal.
     fn add_record(&mut self, number: u32, terminal: &str, pull: Pull) -> Result<(), FeedFault>
         requires { IsPull pull }
-        ensures { Gives (λ _. self.new) result (spec.with_row number self.old (terminal.now, pull)) }
+        ensures { Gives (λ _. self.new) result (with_record Paper.Depot number self.old (terminal.now, pull)) }
     {
-        if self.find(terminal).is_some() {
-            return Err(FeedFault::DuplicateRow(Paper::Depot, number));
-        }
-        self.push(terminal, pull)?;
-        Ok(())
+        self.rows.add_record(Paper::Depot, number, terminal, pull)
     }
 
     /// The rows of the file; none where it is not there.
@@ -140,14 +127,9 @@ impl Depot {
         ensures { Gives (λ depot. depot) result (spec.rows_of found.now) }
     {
         let mut depot = Depot {
-            rows: IndexMap::new(alloc),
+            rows: Entries::new(alloc),
         };
-        match found {
-            Found::Missing => {}
-            Found::TooLong | Found::File(_) => {
-                read_records(alloc, Paper::Depot, found, &mut depot)?
-            }
-        }
+        read_optional(alloc, Paper::Depot, found, &mut depot)?;
         Ok(depot)
     }
 

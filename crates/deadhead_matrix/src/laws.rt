@@ -3,7 +3,7 @@ ghost use Rattle.std.specs.Prelude.{◌≡◌, ◌≢◌, ℕ, ◌+◌, ◌-◌,
 ghost use Rattle.deadhead_matrix.specs.declared.limits.TheConstants.{MOST_DEADHEAD, VEHICLE_WEIGHT};
 ghost use Rattle.deadhead_matrix.specs.declared.entry.Entry.{Entry};
 ghost use Rattle.deadhead_matrix.specs.Deadheads.{deadheads_of};
-ghost use Rattle.deadhead_matrix.specs.Fitting.{deadhead_network};
+ghost use Rattle.deadhead_matrix.specs.Fitting.{deadhead_network, network_of};
 ghost use Rattle.deadhead_matrix.specs.Matrix.{MatrixView, empty_matrix};
 ghost use Rattle.deadhead_matrix.specs.Posts.{JoinsOneClass};
 ghost use Rattle.deadhead_matrix.specs.Prices.{Plan, price, IsCertified, IsDay, IsLoose, IsPlanFor};
@@ -83,5 +83,5 @@ pub fn greatest_price_law()
 pub fn plan_law()
     ensures { (timetable : TimetableView) (matrix : MatrixView) (plan : Plan) → IsTimetable timetable → All IsPull matrix.pulls
         → IsPlanFor timetable matrix plan
-        → IsLeast (deadhead_network (trip_moves timetable.slots) matrix) (blocks_along plan.next (by_departure (trip_moves timetable.slots))) }
+        → IsLeast (network_of timetable matrix) (blocks_along plan.next (by_departure (trip_moves timetable.slots))) }
 {}

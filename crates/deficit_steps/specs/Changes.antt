@@ -1,11 +1,12 @@
 -- The changes of deficits: for each place the number by which its deficit rises or falls in each minute.
 use Rattle.std.specs.Prelude.{◌≡◌, ℕ, ◌+◌, ◌^◌, ◌<◌, List, [], length, slice_index_or, slice_set, take, fold, All, ℤ, pos, neg_ℤ, ◌+ℤ◌, ◌≤ℤ◌}
+use Rattle.terminal_maxima.specs.declared.max_prefix.TheConstants.{MOST_CHANGE}
 use Rattle.trip_model.specs.declared.limits.TheConstants.{MINUTES}
 use Rattle.trip_model.specs.declared.trip.Move.{Move}
 
 -- a change of at most 65,536 either way
 abbrev pub IsChange : ℤ → Type 0
-IsChange c = (neg_ℤ (pos 65536) ≤ℤ c) × (c ≤ℤ pos 65536)
+IsChange c = (neg_ℤ (pos MOST_CHANGE) ≤ℤ c) × (c ≤ℤ pos MOST_CHANGE)
 
 -- the changes of one place: one for each minute from 0 to 8,191, and that of minute 0 is not below 0
 pub record AreChanges (changes : List ℤ) : Type 0 where

@@ -1,4 +1,5 @@
 ghost use Rattle.std.specs.Prelude.{◌≡◌, ◌+◌, ◌<◌, ◌≤◌, List, [], ◌∷◌, ◌++◌, length, ℤ, pos, neg_ℤ, ◌<ℤ◌, All, IfOk, IfSome, IfNone};
+ghost use Rattle.terminal_maxima.specs.declared.max_prefix.TheConstants.{MOST_CHANGE};
 ghost use Rattle.trip_model.specs.declared.limits.TheConstants.{LAST_MINUTE};
 ghost use Rattle.trip_model.specs.declared.trip.Move.{Move as ModelMove};
 ghost use Rattle.trip_model.specs.Maximum.{IsFirstMaximum, first_maximum, sum_of_maxima};
@@ -68,8 +69,8 @@ impl Deficits {
         requires to { added.now.to < length self.old }
         requires forward { added.now.leaves < added.now.arrives }
         requires in_day { added.now.arrives ≤ LAST_MINUTE }
-        requires raised { change_at self.old added.now.from added.now.leaves <ℤ pos 65536 }
-        requires lowered { neg_ℤ (pos 65536) <ℤ change_at self.old added.now.to added.now.arrives }
+        requires raised { change_at self.old added.now.from added.now.leaves <ℤ pos MOST_CHANGE }
+        requires lowered { neg_ℤ (pos MOST_CHANGE) <ℤ change_at self.old added.now.to added.now.arrives }
 
         ensures places { length self.new ≡ length self.old }
         ensures changed { self.new ≡ with_move self.old added.now }
@@ -87,8 +88,8 @@ impl Deficits {
         requires to { taken.now.to < length self.old }
         requires forward { taken.now.leaves < taken.now.arrives }
         requires in_day { taken.now.arrives ≤ LAST_MINUTE }
-        requires lowered { neg_ℤ (pos 65536) <ℤ change_at self.old taken.now.from taken.now.leaves }
-        requires raised { change_at self.old taken.now.to taken.now.arrives <ℤ pos 65536 }
+        requires lowered { neg_ℤ (pos MOST_CHANGE) <ℤ change_at self.old taken.now.from taken.now.leaves }
+        requires raised { change_at self.old taken.now.to taken.now.arrives <ℤ pos MOST_CHANGE }
         requires begins { taken.now.leaves ≡ 0 → pos 0 <ℤ change_at self.old taken.now.from 0 }
 
         ensures places { length self.new ≡ length self.old }

@@ -6,7 +6,8 @@
 //! The value of a place at a minute is the sum of its changes so far; `max` answers its greatest value and the first
 //! minute that has it, `first_max_from` the first such minute from some minute on, `total` the sum of the greatest values
 //! of all places, and `step_list` the minutes at which the value changes.
-//! [`deficits_of`] holds the trips of a timetable that run, and [`deficit_lines`] prints them.
+//! [`deficits_of`] holds the trips of a timetable that run, [`fixed_of`] is the sum of their greatest values, and
+//! [`deficit_lines`] prints them.
 //!
 //! The contract that the crate above uses: deficits are seen as the list of the changes of each place, 8,192 for each.
 //! Where they hold a list of moves, the value of each place at each minute is the deficit of that list
@@ -19,7 +20,7 @@
 //!
 //! The contracts cite `Changes` (values, and what a move changes that is added or taken away), `Holds` (when a list of
 //! moves is held), `NextMaximum` (the first minute from some minute on that has the greatest value) and `Lines` (the
-//! printed text), and of `trip_model` `Deficit`, `Maximum` and `Steps`. `Leaves` is the view of a place alone.
+//! printed text), and of `trip_model` `Deficit`, `Maximum`, `Fleet` and `Steps`. `Leaves` is the view of a place alone.
 #![tactic(auto)]
 
 mod deficits;
@@ -30,4 +31,4 @@ mod trips;
 
 pub use deficits::Deficits;
 pub use lines::deficit_lines;
-pub use trips::deficits_of;
+pub use trips::{deficits_of, fixed_of};

@@ -1,5 +1,6 @@
-ghost use Rattle.std.specs.Prelude.{◌≡◌, ◌+◌, ◌*◌, ◌≤◌, length, IfOk};
+ghost use Rattle.std.specs.Prelude.{◌≡◌, ◌+◌, ◌*◌, ◌≤◌, length, pos, IfOk};
 ghost use Rattle.trip_model.specs.Deficit.{live_moves};
+ghost use Rattle.trip_model.specs.Fleet.{deficit_sum};
 ghost use Rattle.trip_model.specs.Timetable.{IsTimetable};
 ghost use Rattle.deficit_steps.specs.Holds.{Holds};
 
@@ -30,4 +31,20 @@ pub fn deficits_of<L: Ledger>(
         }
     }
     Ok(deficits)
+}
+
+/// The sum of the maxima of the deficits of a timetable, the fewest vehicles without deadheads.
+pub fn fixed_of<L: Ledger>(
+    alloc: Global,
+    timetable: &Timetable,
+    steps: &mut Steps<L>,
+) -> Result<u64, Memory>
+    ensures sum { IfOk result (λ fixed. pos fixed ≡ deficit_sum timetable.now) }
+    ensures counted { steps.new ≤ steps.old + 28 * length timetable.now.slots }
+{
+    held_law();
+    let deficits = deficits_of(alloc, timetable, steps)?;
+    // Its clause says that the deficits are those of moves between the places.
+    let _places = deficits.places();
+    Ok(deficits.total())
 }

@@ -7,7 +7,7 @@ use Rattle.std.proofs.lemmas.List.{length-map, map-set, set-set}
 use Rattle.deadhead_matrix.specs.Matrix.{MatrixView}
 use Rattle.deadhead_matrix.specs.Prices.{Plan, IsCertified, IsPlanFor}
 use Rattle.deficit_steps.specs.Holds.{Holds}
-use Rattle.edit_script.specs.Changes.{provided, is_within, with_shift, with_live, with_extra, extra_trip, shifted_at, cancelled_at, restored_at, extra_to, extra_from, extra_new}
+use Rattle.edit_script.specs.Changes.{provided, is_within, with_live, with_extra, extra_trip, shifted_at, cancelled_at, restored_at, extra_to, extra_from, extra_new}
 use Rattle.edit_script.specs.Script.{ScriptView, all_but_last, last_alone, if_edited, if_redone, if_undone, stepped, with_edit}
 use Rattle.edit_script.specs.declared.edit.Edit.{Edit}
 use Rattle.edit_script.specs.declared.edit.Edit.TheVariants.{Shift, Cancel, Restore, Extra, Undo, Redo, Show}
@@ -23,6 +23,7 @@ use Rattle.trip_model.specs.Plain.{move_of_slot, trip_moves}
 use Rattle.trip_model.specs.Timetable.{Slot, TimetableView, IsTimetable, number_of, place_names, slot_at, slot_names, with_trip}
 use Rattle.trip_model.specs.Trip.{shifted}
 use Rattle.trip_model.specs.declared.trip.Trip.{Trip}
+use Rattle.trip_model.specs.Fleet.{with_shift}
 use Rattle.undo_log.specs.Log.{latest_items, last_item}
 use Rattle.undo_log.proofs.LastItem.{take_last_item}
 use Rattle.desk_core.specs.Desk.{DeskView, desk_seen, ArePlansFor, IsDesk, IsDone, IsExtra, IsRefused}

@@ -6,13 +6,14 @@ use Rattle.std.proofs.lemmas.Bool.{false≢true}
 use Rattle.trip_model.specs.declared.limits.TheConstants.{MOST_SLOTS}
 use Rattle.trip_model.specs.Place.{class_of}
 use Rattle.trip_model.specs.Timetable.{TimetableView, number_of, place_names, slot_at, slot_names}
+use Rattle.trip_model.specs.Fleet.{with_shift}
 use Rattle.edit_script.specs.declared.edit.Edit.{Edit}
 use Rattle.edit_script.specs.declared.edit.Edit.TheVariants.{Shift, Cancel, Restore, Extra, Undo, Redo, Show}
 use Rattle.edit_script.specs.declared.edit.Line.{Line}
 use Rattle.edit_script.specs.declared.edit.Line.TheVariants as line
 use Rattle.edit_script.specs.declared.fault.EditFault.{EditFault}
 use Rattle.edit_script.specs.declared.fault.EditFault.TheVariants as fault
-use Rattle.edit_script.specs.Changes.{cancelled_at, edited, extra_from, extra_new, extra_to, extra_trip, is_within, provided, restored_at, shifted_at, with_extra, with_live, with_shift}
+use Rattle.edit_script.specs.Changes.{cancelled_at, edited, extra_from, extra_new, extra_to, extra_trip, is_within, provided, restored_at, shifted_at, with_extra, with_live}
 use Rattle.edit_script.specs.Machine.{Numbered, State, after_line, after_record, or_same}
 use Rattle.edit_script.specs.Script.{IsRefusal, ScriptView}
 use Rattle.desk_feed.specs.Script.{first_records, line_at, record_at, refusal_in, refusal_text, refused_to, some_refused, standing_at, state_at, step_at}

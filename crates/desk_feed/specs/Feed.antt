@@ -1,13 +1,11 @@
 -- From the papers of a feed to its settings, its timetable, its deadheads, its depot and its script, or the first refusal.
-use Rattle.std.specs.Prelude.{◌≡◌, ℕ, List, [], ◌∷◌, length, Option, None, Some, Result, Ok, Err}
+use Rattle.std.specs.Prelude.{◌≡◌, ℕ, List, [], ◌∷◌, length, Option, None, Some, Result, Ok}
 use Rattle.std.specs.List.{AllByRecursion}
 use Rattle.desk_io.specs.declared.shelf.Found.{Found}
-use Rattle.desk_io.specs.declared.shelf.Found.TheVariants.{File, Missing, TooLong}
 use Rattle.gtfs_tables.specs.declared.fault.FeedFault.{FeedFault}
-use Rattle.gtfs_tables.specs.declared.fault.FeedFault.TheVariants as fault
 use Rattle.gtfs_tables.specs.declared.paper.Paper.{Paper}
 use Rattle.gtfs_tables.specs.declared.paper.Paper.TheVariants as paper
-use Rattle.gtfs_tables.specs.Reading.{◌>>=◌}
+use Rattle.gtfs_tables.specs.Reading.{◌>>=◌, optional_in}
 use Rattle.desk_settings.specs.Settings.{SettingsView, settings_of, with_services_kept}
 use Rattle.service_days.specs.Services.{services_running}
 use Rattle.edit_script.specs.Forms.{script_of}
@@ -59,9 +57,7 @@ pulls_in found timetable = pulls_of (found paper.Depot) timetable
 
 -- the lines of the script, none where there is no file of edits
 abbrev pub lines_by : Found → Result (List Line) FeedFault
-lines_by Missing = Ok []
-lines_by TooLong = Err (fault.TooLong paper.Edits)
-lines_by (File bytes) = script_of paper.Edits bytes
+lines_by found = optional_in paper.Edits [] (script_of paper.Edits) found
 
 abbrev pub lines_in : (Paper → Found) → Result (List Line) FeedFault
 lines_in found = lines_by (found paper.Edits)

@@ -7,7 +7,7 @@ use Rattle.trip_model.specs.Plain.{trip_moves}
 use Rattle.trip_model.specs.Timetable.{TimetableView}
 use Rattle.deadhead_matrix.specs.declared.entry.Entry.{Entry}
 use Rattle.deadhead_matrix.specs.declared.pulls.Pull.{Pull}
-use Rattle.deadhead_matrix.specs.Fitting.{deadhead_network}
+use Rattle.deadhead_matrix.specs.Fitting.{network_of}
 use Rattle.deadhead_matrix.specs.Matrix.{MatrixView, AreLeastWalks}
 use Rattle.deadhead_matrix.specs.Prices.{Plan, IsPlanFor}
 use Rattle.desk_feed.specs.Feed.{Said}
@@ -28,7 +28,7 @@ IsMatrixFor said matrix = IsMatrixOf said.entries said.pulls (length said.base.p
 pub record IsScheduled (timetable : TimetableView) (matrix : MatrixView) (plan : Plan) (blocks : List (List ℕ)) : Type 0 where
   pub certified : IsPlanFor timetable matrix plan
   pub along : blocks ≡ blocks_along plan.next (by_departure (trip_moves timetable.slots))
-  pub least : IsLeast (deadhead_network (trip_moves timetable.slots) matrix) blocks
+  pub least : IsLeast (network_of timetable matrix) blocks
 
 -- the most steps that a plan from scratch counts: of n trips the cube and the square for the plan, and 28 each for the deficits
 abbrev pub most_steps : ℕ → ℕ

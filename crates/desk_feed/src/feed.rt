@@ -5,11 +5,10 @@ ghost use Rattle.desk_feed.specs.Feed as spec;
 ghost use Rattle.desk_feed.specs.Script.{IsScript};
 
 use deadhead_matrix::{Deadheads, Pulls};
-use desk_io::Found;
 use desk_run::Read;
 use desk_settings::Settings;
 use edit_script::{Line, read_script};
-use gtfs_tables::{FeedFault, Paper};
+use gtfs_tables::{FeedFault, Paper, optional_bytes};
 use service_days::running;
 use std::alloc::Global;
 use trip_model::Timetable;
@@ -86,10 +85,9 @@ fn read_lines(alloc: Global, read: &Read) -> Result<Vec<Line>, FeedFault>
     ensures gives { Gives (λ lines. lines.items) result (spec.lines_in (found_of read.now.pages)) }
     ensures script { IfOk result (λ lines. IsScript lines.items) }
 {
-    match read.found(Paper::Edits) {
-        Found::Missing => Ok(Vec::new(alloc)),
-        Found::TooLong => Err(FeedFault::TooLong(Paper::Edits)),
-        Found::File(bytes) => read_script(alloc, Paper::Edits, bytes.as_slice()),
+    match optional_bytes(Paper::Edits, read.found(Paper::Edits))? {
+        Some(bytes) => read_script(alloc, Paper::Edits, bytes),
+        None => Ok(Vec::new(alloc)),
     }
 }
 

@@ -12,10 +12,10 @@ use Rattle.std.proofs.lemmas.Cmp.{nat_list_cmp_total}
 use Rattle.std.proofs.lemmas.Map.Text.{is_eq-slice_cmp}
 use Rattle.std.proofs.lemmas.Str.{IsUtf8-from_is_utf8, is_utf8-from_IsUtf8}
 use Rattle.gtfs_tables.specs.declared.fault.FeedFault.TheVariants as fault
+use Rattle.gtfs_tables.specs.Entries.{Name, Entries, value_of, has_name}
 use Rattle.toml.specs.Parse.{parse_document}
 use Rattle.toml.specs.View.{view, members_view}
 use Rattle.toml.specs.declared.value.Value.{Value}
-use Rattle.desk_settings.specs.Entries.{Name, Entries, value_of, has_name}
 use Rattle.toml.specs.Data.{Data}
 use Rattle.desk_settings.specs.Desk.{document_in, entries_from}
 

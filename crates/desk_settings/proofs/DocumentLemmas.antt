@@ -7,10 +7,10 @@ use Rattle.std.specs.Str.{is_utf8}
 use Rattle.std.proofs.lemmas.Cmp.{nat_list_cmp_total}
 use Rattle.std.proofs.lemmas.Option.{none-some, same_Some, option_and_then_some}
 use Rattle.gtfs_tables.specs.declared.fault.FeedFault.TheVariants as fault
+use Rattle.gtfs_tables.specs.Entries.{Name}
 use Rattle.toml.specs.Data.{Members, is_before, same_key}
 use Rattle.toml.specs.Parse.{line, lines, skip_bom, parse_document}
 use Rattle.toml.specs.Tables.{Node, open_table, implicit, dotted, Nodes, no_nodes, node, get_node, insert, replace, close, Edit, header_node, dot_node, by_header, by_dot, along_header, along_dots, Definition, key_value, std_table, array_table, Expression, new_node, redefine, at_found, at_key, put, Document, define_as, define}
-use Rattle.desk_settings.specs.Entries.{Name}
 use Rattle.desk_settings.specs.Desk.{document_in, Ascend}
 
 -- the keys of these nodes ascend

@@ -9,8 +9,8 @@ use Rattle.std.proofs.lemmas.Bool.{true≢false}
 use Rattle.std.proofs.lemmas.Cmp.{nat_list_cmp_total}
 use Rattle.gtfs_tables.specs.declared.fault.FeedFault.TheVariants as fault
 use Rattle.gtfs_tables.specs.Reading.{◌>>=◌}
+use Rattle.gtfs_tables.specs.Entries.{Name}
 use Rattle.toml.specs.Data.{Data, Members, no_members, member, is_before}
-use Rattle.desk_settings.specs.Entries.{Name}
 use Rattle.desk_settings.specs.Desk.{with_key, standard_desk, is_bad, HasBad, NoBadBefore, Ascend, desk_from}
 use Rattle.desk_settings.specs.declared.desk.Desk.{Desk}
 

@@ -1,6 +1,6 @@
-pub mod EntriesLemmas
 pub mod NamesLemmas
 pub mod DeskLemmas
 pub mod DocumentLemmas
 pub mod FirstBadKey
 pub mod SettingsLemmas
+pub mod SelectedLemmas

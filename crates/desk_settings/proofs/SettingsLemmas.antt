@@ -4,12 +4,11 @@ use Rattle.desk_io.specs.declared.shelf.Found.{Found}
 use Rattle.gtfs_tables.specs.declared.fault.FeedFault.{FeedFault}
 use Rattle.gtfs_tables.specs.Reading.{◌>>=◌, Fails}
 use Rattle.gtfs_tables.proofs.ReadingLemmas.{Fails->>=, Fails-equal}
+use Rattle.gtfs_tables.specs.Entries.{Entries, Name}
 use Rattle.desk_settings.specs.Desk.{desk_of}
-use Rattle.desk_settings.specs.Entries.{Entries}
 use Rattle.desk_settings.specs.Terminals.{terminals_of}
 use Rattle.desk_settings.specs.Tolerances.{tolerances_of}
 use Rattle.desk_settings.specs.declared.desk.Desk.{Desk}
-use Rattle.desk_settings.specs.Entries.{Name}
 use Rattle.desk_settings.specs.Names.{each_once, is_among}
 use Rattle.desk_settings.specs.Settings.{SettingsView, is_chosen, is_in, kept_services, settings_of, settings_with, with_services_kept}
 use Rattle.desk_settings.proofs.NamesLemmas.{among-kept, among-once}

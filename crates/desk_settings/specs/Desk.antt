@@ -1,23 +1,23 @@
 -- What `desk.toml` says. The members of its table stand in the byte order of their keys.
-use Rattle.std.specs.Prelude.{◌≡◌, ◌⊎◌, ℕ, ◌==◌, ◌&&◌, Bool, true, false, not, ⊤, ◌++◌, ℤ, pos, List, [], ◌∷◌, length, nat_le, Option, Some, None, is_some, option_map, option_and_then, Result, Ok, Err, codes, if◌then◌else◌}
+use Rattle.std.specs.Prelude.{◌≡◌, ◌⊎◌, ℕ, ◌==◌, ◌&&◌, Bool, true, false, not, ⊤, ◌++◌, ℤ, pos, List, [], ◌∷◌, length, nat_le, Option, Some, None, is_some, option_map, option_and_then, Result, Ok, codes, if◌then◌else◌}
 use Rattle.std.specs.Cmp.Lexicographic.{slice_cmp}
 use Rattle.std.specs.Option.{ok_or}
 use Rattle.std.specs.Ordering.{nat_cmp, is_lt}
 use Rattle.std.specs.Str.{is_utf8, bytes_eq}
 use Rattle.desk_io.specs.declared.shelf.Found.{Found}
-use Rattle.desk_io.specs.declared.shelf.Found.TheVariants.{File, Missing, TooLong}
 use Rattle.trip_model.specs.declared.limits.TheConstants.{MOST_LAYOVER, MOST_TOLERANCE}
 use Rattle.trip_model.specs.Place.{has_slash}
 use Rattle.gtfs_tables.specs.declared.fault.FeedFault.{FeedFault}
 use Rattle.gtfs_tables.specs.declared.fault.FeedFault.TheVariants as fault
 use Rattle.gtfs_tables.specs.declared.paper.Paper.TheVariants as paper
-use Rattle.gtfs_tables.specs.Reading.{◌>>=◌, provided}
+use Rattle.gtfs_tables.specs.Reading.{◌>>=◌, provided, optional_in}
+use Rattle.gtfs_tables.specs.Entries.{Name, Entries}
 use Rattle.service_days.specs.Dates.{date_of}
 use Rattle.toml.specs.Data.{Data, Items, no_items, item, Members, no_members, member, is_before, as_integer, as_str, as_array, as_table}
 use Rattle.toml.specs.Parse.{parse_document}
-use Rattle.desk_settings.specs.Entries.{Name, Entries}
 use Rattle.desk_settings.specs.Names.{with_name}
 use Rattle.desk_settings.specs.declared.desk.Desk.{Desk}
+use Rattle.desk_settings.specs.declared.desk.TheConstants.{MOST_CLASS, MOST_PREFIX}
 
 -- an integer from 0 to `most`
 abbrev pub count_from : ℕ → Option ℤ → Option ℕ
@@ -30,7 +30,7 @@ minutes_in most value = count_from most (as_integer value)
 
 -- a text of at most 32 bytes
 abbrev pub short_text : List ℕ → Option (List ℕ)
-short_text text = if nat_le (length text) 32 then Some text else None
+short_text text = if nat_le (length text) MOST_PREFIX then Some text else None
 
 -- a value that is a string of at most 32 bytes
 abbrev pub prefix_in : Data → Option (List ℕ)
@@ -56,7 +56,7 @@ layovers_in value = option_and_then (entries_from (minutes_in MOST_LAYOVER) []) 
 
 -- whether a text is a class of vehicles: 1 to 16 bytes without `/`
 abbrev pub is_class : List ℕ → Bool
-is_class text = nat_le 1 (length text) && nat_le (length text) 16 && not (has_slash text)
+is_class text = nat_le 1 (length text) && nat_le (length text) MOST_CLASS && not (has_slash text)
 
 -- a value that is a class
 abbrev pub if_class : List ℕ → Option Name
@@ -123,6 +123,4 @@ document_in bytes = provided (is_utf8 bytes) fault.NotToml (ok_or (parse_documen
 
 -- what the file says; without one the standard holds
 abbrev pub desk_of : Found → Result Desk FeedFault
-desk_of Missing = Ok standard_desk
-desk_of TooLong = Err (fault.TooLong paper.Settings)
-desk_of (File bytes) = document_in bytes >>= desk_from standard_desk
+desk_of found = optional_in paper.Settings standard_desk (λ bytes. document_in bytes >>= desk_from standard_desk) found

@@ -1,6 +1,6 @@
-pub mod Entries
 pub mod Names
 pub mod Desk
 pub mod Terminals
 pub mod Tolerances
 pub mod Settings
+pub mod Selected

@@ -2,7 +2,7 @@
 use Rattle.std.specs.Prelude.{Bool, List, [], ◌∷◌, ◌++◌, fold, if◌then◌else◌}
 use Rattle.std.specs.List.{list_any}
 use Rattle.std.specs.Str.{bytes_eq}
-use Rattle.desk_settings.specs.Entries.{Name}
+use Rattle.gtfs_tables.specs.Entries.{Name}
 
 -- whether the name is one of the names
 abbrev pub is_among : Name → List Name → Bool

@@ -3,7 +3,7 @@ use Rattle.std.specs.Prelude.{ℕ, ◌==◌, Bool, true, not, List, [], length, 
 use Rattle.desk_io.specs.declared.shelf.Found.{Found}
 use Rattle.gtfs_tables.specs.declared.fault.FeedFault.{FeedFault}
 use Rattle.gtfs_tables.specs.Reading.{◌>>=◌}
-use Rattle.desk_settings.specs.Entries.{Name, Entries, value_of}
+use Rattle.gtfs_tables.specs.Entries.{Name, Entries, value_of}
 use Rattle.desk_settings.specs.Names.{each_once, is_among, kept_among}
 use Rattle.desk_settings.specs.Desk.{desk_of}
 use Rattle.desk_settings.specs.Terminals.{terminals_of}
@@ -16,14 +16,14 @@ use Rattle.desk_settings.specs.declared.desk.Desk.{Desk}
 pub record SettingsView : Type 0 where
   pub services : Option (List (List ℕ))
   pub date : Option ℕ
-  pub classes : List (List ℕ × List ℕ)
+  pub classes : Entries Name
   pub layover : ℕ
-  pub layovers : List (List ℕ × ℕ)
+  pub layovers : Entries ℕ
   pub early : ℕ
   pub late : ℕ
   pub prefix : List ℕ
-  pub terminals : List (List ℕ × List ℕ)
-  pub tolerances : List (List ℕ × (ℕ × ℕ))
+  pub terminals : Entries Name
+  pub tolerances : Entries (ℕ × ℕ)
 
 -- the settings of a desk with its terminals and tolerances
 abbrev pub settings_with : Desk → Entries Name → Entries (ℕ × ℕ) → SettingsView

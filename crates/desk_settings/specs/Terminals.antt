@@ -1,14 +1,13 @@
 -- The terminals that `terminals.csv` names for stops.
 use Rattle.std.specs.Prelude.{ℕ, List, [], Result, Ok}
 use Rattle.desk_io.specs.declared.shelf.Found.{Found}
-use Rattle.desk_io.specs.declared.shelf.Found.TheVariants.{Missing}
 use Rattle.gtfs_tables.specs.declared.fault.FeedFault.{FeedFault}
 use Rattle.gtfs_tables.specs.declared.paper.Column.TheVariants as column
 use Rattle.gtfs_tables.specs.declared.paper.Paper.TheVariants as paper
-use Rattle.gtfs_tables.specs.Fold.{paper_read}
+use Rattle.gtfs_tables.specs.Fold.{optional_read}
 use Rattle.gtfs_tables.specs.Reading.{◌>>=◌, column_in, field_at, text_in, filled_in}
+use Rattle.gtfs_tables.specs.Entries.{Name, Entries, with_record}
 use Rattle.desk_settings.specs.declared.terminals.Columns.{Columns}
-use Rattle.desk_settings.specs.Entries.{Name, Entries, with_record}
 
 -- where the required columns stand
 unfoldable pub columns_in : List (List ℕ) → Result Columns FeedFault
@@ -32,5 +31,4 @@ with_terminal columns number before fields = terminal_in columns number fields >
 
 -- the terminals of the file, record by record; without one there are none
 abbrev pub terminals_of : Found → Result (Entries Name) FeedFault
-terminals_of Missing = Ok []
-terminals_of found = paper_read paper.Terminals columns_in with_terminal [] found
+terminals_of found = optional_read paper.Terminals columns_in with_terminal [] found

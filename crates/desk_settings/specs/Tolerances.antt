@@ -1,15 +1,14 @@
 -- The tolerances that `tolerances.csv` gives trips, in minutes.
 use Rattle.std.specs.Prelude.{ℕ, List, [], Result, Ok}
 use Rattle.desk_io.specs.declared.shelf.Found.{Found}
-use Rattle.desk_io.specs.declared.shelf.Found.TheVariants.{Missing}
 use Rattle.gtfs_tables.specs.declared.fault.FeedFault.{FeedFault}
 use Rattle.gtfs_tables.specs.declared.paper.Column.TheVariants as column
 use Rattle.gtfs_tables.specs.declared.paper.Paper.TheVariants as paper
-use Rattle.gtfs_tables.specs.Fold.{paper_read}
+use Rattle.gtfs_tables.specs.Fold.{optional_read}
 use Rattle.gtfs_tables.specs.Reading.{◌>>=◌, column_in, field_at, text_in, filled_in, number_in}
+use Rattle.gtfs_tables.specs.Entries.{Name, Entries, with_record}
 use Rattle.trip_model.specs.declared.limits.TheConstants.{MOST_TOLERANCE}
 use Rattle.desk_settings.specs.declared.tolerances.Columns.{Columns}
-use Rattle.desk_settings.specs.Entries.{Name, Entries, with_record}
 
 -- where the required columns stand
 unfoldable pub columns_in : List (List ℕ) → Result Columns FeedFault
@@ -38,5 +37,4 @@ with_tolerance columns number before fields = tolerance_in columns number fields
 
 -- the tolerances of the file, record by record; without one there are none
 abbrev pub tolerances_of : Found → Result (Entries (ℕ × ℕ)) FeedFault
-tolerances_of Missing = Ok []
-tolerances_of found = paper_read paper.Tolerances columns_in with_tolerance [] found
+tolerances_of found = optional_read paper.Tolerances columns_in with_tolerance [] found

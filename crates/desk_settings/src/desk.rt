@@ -6,15 +6,20 @@ ghost use Rattle.desk_settings.specs.Desk as spec;
 
 use crate::class::Class;
 use crate::date::Date;
-use crate::entries::Entries;
 use crate::minutes::{Layover, Tolerance};
 use crate::names::Names;
 use desk_io::{Found, Memory, Text};
-use gtfs_tables::{FeedFault, Paper};
+use gtfs_tables::{Entries, FeedFault, Paper, optional_bytes};
 use service_days::read_date;
 use std::alloc::Global;
 use toml::{Table, Value};
 use trip_model::{MOST_LAYOVER, MOST_TOLERANCE};
+
+/// The most bytes of what the names of blocks begin with.
+pub const MOST_PREFIX: usize = 32;
+
+/// The most bytes of a class of vehicles.
+pub const MOST_CLASS: usize = 16;
 
 /// What `desk.toml` says.
 #[derive(Drop)]
@@ -53,7 +58,7 @@ fn prefix_in(value: &Value) -> Option<&str>
     ensures { option_map (λ text. text.now) result ≡ spec.prefix_in (view value.now) }
 {
     match value.as_str() {
-        Some(text) if text.len() <= 32 => Some(text),
+        Some(text) if text.len() <= MOST_PREFIX => Some(text),
         _ => None,
     }
 }
@@ -110,7 +115,7 @@ fn layovers_in(alloc: Global, value: &Value) -> Result<Option<Entries<Layover>>,
 fn is_class(text: &str) -> bool
     ensures { result ≡ spec.is_class text.now }
 {
-    !text.is_empty() && text.len() <= 16 && !text.as_bytes().contains(&b'/')
+    !text.is_empty() && text.len() <= MOST_CLASS && !text.as_bytes().contains(&b'/')
 }
 
 // A class.
@@ -237,9 +242,8 @@ fn desk_from(alloc: Global, table: &Table) -> Result<Desk, FeedFault>
 pub(crate) fn desk_of(alloc: Global, found: &Found) -> Result<Desk, FeedFault>
     ensures { Gives (λ desk. desk) result (spec.desk_of found.now) }
 {
-    match found {
-        Found::Missing => Ok(Desk::standard(alloc)?),
-        Found::TooLong => Err(FeedFault::TooLong(Paper::Settings)),
-        Found::File(bytes) => desk_from(alloc, &document_in(alloc, bytes.as_slice())?),
+    match optional_bytes(Paper::Settings, found)? {
+        Some(bytes) => desk_from(alloc, &document_in(alloc, bytes)?),
+        None => Ok(Desk::standard(alloc)?),
     }
 }

@@ -5,6 +5,7 @@
 //! file that is not there has no entries. Look-ups by name take time that hardly grows with the number of entries.
 //!
 //! Where there is a date ([`Settings::date`]), [`Settings::keep_services`] selects the services that run on it.
+//! [`chosen_in`] says which records of `trips.txt` are selected.
 //!
 //! [`Names`] are names without repeats, each with its number.
 //!
@@ -22,20 +23,22 @@
 //! ```
 //!
 //! The contracts cite `Settings` (what the settings are seen as, and what they answer), `Desk` (the table of `desk.toml`,
-//! key after key), `Terminals` and `Tolerances` (the two tables, record after record), `Entries` (names with a value
-//! each) and `Names` (names without repeats).
+//! key after key), `Terminals` and `Tolerances` (the two tables, record after record), `Names` (names without repeats),
+//! `Selected` (which records of `trips.txt` are selected), and `Entries` of `gtfs_tables`.
 #![tactic(auto)]
 
 mod class;
 mod date;
 mod desk;
-mod entries;
 pub mod laws;
 mod minutes;
 mod names;
+mod selected;
 mod settings;
 mod terminals;
 mod tolerances;
 
+pub use desk::{MOST_CLASS, MOST_PREFIX};
 pub use names::Names;
+pub use selected::chosen_in;
 pub use settings::Settings;

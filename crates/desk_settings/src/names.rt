@@ -1,5 +1,5 @@
-ghost use Rattle.std.specs.Prelude.{◌≡◌, ◌≢◌, ◌<◌, AllPairs, [], length, slice_index_or, position, IfOk, IfSome, OnOk, OnErr};
-ghost use Rattle.std.specs.Str.{bytes_eq};
+ghost use Rattle.std.specs.Prelude.{◌≡◌, ◌≢◌, ◌<◌, AllPairs, [], length, slice_index_or, IfOk, IfSome, OnOk, OnErr};
+ghost use Rattle.trip_model.specs.Timetable.{number_of};
 ghost use Rattle.desk_settings.specs.Names.{each_once, is_among, kept_among, with_name};
 
 use desk_io::{Memory, Text};
@@ -54,7 +54,7 @@ impl Names {
 
     /// The number of a name, from 0.
     pub fn number(&self, name: &str) -> Option<usize>
-        ensures number { result ≡ position (bytes_eq name.now) self.now }
+        ensures number { result ≡ number_of self.now name.now }
         ensures within { IfSome result (λ number. number < length self.now) }
     {
         self.set.get_index_of(name)

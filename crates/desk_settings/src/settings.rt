@@ -10,14 +10,13 @@ ghost use Rattle.desk_settings.specs.Names.{is_among};
 ghost use Rattle.desk_settings.specs.Settings as spec;
 
 use crate::desk::{Desk, desk_of};
-use crate::entries::Entries;
 use crate::laws::key_order_law;
 use crate::minutes::Tolerance;
 use crate::names::Names;
 use crate::terminals::terminals_of;
 use crate::tolerances::tolerances_of;
 use desk_io::{Found, Memory, Text};
-use gtfs_tables::FeedFault;
+use gtfs_tables::{Entries, FeedFault};
 use std::alloc::Global;
 use std::marker::Model;
 

@@ -3,10 +3,10 @@ ghost use Rattle.gtfs_tables.specs.Papers.{IsWithinLimit};
 ghost use Rattle.gtfs_tables.specs.Reading.{Gives};
 ghost use Rattle.desk_settings.specs.Terminals as spec;
 
-use crate::entries::Entries;
 use desk_io::{Found, Text};
 use gtfs_tables::{
-    Column, FeedFault, Paper, RecordReader, Row, column_in, filled_in, read_records, text_in,
+    Column, Entries, FeedFault, Paper, RecordReader, Row, column_in, filled_in, read_optional,
+    text_in,
 };
 use std::alloc::Global;
 
@@ -42,7 +42,7 @@ struct Terminals {
 }
 
 impl RecordReader for Terminals {
-    ghost use Rattle.desk_settings.specs.Entries.{Entries, Name};
+    ghost use Rattle.gtfs_tables.specs.Entries.{Entries, Name};
     ghost use Rattle.desk_settings.specs.Terminals as spec;
 
     type Columns = Columns;
@@ -85,9 +85,6 @@ pub(crate) fn terminals_of(alloc: Global, found: &Found) -> Result<Entries<Text>
         alloc,
         entries: Entries::new(alloc),
     };
-    match found {
-        Found::Missing => {}
-        Found::TooLong | Found::File(_) => read_records(alloc, Paper::Terminals, found, &mut read)?,
-    }
+    read_optional(alloc, Paper::Terminals, found, &mut read)?;
     Ok(read.entries)
 }

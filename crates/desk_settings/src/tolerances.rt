@@ -3,12 +3,11 @@ ghost use Rattle.gtfs_tables.specs.Papers.{IsWithinLimit};
 ghost use Rattle.gtfs_tables.specs.Reading.{Gives};
 ghost use Rattle.desk_settings.specs.Tolerances as spec;
 
-use crate::entries::Entries;
 use crate::minutes::Tolerance;
 use desk_io::Found;
 use gtfs_tables::{
-    Column, FeedFault, Paper, RecordReader, Row, column_in, filled_in, number_in, read_records,
-    text_in,
+    Column, Entries, FeedFault, Paper, RecordReader, Row, column_in, filled_in, number_in,
+    read_optional, text_in,
 };
 use std::alloc::Global;
 use trip_model::MOST_TOLERANCE;
@@ -52,7 +51,7 @@ struct Tolerances {
 
 impl RecordReader for Tolerances {
     ghost use Rattle.std.specs.Prelude.{ℕ};
-    ghost use Rattle.desk_settings.specs.Entries.{Entries};
+    ghost use Rattle.gtfs_tables.specs.Entries.{Entries};
     ghost use Rattle.desk_settings.specs.Tolerances as spec;
 
     type Columns = Columns;
@@ -97,11 +96,6 @@ pub(crate) fn tolerances_of(
     let mut read = Tolerances {
         entries: Entries::new(alloc),
     };
-    match found {
-        Found::Missing => {}
-        Found::TooLong | Found::File(_) => {
-            read_records(alloc, Paper::Tolerances, found, &mut read)?
-        }
-    }
+    read_optional(alloc, Paper::Tolerances, found, &mut read)?;
     Ok(read.entries)
 }

@@ -1,4 +1,5 @@
 ghost use Rattle.std.specs.Prelude.{◌≡◌, ◌+◌, ◌*◌, ◌<◌, ◌≤◌, [], ◌∷◌, ◌++◌, List, length, All, ℤ, pos, ◌+ℤ◌};
+ghost use Rattle.terminal_maxima.specs.declared.max_prefix.TheConstants.{MOST_CHANGE};
 ghost use Rattle.trip_model.specs.Maximum.{sum_of_maxima};
 ghost use Rattle.trip_model.specs.Plain.{IsMove};
 ghost use Rattle.trip_model.specs.declared.trip.Move.{Move as ModelMove};
@@ -15,7 +16,7 @@ use std::sync::ledger::Ledger;
 // Adds one deadhead as a move, where so few moves are held that there is room for one more.
 fn add_deadhead<L: Ledger>(deficits: &mut Deficits, deadhead: Deadhead, steps: &mut Steps<L>)
     requires valid { IsMove (length deficits.old) (move_of deadhead) }
-    requires few { (moves : List ModelMove) × Holds deficits.old moves × (length moves < 65536) }
+    requires few { (moves : List ModelMove) × Holds deficits.old moves × (length moves < MOST_CHANGE) }
     ensures places { length deficits.new ≡ length deficits.old }
     ensures held { (moves : List ModelMove) → Holds deficits.old moves → Holds deficits.new (moves ++ move_of deadhead ∷ []) }
     ensures counted { steps.new ≤ steps.old + 28 }
@@ -27,7 +28,7 @@ fn add_deadhead<L: Ledger>(deficits: &mut Deficits, deadhead: Deadhead, steps: &
 // Adds the deadheads of a chain as moves, where there is room for three more.
 fn add_deadheads<L: Ledger>(deficits: &mut Deficits, chain: &Chain, steps: &mut Steps<L>)
     requires valid { All (λ m. IsMove (length deficits.old) (move_of m)) (deadheads chain.now) }
-    requires few { (moves : List ModelMove) × Holds deficits.old moves × (length moves + 2 < 65536) }
+    requires few { (moves : List ModelMove) × Holds deficits.old moves × (length moves + 2 < MOST_CHANGE) }
     ensures places { length deficits.new ≡ length deficits.old }
     ensures held { (moves : List ModelMove) → Holds deficits.old moves
         → Holds deficits.new (moves ++ moves_of (deadheads chain.now)) }
@@ -43,7 +44,7 @@ fn add_deadheads<L: Ledger>(deficits: &mut Deficits, chain: &Chain, steps: &mut 
 /// Adds the deadheads of a chain as moves, with which the sum of the maxima of the deficits is smaller by one.
 pub fn add_chain<L: Ledger>(deficits: &mut Deficits, chain: &Chain, steps: &mut Steps<L>)
     requires chain { IsChainOf deficits.old chain.now }
-    requires few { (moves : List ModelMove) × Holds deficits.old moves × (length moves + 2 < 65536) }
+    requires few { (moves : List ModelMove) × Holds deficits.old moves × (length moves + 2 < MOST_CHANGE) }
     ensures places { length deficits.new ≡ length deficits.old }
     ensures held { (moves : List ModelMove) → Holds deficits.old moves
         → Holds deficits.new (moves ++ moves_of (deadheads chain.now)) }

@@ -5,7 +5,8 @@ use Rattle.std.proofs.lemmas.List.{append-nil, length-append, map-append, revers
 use Rattle.std.proofs.lemmas.List.Elements.{All-push, All-weaker}
 use Rattle.std.proofs.lemmas.List.Quantifiers.{all_pairs_push}
 use Rattle.trip_model.specs.Timetable.{TimetableView}
-use Rattle.undo_log.specs.Log.{LogView, last_item, latest_items, undo_depth}
+use Rattle.undo_log.specs.Log.{LogView, last_item, latest_items}
+use Rattle.undo_log.specs.declared.log.TheConstants.{UNDO_DEPTH}
 use Rattle.edit_script.specs.declared.changes.Change.{Change}
 use Rattle.edit_script.specs.Kept.{IsKept, numbers, script_seen}
 use Rattle.edit_script.specs.Made.{MayMake, WasMade, with_change, without_change}
@@ -61,8 +62,8 @@ earlier-made : (old now : TimetableView) (changes : List Change) (change : Chang
     → timetables_past without_change now (latest_items (changes ++ change ∷ [])) ≡ latest_items (timetables_past without_change old changes ++ old ∷ [])
 earlier-made old now changes change back =
     let pushed : timetables_past without_change now (changes ++ change ∷ []) ≡ timetables_past without_change old changes ++ old ∷ [] = timetables_past-push without_change now changes change ∙ ap (λ t. timetables_past without_change t changes ++ t ∷ []) back in
-    timetables_past-drop without_change now (changes ++ change ∷ []) (length (changes ++ change ∷ []) - undo_depth)
-    ∙ ap (λ n. drop (n - undo_depth) (timetables_past without_change now (changes ++ change ∷ []))) (sym (length-timetables_past without_change now (changes ++ change ∷ [])))
+    timetables_past-drop without_change now (changes ++ change ∷ []) (length (changes ++ change ∷ []) - UNDO_DEPTH)
+    ∙ ap (λ n. drop (n - UNDO_DEPTH) (timetables_past without_change now (changes ++ change ∷ []))) (sym (length-timetables_past without_change now (changes ++ change ∷ [])))
     ∙ ap latest_items pushed
 
 pub script_seen-made : (old now : TimetableView) (log : LogView Change) (standing : List ℕ) (last shows : ℕ) (change : Change) → without_change now change ≡ old

@@ -1,4 +1,3 @@
-mod Digits
 mod EditBack
 mod FieldsRead
 mod KeptLemmas

@@ -12,8 +12,9 @@ use Rattle.std.proofs.lemmas.Fmt.{decimal_is_IsNumeral, decimal_nonempty, length
 use Rattle.std.proofs.lemmas.List.{reverse-reverse, reverse-append}
 use Rattle.std.proofs.lemmas.List.Folds.{list_all-append}
 use Rattle.gtfs_tables.specs.Spaces.{after_spaces, before_spaces, without_spaces}
+use Rattle.gtfs_tables.specs.Numbers.{digits_number}
 use Rattle.edit_script.specs.declared.edit.TheConstants.{MOST_SHIFT}
-use Rattle.edit_script.specs.Forms.{digits_number, minutes, shift_in, shiftable, signed}
+use Rattle.edit_script.specs.Forms.{minutes, shift_in, shiftable, signed}
 use Rattle.edit_script.specs.Lines.{signed_text}
 
 and-true : (a b : Bool) → (a && b) ≡ true → (a ≡ true) × (b ≡ true)

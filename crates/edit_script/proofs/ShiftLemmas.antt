@@ -6,9 +6,10 @@ use lib.Dec.{T}
 use Rattle.trip_model.specs.declared.trip.Trip.{Trip}
 use Rattle.trip_model.specs.Trip.{MayShift}
 use Rattle.trip_model.specs.Timetable.{TimetableView, slot_at}
+use Rattle.trip_model.specs.Fleet.{with_shift}
 use Rattle.edit_script.specs.declared.fault.EditFault.{EditFault}
 use Rattle.edit_script.specs.declared.fault.EditFault.TheVariants as fault
-use Rattle.edit_script.specs.Changes.{is_within, provided, shifted_at, with_shift}
+use Rattle.edit_script.specs.Changes.{is_within, provided, shifted_at}
 
 -- a shift by the tests of its trip
 abbrev shift_tests : TimetableView → ℤ → ℕ → ℤ → Bool → Bool → Bool → Result TimetableView EditFault

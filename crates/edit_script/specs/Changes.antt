@@ -3,9 +3,9 @@ use Rattle.std.specs.Prelude.{ℕ, ◌+◌, ◌&&◌, ℤ, pos, neg_ℤ, ◌+ℤ
 use Rattle.std.specs.Str.{bytes_eq}
 use Rattle.trip_model.specs.declared.limits.TheConstants.{MOST_SLOTS}
 use Rattle.trip_model.specs.declared.trip.Trip.{Trip}
+use Rattle.trip_model.specs.Fleet.{with_shift}
 use Rattle.trip_model.specs.Place.{class_of}
 use Rattle.trip_model.specs.Timetable.{TimetableView, number_of, place_at, place_names, slot_at, slot_names, with_trip}
-use Rattle.trip_model.specs.Trip.{shifted}
 use Rattle.edit_script.specs.declared.edit.Edit.{Edit}
 use Rattle.edit_script.specs.declared.edit.Edit.TheVariants.{Shift, Cancel, Restore, Extra, Undo, Redo, Show}
 use Rattle.edit_script.specs.declared.fault.EditFault.{EditFault}
@@ -20,10 +20,7 @@ provided holds refused rest = if holds then rest else Err refused
 abbrev pub is_within : Trip → ℤ → Bool
 is_within trip offset = int_le (neg_ℤ (pos trip.early)) offset && int_le offset (pos trip.late)
 
--- the timetable with the trip in a slot moved, cancelled, or running again
-abbrev pub with_shift : TimetableView → ℕ → ℤ → TimetableView
-with_shift t s by = with_trip t s (shifted (slot_at t s).trip by)
-
+-- the timetable with the trip in a slot cancelled, or running again
 abbrev pub with_live : TimetableView → ℕ → Bool → TimetableView
 with_live t s live = with_trip t s (record (slot_at t s).trip { live = live })
 

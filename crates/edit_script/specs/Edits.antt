@@ -5,14 +5,15 @@ use Rattle.edit_script.specs.declared.edit.Edit.{Edit}
 use Rattle.edit_script.specs.declared.edit.Edit.TheVariants.{Shift, Cancel, Restore, Extra, Undo, Redo, Show}
 use Rattle.edit_script.specs.declared.edit.Line.{Line}
 use Rattle.edit_script.specs.declared.edit.Line.TheVariants as line
-use Rattle.edit_script.specs.declared.edit.TheConstants.{MOST_MINUTE, MOST_SHIFT}
+use Rattle.trip_model.specs.declared.limits.TheConstants.{LAST_DEPARTURE}
+use Rattle.edit_script.specs.declared.edit.TheConstants.{MOST_SHIFT}
 
 -- an edit is in form: its trip has a name, a shift is 1 to 120 minutes either way, and minutes are at most 99:59
 abbrev pub InForm : Edit → Type 0
 InForm (Shift trip by) = (0 < length trip) × (0 < unsigned_abs by) × (unsigned_abs by ≤ MOST_SHIFT)
 InForm (Cancel trip) = 0 < length trip
 InForm (Restore trip) = 0 < length trip
-InForm (Extra trip from to departs arrives) = (0 < length trip) × (departs ≤ MOST_MINUTE) × (arrives ≤ MOST_MINUTE)
+InForm (Extra trip from to departs arrives) = (0 < length trip) × (departs ≤ LAST_DEPARTURE) × (arrives ≤ LAST_DEPARTURE)
 InForm Undo = ⊤
 InForm Redo = ⊤
 InForm Show = ⊤

@@ -1,9 +1,9 @@
 -- The forms of the records of a script, and the edits that they are.
-use Rattle.std.specs.Prelude.{◌≡◌, ℕ, ◌+◌, ◌==◌, ◌&&◌, ℤ, pos, neg_ℤ, List, [], ◌∷◌, length, map, codes, slice_index_or, Option, Some, None, Result, Ok, Err, IsSome, nat_lt, nat_le, if◌then◌else◌}
+use Rattle.std.specs.Prelude.{◌≡◌, ℕ, ◌+◌, ◌==◌, ◌&&◌, ℤ, pos, neg_ℤ, List, [], ◌∷◌, length, map, codes, Option, Some, None, Result, Ok, Err, IsSome, nat_lt, nat_le, if◌then◌else◌}
 use Rattle.std.specs.Option.{option_map, option_and_then}
 use Rattle.std.specs.Str.{bytes_eq, is_utf8}
-use Rattle.gtfs_tables.specs.Numbers as numbers
-use Rattle.gtfs_tables.specs.Reading.{provided}
+use Rattle.gtfs_tables.specs.Numbers.{digits_number}
+use Rattle.gtfs_tables.specs.Reading.{field_at, provided}
 use Rattle.gtfs_tables.specs.Records.{records}
 use Rattle.gtfs_tables.specs.Spaces.{without_spaces}
 use Rattle.gtfs_tables.specs.Times.{minute_of}
@@ -28,10 +28,6 @@ filled_from n so_far (field ∷ fields) = filled_from (n + 1) (if length field =
 abbrev pub filled : List (List ℕ) → ℕ
 filled fields = filled_from 0 0 fields
 
--- the field of that number, from 0
-abbrev pub field_at : List (List ℕ) → ℕ → List ℕ
-field_at fields place = slice_index_or fields place []
-
 -- the text of a field, which must be UTF-8
 abbrev pub text_in : List ℕ → Option (List ℕ)
 text_in field = if is_utf8 field then Some field else None
@@ -43,10 +39,6 @@ name_in field = if length field == 0 then None else text_in field
 -- the minute in a field
 abbrev pub minute_in : List ℕ → Option ℕ
 minute_in field = option_and_then minute_of (text_in field)
-
--- the value of so many digits at most
-abbrev pub digits_number : ℕ → List ℕ → Option ℕ
-digits_number most digits = numbers.digits_number most digits
 
 -- a number of minutes that a trip may be shifted by
 abbrev pub shiftable : Option ℕ → Option ℕ

@@ -1,7 +1,7 @@
 -- The edit machine: what stands, and what can be undone and redone, after the records of a script.
 use Rattle.std.specs.Prelude.{◌≡◌, ℕ, ◌+◌, ◌-◌, ◌==◌, min, List, [], ◌∷◌, ◌++◌, length, drop, fold, map, Result, Ok, Err, nat_lt, if◌then◌else◌}
 use Rattle.trip_model.specs.Timetable.{TimetableView}
-use Rattle.undo_log.specs.Log.{undo_depth}
+use Rattle.undo_log.specs.declared.log.TheConstants.{UNDO_DEPTH}
 use Rattle.edit_script.specs.declared.edit.Edit.{Edit}
 use Rattle.edit_script.specs.declared.edit.Edit.TheVariants.{Undo, Redo, Show}
 use Rattle.edit_script.specs.declared.edit.Line.{Line}
@@ -58,7 +58,7 @@ timetable_at base m = fold after_record base m.standing
 
 -- the state after an edit of a trip that is accepted
 abbrev pub with_standing : State → Numbered → State
-with_standing m r = record m { standing = m.standing ++ r ∷ []; undone = []; kept = min (m.kept + 1) undo_depth }
+with_standing m r = record m { standing = m.standing ++ r ∷ []; undone = []; kept = min (m.kept + 1) UNDO_DEPTH }
 
 -- the state after an accepted undo, and after an accepted redo
 abbrev pub with_undo : State → State

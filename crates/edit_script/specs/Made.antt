@@ -4,12 +4,13 @@ use Rattle.trip_model.specs.declared.limits.TheConstants.{MOST_SLOTS}
 use Rattle.trip_model.specs.declared.trip.Trip.{Trip}
 use Rattle.trip_model.specs.Timetable.{TimetableView, slot_at, slot_names}
 use Rattle.trip_model.specs.Trip.{IsValidTrip, MayShift}
+use Rattle.trip_model.specs.Fleet.{with_shift}
 use Rattle.edit_script.specs.declared.changes.Change.{Change}
 use Rattle.edit_script.specs.declared.changes.Made.{Made}
 use Rattle.edit_script.specs.declared.changes.Made.TheVariants.{Moved, Cancelled, Restored, Added}
 use Rattle.edit_script.specs.declared.edit.TheConstants.{MOST_SHIFT}
 use Rattle.edit_script.specs.declared.fault.EditFault.{EditFault}
-use Rattle.edit_script.specs.Changes.{with_extra, with_live, with_shift}
+use Rattle.edit_script.specs.Changes.{with_extra, with_live}
 
 -- the timetable after it was done to the trip in a slot
 abbrev pub with_made : TimetableView → ℕ → Made → TimetableView

@@ -2,7 +2,8 @@ ghost use Rattle.std.specs.Prelude.{◌≡◌, ◌≤◌, ◌<◌, ◌++◌, ◌
 ghost use Rattle.edit_script.specs.Changes.{cancelled_at, extra_new, is_within, restored_at, shifted_at, with_extra};
 ghost use Rattle.edit_script.specs.Made.{CanMake, CanUnmake, IsJudged, MayAdd, MayMake, WasMade, with_change, with_made, without_change, without_made};
 ghost use Rattle.edit_script.specs.Script.{IsTouched, all_but_last, trip_in};
-ghost use Rattle.edit_script.specs.declared.edit.TheConstants.{MOST_MINUTE, MOST_SHIFT};
+ghost use Rattle.trip_model.specs.declared.limits.TheConstants.{LAST_DEPARTURE};
+ghost use Rattle.edit_script.specs.declared.edit.TheConstants.{MOST_SHIFT};
 ghost use Rattle.trip_model.specs.Timetable.{IsTimetable, number_of, slot_names};
 
 use crate::{EditFault, Side, Touched};
@@ -102,8 +103,8 @@ pub(crate) fn extra(
     departs: u16,
     arrives: u16,
 ) -> Result<Trip, EditFault>
-    requires departs { departs ≤ MOST_MINUTE }
-    requires arrives { arrives ≤ MOST_MINUTE }
+    requires departs { departs ≤ LAST_DEPARTURE }
+    requires arrives { arrives ≤ LAST_DEPARTURE }
     ensures added { IfOk result (λ added. MayAdd timetable.now (length timetable.now.slots) trip.now added) }
     ensures judged { MatchResult result
         (λ added. extra_new timetable.now trip.now from.now to.now departs arrives (number_of (slot_names timetable.now) trip.now) ≡ Ok (with_extra timetable.now trip.now added))

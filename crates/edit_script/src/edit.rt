@@ -3,9 +3,6 @@ use desk_io::Text;
 /// The most minutes that an edit shifts a trip, either way.
 pub const MOST_SHIFT: u16 = 120;
 
-/// The most minutes that an extra trip may depart or arrive at, 99:59.
-pub const MOST_MINUTE: u16 = 5999;
-
 /// The most shows that a script has.
 pub const MOST_SHOWS: u32 = 64;
 

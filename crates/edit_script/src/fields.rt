@@ -1,40 +1,11 @@
 ghost use Rattle.std.specs.Prelude.{◌≡◌, ◌<◌, ◌≤◌, IfSome, length, pos, unsigned_abs};
 ghost use Rattle.std.specs.Option.{option_map};
-ghost use Rattle.edit_script.specs.declared.edit.TheConstants.{MOST_MINUTE, MOST_SHIFT};
+ghost use Rattle.trip_model.specs.declared.limits.TheConstants.{LAST_DEPARTURE};
+ghost use Rattle.edit_script.specs.declared.edit.TheConstants.{MOST_SHIFT};
 ghost use Rattle.edit_script.specs.Forms as spec;
-ghost use Rattle.gtfs_tables.specs.Spaces as spaces;
 
 use crate::MOST_SHIFT;
-use gtfs_tables::{Row, read_minute};
-
-// The text without the spaces at its front.
-fn after_spaces(text: &[u8]) -> &[u8]
-    ensures { result.now ≡ spaces.after_spaces text.now }
-{
-    let mut rest = text;
-    'spaces: while let [b' ', tail @ ..] = rest {
-        rest = tail;
-    }
-    rest
-}
-
-// The text without the spaces at its end.
-fn before_spaces(text: &[u8]) -> &[u8]
-    ensures { result.now ≡ spaces.before_spaces text.now }
-{
-    let mut rest = text;
-    'spaces: while let [front @ .., b' '] = rest {
-        rest = front;
-    }
-    rest
-}
-
-/// The text without the spaces, bytes of 20 hexadecimal, at both ends.
-pub(crate) fn without_spaces(text: &[u8]) -> &[u8]
-    ensures { result.now ≡ spaces.without_spaces text.now }
-{
-    before_spaces(after_spaces(text))
-}
+use gtfs_tables::{Row, digits_number, read_minute, without_spaces};
 
 /// The number of fields up to the last that is not empty.
 pub(crate) fn filled(row: &Row) -> usize
@@ -73,26 +44,9 @@ pub(crate) fn name_in(field: &[u8]) -> Option<&str>
 /// The minute in a field.
 pub(crate) fn minute_in(field: &[u8]) -> Option<u16>
     ensures minute { result ≡ spec.minute_in field.now }
-    ensures within { IfSome result (λ minute. minute ≤ MOST_MINUTE) }
+    ensures within { IfSome result (λ minute. minute ≤ LAST_DEPARTURE) }
 {
     read_minute(text_in(field)?)
-}
-
-// The value of one to three digits.
-fn digits_number(digits: &[u8]) -> Option<u16>
-    ensures { result ≡ spec.digits_number 3 digits.now }
-{
-    if digits.is_empty() || digits.len() > 3 {
-        return None;
-    }
-    let mut number = 0u16;
-    for digit in digits {
-        if !digit.is_ascii_digit() {
-            return None;
-        }
-        number = 10 * number + u16::from(*digit - b'0');
-    }
-    Some(number)
 }
 
 // The minutes of a shift, of one to three digits.
@@ -100,8 +54,8 @@ fn minutes(digits: &[u8]) -> Option<u16>
     ensures value { result ≡ spec.minutes digits.now }
     ensures within { IfSome result (λ n. (0 < n) × (n ≤ MOST_SHIFT)) }
 {
-    match digits_number(digits) {
-        Some(number) if number > 0 && number <= MOST_SHIFT => Some(number),
+    match digits_number(digits, 3) {
+        Some(number) if number > 0 && number <= u64::from(MOST_SHIFT) => Some(number as u16),
         _ => None,
     }
 }

@@ -2,7 +2,7 @@
 //! refused ones.
 //!
 //! [`read_edit`] reads a record as an [`Edit`], [`read_script`] the records of a file, and [`edit_line`] writes an edit as
-//! its canonical line. A [`Script`] is a timetable under edits, of which the last 256 can be undone: [`Script::step`] does
+//! its canonical line, as [`shift_line`] does a shift. A [`Script`] is a timetable under edits, of which the last 256 can be undone: [`Script::step`] does
 //! an edit and answers what it [`Touched`], or refuses it and changes nothing. [`EditFault`] is why an edit is refused, and
 //! [`fault_text`] what is printed of it.
 //!
@@ -41,9 +41,9 @@ mod script;
 mod touched;
 mod writing;
 
-pub use edit::{Edit, Line, MOST_MINUTE, MOST_SHIFT, MOST_SHOWS};
+pub use edit::{Edit, Line, MOST_SHIFT, MOST_SHOWS};
 pub use fault::{EditFault, Side, fault_text};
 pub use reading::{read_edit, read_script};
 pub use script::Script;
 pub use touched::Touched;
-pub use writing::edit_line;
+pub use writing::{edit_line, shift_line};

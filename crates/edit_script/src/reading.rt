@@ -4,10 +4,10 @@ ghost use Rattle.edit_script.specs.Edits.{InForm, IsLineInForm};
 ghost use Rattle.edit_script.specs.Forms as spec;
 ghost use Rattle.edit_script.specs.Forms.{GivesEdit};
 
-use crate::fields::{filled, minute_in, name_in, shift_in, text_in, without_spaces};
+use crate::fields::{filled, minute_in, name_in, shift_in, text_in};
 use crate::{Edit, EditFault, Line};
 use desk_io::{Memory, Text};
-use gtfs_tables::{FeedFault, MOST_RECORDS, Paper, Row, read_rows};
+use gtfs_tables::{FeedFault, MOST_RECORDS, Paper, Row, read_rows, without_spaces};
 use std::alloc::Global;
 
 // The edit that is a word alone.

@@ -43,7 +43,8 @@ impl Model for Script {
 }
 
 impl Script {
-    ghost use Rattle.edit_script.specs.declared.edit.TheConstants.{MOST_MINUTE, MOST_SHIFT};
+    ghost use Rattle.trip_model.specs.declared.limits.TheConstants.{LAST_DEPARTURE};
+    ghost use Rattle.edit_script.specs.declared.edit.TheConstants.{MOST_SHIFT};
     ghost use Rattle.edit_script.specs.Edits.{InForm};
     ghost use Rattle.edit_script.specs.Made.{CanMake, with_made};
     ghost use Rattle.edit_script.specs.Script.{IsNext, IsRefusal, IsRising, IsTouched, if_redone, if_shown, if_undone, numbers_along, opened, stepped, with_edit};
@@ -166,8 +167,8 @@ impl Script {
         arrives: u16,
     ) -> Result<Touched, EditFault>
         requires next { self.old.last < number }
-        requires departs { departs ≤ MOST_MINUTE }
-        requires arrives { arrives ≤ MOST_MINUTE }
+        requires departs { departs ≤ LAST_DEPARTURE }
+        requires arrives { arrives ≤ LAST_DEPARTURE }
         ensures accepted { IfOk result (λ _. stepped self.old number (Edit.Extra trip.now from.now to.now departs arrives) ≡ Ok self.new) }
         ensures touched { IfOk result (λ touched. IsTouched touched self.old.timetable self.new.timetable) }
         ensures refused { IfErr result (λ refused. IsRefusal refused (Edit.Extra trip.now from.now to.now departs arrives) (stepped self.old number (Edit.Extra trip.now from.now to.now departs arrives))) }

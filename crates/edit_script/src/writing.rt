@@ -1,5 +1,6 @@
 ghost use Rattle.std.specs.Prelude.{◌≡◌, [], ◌∷◌, ◌++◌, All, IfOk, IsUtf8, map, string_bytes};
 ghost use Rattle.gtfs_tables.specs.Writing.{record_text};
+ghost use Rattle.edit_script.specs.declared.edit.Edit.TheVariants as edit;
 ghost use Rattle.edit_script.specs.Edits.{InForm};
 ghost use Rattle.edit_script.specs.Lines as spec;
 
@@ -32,23 +33,24 @@ fn record_line(alloc: Global, fields: &[&[u8]]) -> Result<Text, Memory>
     }
 }
 
+/// The canonical line of the shift of a trip, without its line end.
+pub fn shift_line(alloc: Global, trip: &str, by: i16) -> Result<Text, Memory>
+    ensures { IfOk result (λ line. line ++ 10 ∷ [] ≡ record_text (spec.fields_of (edit.Shift trip.now by))) }
+{
+    let by = signed_text(alloc, by)?;
+    record_line(
+        alloc,
+        &["shift".as_bytes(), trip.as_bytes(), by.as_str().as_bytes()],
+    )
+}
+
 /// The canonical line of an edit, without its line end.
 pub fn edit_line(alloc: Global, edit: &Edit) -> Result<Text, Memory>
     requires { InForm edit.now }
     ensures { IfOk result (λ line. line ++ 10 ∷ [] ≡ record_text (spec.fields_of edit.now)) }
 {
     match edit {
-        Edit::Shift { trip, by } => {
-            let by = signed_text(alloc, *by)?;
-            record_line(
-                alloc,
-                &[
-                    "shift".as_bytes(),
-                    trip.as_str().as_bytes(),
-                    by.as_str().as_bytes(),
-                ],
-            )
-        }
+        Edit::Shift { trip, by } => shift_line(alloc, trip.as_str(), *by),
         Edit::Cancel { trip } => record_line(
             alloc,
             &["cancel".as_bytes(), trip.as_str().as_bytes()],

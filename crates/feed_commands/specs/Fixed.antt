@@ -2,9 +2,8 @@
 use Rattle.std.specs.Prelude.{◌≡◌, ℕ, List, [], ◌∷◌, ◌++◌, length, pos, codes}
 use Rattle.std.specs.Fmt.{decimal}
 use Rattle.trip_model.specs.Blocking.{IsFewest}
-use Rattle.trip_model.specs.Deficit.{deficit, live_moves}
+use Rattle.trip_model.specs.Fleet.{deficit_sum}
 use Rattle.trip_model.specs.Links.{blocks_along}
-use Rattle.trip_model.specs.Maximum.{sum_of_maxima}
 use Rattle.trip_model.specs.Order.{by_departure}
 use Rattle.trip_model.specs.Plain.{plain_network, trip_moves}
 use Rattle.trip_model.specs.Timetable.{TimetableView}
@@ -30,7 +29,7 @@ pub record IsFixedText (timetable : TimetableView) (pulls : List Pull) (prefix :
   pub blocks : List (List ℕ)
   pub by_rule : blocks ≡ blocks_along (first_in_first_out (trip_moves timetable.slots)) (by_departure (trip_moves timetable.slots))
   pub fewest : IsFewest (plain_network (trip_moves timetable.slots)) blocks
-  pub number : pos (length blocks) ≡ sum_of_maxima (deficit (live_moves timetable.slots)) (length timetable.places)
+  pub number : pos (length blocks) ≡ deficit_sum timetable
   pub printed : text ≡ fixed_text timetable pulls prefix blocks
 
 abbrev pub fixed_shown : TextAsked

@@ -1,8 +1,7 @@
 ghost use Rattle.std.specs.Prelude.{◌≡◌, ◌<◌, pos, length, All, IfOk};
 ghost use Rattle.trip_model.specs.Blocking.{IsFewest};
-ghost use Rattle.trip_model.specs.Deficit.{deficit, live_moves};
+ghost use Rattle.trip_model.specs.Fleet.{deficit_sum};
 ghost use Rattle.trip_model.specs.Links.{AreLinks, blocks_along};
-ghost use Rattle.trip_model.specs.Maximum.{sum_of_maxima};
 ghost use Rattle.trip_model.specs.Order.{by_departure};
 ghost use Rattle.trip_model.specs.Plain.{plain_network, trip_moves};
 ghost use Rattle.fixed_fleet.specs.Rule.{first_in_first_out};
@@ -29,8 +28,7 @@ fn fixed_blocks(alloc: Global, timetable: &Timetable) -> Result<Blocks, Memory>
         (first_in_first_out (trip_moves timetable.now.slots)) (by_departure (trip_moves timetable.now.slots))) }
     ensures linked { IfOk result (λ blocks. AreLinks (plain_network (trip_moves timetable.now.slots)) (first_in_first_out (trip_moves timetable.now.slots))) }
     ensures fewest { IfOk result (IsFewest (plain_network (trip_moves timetable.now.slots))) }
-    ensures number { IfOk result (λ blocks. pos (length blocks)
-        ≡ sum_of_maxima (deficit (live_moves timetable.now.slots)) (length timetable.now.places)) }
+    ensures number { IfOk result (λ blocks. pos (length blocks) ≡ deficit_sum timetable.now) }
     ensures within { IfOk result (All (All (λ s. s < length timetable.now.slots))) }
 {
     plain_law();

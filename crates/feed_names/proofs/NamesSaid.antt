@@ -18,7 +18,7 @@ use Rattle.gtfs_tables.specs.declared.paper.Paper.TheVariants as paper
 use Rattle.gtfs_tables.specs.Fold.{ColumnsIn, Step, paper_read, table_read}
 use Rattle.gtfs_tables.specs.Reading.{each_record, field_at, filled_in, table_in, text_in}
 use Rattle.gtfs_tables.specs.Table.{TableView}
-use Rattle.desk_settings.specs.Entries.{Name}
+use Rattle.gtfs_tables.specs.Entries.{Name}
 use Rattle.desk_settings.specs.Names.{is_among}
 use Rattle.desk_settings.specs.Settings.{SettingsView, class_of, is_chosen, is_classed}
 use Rattle.trip_model.specs.declared.limits.TheConstants.{MOST_PLACES, MOST_SLOTS}

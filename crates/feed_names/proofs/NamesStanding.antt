@@ -14,6 +14,7 @@ use Rattle.gtfs_tables.specs.Spaces.{without_spaces}
 use Rattle.gtfs_tables.specs.declared.fault.FeedFault.TheVariants.{TooManyRecords}
 use Rattle.gtfs_tables.specs.declared.paper.Paper.TheVariants as paper
 use Rattle.gtfs_tables.specs.declared.paper.TheConstants.{MOST_RECORDS}
+use Rattle.gtfs_tables.specs.Reading.{field_at}
 use Rattle.trip_model.specs.Timetable.{TimetableView, Slot, number_of, place_names, slot_at, slot_names, with_trip}
 use Rattle.trip_model.specs.declared.trip.Trip.{Trip}
 use Rattle.trip_model.proofs.TimetableLemmas.{number_of-Some}
@@ -24,11 +25,12 @@ use Rattle.edit_script.specs.declared.edit.Line.TheVariants as line
 use Rattle.edit_script.specs.declared.edit.TheConstants.{MOST_SHOWS}
 use Rattle.edit_script.specs.declared.fault.EditFault.{EditFault}
 use Rattle.edit_script.specs.declared.fault.EditFault.TheVariants as fault
-use Rattle.edit_script.specs.Changes.{cancelled_at, edited, extra_from, extra_new, extra_to, extra_trip, is_within, provided, restored_at, shifted_at, with_extra, with_live, with_shift}
+use Rattle.edit_script.specs.Changes.{cancelled_at, edited, extra_from, extra_new, extra_to, extra_trip, is_within, provided, restored_at, shifted_at, with_extra, with_live}
 use Rattle.trip_model.specs.declared.limits.TheConstants.{MOST_SLOTS}
 use Rattle.trip_model.specs.Place.{class_of}
 use Rattle.trip_model.specs.Trip.{shifted}
-use Rattle.edit_script.specs.Forms.{bare_edit, edit_of, extra_edit, field_at, filled, line_by, line_of, minute_in, name_in, named_edit, shift_edit, shift_in, text_in, trip_edit}
+use Rattle.trip_model.specs.Fleet.{with_shift}
+use Rattle.edit_script.specs.Forms.{bare_edit, edit_of, extra_edit, filled, line_by, line_of, minute_in, name_in, named_edit, shift_edit, shift_in, text_in, trip_edit}
 use Rattle.edit_script.specs.Machine.{Numbered, State, after_line, after_record, begun, if_accepted, or_same, or_stays, state_by, timetable_at, with_record, with_redo, with_undo}
 use Rattle.edit_script.specs.Script.{last_alone}
 use Rattle.claim_files.specs.Written.{IsName}

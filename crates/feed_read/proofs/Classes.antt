@@ -9,7 +9,7 @@ use Rattle.std.proofs.lemmas.List.{get_or-map, length-map}
 use Rattle.std.proofs.lemmas.List.Elements.{All-cons, All-head, All-nil, All-push, All-tail}
 use Rattle.std.proofs.lemmas.List.Quantifiers.{position-Some}
 use Rattle.std.proofs.lemmas.Slice.Eq.{bytes_eq-Decides}
-use Rattle.desk_settings.specs.Entries.{Name}
+use Rattle.gtfs_tables.specs.Entries.{Name}
 use Rattle.desk_settings.specs.Names.{is_among}
 use Rattle.desk_settings.specs.Settings.{SettingsView, is_classed, layover_at}
 use Rattle.trip_model.specs.Place.{Place, IsPostOrTerminal, class_of, has_slash, place_in, post_place, terminal_place}

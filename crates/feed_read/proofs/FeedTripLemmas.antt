@@ -8,7 +8,7 @@ use Rattle.gtfs_tables.specs.declared.fault.FeedFault.{FeedFault}
 use Rattle.gtfs_tables.specs.declared.fault.FeedFault.TheVariants as fault
 use Rattle.gtfs_tables.specs.Reading.{◌>>=◌, Fails, each_record}
 use Rattle.gtfs_tables.proofs.ReadingLemmas.{records_go_on, records_end, Fails->>=}
-use Rattle.desk_settings.specs.Entries.{Name}
+use Rattle.gtfs_tables.specs.Entries.{Name}
 use Rattle.desk_settings.specs.Settings.{SettingsView}
 use Rattle.feed_read.specs.declared.feed_trip.FeedTrip.{FeedTrip}
 use Rattle.feed_read.specs.declared.trip_ends.TripEnds.{TripEnds}

@@ -14,7 +14,7 @@ use Rattle.gtfs_tables.specs.declared.paper.Column.TheVariants as column
 use Rattle.gtfs_tables.specs.declared.paper.Paper.TheVariants as paper
 use Rattle.gtfs_tables.specs.Fold.{paper_read}
 use Rattle.gtfs_tables.specs.Reading.{◌>>=◌, each_record, field_at, table_in, text_in, Fails, Gives}
-use Rattle.desk_settings.specs.Entries.{Name}
+use Rattle.gtfs_tables.specs.Entries.{Name}
 use Rattle.feed_read.specs.declared.trip_ends.TripEnds.{TripEnds}
 use Rattle.feed_read.specs.declared.stop_times.Columns.{Columns}
 use Rattle.feed_read.specs.FeedTrips.{stop_times_of}

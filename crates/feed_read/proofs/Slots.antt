@@ -2,7 +2,7 @@
 use Rattle.std.proofs.Common.{◌≡◌, ℕ, ◌+◌, ◌<◌, List, [], ◌∷◌, ◌++◌, length, map, get_or, take, Some, None, refl, sym, ap, ◌∙◌}
 use Rattle.std.specs.Prelude.{Contains, Option, IsSome, unwrap_or}
 use Rattle.std.proofs.lemmas.List.{map_push, take_more}
-use Rattle.desk_settings.specs.Entries.{Name}
+use Rattle.gtfs_tables.specs.Entries.{Name}
 use Rattle.desk_settings.specs.Settings.{SettingsView}
 use Rattle.trip_model.specs.Place.{Place}
 use Rattle.trip_model.specs.Timetable.{TimetableView, Slot, AreDistinct, place_names, slot_names, number_of}

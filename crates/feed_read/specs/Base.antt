@@ -6,8 +6,8 @@ use Rattle.gtfs_tables.specs.declared.fault.FeedFault.{FeedFault}
 use Rattle.gtfs_tables.specs.declared.fault.FeedFault.TheVariants as fault
 use Rattle.gtfs_tables.specs.declared.paper.Paper.TheVariants as paper
 use Rattle.gtfs_tables.specs.Reading.{◌>>=◌, provided}
+use Rattle.gtfs_tables.specs.Entries.{Name}
 use Rattle.trip_model.specs.declared.limits.TheConstants.{MOST_PLACES}
-use Rattle.desk_settings.specs.Entries.{Name}
 use Rattle.desk_settings.specs.Names.{is_among}
 use Rattle.desk_settings.specs.Settings.{SettingsView, is_classed, layover_at}
 use Rattle.trip_model.specs.declared.trip.Trip.{Trip}

@@ -7,9 +7,9 @@ use Rattle.gtfs_tables.specs.declared.fault.FeedFault.{FeedFault}
 use Rattle.gtfs_tables.specs.declared.fault.FeedFault.TheVariants as fault
 use Rattle.gtfs_tables.specs.Reading.{◌>>=◌, provided, each_record}
 use Rattle.gtfs_tables.specs.Times.{rounded_down, rounded_up}
+use Rattle.gtfs_tables.specs.Entries.{Name}
 use Rattle.trip_model.specs.declared.limits.TheConstants.{LAST_DEPARTURE, LAST_END, MOST_TOLERANCE}
 use Rattle.trip_model.specs.Place.{has_slash}
-use Rattle.desk_settings.specs.Entries.{Name}
 use Rattle.desk_settings.specs.Settings.{SettingsView, terminal_of, layover_at, tolerance_of}
 use Rattle.feed_read.specs.declared.feed_trip.FeedTrip.{FeedTrip}
 use Rattle.feed_read.specs.Trips.{Selected}

@@ -1,12 +1,12 @@
 -- What is kept of the stop times of each trip as the records of `stop_times.txt` are met.
-use Rattle.std.specs.Prelude.{◌≡◌, ℕ, ◌||◌, nat_eq, Bool, false, List, [], ◌∷◌, ◌++◌, map, slice_get, slice_index_or, slice_set, Option, Some, None, option_map, position, Result, Ok, Err, if◌then◌else◌}
+use Rattle.std.specs.Prelude.{◌≡◌, ℕ, ◌||◌, nat_eq, Bool, false, List, [], ◌∷◌, ◌++◌, map, slice_get, slice_index_or, slice_set, Option, Some, None, option_map, Result, Ok, Err, if◌then◌else◌}
 use Rattle.std.specs.List.{list_any}
-use Rattle.std.specs.Str.{bytes_eq}
 use Rattle.gtfs_tables.specs.declared.fault.FeedFault.{FeedFault}
 use Rattle.gtfs_tables.specs.declared.paper.Column.TheVariants as column
 use Rattle.gtfs_tables.specs.declared.paper.Paper.TheVariants as paper
 use Rattle.gtfs_tables.specs.Reading.{◌>>=◌, field_at, text_in, Fails}
-use Rattle.desk_settings.specs.Entries.{Name}
+use Rattle.gtfs_tables.specs.Entries.{Name}
+use Rattle.trip_model.specs.Timetable.{number_of}
 use Rattle.feed_read.specs.declared.stop_times.Columns.{Columns}
 use Rattle.feed_read.specs.declared.stop_time.End.{End}
 use Rattle.feed_read.specs.declared.trip_ends.TripEnds.{TripEnds}
@@ -44,7 +44,7 @@ with_kept_of columns number before fields (Some trip) =
 unfoldable pub with_record_kept : List Name → Columns → ℕ → List Kept → List (List ℕ) → Result (List Kept) FeedFault
 with_record_kept names columns number before fields = do
   name ← text_in paper.StopTimes number column.TripId (field_at fields columns.trip)
-  with_kept_of columns number before fields (position (bytes_eq name) names)
+  with_kept_of columns number before fields (number_of names name)
 
 -- what a clause sees of an end of a trip, and of what the program keeps
 abbrev pub end_seen : End → StopTimeView

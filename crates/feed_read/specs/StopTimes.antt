@@ -1,13 +1,13 @@
 -- The records of `stop_times.txt` that belong to selected trips.
-use Rattle.std.specs.Prelude.{ℕ, List, [], ◌∷◌, ◌++◌, position, Option, Some, None, Result, Ok}
-use Rattle.std.specs.Str.{bytes_eq}
+use Rattle.std.specs.Prelude.{ℕ, List, [], ◌∷◌, ◌++◌, Option, Some, None, Result, Ok}
 use Rattle.desk_io.specs.declared.shelf.Found.{Found}
 use Rattle.gtfs_tables.specs.declared.fault.FeedFault.{FeedFault}
 use Rattle.gtfs_tables.specs.declared.paper.Column.TheVariants as column
 use Rattle.gtfs_tables.specs.declared.paper.Paper.TheVariants as paper
 use Rattle.gtfs_tables.specs.Fold.{paper_read}
 use Rattle.gtfs_tables.specs.Reading.{◌>>=◌, column_in, field_at, text_in, filled_in, number_in, time_in}
-use Rattle.desk_settings.specs.Entries.{Name}
+use Rattle.gtfs_tables.specs.Entries.{Name}
+use Rattle.trip_model.specs.Timetable.{number_of}
 use Rattle.feed_read.specs.declared.stop_times.Columns.{Columns}
 use Rattle.feed_read.specs.declared.stop_time.StopTime.{StopTime}
 
@@ -56,7 +56,7 @@ with_stop_time_of columns number before fields (Some trip) = stop_time_in column
 unfoldable pub with_stop_time : List Name → Columns → ℕ → List StopTimeView → List (List ℕ) → Result (List StopTimeView) FeedFault
 with_stop_time names columns number before fields = do
   name ← text_in paper.StopTimes number column.TripId (field_at fields columns.trip)
-  with_stop_time_of columns number before fields (position (bytes_eq name) names)
+  with_stop_time_of columns number before fields (number_of names name)
 
 -- the stop times of the file, in the order of its records
 abbrev pub stop_times_for : List Name → Found → Result (List StopTimeView) FeedFault

@@ -7,8 +7,8 @@ use Rattle.gtfs_tables.specs.declared.paper.Column.TheVariants as column
 use Rattle.gtfs_tables.specs.declared.paper.Paper.TheVariants as paper
 use Rattle.gtfs_tables.specs.Fold.{paper_read}
 use Rattle.gtfs_tables.specs.Reading.{◌>>=◌, provided, column_in, field_at, text_in, filled_in}
+use Rattle.gtfs_tables.specs.Entries.{Name}
 use Rattle.trip_model.specs.declared.limits.TheConstants.{MOST_SLOTS}
-use Rattle.desk_settings.specs.Entries.{Name}
 use Rattle.desk_settings.specs.Names.{is_among}
 use Rattle.desk_settings.specs.Settings.{SettingsView, is_chosen, is_classed, class_of}
 use Rattle.feed_read.specs.declared.selection.Selection.{Selection}

@@ -1,5 +1,6 @@
 ghost use Rattle.std.specs.Prelude.{◌≡◌, ◌≤◌, IfOk, IfSome};
 ghost use Rattle.std.proofs.Props.{props};
+ghost use Rattle.gtfs_tables.specs.declared.times.TheConstants.{LAST_SECOND};
 
 use desk_io::{Memory, Text};
 use std::alloc::Global;
@@ -13,8 +14,8 @@ pub(crate) struct StopTime<'a> {
     pub(crate) arrival: Option<u32>,
     pub(crate) departure: Option<u32>,
     pub(crate) sequence: u64,
-    ghost arrival_on_day: { IfSome arrival (λ seconds. seconds ≤ 359999) } by { Prim.hlevel props },
-    ghost departure_on_day: { IfSome departure (λ seconds. seconds ≤ 359999) } by { Prim.hlevel props },
+    ghost arrival_on_day: { IfSome arrival (λ seconds. seconds ≤ LAST_SECOND) } by { Prim.hlevel props },
+    ghost departure_on_day: { IfSome departure (λ seconds. seconds ≤ LAST_SECOND) } by { Prim.hlevel props },
 }
 
 /// The first or the last stop time of a trip, which is kept when its record is gone.
@@ -25,6 +26,6 @@ pub(crate) struct End {
     pub(crate) arrival: Option<u32>,
     pub(crate) departure: Option<u32>,
     pub(crate) sequence: u64,
-    ghost arrival_on_day: { IfSome arrival (λ seconds. seconds ≤ 359999) } by { Prim.hlevel props },
-    ghost departure_on_day: { IfSome departure (λ seconds. seconds ≤ 359999) } by { Prim.hlevel props },
+    ghost arrival_on_day: { IfSome arrival (λ seconds. seconds ≤ LAST_SECOND) } by { Prim.hlevel props },
+    ghost departure_on_day: { IfSome departure (λ seconds. seconds ≤ LAST_SECOND) } by { Prim.hlevel props },
 }

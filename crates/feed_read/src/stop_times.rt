@@ -98,7 +98,7 @@ struct StopTimes<'a> {
 
 impl<'a> RecordReader for StopTimes<'a> {
     ghost use Rattle.std.specs.Prelude.{ℕ, List, map};
-    ghost use Rattle.desk_settings.specs.Entries.{Name};
+    ghost use Rattle.gtfs_tables.specs.Entries.{Name};
     ghost use Rattle.feed_read.specs.Kept.{Kept, trip_ends_seen, with_record_kept};
     ghost use Rattle.feed_read.specs.StopTimes.{columns_in};
 

@@ -1,14 +1,10 @@
-ghost use Rattle.std.specs.Prelude.{◌≡◌, ◌+◌, ◌*◌, ◌≤◌, ◌<◌, length, pos, All, IfOk};
+ghost use Rattle.std.specs.Prelude.{◌≡◌, ◌+◌, ◌*◌, ◌≤◌, ◌<◌, length, All, IfOk};
 ghost use Rattle.deadhead_matrix.specs.Prices.{IsPlanFor};
 ghost use Rattle.desk_feed.specs.Schedule.{IsScheduled};
-ghost use Rattle.trip_model.specs.Deficit.{deficit, live_moves};
-ghost use Rattle.trip_model.specs.Maximum.{sum_of_maxima};
 
 use block_build::{Blocks, blocks_of};
 use deadhead_matrix::Matrix;
 use deadhead_matrix::laws::plan_law;
-use deficit_steps::deficits_of;
-use deficit_steps::laws::held_law;
 use desk_io::{Memory, Steps};
 use pair_graph::Pairs;
 use price_assign::Solver;
@@ -66,20 +62,4 @@ pub fn schedule_of<L: Ledger>(
     let solver = plan_of(alloc, timetable, matrix, steps)?;
     let blocks = blocks_of(alloc, timetable, solver.plan().links())?;
     Ok(Schedule { solver, blocks })
-}
-
-/// The sum of the maxima of the deficits of a timetable, the fewest vehicles without deadheads.
-pub fn fixed_of<L: Ledger>(
-    alloc: Global,
-    timetable: &Timetable,
-    steps: &mut Steps<L>,
-) -> Result<u64, Memory>
-    ensures sum { IfOk result (λ fixed. pos fixed ≡ sum_of_maxima (deficit (live_moves timetable.now.slots)) (length timetable.now.places)) }
-    ensures counted { steps.new ≤ steps.old + 28 * length timetable.now.slots }
-{
-    held_law();
-    let deficits = deficits_of(alloc, timetable, steps)?;
-    // Its clause says that the deficits are those of moves between the places.
-    let _places = deficits.places();
-    Ok(deficits.total())
 }

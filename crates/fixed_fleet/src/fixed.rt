@@ -1,10 +1,9 @@
 ghost use Rattle.std.specs.Prelude.{◌≡◌, ◌<◌, true, pos, ◌+ℤ◌, length, IfOk, IfSome};
 ghost use Rattle.trip_model.specs.Blocking.{IsFewest};
-ghost use Rattle.trip_model.specs.Deficit.{deficit, live_moves};
+ghost use Rattle.trip_model.specs.Fleet.{deficit_sum};
 ghost use Rattle.trip_model.specs.Links.{AreLinks, link_count, blocks_along};
-ghost use Rattle.trip_model.specs.Maximum.{sum_of_maxima};
 ghost use Rattle.trip_model.specs.Order as order;
-ghost use Rattle.trip_model.specs.Plain.{move_at, plain_network, trip_moves};
+ghost use Rattle.trip_model.specs.Plain.{plain_network, trip_moves, move_at};
 ghost use Rattle.trip_model.specs.Timetable.{slot_at};
 ghost use Rattle.fixed_fleet.specs.Rule as rule;
 
@@ -94,12 +93,12 @@ pub fn fixed_links(alloc: Global, timetable: &Timetable) -> Result<Links, Memory
     ensures links { IfOk result (AreLinks (plain_network (trip_moves timetable.now.slots))) }
     // The trips less the links are the sum of the maxima.
     ensures count { IfOk result (λ links. pos (length (order.by_departure (trip_moves timetable.now.slots)))
-        ≡ (pos (link_count links) +ℤ sum_of_maxima (deficit (live_moves timetable.now.slots)) (length timetable.now.places))) }
+        ≡ (pos (link_count links) +ℤ deficit_sum timetable.now)) }
     // No blocking without deadheads has fewer blocks.
     ensures fewest { IfOk result (λ links. IsFewest (plain_network (trip_moves timetable.now.slots))
         (blocks_along links (order.by_departure (trip_moves timetable.now.slots)))) }
     ensures number { IfOk result (λ links. pos (length (blocks_along links (order.by_departure (trip_moves timetable.now.slots))))
-        ≡ sum_of_maxima (deficit (live_moves timetable.now.slots)) (length timetable.now.places)) }
+        ≡ deficit_sum timetable.now) }
 {
     plain_law();
     plain_blocks_law();

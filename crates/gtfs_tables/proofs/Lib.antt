@@ -7,3 +7,4 @@ pub mod ReadingLemmas
 pub mod FoldLemmas
 pub mod Written
 pub mod Minutes
+pub mod EntriesLemmas

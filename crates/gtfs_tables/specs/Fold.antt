@@ -5,7 +5,7 @@ use Rattle.desk_io.specs.declared.shelf.Found.{Found}
 use Rattle.gtfs_tables.specs.declared.fault.FeedFault.{FeedFault}
 use Rattle.gtfs_tables.specs.declared.fault.FeedFault.TheVariants as fault
 use Rattle.gtfs_tables.specs.declared.paper.Paper.{Paper}
-use Rattle.gtfs_tables.specs.Reading.{◌>>=◌, or_refused, table_in, each_record}
+use Rattle.gtfs_tables.specs.Reading.{◌>>=◌, optional_in, or_refused, table_in, each_record}
 use Rattle.gtfs_tables.specs.Rows.{padded}
 use Rattle.gtfs_tables.specs.Table.{TableView, is_longer, table_of}
 
@@ -32,6 +32,10 @@ bytes_read paper columns_in step start bytes = or_refused paper (table_of bytes)
 -- what a paper that must be there gives
 abbrev pub paper_read : {C A : Type 0} → Paper → ColumnsIn C → (C → Step A) → A → Found → Result A FeedFault
 paper_read paper columns_in step start found = table_in paper found >>= table_read columns_in step start
+
+-- what a paper gives that need not be there: without it there are no records
+abbrev pub optional_read : {C A : Type 0} → Paper → ColumnsIn C → (C → Step A) → A → Found → Result A FeedFault
+optional_read paper columns_in step start found = optional_in paper start (bytes_read paper columns_in step start) found
 
 -- the number of the first record that is longer than the header, counted from this one
 abbrev pub longer_from : ℕ → ℕ → List (List (List ℕ)) → Option ℕ

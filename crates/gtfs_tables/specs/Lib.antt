@@ -2,6 +2,7 @@ pub mod Spaces
 pub mod Times
 pub mod Numbers
 pub mod Reading
+pub mod Entries
 pub mod Fold
 pub mod Writing
 pub mod Laws

@@ -1,5 +1,5 @@
 -- Reading one part of a feed after another, up to the first refusal.
-use Rattle.std.specs.Prelude.{◌≡◌, ℕ, ◌+◌, Bool, not, ◌==◌, List, [], ◌∷◌, length, nat_le, slice_index_or, Option, Some, None, option_map, Result, Ok, Err, ⊤, if◌then◌else◌}
+use Rattle.std.specs.Prelude.{◌≡◌, ℕ, ◌+◌, Bool, not, ◌==◌, List, [], ◌∷◌, length, nat_le, slice_index_or, Option, Some, None, option_map, unwrap_or, Result, Ok, Err, ⊤, if◌then◌else◌}
 use Rattle.std.specs.Option.{ok_or}
 use Rattle.std.specs.Str.{is_utf8}
 use Rattle.desk_io.specs.declared.shelf.Found.{Found}
@@ -65,6 +65,21 @@ header_in paper Missing = Err (fault.Missing paper)
 header_in paper TooLong = Err (fault.TooLong paper)
 header_in paper (File bytes) = header_from paper (records bytes)
 
+-- the bytes of a file that need not be there, if it is
+abbrev pub optional_bytes : Paper → Found → Result (Option (List ℕ)) FeedFault
+optional_bytes paper Missing = Ok None
+optional_bytes paper TooLong = Err (fault.TooLong paper)
+optional_bytes paper (File bytes) = Ok (Some bytes)
+
+-- what bytes give, and what there is without them
+abbrev pub or_none : {A : Type 0} → A → (List ℕ → Result A FeedFault) → Option (List ℕ) → Result A FeedFault
+or_none none read None = Ok none
+or_none none read (Some bytes) = read bytes
+
+-- what the bytes of a file give that need not be there
+abbrev pub optional_in : {A : Type 0} → Paper → A → (List ℕ → Result A FeedFault) → Found → Result A FeedFault
+optional_in paper none read found = optional_bytes paper found >>= or_none none read
+
 -- nothing was to be read, and nothing is refused
 abbrev pub nothing : Result (Unit {0}) FeedFault
 nothing = Ok tt
@@ -76,6 +91,10 @@ judged paper found = table_in paper found >>= λ _. nothing
 -- the number, from 0, of a column that must be there
 abbrev pub column_in : Paper → Column → List (List ℕ) → Result ℕ FeedFault
 column_in paper column header = ok_or (column_of (column_name_of column) header) (fault.NoColumn paper column)
+
+-- the number, from 0, of a column that need not be there; where it is not, of the next column
+abbrev pub place_of : Column → List (List ℕ) → ℕ
+place_of column header = unwrap_or (column_of (column_name_of column) header) (length header)
 
 -- the field of a record in the column of that number
 abbrev pub field_at : List (List ℕ) → ℕ → List ℕ

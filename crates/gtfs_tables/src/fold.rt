@@ -1,7 +1,7 @@
 ghost use Rattle.std.specs.Prelude.{◌≡◌, ◌≢◌, ℕ, ◌+◌, ◌<◌, ◌≤◌, IfErr, IfOk, List, Ok, Err, None, Result, length, map};
 ghost use Rattle.gtfs_tables.specs.declared.fault.FeedFault.{FeedFault};
 ghost use Rattle.gtfs_tables.specs.declared.paper.TheConstants.{MOST_BYTES};
-ghost use Rattle.gtfs_tables.specs.Fold.{due, longer_from, bytes_read, paper_read, rest_read, AreLeft, IsTableLeft};
+ghost use Rattle.gtfs_tables.specs.Fold.{due, longer_from, bytes_read, optional_read, paper_read, rest_read, AreLeft, IsTableLeft};
 ghost use Rattle.gtfs_tables.specs.Papers.{IsWithinLimit};
 ghost use Rattle.gtfs_tables.specs.Reading.{Gives, header_in, judged, table_in};
 ghost use Rattle.gtfs_tables.specs.Records.{records_left, IsReading};
@@ -142,6 +142,23 @@ pub fn read_records<R: RecordReader>(
         Found::Missing => Err(FeedFault::Missing(paper)),
         Found::TooLong => Err(FeedFault::TooLong(paper)),
         Found::File(bytes) => read_bytes(alloc, paper, bytes.as_slice(), records),
+    }
+}
+
+/// The same of a paper that need not be there; a missing one has no records.
+pub fn read_optional<R: RecordReader>(
+    alloc: Global,
+    paper: Paper,
+    found: &Found,
+    records: &mut R,
+) -> Result<(), FeedFault>
+    requires { IsWithinLimit found.now }
+    ensures gives { Gives (λ _. R.state records.new) result (optional_read paper R.columns_in (R.step (R.kept records.old)) (R.state records.old) found.now) }
+    ensures kept { R.kept records.new ≡ R.kept records.old }
+{
+    match found {
+        Found::Missing => Ok(()),
+        Found::TooLong | Found::File(_) => read_records(alloc, paper, found, records),
     }
 }
 

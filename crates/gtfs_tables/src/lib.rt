@@ -2,11 +2,12 @@
 //!
 //! [`read_records`] takes the records of a file one by one into a [`RecordReader`], [`judge_table`] tells whether a file is
 //! a table, [`Table::read`] gives a header and rows of as many fields, and [`read_rows`] the records of a file that has no
-//! header. [`read_time`], [`read_minute`] and [`read_number`] read values with spaces round them, [`minute_text`] prints a
-//! minute, and [`RecordWriter`] writes records.
+//! header. [`read_time`], [`read_minute`] and [`read_number`] read values with spaces round them, which [`without_spaces`]
+//! takes off, and [`digits_number`] reads digits alone. [`minute_text`] prints a minute, and [`RecordWriter`] writes records.
 //! [`Paper`] and [`Column`] name the files and their columns, and [`feed_line`] is the line of a [`FeedFault`].
 //! [`table_in`], [`column_in`], [`text_in`], [`filled_in`], [`number_in`] and [`time_in`] read a feed's table step by step,
-//! each up to its own refusal.
+//! each up to its own refusal; [`place_of`] finds a column that need not be there. [`read_optional`] and [`optional_bytes`]
+//! read a file that need not be there. [`Entries`] are names with a value each.
 //!
 //! The contract that the crates above use: what a fold gives is its definition over the record list of the bytes, as `csv`
 //! promises to read them, or the first refusal, or there was no memory; a time and a number are the values of their
@@ -24,9 +25,10 @@
 //! The contracts cite `Records` (the records of a file), `Rows` and `Table` (padding, the table or its fault, the place
 //! of a column), `Times` and `Numbers` (the grammars, the rounding to minutes), `Spaces`, `Papers` and `Faults` (the
 //! printed names and lines), `Reading` (reading one part after another up to the first refusal), `Fold` (reading record by
-//! record), `Writing` (records as text) and `Laws`.
+//! record), `Entries` (names with a value each), `Writing` (records as text) and `Laws`.
 #![tactic(auto)]
 
+mod entries;
 mod fault;
 mod fold;
 pub mod laws;
@@ -40,13 +42,17 @@ mod table;
 mod times;
 mod writing;
 
+pub use entries::Entries;
 pub use fault::{FeedFault, feed_line};
-pub use fold::{RecordReader, judge_table, read_header, read_records};
-pub use numbers::read_number;
+pub use fold::{RecordReader, judge_table, read_header, read_optional, read_records};
+pub use numbers::{digits_number, read_number};
 pub use paper::{Column, MOST_BYTES, MOST_RECORDS, Paper};
-pub use reading::{column_in, filled_in, number_in, table_in, text_in, time_in};
+pub use reading::{
+    column_in, filled_in, number_in, optional_bytes, place_of, table_in, text_in, time_in,
+};
 pub use records::read_rows;
 pub use row::Row;
+pub use spaces::without_spaces;
 pub use table::{Table, TableFault};
-pub use times::{minute_down, minute_text, minute_up, read_minute, read_time};
+pub use times::{LAST_SECOND, minute_down, minute_text, minute_up, read_minute, read_time};
 pub use writing::RecordWriter;

@@ -3,8 +3,8 @@ ghost use Rattle.gtfs_tables.specs.Numbers as spec;
 
 use crate::spaces::without_spaces;
 
-// The value of one digit or more, at most `most` of them.
-fn digits_number(digits: &[u8], most: u32) -> Option<u64>
+/// The value of one digit or more, at most `most` of them; leading zeros are allowed. None exactly where the bytes have another form.
+pub fn digits_number(digits: &[u8], most: u32) -> Option<u64>
     requires { most ≤ 18 }
     ensures value { result ≡ spec.digits_number most digits.now }
     ensures bound { IfSome result (λ number. number < 10 ^ most) }

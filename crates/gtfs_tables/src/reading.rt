@@ -1,7 +1,8 @@
-ghost use Rattle.std.specs.Prelude.{◌≡◌, ◌≤◌, IfOk, IfSome};
+ghost use Rattle.std.specs.Prelude.{◌≡◌, ◌≤◌, IfOk, IfSome, option_map};
 ghost use Rattle.gtfs_tables.specs.Papers.{IsWithinLimit};
 ghost use Rattle.gtfs_tables.specs.Reading as spec;
 ghost use Rattle.gtfs_tables.specs.Reading.{Gives};
+ghost use Rattle.gtfs_tables.specs.declared.times.TheConstants.{LAST_SECOND};
 
 use crate::spaces::without_spaces;
 use crate::{Column, FeedFault, Paper, Row, Table, TableFault, read_number, read_time};
@@ -25,6 +26,17 @@ pub fn table_in(alloc: Global, paper: Paper, found: &Found) -> Result<Table, Fee
     }
 }
 
+/// The bytes of a file that need not be there, None where it is not.
+pub fn optional_bytes(paper: Paper, found: &Found) -> Result<Option<&[u8]>, FeedFault>
+    ensures { Gives (option_map (λ bytes. bytes.now)) result (spec.optional_bytes paper found.now) }
+{
+    match found {
+        Found::Missing => Ok(None),
+        Found::TooLong => Err(FeedFault::TooLong(paper)),
+        Found::File(bytes) => Ok(Some(bytes.as_slice())),
+    }
+}
+
 /// The number, from 0, of a column that the header must name.
 pub fn column_in(paper: Paper, column: Column, header: &Row) -> Result<usize, FeedFault>
     ensures { Gives (λ place. place) result (spec.column_in paper column header.now) }
@@ -32,6 +44,14 @@ pub fn column_in(paper: Paper, column: Column, header: &Row) -> Result<usize, Fe
     header
         .place(column.name())
         .ok_or(FeedFault::NoColumn(paper, column))
+}
+
+/// The number, from 0, of a column that the header need not name; where it does not, of the next column, in which each field
+/// is empty.
+pub fn place_of(column: Column, header: &Row) -> usize
+    ensures { result ≡ spec.place_of column header.now }
+{
+    header.place(column.name()).unwrap_or(header.len())
 }
 
 /// The text of a field, which must be UTF-8. Records count from 1 after the header.
@@ -83,7 +103,7 @@ pub fn time_in(
     text: &str,
 ) -> Result<Option<u32>, FeedFault>
     ensures gives { Gives (λ seconds. seconds) result (spec.time_in paper number column text.now) }
-    ensures within { IfOk result (λ seconds. IfSome seconds (λ s. s ≤ 359999)) }
+    ensures within { IfOk result (λ seconds. IfSome seconds (λ s. s ≤ LAST_SECOND)) }
 {
     if without_spaces(text.as_bytes()).is_empty() {
         return Ok(None);

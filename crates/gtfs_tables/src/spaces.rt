@@ -24,7 +24,7 @@ fn before_spaces(text: &[u8]) -> &[u8]
 }
 
 /// The text without the spaces, bytes of 20 hexadecimal, at both ends.
-pub(crate) fn without_spaces(text: &[u8]) -> &[u8]
+pub fn without_spaces(text: &[u8]) -> &[u8]
     ensures { result.now ≡ spec.without_spaces text.now }
 {
     before_spaces(after_spaces(text))

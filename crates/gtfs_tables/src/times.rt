@@ -1,9 +1,13 @@
 ghost use Rattle.std.specs.Prelude.{◌≡◌, ◌+◌, ◌<◌, ◌≤◌, IfOk, IfSome, if◌then◌else◌, Some, None};
 ghost use Rattle.gtfs_tables.specs.Times as spec;
+ghost use Rattle.gtfs_tables.specs.declared.times.TheConstants.{LAST_SECOND};
 
 use crate::spaces::without_spaces;
 use desk_io::{Memory, Text};
 use std::alloc::Global;
+
+/// The last second of a time of the service day, 99:59:59.
+pub const LAST_SECOND: u32 = 359_999;
 
 // The value of two decimal digits, of which the first is at most `most`.
 fn pair(most: u8, tens: u8, ones: u8) -> Option<u32>
@@ -20,7 +24,7 @@ fn pair(most: u8, tens: u8, ones: u8) -> Option<u32>
 // The seconds of `HH:MM:SS`.
 fn full_time(text: [u8; 8]) -> Option<u32>
     ensures value { result ≡ spec.full_time text }
-    ensures bound { IfSome result (λ seconds. seconds < 360000) }
+    ensures bound { IfSome result (λ seconds. seconds ≤ LAST_SECOND) }
 {
     let hours = pair(b'9', text[0], text[1])?;
     let minutes = pair(b'5', text[3], text[4])?;
@@ -35,7 +39,7 @@ fn full_time(text: [u8; 8]) -> Option<u32>
 /// to 59, a colon, two digits from 00 to 59, with any spaces round them. None exactly where the text has another form.
 pub fn read_time(text: &str) -> Option<u32>
     ensures value { result ≡ spec.seconds_of text.now }
-    ensures bound { IfSome result (λ seconds. seconds ≤ 359999) }
+    ensures bound { IfSome result (λ seconds. seconds ≤ LAST_SECOND) }
 {
     match *without_spaces(text.as_bytes()) {
         [h, a, m, n, b, s, t] => full_time([b'0', h, a, m, n, b, s, t]),
@@ -47,7 +51,7 @@ pub fn read_time(text: &str) -> Option<u32>
 // The minute of `HH:MM`.
 fn full_minute(text: [u8; 5]) -> Option<u16>
     ensures value { result ≡ spec.full_minute text }
-    ensures bound { IfSome result (λ minute. minute ≤ 5999) }
+    ensures bound { IfSome result (λ minute. minute ≤ spec.rounded_down LAST_SECOND) }
 {
     let hours = pair(b'9', text[0], text[1])?;
     let minutes = pair(b'5', text[3], text[4])?;
@@ -61,7 +65,7 @@ fn full_minute(text: [u8; 5]) -> Option<u16>
 /// from 00 to 59, with any spaces round them. None exactly where the text has another form.
 pub fn read_minute(text: &str) -> Option<u16>
     ensures value { result ≡ spec.minute_of text.now }
-    ensures bound { IfSome result (λ minute. minute ≤ 5999) }
+    ensures bound { IfSome result (λ minute. minute ≤ spec.rounded_down LAST_SECOND) }
 {
     match *without_spaces(text.as_bytes()) {
         [h, a, m, n] => full_minute([b'0', h, a, m, n]),
@@ -72,18 +76,18 @@ pub fn read_minute(text: &str) -> Option<u16>
 
 /// A second of the service day as a minute, rounded down.
 pub fn minute_down(seconds: u32) -> u16
-    requires { seconds ≤ 359999 }
+    requires { seconds ≤ LAST_SECOND }
     ensures value { result ≡ spec.rounded_down seconds }
-    ensures bound { result ≤ 5999 }
+    ensures bound { result ≤ spec.rounded_down LAST_SECOND }
 {
     (seconds / 60) as u16
 }
 
 /// A second of the service day as a minute, rounded up.
 pub fn minute_up(seconds: u32) -> u16
-    requires { seconds ≤ 359999 }
+    requires { seconds ≤ LAST_SECOND }
     ensures value { result ≡ spec.rounded_up seconds }
-    ensures bound { result ≤ 6000 }
+    ensures bound { result ≤ spec.rounded_up LAST_SECOND }
 {
     seconds.div_ceil(60) as u16
 }

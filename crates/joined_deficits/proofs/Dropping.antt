@@ -10,13 +10,13 @@ use Rattle.std.proofs.lemmas.Option.{none-some, same_Some}
 use Rattle.trip_model.specs.declared.trip.Move.{Move}
 use Rattle.trip_model.specs.Blocking.{times, Follow, IsBlock, slots_in, IsBlocking}
 use Rattle.trip_model.specs.Network.{Network, Fits}
-use Rattle.trip_model.specs.Plain.{move_at, meets, plain_network, trip_moves, IsMove}
+use Rattle.trip_model.specs.Plain.{move_at, meets, plain_network, IsMove}
 use Rattle.trip_model.specs.Timetable.{TimetableView, IsTimetable, slot_at}
 use Rattle.trip_model.specs.Trip.{move_of}
 use Rattle.trip_model.proofs.Counting.{sum_below-list, sum_by-below, runs-within, times-cons}
 use Rattle.trip_model.proofs.PlainLemmas.{fits-plain}
 use Rattle.deadhead_matrix.specs.declared.entry.Entry.{Entry}
-use Rattle.deadhead_matrix.specs.Fitting.{deadhead_network}
+use Rattle.deadhead_matrix.specs.Fitting.{network_of}
 use Rattle.deadhead_matrix.specs.Matrix.{MatrixView, walk, AreLeastWalks}
 use Rattle.deadhead_matrix.specs.Walks.{IsWalk, IsLeastWalk, IsLeastTotal}
 use Rattle.joined_deficits.specs.declared.legs.Leg.{Leg}
@@ -187,7 +187,7 @@ module _ (t : TimetableView) (matrix : MatrixView) (valid : IsTimetable t) (leas
       }
 
   -- and it reaches the trip that begins there then
-  there-fits : (i j : ℕ) (way : Move) → IsMadeBy t matrix (Some j) way → IsThere t matrix i way.from way.leaves → Fits (deadhead_network (trip_moves t.slots) matrix) i j
+  there-fits : (i j : ℕ) (way : Move) → IsMadeBy t matrix (Some j) way → IsThere t matrix i way.from way.leaves → Fits (network_of t matrix) i j
   there-fits i j way made is =
       let place : way.from ≡ (slot_at t j).trip.from = ap (λ (m : Move). m.from) made.1 in
       let minute : way.leaves ≡ (slot_at t j).trip.departs = ap (λ (m : Move). m.leaves) made.1 in
@@ -208,7 +208,7 @@ module _ (t : TimetableView) (matrix : MatrixView) (valid : IsTimetable t) (leas
 
   -- the trips at places whose moves meet follow one on the other
   follow-trips : (i p : ℕ) (ps : List ℕ) → Follow (plain_network (map Some (ways legs))) p ps → IsThere t matrix i (leg_at legs p).way.to (leg_at legs p).way.arrives
-      → Follow (deadhead_network (trip_moves t.slots) matrix) i (trips_at legs ps)
+      → Follow (network_of t matrix) i (trips_at legs ps)
   follow-trips i p [] follow is = tt
   follow-trips i p (q ∷ qs) follow is =
       let meet = legs-meet legs p q follow.0 in
@@ -216,37 +216,37 @@ module _ (t : TimetableView) (matrix : MatrixView) (valid : IsTimetable t) (leas
       by (leg_at legs q).slot (leg_at legs q).way leg.made leg.moves (there-next i p q meet is) (λ h there. follow-trips h q qs follow.1 there)
     where
       by : (slot : Option ℕ) (way : Move) → IsMadeBy t matrix slot way → IsMove (length t.places) way → IsThere t matrix i way.from way.leaves
-          → ((h : ℕ) → IsThere t matrix h way.to way.arrives → Follow (deadhead_network (trip_moves t.slots) matrix) h (trips_at legs qs))
-          → Follow (deadhead_network (trip_moves t.slots) matrix) i (with_trip slot (trips_at legs qs))
+          → ((h : ℕ) → IsThere t matrix h way.to way.arrives → Follow (network_of t matrix) h (trips_at legs qs))
+          → Follow (network_of t matrix) i (with_trip slot (trips_at legs qs))
       by None way made move there rest = rest i (there-on i way made move there)
       by (Some j) way made move there rest = (there-fits i j way made there, rest j (there-itself j way made))
 
   -- from the first trip on
-  first-trips : (p : ℕ) (ps : List ℕ) → Follow (plain_network (map Some (ways legs))) p ps → IsBlockOrNone (deadhead_network (trip_moves t.slots) matrix) (trips_at legs (p ∷ ps))
+  first-trips : (p : ℕ) (ps : List ℕ) → Follow (plain_network (map Some (ways legs))) p ps → IsBlockOrNone (network_of t matrix) (trips_at legs (p ∷ ps))
   first-trips p [] follow = by (leg_at legs p).slot
     where
-      by : (slot : Option ℕ) → IsBlockOrNone (deadhead_network (trip_moves t.slots) matrix) (with_trip slot [])
+      by : (slot : Option ℕ) → IsBlockOrNone (network_of t matrix) (with_trip slot [])
       by None = tt
       by (Some j) = tt
   first-trips p (q ∷ qs) follow =
       let leg = are p no_leg (legs-meet legs p q follow.0).first in
       by (leg_at legs p).slot (leg_at legs p).way leg.made (first-trips q qs follow.1) (λ i there. follow-trips i p (q ∷ qs) follow there)
     where
-      by : (slot : Option ℕ) (way : Move) → IsMadeBy t matrix slot way → IsBlockOrNone (deadhead_network (trip_moves t.slots) matrix) (trips_at legs (q ∷ qs))
-          → ((i : ℕ) → IsThere t matrix i way.to way.arrives → Follow (deadhead_network (trip_moves t.slots) matrix) i (trips_at legs (q ∷ qs)))
-          → IsBlockOrNone (deadhead_network (trip_moves t.slots) matrix) (with_trip slot (trips_at legs (q ∷ qs)))
+      by : (slot : Option ℕ) (way : Move) → IsMadeBy t matrix slot way → IsBlockOrNone (network_of t matrix) (trips_at legs (q ∷ qs))
+          → ((i : ℕ) → IsThere t matrix i way.to way.arrives → Follow (network_of t matrix) i (trips_at legs (q ∷ qs)))
+          → IsBlockOrNone (network_of t matrix) (with_trip slot (trips_at legs (q ∷ qs)))
       by None way made rest on = rest
       by (Some j) way made rest on = on j (there-itself j way made)
 
   -- so each block that has a trip is one of the trips
   pub each-dropped : (blocks : List (List ℕ)) → AllByRecursion (IsBlock (plain_network (map Some (ways legs)))) blocks
-      → AllByRecursion (IsBlock (deadhead_network (trip_moves t.slots) matrix)) (dropped legs blocks)
+      → AllByRecursion (IsBlock (network_of t matrix)) (dropped legs blocks)
   each-dropped [] each = tt
   each-dropped ([] ∷ blocks) each = absurd each.0
   each-dropped ((p ∷ ps) ∷ blocks) each = by (trips_at legs (p ∷ ps)) (first-trips p ps each.0) (each-dropped blocks each.1)
     where
-      by : (slots : List ℕ) → IsBlockOrNone (deadhead_network (trip_moves t.slots) matrix) slots → AllByRecursion (IsBlock (deadhead_network (trip_moves t.slots) matrix)) (dropped legs blocks)
-          → AllByRecursion (IsBlock (deadhead_network (trip_moves t.slots) matrix)) (filled (slots ∷ map (trips_at legs) blocks))
+      by : (slots : List ℕ) → IsBlockOrNone (network_of t matrix) slots → AllByRecursion (IsBlock (network_of t matrix)) (dropped legs blocks)
+          → AllByRecursion (IsBlock (network_of t matrix)) (filled (slots ∷ map (trips_at legs) blocks))
       by [] is rest = rest
       by (i ∷ js) is rest = (is, rest)
 

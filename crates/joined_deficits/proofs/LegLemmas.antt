@@ -18,7 +18,7 @@ use Rattle.trip_model.specs.Trip.{IsValidTrip, move_of}
 use Rattle.trip_model.proofs.Counting.{sum_by-standing, StandsOnce-filter_range, length-ones, runs-within}
 use Rattle.trip_model.proofs.OrderLemmas.{slot-move, slot-live}
 use Rattle.trip_model.proofs.PlainLemmas.{IsMove-trip}
-use Rattle.deadhead_matrix.specs.Fitting.{in_time, empty_between, deadhead_network}
+use Rattle.deadhead_matrix.specs.Fitting.{in_time, empty_between, network_of}
 use Rattle.deadhead_matrix.specs.Matrix.{MatrixView, walk}
 use Rattle.block_build.proofs.CostLemmas.{block-live}
 use Rattle.joined_deficits.specs.declared.legs.Leg.{Leg}
@@ -50,7 +50,7 @@ between matrix a b false true is = absurd (false≢true is)
 between matrix a b false false is = absurd (false≢true is)
 
 -- trips that fit run both, and the second is reached
-pub reaches : (t : TimetableView) (matrix : MatrixView) (i j : ℕ) → Fits (deadhead_network (trip_moves t.slots) matrix) i j → (minutes : ℕ) × Reaches t matrix i j minutes
+pub reaches : (t : TimetableView) (matrix : MatrixView) (i j : ℕ) → Fits (network_of t matrix) i j → (minutes : ℕ) × Reaches t matrix i j minutes
 reaches t matrix i j fits =
     let a = (slot_at t i).trip in
     let b = (slot_at t j).trip in
@@ -58,7 +58,7 @@ reaches t matrix i j fits =
     (found.0, record { first = found.1; second = found.2; walks = found.3; in_time = found.4 })
 
 -- in the minutes of the walk
-pub reached-by : (t : TimetableView) (matrix : MatrixView) (i j minutes : ℕ) → Fits (deadhead_network (trip_moves t.slots) matrix) i j
+pub reached-by : (t : TimetableView) (matrix : MatrixView) (i j minutes : ℕ) → Fits (network_of t matrix) i j
     → walk matrix (slot_at t i).trip.to (slot_at t j).trip.from ≡ Some minutes → (slot_at t i).trip.ends + minutes ≤ (slot_at t j).trip.departs
 reached-by t matrix i j minutes fits found =
     let r = reaches t matrix i j fits in
@@ -67,7 +67,7 @@ reached-by t matrix i j minutes fits found =
 
 -- so a deadhead arrives on the service day
 pub arrives-in_day : (t : TimetableView) (matrix : MatrixView) (i j minutes : ℕ) (a b : Trip) → a ≡ (slot_at t i).trip → b ≡ (slot_at t j).trip → IsValidTrip t.places b
-    → Fits (deadhead_network (trip_moves t.slots) matrix) i j → walk matrix a.to b.from ≡ Some minutes → a.ends + minutes ≤ 8191
+    → Fits (network_of t matrix) i j → walk matrix a.to b.from ≡ Some minutes → a.ends + minutes ≤ 8191
 arrives-in_day t matrix i j minutes a b a_is b_is valid fits found =
     let reached = reached-by t matrix i j minutes fits ((λ k. walk matrix (sym a_is k).to (sym b_is k).from) ∙ found) in
     let move = IsMove-trip t.places b valid in
@@ -76,7 +76,7 @@ arrives-in_day t matrix i j minutes a b a_is b_is valid fits found =
     omega (arith, reached, ends, departs, move.forward, move.in_day)
 
 -- and the other way round
-pub fits-reached : (t : TimetableView) (matrix : MatrixView) (i j minutes : ℕ) → Reaches t matrix i j minutes → Fits (deadhead_network (trip_moves t.slots) matrix) i j
+pub fits-reached : (t : TimetableView) (matrix : MatrixView) (i j minutes : ℕ) → Reaches t matrix i j minutes → Fits (network_of t matrix) i j
 fits-reached t matrix i j minutes r =
     let a = (slot_at t i).trip in
     let b = (slot_at t j).trip in
@@ -116,7 +116,7 @@ pub record HoldsOfLegs (t : TimetableView) (matrix : MatrixView) (P : Leg → Ty
 
 -- holds of all legs of a block after its first trip
 pub all-after : (t : TimetableView) (matrix : MatrixView) (P : Leg → Type 0) → HoldsOfLegs t matrix P → (i : ℕ) (js : List ℕ)
-    → Follow (deadhead_network (trip_moves t.slots) matrix) i js → All P (legs_after t matrix i js)
+    → Follow (network_of t matrix) i js → All P (legs_after t matrix i js)
 all-after t matrix P holds i [] follow = All-nil P
 all-after t matrix P holds i (j ∷ js) follow =
     let r = reaches t matrix i j follow.0 in
@@ -127,7 +127,7 @@ all-after t matrix P holds i (j ∷ js) follow =
 
 -- of all legs of a block
 pub block-all : (t : TimetableView) (matrix : MatrixView) (P : Leg → Type 0) → HoldsOfLegs t matrix P → (block : List ℕ) → All (λ s. P (trip_leg t s)) block
-    → IsBlock (deadhead_network (trip_moves t.slots) matrix) block → All P (legs_of t matrix block)
+    → IsBlock (network_of t matrix) block → All P (legs_of t matrix block)
 block-all t matrix P holds [] all is = absurd is
 block-all t matrix P holds (i ∷ js) all is =
     All-cons P (trip_leg t i) (legs_after t matrix i js) (All-head (λ s. P (trip_leg t s)) i js all) (all-after t matrix P holds i js is)
@@ -138,7 +138,7 @@ AllRun t blocks = All (All (λ s. (slot_at t s).trip.live ≡ true)) blocks
 
 -- and of all legs of blocks
 pub all-in : (t : TimetableView) (matrix : MatrixView) (P : Leg → Type 0) → HoldsOfLegs t matrix P → (blocks : List (List ℕ))
-    → AllByRecursion (IsBlock (deadhead_network (trip_moves t.slots) matrix)) blocks → AllRun t blocks → All P (legs_in t matrix blocks)
+    → AllByRecursion (IsBlock (network_of t matrix)) blocks → AllRun t blocks → All P (legs_in t matrix blocks)
 all-in t matrix P holds [] each run = All-nil P
 all-in t matrix P holds ([] ∷ blocks) each run = absurd each.0
 all-in t matrix P holds ((i ∷ js) ∷ blocks) each run =
@@ -149,19 +149,19 @@ all-in t matrix P holds ((i ∷ js) ∷ blocks) each run =
     (all-in t matrix P holds blocks each.1 (All-tail (All live) (i ∷ js) blocks run))
 
 -- each slot of a blocking runs
-pub blocks-run : (t : TimetableView) (matrix : MatrixView) (blocks : List (List ℕ)) → IsBlocking (deadhead_network (trip_moves t.slots) matrix) blocks → AllRun t blocks
+pub blocks-run : (t : TimetableView) (matrix : MatrixView) (blocks : List (List ℕ)) → IsBlocking (network_of t matrix) blocks → AllRun t blocks
 blocks-run t matrix blocks blocking = λ n d h k e g.
     let same = get_or_default blocks n d [] h in
     let within : k < length (get_or blocks n []) = omega (arith, g, ap length same) in
     ap (λ block. (slot_at t (get_or block k e)).trip.live) same
     ∙ sym (slot-live t (get_or (get_or blocks n []) k e))
-    ∙ block-live (deadhead_network (trip_moves t.slots) matrix) blocks blocking n k e within
+    ∙ block-live (network_of t matrix) blocks blocking n k e within
 
 -- a slot whose trip runs is one of the slots
 pub live-within : (t : TimetableView) (s : ℕ) → (slot_at t s).trip.live ≡ true → s < length t.slots
 live-within t s live = omega (arith, runs-within (trip_moves t.slots) s (slot-live t s ∙ live), length-map t.slots move_of_slot)
 
-pub blocks-within : (t : TimetableView) (matrix : MatrixView) (blocks : List (List ℕ)) → IsBlocking (deadhead_network (trip_moves t.slots) matrix) blocks
+pub blocks-within : (t : TimetableView) (matrix : MatrixView) (blocks : List (List ℕ)) → IsBlocking (network_of t matrix) blocks
     → All (All (λ s. s < length t.slots)) blocks
 blocks-within t matrix blocks blocking = λ n d h k e g. live-within t (get_or (get_or blocks n d) k e) (blocks-run t matrix blocks blocking n d h k e g)
 
@@ -184,7 +184,7 @@ legs-move t matrix valid = record {
       };
 }
 
-pub joined-move : (t : TimetableView) (matrix : MatrixView) (blocks : List (List ℕ)) → IsTimetable t → IsBlocking (deadhead_network (trip_moves t.slots) matrix) blocks
+pub joined-move : (t : TimetableView) (matrix : MatrixView) (blocks : List (List ℕ)) → IsTimetable t → IsBlocking (network_of t matrix) blocks
     → All (IsMove (length t.places)) (joined_moves t matrix blocks)
 unfolding joined_moves
 joined-move t matrix blocks valid blocking =
@@ -214,7 +214,7 @@ after-few t matrix i (j ∷ js) = omega (
   after-few t matrix j js,
 )
 
-in-few : (t : TimetableView) (matrix : MatrixView) (blocks : List (List ℕ)) → AllByRecursion (IsBlock (deadhead_network (trip_moves t.slots) matrix)) blocks
+in-few : (t : TimetableView) (matrix : MatrixView) (blocks : List (List ℕ)) → AllByRecursion (IsBlock (network_of t matrix)) blocks
     → length (legs_in t matrix blocks) + length blocks ≤ 2 * length (slots_in blocks)
 in-few t matrix [] each = omega arith
 in-few t matrix ([] ∷ blocks) each = absurd each.0
@@ -246,7 +246,7 @@ no-legs t matrix [] none = refl
 no-legs t matrix (block ∷ blocks) none = absurd (omega arith)
 
 -- there are at most two legs for each trip, less one for each block
-pub joined-few : (t : TimetableView) (matrix : MatrixView) (blocks : List (List ℕ)) → IsTimetable t → IsBlocking (deadhead_network (trip_moves t.slots) matrix) blocks
+pub joined-few : (t : TimetableView) (matrix : MatrixView) (blocks : List (List ℕ)) → IsTimetable t → IsBlocking (network_of t matrix) blocks
     → length (joined_moves t matrix blocks) ≤ 8191
 unfolding joined_moves
 joined-few t matrix blocks valid blocking =

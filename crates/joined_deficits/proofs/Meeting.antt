@@ -9,12 +9,12 @@ use Rattle.std.proofs.lemmas.List.Elements.{All-contains}
 use Rattle.std.proofs.lemmas.List.Sums.{sum_by-cons}
 use Rattle.trip_model.specs.declared.trip.Move.{Move}
 use Rattle.trip_model.specs.Blocking.{Follow, IsBlock, StandsOnce, slots_in, IsBlocking}
-use Rattle.trip_model.specs.Plain.{move_at, meets, plain_network, trip_moves}
+use Rattle.trip_model.specs.Plain.{move_at, meets, plain_network}
 use Rattle.trip_model.specs.Timetable.{TimetableView, IsTimetable, slot_at}
 use Rattle.trip_model.specs.Trip.{move_of}
 use Rattle.trip_model.proofs.Counting.{StandsOnce-live_slots}
 use Rattle.deadhead_matrix.specs.declared.entry.Entry.{Entry}
-use Rattle.deadhead_matrix.specs.Fitting.{deadhead_network}
+use Rattle.deadhead_matrix.specs.Fitting.{network_of}
 use Rattle.deadhead_matrix.specs.Matrix.{MatrixView, walk, AreLeastWalks}
 use Rattle.deadhead_matrix.specs.Walks.{IsWalk, walk_minutes, IsLeastWalk}
 use Rattle.joined_deficits.specs.declared.legs.Leg.{Leg}
@@ -43,7 +43,7 @@ meet-from a b place minute = λ k. eq-eqb a.to b.from place k && le-leb a.arrive
 
 -- the legs of a block are such moves
 pub meeting-after : (t : TimetableView) (matrix : MatrixView) → IsTimetable t → AreLeastWalks matrix → length matrix.walks ≡ length t.places → TakeTime matrix.entries → (i : ℕ) (js : List ℕ)
-    → Follow (deadhead_network (trip_moves t.slots) matrix) i js → Meeting (move_of (slot_at t i).trip) (ways (legs_after t matrix i js))
+    → Follow (network_of t matrix) i js → Meeting (move_of (slot_at t i).trip) (ways (legs_after t matrix i js))
 meeting-after t matrix valid least count lasting i [] follow = tt
 meeting-after t matrix valid least count lasting i (j ∷ js) follow =
     let r = reaches t matrix i j follow.0 in
@@ -161,7 +161,7 @@ flat-runs t matrix (block ∷ blocks) =
     ∙ ap (λ rest. ways (legs_of t matrix block) ++ rest) (flat-runs t matrix blocks)
 
 are-runs : (t : TimetableView) (matrix : MatrixView) → IsTimetable t → AreLeastWalks matrix → length matrix.walks ≡ length t.places → TakeTime matrix.entries → (blocks : List (List ℕ))
-    → AllByRecursion (IsBlock (deadhead_network (trip_moves t.slots) matrix)) blocks → AllByRecursion IsRun (runs_of t matrix blocks)
+    → AllByRecursion (IsBlock (network_of t matrix)) blocks → AllByRecursion IsRun (runs_of t matrix blocks)
 are-runs t matrix valid least count lasting [] each = tt
 are-runs t matrix valid least count lasting ([] ∷ blocks) each = absurd each.0
 are-runs t matrix valid least count lasting ((i ∷ js) ∷ blocks) each =
@@ -169,7 +169,7 @@ are-runs t matrix valid least count lasting ((i ∷ js) ∷ blocks) each =
 
 -- the blocks are a blocking without deadheads of the joined moves
 pub joined-blocking : (t : TimetableView) (matrix : MatrixView) (blocks : List (List ℕ)) → IsTimetable t → AreLeastWalks matrix → length matrix.walks ≡ length t.places → TakeTime matrix.entries
-    → IsBlocking (deadhead_network (trip_moves t.slots) matrix) blocks
+    → IsBlocking (network_of t matrix) blocks
     → (places : List (List ℕ)) × IsBlocking (plain_network (map Some (joined_moves t matrix blocks))) places × (length places ≡ length blocks)
 unfolding joined_moves
 joined-blocking t matrix blocks valid least count lasting blocking =

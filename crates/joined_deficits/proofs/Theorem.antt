@@ -6,9 +6,9 @@ use Rattle.trip_model.specs.declared.trip.Move.{Move}
 use Rattle.trip_model.specs.Blocking.{IsBlocking, IsFewest}
 use Rattle.trip_model.specs.Deficit.{deficit}
 use Rattle.trip_model.specs.Maximum.{sum_of_maxima}
-use Rattle.trip_model.specs.Plain.{plain_network, trip_moves, IsMove}
+use Rattle.trip_model.specs.Plain.{plain_network, IsMove}
 use Rattle.trip_model.specs.Timetable.{TimetableView, IsTimetable}
-use Rattle.deadhead_matrix.specs.Fitting.{deadhead_network}
+use Rattle.deadhead_matrix.specs.Fitting.{network_of}
 use Rattle.deadhead_matrix.specs.Matrix.{MatrixView, AreLeastWalks}
 use Rattle.joined_deficits.specs.Joined.{legs_in, joined_moves, TakeTime}
 use Rattle.joined_deficits.proofs.Dropping.{IsLeg, legs-are, dropped, each-dropped, length-dropped, times-dropped, legs-times}
@@ -23,8 +23,8 @@ PlainBlocks = (places : ℕ) (moves : List Move) → All (IsMove places) moves
 
 -- the deadheads dropped, a blocking without deadheads of the joined moves is a blocking with no more blocks
 pub dropped-blocking : (t : TimetableView) (matrix : MatrixView) (blocks others : List (List ℕ)) → IsTimetable t → AreLeastWalks matrix → length matrix.walks ≡ length t.places
-    → IsBlocking (deadhead_network (trip_moves t.slots) matrix) blocks → IsBlocking (plain_network (map Some (joined_moves t matrix blocks))) others
-    → (trips : List (List ℕ)) × IsBlocking (deadhead_network (trip_moves t.slots) matrix) trips × (length trips ≤ length others)
+    → IsBlocking (network_of t matrix) blocks → IsBlocking (plain_network (map Some (joined_moves t matrix blocks))) others
+    → (trips : List (List ℕ)) × IsBlocking (network_of t matrix) trips × (length trips ≤ length others)
 unfolding joined_moves
 dropped-blocking t matrix blocks others valid least count blocking plain =
     let legs = legs_in t matrix blocks in
@@ -39,7 +39,7 @@ dropped-blocking t matrix blocks others valid least count blocking plain =
 
 -- the sum of the maxima is at most the number of blocks
 pub sum-at-most : PlainBlocks → (t : TimetableView) (matrix : MatrixView) (blocks : List (List ℕ)) → IsTimetable t → AreLeastWalks matrix → length matrix.walks ≡ length t.places
-    → TakeTime matrix.entries → IsBlocking (deadhead_network (trip_moves t.slots) matrix) blocks
+    → TakeTime matrix.entries → IsBlocking (network_of t matrix) blocks
     → sum_of_maxima (deficit (joined_moves t matrix blocks)) (length t.places) ≤ℤ pos (length blocks)
 sum-at-most plain_blocks t matrix blocks valid least count lasting blocking =
     let plain = plain_blocks (length t.places) (joined_moves t matrix blocks) (joined-move t matrix blocks valid blocking) in
@@ -50,7 +50,7 @@ sum-at-most plain_blocks t matrix blocks valid least count lasting blocking =
 
 -- and of fewest blocks it is their number
 pub sum-of-fewest : PlainBlocks → (t : TimetableView) (matrix : MatrixView) (blocks : List (List ℕ)) → IsTimetable t → AreLeastWalks matrix → length matrix.walks ≡ length t.places
-    → TakeTime matrix.entries → IsFewest (deadhead_network (trip_moves t.slots) matrix) blocks
+    → TakeTime matrix.entries → IsFewest (network_of t matrix) blocks
     → sum_of_maxima (deficit (joined_moves t matrix blocks)) (length t.places) ≡ pos (length blocks)
 sum-of-fewest plain_blocks t matrix blocks valid least count lasting fewest =
     let plain = plain_blocks (length t.places) (joined_moves t matrix blocks) (joined-move t matrix blocks valid fewest.blocking) in

@@ -1,8 +1,8 @@
 ghost use Rattle.std.specs.Prelude.{◌≡◌, ◌+◌, ◌<◌, ◌^◌, ◌++◌, [], ◌∷◌, length, All, IfOk, IfSome, IsUtf8, OnOk};
 ghost use Rattle.gtfs_tables.specs.Writing.{record_text, records_text};
 ghost use Rattle.trip_model.specs.Blocking.{IsBlock, IsBlocking};
-ghost use Rattle.trip_model.specs.Plain.{trip_moves, IsMove};
-ghost use Rattle.deadhead_matrix.specs.Fitting.{deadhead_network};
+ghost use Rattle.trip_model.specs.Plain.{IsMove};
+ghost use Rattle.deadhead_matrix.specs.Fitting.{network_of};
 ghost use Rattle.joined_deficits.specs.Boards as spec;
 
 use crate::legs::{Leg, legs_of};
@@ -103,7 +103,7 @@ fn push_board(
     requires number { number + 1 < 2 ^ 64 }
     requires slots { All (λ s. s < length timetable.now.slots) block.now }
     requires places { length matrix.now.walks ≡ length timetable.now.places }
-    requires block { IsBlock (deadhead_network (trip_moves timetable.now.slots) matrix.now) block.now }
+    requires block { IsBlock (network_of timetable.now matrix.now) block.now }
     ensures written { OnOk result (records.new ≡ records.old
         ++ records_text (spec.board_of_block timetable.now matrix.now prefix.now number block.now)) }
     ensures text { OnOk result (IsUtf8 records.old → IsUtf8 records.new) }
@@ -127,7 +127,7 @@ pub fn boards_text(
     prefix: &str,
 ) -> Result<Text, Memory>
     requires places { length matrix.now.walks ≡ length timetable.now.places }
-    requires blocking { IsBlocking (deadhead_network (trip_moves timetable.now.slots) matrix.now) blocks.now }
+    requires blocking { IsBlocking (network_of timetable.now matrix.now) blocks.now }
     ensures { IfOk result (λ text. text ≡ spec.boards_text timetable.now matrix.now prefix.now blocks.now) }
 {
     let mut records = RecordWriter::new(alloc);

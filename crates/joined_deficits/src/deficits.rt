@@ -1,7 +1,7 @@
 ghost use Rattle.std.specs.Prelude.{◌≡◌, ◌+◌, ◌*◌, ◌≤◌, ◌<◌, ◌++◌, length, All, IfOk, OnOk};
 ghost use Rattle.trip_model.specs.Blocking.{IsBlocking};
-ghost use Rattle.trip_model.specs.Plain.{trip_moves, IsMove};
-ghost use Rattle.deadhead_matrix.specs.Fitting.{deadhead_network};
+ghost use Rattle.trip_model.specs.Plain.{IsMove};
+ghost use Rattle.deadhead_matrix.specs.Fitting.{network_of};
 ghost use Rattle.deficit_steps.specs.Holds.{Holds};
 ghost use Rattle.joined_deficits.specs.declared.limits.TheConstants.{MOST_MOVES};
 ghost use Rattle.joined_deficits.specs.Joined as spec;
@@ -37,7 +37,7 @@ pub fn joined_moves(
     blocks: &Blocks,
 ) -> Result<Vec<Move>, Memory>
     requires places { length matrix.now.walks ≡ length timetable.now.places }
-    requires blocking { IsBlocking (deadhead_network (trip_moves timetable.now.slots) matrix.now) blocks.now }
+    requires blocking { IsBlocking (network_of timetable.now matrix.now) blocks.now }
     ensures moves { IfOk result (λ moves. moves.items ≡ spec.joined_moves timetable.now matrix.now blocks.now) }
     ensures valid { IfOk result (λ moves. All (IsMove (length timetable.now.places)) moves.items) }
     ensures few { IfOk result (λ moves. length moves.items ≤ MOST_MOVES) }

@@ -5,12 +5,12 @@ ghost use Rattle.trip_model.specs.declared.trip.Move.{Move};
 ghost use Rattle.trip_model.specs.Blocking.{IsBlocking, IsFewest, IsLeast};
 ghost use Rattle.trip_model.specs.Deficit.{deficit};
 ghost use Rattle.trip_model.specs.Maximum.{sum_of_maxima};
-ghost use Rattle.trip_model.specs.Plain.{trip_moves, IsMove};
+ghost use Rattle.trip_model.specs.Plain.{IsMove};
 ghost use Rattle.trip_model.specs.Timetable.{TimetableView, IsTimetable};
 ghost use Rattle.desk_io.specs.declared.shelf.Found.{Found};
 ghost use Rattle.deadhead_matrix.specs.declared.entry.Entry.{Entry};
 ghost use Rattle.deadhead_matrix.specs.Deadheads.{deadheads_of};
-ghost use Rattle.deadhead_matrix.specs.Fitting.{deadhead_network};
+ghost use Rattle.deadhead_matrix.specs.Fitting.{network_of};
 ghost use Rattle.deadhead_matrix.specs.Matrix.{MatrixView, AreLeastWalks};
 ghost use Rattle.deficit_steps.specs.Changes.{IsDeficits, value};
 ghost use Rattle.deficit_steps.specs.Holds.{Holds};
@@ -28,15 +28,15 @@ use fixed_fleet::laws::plain_blocks_law;
 pub fn joined_law()
     ensures most { (timetable : TimetableView) (matrix : MatrixView) (blocks : List (List ℕ)) → IsTimetable timetable
         → AreLeastWalks matrix → length matrix.walks ≡ length timetable.places → TakeTime matrix.entries
-        → IsBlocking (deadhead_network (trip_moves timetable.slots) matrix) blocks
+        → IsBlocking (network_of timetable matrix) blocks
         → sum_of_maxima (deficit (joined_moves timetable matrix blocks)) (length timetable.places) ≤ℤ pos (length blocks) }
     ensures fewest { (timetable : TimetableView) (matrix : MatrixView) (blocks : List (List ℕ)) → IsTimetable timetable
         → AreLeastWalks matrix → length matrix.walks ≡ length timetable.places → TakeTime matrix.entries
-        → IsFewest (deadhead_network (trip_moves timetable.slots) matrix) blocks
+        → IsFewest (network_of timetable matrix) blocks
         → sum_of_maxima (deficit (joined_moves timetable matrix blocks)) (length timetable.places) ≡ pos (length blocks) }
     ensures least { (timetable : TimetableView) (matrix : MatrixView) (blocks : List (List ℕ)) → IsTimetable timetable
         → AreLeastWalks matrix → length matrix.walks ≡ length timetable.places → TakeTime matrix.entries
-        → IsLeast (deadhead_network (trip_moves timetable.slots) matrix) blocks
+        → IsLeast (network_of timetable matrix) blocks
         → sum_of_maxima (deficit (joined_moves timetable matrix blocks)) (length timetable.places) ≡ pos (length blocks) }
 {
     plain_blocks_law();
@@ -45,10 +45,10 @@ pub fn joined_law()
 /// The joined moves of a blocking take time and arrive on the service day, and are at most 8,191.
 pub fn moves_law()
     ensures valid { (timetable : TimetableView) (matrix : MatrixView) (blocks : List (List ℕ)) → IsTimetable timetable
-        → IsBlocking (deadhead_network (trip_moves timetable.slots) matrix) blocks
+        → IsBlocking (network_of timetable matrix) blocks
         → All (IsMove (length timetable.places)) (joined_moves timetable matrix blocks) }
     ensures few { (timetable : TimetableView) (matrix : MatrixView) (blocks : List (List ℕ)) → IsTimetable timetable
-        → IsBlocking (deadhead_network (trip_moves timetable.slots) matrix) blocks
+        → IsBlocking (network_of timetable matrix) blocks
         → length (joined_moves timetable matrix blocks) ≤ MOST_MOVES }
 {}
 

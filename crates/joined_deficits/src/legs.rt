@@ -1,8 +1,8 @@
 ghost use Rattle.std.specs.Prelude.{◌≡◌, ◌<◌, ◌++◌, [], ◌∷◌, length, All, IfOk, IfSome, OnOk};
 ghost use Rattle.trip_model.specs.Blocking.{IsBlock};
 ghost use Rattle.trip_model.specs.Network.{Fits};
-ghost use Rattle.trip_model.specs.Plain.{trip_moves, IsMove};
-ghost use Rattle.deadhead_matrix.specs.Fitting.{deadhead_network};
+ghost use Rattle.trip_model.specs.Plain.{IsMove};
+ghost use Rattle.deadhead_matrix.specs.Fitting.{network_of};
 ghost use Rattle.joined_deficits.specs.Joined as spec;
 
 use deadhead_matrix::Matrix;
@@ -24,7 +24,7 @@ fn deadhead(timetable: &Timetable, matrix: &Matrix, before: u16, slot: u16) -> O
     requires before { before < length timetable.now.slots }
     requires slot { slot < length timetable.now.slots }
     requires places { length matrix.now.walks ≡ length timetable.now.places }
-    requires fits { Fits (deadhead_network (trip_moves timetable.now.slots) matrix.now) before slot }
+    requires fits { Fits (network_of timetable.now matrix.now) before slot }
     ensures { result ≡ spec.deadhead_between timetable.now matrix.now before slot }
 {
     let trip = timetable.trip(before);
@@ -72,7 +72,7 @@ pub fn legs_of(
 ) -> Result<Vec<Leg>, Memory>
     requires slots { All (λ s. s < length timetable.now.slots) block.now }
     requires places { length matrix.now.walks ≡ length timetable.now.places }
-    requires block { IsBlock (deadhead_network (trip_moves timetable.now.slots) matrix.now) block.now }
+    requires block { IsBlock (network_of timetable.now matrix.now) block.now }
     ensures legs { IfOk result (λ legs. legs.items ≡ spec.legs_of timetable.now matrix.now block.now) }
     ensures slots { IfOk result (λ legs. All (λ leg. IfSome leg.slot (λ s. s < length timetable.now.slots)) legs.items) }
     ensures moves { IfOk result (λ legs. All (λ leg. IsMove (length timetable.now.places) leg.way) legs.items) }

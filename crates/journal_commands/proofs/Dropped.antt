@@ -4,7 +4,7 @@ use Rattle.std.proofs.lemmas.Bool.{false≢true, true≢false}
 use Rattle.std.specs.Prelude.{nat_lt, if◌then◌else◌}
 use Rattle.std.proofs.lemmas.List.{drop-map, length-map, map-append, take-map}
 use Rattle.trip_model.specs.Timetable.{TimetableView}
-use Rattle.undo_log.specs.Log.{undo_depth}
+use Rattle.undo_log.specs.declared.log.TheConstants.{UNDO_DEPTH}
 use Rattle.edit_script.specs.declared.edit.Edit.{Edit}
 use Rattle.edit_script.specs.declared.edit.Edit.TheVariants.{Shift, Cancel, Restore, Extra, Undo, Redo, Show}
 use Rattle.edit_script.specs.declared.edit.Line.{Line}
@@ -87,7 +87,7 @@ module _ (one other : State) (same : AreSame one other) where
   same-trip r s alike (Ok changed) = record {
     standing = map-append (λ (r : Numbered). r.line) one.standing (r ∷ []) ∙ (λ i. same.standing i ++ alike i ∷ []) ∙ sym (map-append (λ (r : Numbered). r.line) other.standing (s ∷ []));
     undone = refl;
-    kept = ap (λ n. min (n + 1) undo_depth) same.kept;
+    kept = ap (λ n. min (n + 1) UNDO_DEPTH) same.kept;
   }
 
   -- a show changes no lines

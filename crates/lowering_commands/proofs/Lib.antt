@@ -1,4 +1,3 @@
 pub mod ChainsLemmas
 pub mod FleetLemmas
-pub mod ShiftWritten
 pub mod ShiftsLemmas

@@ -4,7 +4,8 @@ use Rattle.std.specs.Prelude.{codes, unsigned_abs}
 use Rattle.std.proofs.Math.Nat.{mul-le-mul_left, mul-suc}
 use Rattle.std.proofs.lemmas.Int.{ints}
 use Rattle.trip_model.specs.Timetable.{TimetableView}
-use Rattle.shift_moves.specs.Lowering.{IsLowering, deficit_sum}
+use Rattle.trip_model.specs.Fleet.{deficit_sum}
+use Rattle.shift_moves.specs.Lowering.{IsLowering}
 use Rattle.lowering_commands.specs.Fleet.{total_line}
 use Rattle.lowering_commands.specs.Shifts.{IsShiftsText, shift_line}
 use Rattle.lowering_commands.specs.Step.{HasShifted}

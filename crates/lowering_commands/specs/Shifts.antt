@@ -2,9 +2,10 @@
 use Rattle.std.specs.Prelude.{◌≡◌, ℕ, ◌+◌, ◌*◌, ℤ, List, [], ◌∷◌, ◌++◌, length, codes, unsigned_abs}
 use Rattle.gtfs_tables.specs.Writing.{record_text}
 use Rattle.trip_model.specs.Timetable.{TimetableView, slot_at}
+use Rattle.trip_model.specs.Fleet.{deficit_sum, with_shift}
 use Rattle.edit_script.specs.declared.edit.Edit.TheVariants as edit
 use Rattle.edit_script.specs.Lines.{fields_of}
-use Rattle.shift_moves.specs.Lowering.{IsFirst, IsLowering, deficit_sum, with_shift}
+use Rattle.shift_moves.specs.Lowering.{IsFirst, IsLowering}
 use Rattle.shift_moves.specs.declared.search.Shift.{Shift}
 use Rattle.desk_run.specs.Commands.{Asked}
 use Rattle.desk_feed.specs.Judging.{of_feed}

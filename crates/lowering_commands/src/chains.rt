@@ -1,4 +1,5 @@
 ghost use Rattle.std.specs.Prelude.{◌≡◌, ◌+◌, ◌*◌, ◌<◌, ◌≤◌, ◌++◌, List, true, false, length, IfOk, Ok, string_bytes};
+ghost use Rattle.terminal_maxima.specs.declared.max_prefix.TheConstants.{MOST_CHANGE};
 ghost use Rattle.trip_model.specs.Deficit.{live_moves};
 ghost use Rattle.trip_model.specs.declared.trip.Move.{Move as ModelMove};
 ghost use Rattle.deficit_steps.specs.Changes.{IsDeficits};
@@ -36,7 +37,7 @@ fn put_next<L: Ledger>(
 ) -> Result<bool, Memory>
     requires rows { length deficits.old ≡ length matrix.now.walks }
     requires places { length timetable.now.places ≡ length matrix.now.walks }
-    requires few { (moves : List ModelMove) × Holds deficits.old moves × (length moves + 2 < 65536) }
+    requires few { (moves : List ModelMove) × Holds deficits.old moves × (length moves + 2 < MOST_CHANGE) }
     ensures some { result ≡ Ok true → HasPut timetable.now matrix.now number deficits.old deficits.new (string_bytes text.old) (string_bytes text.new) }
     ensures none { result ≡ Ok false → NoChain (places_of deficits.old matrix.now) }
     ensures unchanged { result ≡ Ok false → (deficits.new ≡ deficits.old) × (string_bytes text.new ≡ string_bytes text.old) }

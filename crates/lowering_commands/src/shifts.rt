@@ -1,35 +1,24 @@
-ghost use Rattle.std.specs.Prelude.{◌≡◌, ◌+◌, ◌*◌, ◌<◌, ◌≤◌, [], ◌∷◌, ◌++◌, ℕ, ℤ, true, false, length, pos, codes, IfOk, IsUtf8, Ok, OnOk, string_bytes};
+ghost use Rattle.std.specs.Prelude.{◌≡◌, ◌+◌, ◌*◌, ◌<◌, ◌≤◌, [], ◌∷◌, ◌++◌, ℕ, ℤ, true, false, length, codes, IfOk, IsUtf8, Ok, OnOk, string_bytes};
 ghost use Rattle.gtfs_tables.specs.Writing.{record_text};
 ghost use Rattle.desk_run.specs.Performs.{Performs};
 ghost use Rattle.desk_run.specs.World.{world};
 ghost use Rattle.lowering_commands.specs.Shifts.{IsShiftsText, shift_line, shifts_asked, steps_of_search};
 ghost use Rattle.lowering_commands.specs.Step.{HasShifted};
-ghost use Rattle.shift_moves.specs.Lowering.{IsLowering, deficit_sum};
+ghost use Rattle.shift_moves.specs.Lowering.{IsLowering};
 
 use deadhead_matrix::{Deadheads, Pulls};
-use deficit_steps::deficits_of;
-use deficit_steps::laws::held_law;
+use deficit_steps::{deficits_of, fixed_of};
 use desk_feed::{AfterScript, OnFeed, TextCommand};
 use desk_io::{Memory, Shelf, Sink, Steps, Text};
 use desk_keeper::Keeper;
 use desk_run::perform;
 use desk_settings::Settings;
-use gtfs_tables::RecordWriter;
-use gtfs_tables::laws::written_text_law;
+use edit_script::shift_line;
 use shift_moves::{Shift, next_shift};
 use std::alloc::Global;
 use std::fmt::Write;
 use std::sync::ledger::Ledger;
 use trip_model::Timetable;
-
-// Appends the record of a shift. What is text stays so.
-fn push_record(records: &mut RecordWriter, trip: &str, by: &str) -> Result<(), Memory>
-    ensures written { OnOk result (records.new ≡ records.old ++ record_text (codes "shift" ∷ trip.now ∷ by.now ∷ [])) }
-    ensures text { OnOk result (IsUtf8 records.old → IsUtf8 records.new) }
-{
-    written_text_law();
-    records.push(&["shift".as_bytes(), trip.as_bytes(), by.as_bytes()])
-}
 
 // Appends the canonical line of a shift.
 fn push_shift(
@@ -41,29 +30,9 @@ fn push_shift(
     requires { shift.slot < length timetable.now.slots }
     ensures { OnOk result (string_bytes text.new ≡ string_bytes text.old ++ shift_line timetable.now shift) }
 {
-    let sign = if shift.by < 0 { "-" } else { "+" };
-    let by = format!(in alloc; "{sign}{}", shift.by.unsigned_abs())?;
-    let mut records = RecordWriter::new(alloc);
-    push_record(&mut records, timetable.name(shift.slot), &by)?;
-    let line = records.into_text()?;
-    text.push_str(line.as_str())?;
+    let line = shift_line(alloc, timetable.name(shift.slot), shift.by)?;
+    writeln!(text, "{}", line.as_str())?;
     Ok(())
-}
-
-// The sum of the maxima of the deficits of the trips that run.
-fn sum_of<L: Ledger>(
-    alloc: Global,
-    timetable: &Timetable,
-    steps: &mut Steps<L>,
-) -> Result<u64, Memory>
-    ensures sum { IfOk result (λ sum. pos sum ≡ deficit_sum timetable.now) }
-    ensures few { IfOk result (λ sum. sum ≤ length timetable.now.slots) }
-    ensures counted { steps.new ≤ steps.old + 28 * length timetable.now.slots }
-{
-    held_law();
-    let deficits = deficits_of(alloc, timetable, steps)?;
-    let _places = deficits.places();
-    Ok(deficits.total())
 }
 
 // Makes the first shift, where there is one, and puts its line.
@@ -100,10 +69,10 @@ fn shifts_text<L: Ledger>(
     let mut moved = timetable.copy(alloc)?;
     let mut text = String::new(alloc);
     let mut number = 0u32;
-    let mut sum = sum_of(alloc, &moved, steps)?;
+    let mut sum = fixed_of(alloc, &moved, steps)?;
     while put_next(alloc, &mut text, &mut moved, steps)? {
         number += 1;
-        sum = sum_of(alloc, &moved, steps)?;
+        sum = fixed_of(alloc, &moved, steps)?;
     }
     writeln!(text, "shifts {number}, sum {sum}")?;
     Ok(Text::wrap(text))

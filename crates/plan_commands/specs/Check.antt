@@ -6,10 +6,11 @@ use Rattle.gtfs_tables.specs.declared.paper.Paper.TheVariants as paper
 use Rattle.trip_model.specs.Blocking.{IsLeast}
 use Rattle.trip_model.specs.Timetable.{TimetableView}
 use Rattle.deadhead_matrix.specs.Matrix.{MatrixView}
+use Rattle.deadhead_matrix.specs.Fitting.{network_of}
 use Rattle.price_check.specs.declared.verdict.Verdict.{Verdict}
 use Rattle.price_check.specs.declared.verdict.Verdict.TheVariants.{Yes, No}
 use Rattle.price_check.specs.Certificate.{IsCertificate}
-use Rattle.price_check.specs.Claim.{ClaimedView, blocks_in, network_of}
+use Rattle.price_check.specs.Claim.{ClaimedView, blocks_in}
 use Rattle.price_check.specs.Reasons.{reason_of, verdict_of}
 use Rattle.claim_files.specs.declared.fault.ClaimFault.{ClaimFault}
 use Rattle.claim_files.specs.Claims.{claimed_of}

@@ -5,7 +5,8 @@ ghost use Rattle.pair_graph.specs.Pairs.{pairs_network};
 ghost use Rattle.plan_history.specs.History.{HistoryView, IsReplaced};
 ghost use Rattle.plan_history.specs.Stands.{differences};
 ghost use Rattle.price_repair.specs.Without.{IsCertifiedWith, IsCertifiedWithout};
-ghost use Rattle.undo_log.specs.Log.{undo_depth, latest_items, last_item};
+ghost use Rattle.undo_log.specs.Log.{latest_items, last_item};
+ghost use Rattle.undo_log.specs.declared.log.TheConstants.{UNDO_DEPTH};
 
 use crate::item::{Item, lead_back, lead_forth};
 use crate::keep::keep;
@@ -87,7 +88,7 @@ impl PlanHistory {
     /// How many edits can be undone.
     pub fn kept(&self) -> usize
         ensures count { result ≡ length self.now.earlier }
-        ensures within { length self.now.earlier + length self.now.later ≤ undo_depth }
+        ensures within { length self.now.earlier + length self.now.later ≤ UNDO_DEPTH }
     {
         self.log.kept()
     }
@@ -95,7 +96,7 @@ impl PlanHistory {
     /// How many edits can be redone.
     pub fn undone(&self) -> usize
         ensures count { result ≡ length self.now.later }
-        ensures within { length self.now.earlier + length self.now.later ≤ undo_depth }
+        ensures within { length self.now.earlier + length self.now.later ≤ UNDO_DEPTH }
     {
         self.log.undone()
     }

@@ -2,6 +2,7 @@
 ghost use Rattle.std.specs.Prelude.{◌≡◌, ◌↔◌, ℕ, ◌<◌, true, length, Option, None, Some};
 ghost use Rattle.deadhead_matrix.specs.Matrix.{MatrixView};
 ghost use Rattle.deadhead_matrix.specs.Prices.{Plan, IsCertified};
+ghost use Rattle.deadhead_matrix.specs.Fitting.{network_of};
 ghost use Rattle.pair_graph.specs.Pairs.{pairs_of, pairs_network};
 ghost use Rattle.plan_history.specs.Stands.{same_stand};
 ghost use Rattle.plan_history.specs.declared.stand.Stand.{Stand};
@@ -19,7 +20,7 @@ pub fn same_law()
 /// After another trip was put into a slot of a timetable, its plan meets what a replacement asks of it.
 pub fn replace_law()
     ensures taken { (timetable : TimetableView) (matrix : MatrixView) (plan : Plan) (s : ℕ) (trip : Trip) → IsTimetable timetable
-        → length timetable.places ≡ length matrix.walks → IsCertified (pairs_network (pairs_of timetable matrix None)) plan
+        → length timetable.places ≡ length matrix.walks → IsCertified (network_of timetable matrix) plan
         → IsCertifiedWith (pairs_of (with_trip timetable s trip) matrix (Some s)) s plan }
     ensures added { (timetable : TimetableView) (matrix : MatrixView) (s : ℕ) (trip : Trip) → s < length timetable.slots → trip.live ≡ true
         → (plan : Plan) → IsCertified (pairs_network (pairs_of (with_trip timetable s trip) matrix (Some s))) plan

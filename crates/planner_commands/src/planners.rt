@@ -1,4 +1,4 @@
-ghost use Rattle.std.specs.Prelude.{◌≡◌, ◌+◌, ◌*◌, ◌≤◌, ◌++◌, length, pos, IfOk, OnOk, string_bytes};
+ghost use Rattle.std.specs.Prelude.{◌≡◌, ◌+◌, ◌≤◌, length, IfOk, OnOk, string_bytes, ◌*◌, ◌++◌, pos};
 ghost use Rattle.desk_feed.specs.Edited.{standing_after};
 ghost use Rattle.desk_feed.specs.Feed.{said_with};
 ghost use Rattle.desk_feed.specs.Schedule.{most_steps};
@@ -16,6 +16,7 @@ use crate::answers::{answer_all, push_standing};
 use crate::reading::read_lines;
 use block_build::empty_minutes;
 use deadhead_matrix::{Deadheads, Matrix, Pulls};
+use deficit_steps::fixed_of;
 use desk_feed::{
     Edited, FeedCommand, OnFeed, after_script, matrix_of, push_numbers_line, putting_after, refuse,
 };
@@ -24,7 +25,7 @@ use desk_keeper::Keeper;
 use desk_run::{Ending, Outcome, Read, perform};
 use desk_settings::Settings;
 use edit_script::Line;
-use feed_schedule::{fixed_of, schedule_of};
+use feed_schedule::schedule_of;
 use fixed_fleet::laws::plain_blocks_law;
 use gtfs_tables::{FeedFault, Paper};
 use planner_desk::laws::{folding_law, machine_law, undo_law};

@@ -1,6 +1,6 @@
 -- The forms of the planners' records, and the lines that they are.
 use Rattle.std.specs.Prelude.{ℕ, List, drop, length, map, Option, Some, None, Result, Ok, nat_le, ⊤}
-use Rattle.gtfs_tables.specs.Reading.{provided}
+use Rattle.gtfs_tables.specs.Reading.{provided, field_at}
 use Rattle.gtfs_tables.specs.Records.{records}
 use Rattle.gtfs_tables.specs.declared.fault.FeedFault.{FeedFault}
 use Rattle.gtfs_tables.specs.declared.fault.FeedFault.TheVariants.{TooManyRecords}
@@ -8,7 +8,7 @@ use Rattle.gtfs_tables.specs.declared.paper.Paper.TheVariants.{PlannerEdits}
 use Rattle.edit_script.specs.declared.edit.Edit.{Edit}
 use Rattle.edit_script.specs.declared.edit.Edit.TheVariants.{Redo, Show}
 use Rattle.edit_script.specs.Edits.{InForm}
-use Rattle.edit_script.specs.Forms.{edit_of, field_at, name_in}
+use Rattle.edit_script.specs.Forms.{edit_of, name_in}
 use Rattle.planner_desk.specs.declared.edit.PlannerLine.{PlannerLine}
 use Rattle.planner_desk.specs.declared.edit.PlannerLine.TheVariants as line
 use Rattle.planner_desk.specs.declared.edit.TheConstants.{MOST_PLANNER_EDITS}

@@ -17,10 +17,11 @@ use Rattle.trip_model.proofs.Counting.{runs-within}
 use Rattle.trip_model.proofs.PlainLemmas.{AreMoves-trips}
 use Rattle.deadhead_matrix.specs.Matrix.{MatrixView}
 use Rattle.deadhead_matrix.proofs.Days.{AreDepartures-deadhead}
+use Rattle.deadhead_matrix.specs.Fitting.{network_of}
 use Rattle.price_check.specs.declared.claim.BlockRow.{BlockRow}
 use Rattle.price_check.specs.declared.claim.PriceRow.{PriceRow}
 use Rattle.price_check.specs.declared.verdict.Reason.TheVariants.{UnknownTrip, TripTwice, TripMissing, NotFit, MinutesDiffer, SumsDiffer}
-use Rattle.price_check.specs.Claim.{ClaimedView, NamesLive, Runs, AreBlockRows, ArePriceRows, named, block_row, price_row, slot_before, network_of}
+use Rattle.price_check.specs.Claim.{ClaimedView, NamesLive, Runs, AreBlockRows, ArePriceRows, named, block_row, price_row, slot_before}
 use Rattle.price_check.specs.Certificate.{NameOnce, IsCertificate}
 use Rattle.price_check.specs.Reasons.{unknown, twice, missing, unfit, fit, differing, differs, minutes_before, low, low_from, first_low_from, price_sum, weight_sum, stands, repeats, misnamed, unproved, reason_of}
 use Rattle.price_check.proofs.CertifiedLemmas.{certified-from, then-none}

@@ -17,10 +17,11 @@ use Rattle.deadhead_matrix.specs.Prices.{IsDay}
 use Rattle.deadhead_matrix.specs.Pulls.{IsPull}
 use Rattle.deadhead_matrix.proofs.Days.{IsDay-deadhead}
 use Rattle.deadhead_matrix.proofs.Duality.{IsLeast-certified}
+use Rattle.deadhead_matrix.specs.Fitting.{network_of}
 use Rattle.trip_model.specs.Links.{next_of, leads_to, is_first, along, block_from, blocks_along}
 use Rattle.trip_model.proofs.Chains.{GoesOn, block_from-is}
 use Rattle.price_check.specs.declared.claim.BlockRow.{BlockRow}
-use Rattle.price_check.specs.Claim.{ClaimedView, network_of, block_slots, block_row, slot_on, begin_with, with_trip_before, blocks_in}
+use Rattle.price_check.specs.Claim.{ClaimedView, block_slots, block_row, slot_on, begin_with, with_trip_before, blocks_in}
 use Rattle.price_check.specs.Certificate.{slots_named, slot_after, next_in, NameOnce, plan_of, IsCertificate}
 use Rattle.price_check.proofs.CertificateLemmas.{network-departures, network-within}
 use Rattle.price_check.proofs.ChainLemmas.{slots_in-blocks, before_rest, before_rest-is, before_at, before_at-more}

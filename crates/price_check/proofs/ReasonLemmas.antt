@@ -13,11 +13,12 @@ use Rattle.trip_model.specs.Plain.{move_at, trip_moves}
 use Rattle.trip_model.specs.Timetable.{TimetableView, IsTimetable, slot_at}
 use Rattle.deadhead_matrix.specs.Matrix.{MatrixView}
 use Rattle.deadhead_matrix.specs.Prices.{weight}
+use Rattle.deadhead_matrix.specs.Fitting.{network_of}
 use Rattle.price_check.specs.declared.claim.BlockRow.{BlockRow}
 use Rattle.price_check.specs.declared.claim.PriceRow.{PriceRow}
 use Rattle.price_check.specs.declared.verdict.Reason.{Reason}
 use Rattle.price_check.specs.declared.verdict.Reason.TheVariants.{TripTwice, TripMissing, NotFit, MinutesDiffer, PriceLow, SumsDiffer}
-use Rattle.price_check.specs.Claim.{ClaimedView, block_slots, price_slots, block_row, price_row, slot_before, network_of}
+use Rattle.price_check.specs.Claim.{ClaimedView, block_slots, price_slots, block_row, price_row, slot_before}
 use Rattle.price_check.specs.Certificate.{slots_named, NameOnce, row_of, IsCertificate, AreShown}
 use Rattle.price_check.specs.Reasons.{first_at, unknown, twice, missing, fit, differing, differs, minutes_before, lower, low, low_from, first_low_from, price_sum, weight_sum, stands, repeats, misnamed, unproved, reason_of}
 use Rattle.price_check.proofs.CertificateLemmas.{network-departures, network-within}

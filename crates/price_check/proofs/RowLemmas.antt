@@ -10,8 +10,9 @@ use Rattle.trip_model.specs.Plain.{move_of_slot}
 use Rattle.trip_model.specs.Timetable.{TimetableView, slot_at}
 use Rattle.trip_model.specs.Trip.{move_of}
 use Rattle.deadhead_matrix.specs.Matrix.{MatrixView}
+use Rattle.deadhead_matrix.specs.Fitting.{network_of}
 use Rattle.price_check.specs.declared.verdict.Reason.TheVariants.{UnknownTrip}
-use Rattle.price_check.specs.Claim.{named, network_of}
+use Rattle.price_check.specs.Claim.{named}
 use Rattle.price_check.specs.Reasons.{unknown, stands, repeats}
 
 -- the slot that the record of a number names

@@ -5,10 +5,6 @@ use Rattle.price_check.specs.declared.claim.BlockRow.{BlockRow}
 use Rattle.price_check.specs.declared.claim.PriceRow.{PriceRow}
 use Rattle.price_check.specs.declared.claim.TheConstants.{MOST_PRICE}
 use Rattle.trip_model.specs.declared.limits.TheConstants.{MOST_SLOTS}
-use Rattle.deadhead_matrix.specs.Fitting.{deadhead_network}
-use Rattle.deadhead_matrix.specs.Matrix.{MatrixView}
-use Rattle.trip_model.specs.Network.{Network}
-use Rattle.trip_model.specs.Plain.{trip_moves}
 use Rattle.trip_model.specs.Timetable.{TimetableView, slot_at}
 
 -- the records of both files, in their order
@@ -62,10 +58,6 @@ with_trip_before (block ∷ blocks) joins (Some s) = if joins then (s ∷ block)
 abbrev pub blocks_in : List BlockRow → List (List ℕ)
 blocks_in [] = []
 blocks_in (r ∷ rows) = with_trip_before (blocks_in rows) (begin_with rows r.block) r.slot
-
--- the network along which a timetable and a matrix are judged
-abbrev pub network_of : TimetableView → MatrixView → Network
-network_of timetable matrix = deadhead_network (trip_moves timetable.slots) matrix
 
 -- the trip of a slot runs
 pub record Runs (timetable : TimetableView) (s : ℕ) : Type 0 where

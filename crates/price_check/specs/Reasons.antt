@@ -16,7 +16,8 @@ use Rattle.trip_model.specs.Network.{Network}
 use Rattle.trip_model.specs.Timetable.{TimetableView, slot_at}
 use Rattle.deadhead_matrix.specs.Matrix.{MatrixView}
 use Rattle.deadhead_matrix.specs.Prices.{weight}
-use Rattle.price_check.specs.Claim.{ClaimedView, block_slots, price_slots, named, block_row, price_row, slot_before, blocks_in, network_of}
+use Rattle.deadhead_matrix.specs.Fitting.{network_of}
+use Rattle.price_check.specs.Claim.{ClaimedView, block_slots, price_slots, named, block_row, price_row, slot_before, blocks_in}
 
 -- the first of them that there is
 abbrev pub first_of : {A : Type 0} → List (Option A) → Option A

@@ -1,9 +1,10 @@
 ghost use Rattle.std.specs.Prelude.{◌≡◌, ◌+◌, ◌<◌, ◌*◌, ◌≤◌, not, length, drop};
 ghost use Rattle.std.specs.Result.{result_err};
 ghost use Rattle.deadhead_matrix.specs.declared.limits.TheConstants.{LONGEST_WALK, MOST_DEADHEAD, VEHICLE_WEIGHT};
+ghost use Rattle.deadhead_matrix.specs.Fitting.{network_of};
 ghost use Rattle.trip_model.specs.Blocking.{empty_minutes};
 ghost use Rattle.price_check.specs.Claim as claim;
-ghost use Rattle.price_check.specs.Claim.{AreBlockRows, AreKnown, NamesLive, Runs, begin_with, block_row, block_slots, blocks_in, network_of};
+ghost use Rattle.price_check.specs.Claim.{AreBlockRows, AreKnown, NamesLive, Runs, begin_with, block_row, block_slots, blocks_in};
 ghost use Rattle.price_check.specs.Reasons as spec;
 
 use crate::claim::BlockRow;

@@ -1,7 +1,8 @@
 ghost use Rattle.std.specs.Prelude.{◌≡◌, length, OnOk};
 ghost use Rattle.std.specs.Result.{result_err};
 ghost use Rattle.trip_model.specs.Blocking.{IsLeast};
-ghost use Rattle.price_check.specs.Claim.{AreBlockRows, AreKnown, ArePriceRows, block_slots, blocks_in, network_of};
+ghost use Rattle.deadhead_matrix.specs.Fitting.{network_of};
+ghost use Rattle.price_check.specs.Claim.{AreBlockRows, AreKnown, ArePriceRows, block_slots, blocks_in};
 ghost use Rattle.price_check.specs.Reasons.{OnYes, misnamed, reason_of, unequal, unproved, verdict_of};
 
 use crate::blocks::{accepted, all_fit, all_shown, weight_sum};

@@ -2,11 +2,12 @@
 ghost use Rattle.std.specs.Prelude.{◌≡◌, ◌≤◌, length, All, None};
 ghost use Rattle.deadhead_matrix.specs.Matrix.{MatrixView};
 ghost use Rattle.deadhead_matrix.specs.Pulls.{IsPull};
+ghost use Rattle.deadhead_matrix.specs.Fitting.{network_of};
 ghost use Rattle.trip_model.specs.declared.limits.TheConstants.{MOST_SLOTS};
 ghost use Rattle.trip_model.specs.Blocking.{IsLeast};
 ghost use Rattle.trip_model.specs.Timetable.{TimetableView, IsTimetable};
 ghost use Rattle.price_check.specs.Certificate.{IsCertificate};
-ghost use Rattle.price_check.specs.Claim.{ClaimedView, AreBlockRows, ArePriceRows, blocks_in, network_of};
+ghost use Rattle.price_check.specs.Claim.{ClaimedView, AreBlockRows, ArePriceRows, blocks_in};
 ghost use Rattle.price_check.specs.Reasons.{reason_of};
 
 /// A claim against which no reason holds is a certificate, and the other way round.

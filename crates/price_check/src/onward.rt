@@ -1,7 +1,8 @@
 ghost use Rattle.std.specs.Prelude.{◌≡◌, ◌+◌, ◌*◌, ◌≤◌, length, IfSome};
 ghost use Rattle.deadhead_matrix.specs.declared.limits.TheConstants.{LONGEST_WALK, MOST_DEADHEAD, VEHICLE_WEIGHT};
 ghost use Rattle.deadhead_matrix.specs.Prices.{weight};
-ghost use Rattle.price_check.specs.Claim.{network_of, Runs};
+ghost use Rattle.deadhead_matrix.specs.Fitting.{network_of};
+ghost use Rattle.price_check.specs.Claim.{Runs};
 
 use deadhead_matrix::{Matrix, VEHICLE_WEIGHT, Walks};
 use std::marker::Model;

@@ -2,7 +2,8 @@ ghost use Rattle.std.specs.Prelude.{◌≡◌, ◌<◌, ◌≤◌, length, All};
 ghost use Rattle.std.specs.Result.{result_err};
 ghost use Rattle.trip_model.specs.declared.limits.TheConstants.{MOST_SLOTS};
 ghost use Rattle.price_check.specs.declared.claim.TheConstants.{MOST_PRICE};
-ghost use Rattle.price_check.specs.Claim.{ArePriceRows, IsPriced, NamesLive, network_of};
+ghost use Rattle.deadhead_matrix.specs.Fitting.{network_of};
+ghost use Rattle.price_check.specs.Claim.{ArePriceRows, IsPriced, NamesLive};
 ghost use Rattle.price_check.specs.Reasons as spec;
 
 use crate::claim::PriceRow;

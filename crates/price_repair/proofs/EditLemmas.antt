@@ -11,12 +11,13 @@ use Rattle.trip_model.specs.Timetable.{Slot, TimetableView, slot_at, with_trip, 
 use Rattle.trip_model.specs.Trip.{move_of}
 use Rattle.deadhead_matrix.specs.Matrix.{MatrixView}
 use Rattle.deadhead_matrix.specs.Prices.{Plan, IsCertified}
+use Rattle.deadhead_matrix.specs.Fitting.{network_of}
 use Rattle.pair_graph.specs.Pairs.{PairsView, pairs_of, pairs_network}
 use Rattle.pair_graph.proofs.PairsLemmas.{AreMoves-pairs}
 use Rattle.price_repair.specs.Without.{IsCertifiedWith, IsCertifiedWithout}
 use Rattle.price_repair.proofs.WithoutLemmas.{network-without}
 
-pub IsCertifiedWith-left_out : (t : TimetableView) (matrix : MatrixView) (plan : Plan) (s : ℕ) → IsTimetable t → length t.places ≡ length matrix.walks → IsCertified (pairs_network (pairs_of t matrix None)) plan
+pub IsCertifiedWith-left_out : (t : TimetableView) (matrix : MatrixView) (plan : Plan) (s : ℕ) → IsTimetable t → length t.places ≡ length matrix.walks → IsCertified (network_of t matrix) plan
     → IsCertifiedWith (pairs_of t matrix (Some s)) s plan
 IsCertifiedWith-left_out t matrix plan s valid places proved = record {
   whole = pairs_of t matrix None;
@@ -51,7 +52,7 @@ with_moves : MatrixView → List (Option Move) → PairsView
 with_moves matrix moves = record { moves = moves; matrix = matrix }
 
 pub IsCertifiedWith-cancelled : (t : TimetableView) (matrix : MatrixView) (plan : Plan) (s : ℕ) (trip : Trip) → IsTimetable t → length t.places ≡ length matrix.walks → trip.live ≡ false
-    → IsCertified (pairs_network (pairs_of t matrix None)) plan → IsCertifiedWith (pairs_of (with_trip t s trip) matrix None) s plan
+    → IsCertified (network_of t matrix) plan → IsCertifiedWith (pairs_of (with_trip t s trip) matrix None) s plan
 unfolding with_moves
 IsCertifiedWith-cancelled t matrix plan s trip valid places dead proved = record {
   whole = pairs_of t matrix None;
@@ -61,7 +62,7 @@ IsCertifiedWith-cancelled t matrix plan s trip valid places dead proved = record
 }
 
 -- a trip that runs is live in its slot
-live-replaced : (t : TimetableView) (matrix : MatrixView) (s : ℕ) (trip : Trip) → s < length t.slots → trip.live ≡ true → (pairs_network (pairs_of (with_trip t s trip) matrix None)).live s ≡ true
+live-replaced : (t : TimetableView) (matrix : MatrixView) (s : ℕ) (trip : Trip) → s < length t.slots → trip.live ≡ true → (network_of (with_trip t s trip) matrix).live s ≡ true
 live-replaced t matrix s trip within runs =
     let slot : Slot = record (slot_at t s) { trip = trip } in
     ap (λ moves. is_some (move_at moves s)) (map-set move_of_slot t.slots s slot)
@@ -77,12 +78,12 @@ IsCertifiedWithout-replaced t matrix plan s trip within runs proved = record {
 }
 
 pub IsCertifiedWithout-restored : (t : TimetableView) (matrix : MatrixView) (plan : Plan) (s : ℕ) (trip : Trip) → s < length t.slots → (slot_at t s).trip.live ≡ false → trip.live ≡ true
-    → IsCertified (pairs_network (pairs_of t matrix None)) plan → IsCertifiedWithout (pairs_of (with_trip t s trip) matrix None) s plan
+    → IsCertified (network_of t matrix) plan → IsCertifiedWithout (pairs_of (with_trip t s trip) matrix None) s plan
 unfolding with_moves
 IsCertifiedWithout-restored t matrix plan s trip within dead runs proved =
     IsCertifiedWithout-replaced t matrix plan s trip within runs (subst (λ p. IsCertified (pairs_network p) plan) (sym (ap (with_moves matrix) (moves-idle t s dead))) proved)
 
-pub IsCertifiedWithout-appended : (t : TimetableView) (matrix : MatrixView) (plan : Plan) (slot : Slot) → slot.trip.live ≡ true → IsCertified (pairs_network (pairs_of t matrix None)) plan
+pub IsCertifiedWithout-appended : (t : TimetableView) (matrix : MatrixView) (plan : Plan) (slot : Slot) → slot.trip.live ≡ true → IsCertified (network_of t matrix) plan
     → IsCertifiedWithout (pairs_of (record t { slots = t.slots ++ slot ∷ [] }) matrix None) (length t.slots) plan
 IsCertifiedWithout-appended t matrix plan slot runs proved =
     let longer = pairs_of (record t { slots = t.slots ++ slot ∷ [] }) matrix None in

@@ -6,9 +6,10 @@ use Rattle.std.proofs.lemmas.Int.{ints}
 use Rattle.std.proofs.lemmas.List.{get_or_past}
 use Rattle.gtfs_tables.specs.Times.{seconds_of}
 use Rattle.gtfs_tables.specs.declared.paper.Column.TheVariants as column
+use Rattle.gtfs_tables.specs.Reading.{place_of, field_at}
 use Rattle.trip_model.specs.Timetable.{TimetableView, IsTimetable, Slot, slot_at}
 use Rattle.trip_model.specs.Trip.{IsValidTrip}
-use Rattle.block_writer.specs.Fields.{place_of, field_at, slot_in}
+use Rattle.block_writer.specs.Fields.{slot_in}
 use Rattle.block_writer.specs.StopTimes.{moved, offset_of}
 use Rattle.round_trip.specs.Laws as spec
 use Rattle.round_trip.specs.Written.{IsEarly, IsRowWritable, StaysWritable}
@@ -32,7 +33,7 @@ offset-hour standing base (Some s) is = by (nat_lt s base && (slot_at standing s
     by true = slot-hour standing s is
     by false = omega (arith, ints)
 
-moved-before : (offset : ℤ) (seconds : ℕ) → offset ≤ℤ pos 60 → seconds < 356400 → moved offset seconds < 360000
+moved-before : (offset : ℤ) (seconds : ℕ) → offset ≤ℤ pos 60 → seconds < 356400 → moved offset seconds ≤ 359999
 moved-before (pos n) seconds hour early =
     let few : n ≤ 60 = omega (arith, ints, hour) in
     rw (moved-later n seconds) (omega arith)
@@ -41,7 +42,7 @@ moved-before (negsuc n) seconds hour early = omega arith
 stays-writable : (offset : ℤ) (field : List ℕ) → offset ≤ℤ pos 60 → IsEarly field → StaysWritable offset field
 stays-writable offset field hour early = by (seconds_of field) early
   where
-    by : (found : Option ℕ) → IfSome found (λ seconds. seconds < 356400) → IfSome found (λ seconds. moved offset seconds < 360000)
+    by : (found : Option ℕ) → IfSome found (λ seconds. seconds < 356400) → IfSome found (λ seconds. moved offset seconds ≤ 359999)
     by None early = tt
     by (Some seconds) early = moved-before offset seconds hour early
 

@@ -13,13 +13,14 @@ use Rattle.trip_model.specs.declared.trip.Trip.{Trip}
 use Rattle.trip_model.specs.Place.{class_of}
 use Rattle.trip_model.specs.Timetable.{TimetableView, Slot, number_of, place_names, slot_at, slot_names, with_trip}
 use Rattle.trip_model.specs.Trip.{shifted}
+use Rattle.trip_model.specs.Fleet.{with_shift}
 use Rattle.edit_script.specs.declared.edit.Edit.{Edit}
 use Rattle.edit_script.specs.declared.edit.Edit.TheVariants.{Shift, Cancel, Restore, Extra, Undo, Redo, Show}
 use Rattle.edit_script.specs.declared.edit.Line.{Line}
 use Rattle.edit_script.specs.declared.edit.Line.TheVariants as line
 use Rattle.edit_script.specs.declared.fault.EditFault.{EditFault}
 use Rattle.edit_script.specs.declared.fault.EditFault.TheVariants as fault
-use Rattle.edit_script.specs.Changes.{cancelled_at, edited, extra_from, extra_new, extra_to, extra_trip, is_within, provided, restored_at, shifted_at, with_extra, with_live, with_shift}
+use Rattle.edit_script.specs.Changes.{cancelled_at, edited, extra_from, extra_new, extra_to, extra_trip, is_within, provided, restored_at, shifted_at, with_extra, with_live}
 use Rattle.edit_script.specs.Machine.{Numbered, after_line, after_record, machine, or_same}
 use Rattle.round_trip.specs.Follows.{AreForward, Follows, IsSameTrip}
 use Rattle.round_trip.specs.Laws as spec

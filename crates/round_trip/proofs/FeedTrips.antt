@@ -9,7 +9,7 @@ use Rattle.gtfs_tables.specs.declared.fault.FeedFault.{FeedFault}
 use Rattle.gtfs_tables.specs.declared.fault.FeedFault.TheVariants as fault
 use Rattle.gtfs_tables.specs.Reading.{◌>>=◌, each_record, provided}
 use Rattle.gtfs_tables.specs.Times.{rounded_down, rounded_up}
-use Rattle.desk_settings.specs.Entries.{Name}
+use Rattle.gtfs_tables.specs.Entries.{Name}
 use Rattle.desk_settings.specs.Settings.{SettingsView, layover_at, terminal_of, tolerance_of}
 use Rattle.feed_read.specs.Base.{start_of}
 use Rattle.feed_read.specs.FeedTrips.{first_stop_time, has_repeat, feed_trip_between, feed_trip_from, feed_trip_of, last_stop_time, later, sequences, sooner, time_or, stop_times_of, with_feed_trip}

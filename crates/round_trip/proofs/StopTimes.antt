@@ -10,12 +10,12 @@ use Rattle.gtfs_tables.specs.declared.paper.Column.{Column}
 use Rattle.gtfs_tables.specs.declared.paper.Column.TheVariants as column
 use Rattle.gtfs_tables.specs.declared.paper.Paper.TheVariants as paper
 use Rattle.gtfs_tables.specs.Papers.{column_name_of}
-use Rattle.gtfs_tables.specs.Reading.{column_in, field_at, filled_in, number_in, text_in, time_in}
+use Rattle.gtfs_tables.specs.Reading.{column_in, field_at, filled_in, number_in, text_in, time_in, place_of}
 use Rattle.gtfs_tables.specs.Table.{TableView, IsTable, table_of}
-use Rattle.desk_settings.specs.Entries.{Name}
+use Rattle.gtfs_tables.specs.Entries.{Name}
 use Rattle.trip_model.specs.Timetable.{TimetableView, number_of, slot_names}
 use Rattle.feed_read.specs.StopTimes.{StopTimeView, columns_in, stop_time_in, stop_times_for, with_stop_time, with_stop_time_of}
-use Rattle.block_writer.specs.Fields.{place_of, slot_in}
+use Rattle.block_writer.specs.Fields.{slot_in}
 use Rattle.block_writer.specs.StopTimes.{moved, moved_by, moved_field, moved_row, offset_of, stop_time_written, with_times}
 use Rattle.claim_files.proofs.FieldsBack.{then}
 use Rattle.round_trip.specs.Written.{AreWritable, IsRowWritable}

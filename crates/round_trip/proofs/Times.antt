@@ -69,17 +69,17 @@ module _ (h m s : ℕ) (hours : h < 100) (minutes : m < 60) (seconds : s < 60) w
       (IsAscii-cons (48 + s / 10) last (omega arith) (IsAscii-cons (48 + s % 10) [] (omega arith) (λ i. omega arith))))))))
 
 -- a second before 100:00:00 that is written
-digits-are : (n : ℕ) → n < 360000 → time_digits n ≡ bytes_of (n / 3600) (n / 60 % 60) (n % 60)
+digits-are : (n : ℕ) → n ≤ 359999 → time_digits n ≡ bytes_of (n / 3600) (n / 60 % 60) (n % 60)
 digits-are n small =
     rw (two-digits (n / 3600) (omega arith), two-digits (n / 60 % 60) (omega arith), two-digits (n % 60) (omega arith)) refl
 
-seconds-back : (n : ℕ) → n < 360000 → seconds_of (time_digits n) ≡ Some n
+seconds-back : (n : ℕ) → n ≤ 359999 → seconds_of (time_digits n) ≡ Some n
 seconds-back n small =
     let hour : n / 3600 ≡ n / 60 / 60 = omega arith in
     let value : 3600 * (n / 3600) + 60 * (n / 60 % 60) + n % 60 ≡ n = omega (arith, hour) in
     ap seconds_of (digits-are n small) ∙ read (n / 3600) (n / 60 % 60) (n % 60) (omega arith) (omega arith) (omega arith) ∙ ap Some value
 
-digits-text : (n : ℕ) → n < 360000 → is_utf8 (time_digits n) ≡ true
+digits-text : (n : ℕ) → n ≤ 359999 → is_utf8 (time_digits n) ≡ true
 digits-text n small =
     ap is_utf8 (digits-are n small) ∙ is_utf8-from_IsUtf8 _ (IsUtf8-from_ascii _ (ascii (n / 3600) (n / 60 % 60) (n % 60) (omega arith) (omega arith) (omega arith)))
 
@@ -114,7 +114,7 @@ pub record IsMovedField (offset : ℤ) (field other : List ℕ) : Type 0 where
 pub moved-field : (offset : ℤ) (field : List ℕ) → StaysWritable offset field → IsMovedField offset field (moved_field offset field)
 moved-field offset field stays = by (seconds_of field) refl stays
   where
-    by : (found : Option ℕ) → seconds_of field ≡ found → IfSome found (λ seconds. moved offset seconds < 360000) → IsMovedField offset field (moved_time offset field found)
+    by : (found : Option ℕ) → seconds_of field ≡ found → IfSome found (λ seconds. moved offset seconds ≤ 359999) → IsMovedField offset field (moved_time offset field found)
     by None none stays = record {
       text = λ text. text;
       time = λ paper number asked time e. e ∙ ap Ok (let empty = time-empty paper number asked field time none e in empty ∙ sym (ap (option_map (moved offset)) empty));

@@ -12,13 +12,13 @@ use Rattle.gtfs_tables.specs.declared.paper.Column.TheVariants as column
 use Rattle.gtfs_tables.specs.declared.paper.Paper.TheVariants as paper
 use Rattle.gtfs_tables.specs.Fold.{Step, paper_read}
 use Rattle.gtfs_tables.specs.Papers.{column_name_of}
-use Rattle.gtfs_tables.specs.Reading.{◌>>=◌, column_in, each_record, field_at, text_in}
+use Rattle.gtfs_tables.specs.Reading.{◌>>=◌, column_in, each_record, field_at, text_in, place_of}
 use Rattle.gtfs_tables.specs.Table.{TableView, IsTable, column_of, table_of}
+use Rattle.gtfs_tables.specs.Entries.{Name}
 use Rattle.desk_settings.specs.Settings.{SettingsView, class_of, is_chosen, is_classed}
 use Rattle.trip_model.specs.Timetable.{TimetableView}
 use Rattle.feed_read.specs.Trips.{Selected, chosen_in, classed_columns_in, columns_in, nothing_selected, trips_in, with_chosen, with_classed_trip, with_selected, with_trip}
-use Rattle.desk_settings.specs.Entries.{Name}
-use Rattle.block_writer.specs.Fields.{place_of, with_field}
+use Rattle.block_writer.specs.Fields.{with_field}
 use Rattle.block_writer.specs.Trips.{block_numbers, header_written, trip_written, trips_rows, with_blocks}
 use Rattle.claim_files.proofs.FieldsBack.{then}
 use Rattle.round_trip.proofs.Columns.{column-found, column-kept, column_in-found, columns-apart}

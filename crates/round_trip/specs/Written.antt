@@ -1,12 +1,14 @@
 -- The timetable of a feed that is written, and when its times can be written.
-use Rattle.std.specs.Prelude.{ℕ, ◌+◌, ◌<◌, List, [], ◌∷◌, All, ℤ, if◌then◌else◌}
+use Rattle.std.specs.Prelude.{ℕ, ◌+◌, ◌<◌, ◌≤◌, List, [], ◌∷◌, All, ℤ, if◌then◌else◌}
 use Rattle.std.specs.Option.{IfSome}
 use Rattle.gtfs_tables.specs.Table.{TableView}
 use Rattle.gtfs_tables.specs.Times.{seconds_of}
+use Rattle.gtfs_tables.specs.declared.times.TheConstants.{LAST_SECOND}
 use Rattle.gtfs_tables.specs.declared.paper.Column.TheVariants as column
+use Rattle.gtfs_tables.specs.Reading.{place_of, field_at}
 use Rattle.trip_model.specs.declared.trip.Trip.{Trip}
 use Rattle.trip_model.specs.Timetable.{TimetableView, Slot, slot_at}
-use Rattle.block_writer.specs.Fields.{place_of, field_at, slot_in}
+use Rattle.block_writer.specs.Fields.{slot_in}
 use Rattle.block_writer.specs.StopTimes.{moved, offset_of}
 
 -- a trip at the minutes at which it stands, and where it does not run, at its own
@@ -24,7 +26,7 @@ as_written base standing = record base { slots = slots_written standing 0 base.s
 
 -- the moved time of a field, if it has one, is before 100:00:00, so that two digits are enough for its hour
 abbrev pub StaysWritable : ℤ → List ℕ → Type 0
-StaysWritable offset field = IfSome (seconds_of field) (λ seconds. moved offset seconds < 360000)
+StaysWritable offset field = IfSome (seconds_of field) (λ seconds. moved offset seconds ≤ LAST_SECOND)
 
 -- both times of a record do, moved by so many minutes
 pub record IsRowWritable (offset : ℤ) (arrives departs : List ℕ) : Type 0 where

@@ -3,10 +3,11 @@ use Rattle.std.proofs.Common.{◌≡◌, ℕ, List, length, Result, Ok, Err, sym
 use Rattle.trip_model.specs.Blocking.{empty_minutes}
 use Rattle.trip_model.specs.Timetable.{TimetableView}
 use Rattle.deadhead_matrix.specs.Matrix.{MatrixView}
+use Rattle.deadhead_matrix.specs.Fitting.{network_of}
 use Rattle.price_check.specs.declared.verdict.Reason.{Reason}
 use Rattle.price_check.specs.declared.verdict.Verdict.{Verdict}
 use Rattle.price_check.specs.declared.verdict.Verdict.TheVariants.{Yes, No}
-use Rattle.price_check.specs.Claim.{ClaimedView, network_of}
+use Rattle.price_check.specs.Claim.{ClaimedView}
 use Rattle.price_check.specs.Reasons.{verdict_of}
 use Rattle.claim_files.specs.declared.fault.ClaimFault.{ClaimFault}
 use Rattle.claim_files.specs.Written.{IsAccepted, written}

@@ -2,12 +2,11 @@
 use Rattle.std.specs.Prelude.{◌≡◌, ℕ, false, List, [], ◌∷◌, ◌++◌, length, pos, codes}
 use Rattle.std.specs.Fmt.{decimal}
 use Rattle.trip_model.specs.Blocking.{empty_minutes}
-use Rattle.trip_model.specs.Deficit.{deficit, live_moves}
-use Rattle.trip_model.specs.Maximum.{sum_of_maxima}
+use Rattle.trip_model.specs.Fleet.{deficit_sum}
 use Rattle.trip_model.specs.Timetable.{TimetableView}
 use Rattle.deadhead_matrix.specs.Matrix.{MatrixView}
 use Rattle.deadhead_matrix.specs.Prices.{Plan}
-use Rattle.price_check.specs.Claim.{network_of}
+use Rattle.deadhead_matrix.specs.Fitting.{network_of}
 use Rattle.claim_files.specs.Written.{IsAccepted}
 use Rattle.desk_run.specs.Commands.{Asked}
 use Rattle.desk_run.specs.Outcome.{OutcomeView}
@@ -31,7 +30,7 @@ pub record HasSummary (timetable : TimetableView) (matrix : MatrixView) (prefix 
   pub blocks : List (List ℕ)
   pub scheduled : IsScheduled timetable matrix plan blocks
   pub accepted : IsAccepted timetable matrix prefix blocks plan.leave plan.enter
-  pub fixed_is : pos fixed ≡ sum_of_maxima (deficit (live_moves timetable.slots)) (length timetable.places)
+  pub fixed_is : pos fixed ≡ deficit_sum timetable
   pub vehicles_is : vehicles ≡ length blocks
   pub minutes_is : minutes ≡ empty_minutes (network_of timetable matrix) blocks
 

@@ -13,9 +13,9 @@ use Rattle.std.proofs.lemmas.Cmp.{nat_eq_equiv, nat_list_cmp_total, nat_list_eq_
 use Rattle.std.proofs.lemmas.Map.Text.{is_eq-slice_cmp}
 use Rattle.std.proofs.lemmas.Map.Views.{Contains-from_any, list_any-from_Contains}
 use Rattle.std.proofs.lemmas.Slice.Eq.{bytes_eq-Decides}
+use Rattle.gtfs_tables.specs.Entries.{Name, value_of}
 use Rattle.service_days.specs.declared.calendar.Schedule.{Schedule}
 use Rattle.service_days.specs.declared.calendar_dates.Exception.{Exception}
-use Rattle.service_days.specs.Calendar.{Name, schedule_of}
 use Rattle.service_days.specs.CalendarDates.{ServiceDate, exception_of, is_same}
 use Rattle.service_days.specs.Services.{ServicesView, runs_by, is_running, with_running, with_excepted, scheduled_on, services_on, AreRunning}
 
@@ -157,7 +157,7 @@ among-on : (services : ServicesView) (date : ℕ) (service : Name) → is_among 
 among-on services date service =
     let runs = is_running services date service in
     let exception = exception_of services.exceptions (service, date) in
-    let schedule = schedule_of services.schedules service in
+    let schedule = value_of service services.schedules in
     among-all (with_excepted services date) (is_same (service, date)) runs service (λ names key. among-excepted services date names key service) (scheduled_on services date []) services.exceptions
     ∙ ap (λ b. b || (is_some exception && runs)) (among-all (with_running services date) (bytes_eq service) runs service (λ names n. among-running services date names n service) [] services.schedules)
     ∙ all-running (is_some schedule) (is_some exception) runs (running-found exception schedule date)

@@ -1,24 +1,17 @@
 -- The weekly schedules that `calendar.txt` gives services.
-use Rattle.std.specs.Prelude.{ℕ, ◌==◌, ◌&&◌, Bool, false, not, List, [], ◌∷◌, ◌++◌, map, nat_le, slice_index_or, Option, Result, Ok, is_some, String, string_bytes}
-use Rattle.std.specs.Map.{lookup}
-use Rattle.std.specs.Str.{bytes_eq}
+use Rattle.std.specs.Prelude.{ℕ, ◌==◌, ◌&&◌, Bool, false, List, [], ◌∷◌, nat_le, slice_index_or, Result, Ok}
 use Rattle.desk_io.specs.declared.shelf.Found.{Found}
-use Rattle.desk_io.specs.declared.shelf.Found.TheVariants.{Missing}
 use Rattle.gtfs_tables.specs.declared.fault.FeedFault.{FeedFault}
-use Rattle.gtfs_tables.specs.declared.fault.FeedFault.TheVariants as fault
 use Rattle.gtfs_tables.specs.declared.paper.Column.{Column}
 use Rattle.gtfs_tables.specs.declared.paper.Column.TheVariants as column
 use Rattle.gtfs_tables.specs.declared.paper.Paper.TheVariants as paper
-use Rattle.gtfs_tables.specs.Fold.{paper_read}
-use Rattle.gtfs_tables.specs.Reading.{◌>>=◌, provided, nothing, column_in, field_at, text_in, filled_in, number_in}
+use Rattle.gtfs_tables.specs.Entries.{Name, Entries, with_record}
+use Rattle.gtfs_tables.specs.Fold.{optional_read}
+use Rattle.gtfs_tables.specs.Reading.{◌>>=◌, nothing, column_in, field_at, text_in, filled_in, number_in}
 use Rattle.service_days.specs.declared.calendar.Columns.{Columns}
 use Rattle.service_days.specs.declared.calendar.Schedule.{Schedule}
 use Rattle.service_days.specs.declared.calendar.Texts.{Texts}
 use Rattle.service_days.specs.Dates.{weekday_of, date_in}
-
--- a service, as the bytes of its name
-abbrev pub Name : Type 0
-Name = List ℕ
 
 -- where the required columns stand
 unfoldable pub columns_in : List (List ℕ) → Result Columns FeedFault
@@ -145,29 +138,15 @@ schedule_in columns number fields = do
   end ← date_in paper.Calendar number column.EndDate texts.end
   Ok (texts.service, record { weekdays = weekdays; start = start; end = end })
 
--- the schedule of a service, if it has one
-abbrev pub schedule_of : List (Name × Schedule) → Name → Option Schedule
-schedule_of schedules service = lookup (bytes_eq service) schedules
-
--- the schedules with that of a record, whose service must be new, at the end
-abbrev pub with_schedule : ℕ → List (Name × Schedule) → Name × Schedule → Result (List (Name × Schedule)) FeedFault
-with_schedule number before entry =
-    provided (not (is_some (schedule_of before entry.0))) (fault.DuplicateRow paper.Calendar number) (Ok (before ++ entry ∷ []))
-
--- the schedules with that of one record
-abbrev pub with_record : Columns → ℕ → List (Name × Schedule) → List (List ℕ) → Result (List (Name × Schedule)) FeedFault
-with_record columns number before fields = schedule_in columns number fields >>= with_schedule number before
+-- the schedules of services with that of one record
+abbrev pub with_schedule : Columns → ℕ → Entries Schedule → List (List ℕ) → Result (Entries Schedule) FeedFault
+with_schedule columns number before fields = schedule_in columns number fields >>= with_record paper.Calendar number before
 
 -- the schedules of the file, record by record; without one there are none
-abbrev pub schedules_of : Found → Result (List (Name × Schedule)) FeedFault
-schedules_of Missing = Ok []
-schedules_of found = paper_read paper.Calendar columns_in with_record [] found
+abbrev pub schedules_of : Found → Result (Entries Schedule) FeedFault
+schedules_of found = optional_read paper.Calendar columns_in with_schedule [] found
 
 -- whether a schedule has a date: its weekday, and from the start to the end, both included
 abbrev pub covers : Schedule → ℕ → Bool
 covers schedule date =
     slice_index_or schedule.weekdays (weekday_of date) false && nat_le schedule.start date && nat_le date schedule.end
-
--- the schedules that a map from names holds in order
-abbrev pub schedules_from : {Y : Type 0} → List (String Y × Schedule) → List (Name × Schedule)
-schedules_from entries = map (λ e. (string_bytes e.0, e.1)) entries

@@ -3,17 +3,16 @@ use Rattle.std.specs.Prelude.{ℕ, ◌==◌, ◌&&◌, Bool, not, List, [], ◌�
 use Rattle.std.specs.Map.{lookup}
 use Rattle.std.specs.Str.{bytes_eq}
 use Rattle.desk_io.specs.declared.shelf.Found.{Found}
-use Rattle.desk_io.specs.declared.shelf.Found.TheVariants.{Missing}
 use Rattle.gtfs_tables.specs.declared.fault.FeedFault.{FeedFault}
 use Rattle.gtfs_tables.specs.declared.fault.FeedFault.TheVariants as fault
 use Rattle.gtfs_tables.specs.declared.paper.Column.TheVariants as column
 use Rattle.gtfs_tables.specs.declared.paper.Paper.TheVariants as paper
-use Rattle.gtfs_tables.specs.Fold.{paper_read}
+use Rattle.gtfs_tables.specs.Entries.{Name}
+use Rattle.gtfs_tables.specs.Fold.{optional_read}
 use Rattle.gtfs_tables.specs.Reading.{◌>>=◌, provided, column_in, field_at, text_in, filled_in, number_in}
 use Rattle.service_days.specs.declared.calendar_dates.Columns.{Columns}
 use Rattle.service_days.specs.declared.calendar_dates.Exception.{Exception}
 use Rattle.service_days.specs.declared.calendar_dates.Exception.TheVariants.{Added, Removed}
-use Rattle.service_days.specs.Calendar.{Name}
 use Rattle.service_days.specs.Dates.{date_in}
 
 -- a service on a date
@@ -65,8 +64,7 @@ with_record columns number before fields = exception_row_in columns number field
 
 -- the exceptions of the file, record by record; without one there are none
 abbrev pub exceptions_of : Found → Result (List (ServiceDate × Exception)) FeedFault
-exceptions_of Missing = Ok []
-exceptions_of found = paper_read paper.CalendarDates columns_in with_record [] found
+exceptions_of found = optional_read paper.CalendarDates columns_in with_record [] found
 
 -- the exceptions that a map from names and dates holds in order
 abbrev pub exceptions_from : {Y : Type 0} → List ((String Y × ℕ) × Exception) → List (ServiceDate × Exception)

@@ -9,16 +9,17 @@ use Rattle.desk_io.specs.declared.shelf.Found.TheVariants.{File, Missing, TooLon
 use Rattle.gtfs_tables.specs.declared.fault.FeedFault.{FeedFault}
 use Rattle.gtfs_tables.specs.declared.fault.FeedFault.TheVariants as fault
 use Rattle.gtfs_tables.specs.declared.paper.Paper.TheVariants as paper
+use Rattle.gtfs_tables.specs.Entries.{Name, Entries, value_of}
 use Rattle.gtfs_tables.specs.Reading.{◌>>=◌, provided}
 use Rattle.service_days.specs.declared.calendar.Schedule.{Schedule}
 use Rattle.service_days.specs.declared.calendar_dates.Exception.{Exception}
 use Rattle.service_days.specs.declared.calendar_dates.Exception.TheVariants.{Added, Removed}
-use Rattle.service_days.specs.Calendar.{Name, schedules_of, schedule_of, covers}
+use Rattle.service_days.specs.Calendar.{schedules_of, covers}
 use Rattle.service_days.specs.CalendarDates.{ServiceDate, exceptions_of, exception_of}
 
 -- the services with their schedules, and those on dates with their exceptions, record by record
 pub record ServicesView : Type 0 where
-  pub schedules : List (Name × Schedule)
+  pub schedules : Entries Schedule
   pub exceptions : List (ServiceDate × Exception)
 
 -- whether there is no such file
@@ -47,7 +48,7 @@ runs_by None schedule date = is_scheduled schedule date
 
 -- whether a service runs on a date
 abbrev pub is_running : ServicesView → ℕ → Name → Bool
-is_running services date service = runs_by (exception_of services.exceptions (service, date)) (schedule_of services.schedules service) date
+is_running services date service = runs_by (exception_of services.exceptions (service, date)) (value_of service services.schedules) date
 
 -- exactly the services that run on a date, each once, in the order of their bytes
 pub record AreRunning (services : ServicesView) (date : ℕ) (names : List Name) : Type 0 where

@@ -1,16 +1,16 @@
-ghost use Rattle.std.specs.Prelude.{◌≡◌, ◌<◌, [], ◌∷◌, ◌++◌, true, not, IfOk, length, slice_get, option_map, is_some, Some};
+ghost use Rattle.std.specs.Prelude.{◌≡◌, ◌<◌, length, slice_get, option_map, Some};
+ghost use Rattle.gtfs_tables.specs.Entries.{value_of};
 ghost use Rattle.gtfs_tables.specs.Papers.{IsWithinLimit};
 ghost use Rattle.gtfs_tables.specs.Reading.{Gives};
 ghost use Rattle.service_days.specs.Calendar as spec;
 ghost use Rattle.service_days.specs.Dates.{IsDateNumber};
 
 use crate::date::{date_in, weekday};
-use desk_io::{Found, Memory};
+use desk_io::Found;
 use gtfs_tables::{
-    Column, FeedFault, Paper, RecordReader, Row, column_in, filled_in, number_in, read_records,
-    text_in,
+    Column, Entries, FeedFault, Paper, RecordReader, Row, column_in, filled_in, number_in,
+    read_optional, text_in,
 };
-use indexmap::IndexMap;
 use std::alloc::Global;
 use std::marker::Model;
 
@@ -167,21 +167,20 @@ fn schedule_in<'a>(
 /// The schedules of services, in the order of the records that gave them; one is found without going over the others.
 #[derive(Drop)]
 pub(crate) struct Calendar {
-    schedules: IndexMap<String, Schedule>,
+    schedules: Entries<Schedule>,
 }
 
 impl Model for Calendar {
-    ghost use Rattle.std.specs.Prelude.{List};
+    ghost use Rattle.gtfs_tables.specs.Entries.{Entries};
     ghost use Rattle.service_days.specs.declared.calendar.Schedule.{Schedule};
-    ghost use Rattle.service_days.specs.Calendar.{Name, schedules_from};
 
-    ghost Value = { List (Name × Schedule) };
+    ghost Value = { Entries Schedule };
 
-    ghost view = { λ c. schedules_from c.schedules.entries };
+    ghost view = { λ c. c.schedules };
 }
 
 impl RecordReader for Calendar {
-    ghost use Rattle.std.specs.Prelude.{List};
+    ghost use Rattle.gtfs_tables.specs.Entries.{Entries};
     ghost use Rattle.service_days.specs.declared.calendar.Schedule.{Schedule};
     ghost use Rattle.service_days.specs.Calendar as spec;
 
@@ -189,7 +188,7 @@ impl RecordReader for Calendar {
 
     ghost Kept = { Unit {0} };
 
-    ghost State = { List (spec.Name × Schedule) };
+    ghost State = { Entries Schedule };
 
     ghost kept = { λ _. tt };
 
@@ -197,7 +196,7 @@ impl RecordReader for Calendar {
 
     ghost columns_in = { spec.columns_in };
 
-    ghost step = { λ _. spec.with_record };
+    ghost step = { λ _. spec.with_schedule };
 
     ghost Leaves = { λ _ _ _ _ _ _. Unit {0} };
 
@@ -230,57 +229,29 @@ impl RecordReader for Calendar {
 
     fn record(&mut self, columns: &Columns, number: u32, row: &Row) -> Result<(), FeedFault> {
         let (service, schedule) = schedule_in(row, columns, number)?;
-        self.add_record(number, service, schedule)
+        self.schedules
+            .add_record(Paper::Calendar, number, service, schedule)
     }
 }
 
 impl Calendar {
-    // Appends the schedule of a service, if it has none, and answers whether it had none.
-    fn add(&mut self, service: &str, schedule: Schedule) -> Result<bool, Memory>
-        ensures new { IfOk result (λ new. new ≡ not (is_some (spec.schedule_of self.old service.now))) }
-        ensures added { IfOk result (λ new. new ≡ true → self.new ≡ self.old ++ (service.now, schedule) ∷ []) }
-    {
-        let service = String::from_str(*self.schedules.allocator(), service)?;
-        Ok(self.schedules.insert(service, schedule)?.is_none())
-    }
-
-    // Appends the schedule of a record, whose service no earlier one may have.
-    fn add_record(
-        &mut self,
-        number: u32,
-        service: &str,
-        schedule: Schedule,
-    ) -> Result<(), FeedFault>
-        ensures { Gives (λ _. self.new) result (spec.with_schedule number self.old (service.now, schedule)) }
-    {
-        if self.add(service, schedule)? {
-            return Ok(());
-        }
-        Err(FeedFault::DuplicateRow(Paper::Calendar, number))
-    }
-
     /// The schedules of the file; none where it is not there.
     pub(crate) fn read(alloc: Global, found: &Found) -> Result<Calendar, FeedFault>
         requires { IsWithinLimit found.now }
         ensures { Gives (λ calendar. calendar) result (spec.schedules_of found.now) }
     {
         let mut calendar = Calendar {
-            schedules: IndexMap::new(alloc),
+            schedules: Entries::new(alloc),
         };
-        match found {
-            Found::Missing => {}
-            Found::TooLong | Found::File(_) => {
-                read_records(alloc, Paper::Calendar, found, &mut calendar)?
-            }
-        }
+        read_optional(alloc, Paper::Calendar, found, &mut calendar)?;
         Ok(calendar)
     }
 
     /// The schedule of a service, if it has one.
     pub(crate) fn find(&self, service: &str) -> Option<Schedule>
-        ensures { result ≡ spec.schedule_of self.now service.now }
+        ensures { result ≡ value_of service.now self.now }
     {
-        self.schedules.get(service).copied()
+        self.schedules.find(service).copied()
     }
 
     /// How many services have a schedule.
@@ -295,7 +266,6 @@ impl Calendar {
         requires { number < length self.now }
         ensures { option_map (λ entry. entry.0) (slice_get self.now number) ≡ Some result.now }
     {
-        let (service, _) = self.schedules.get_index(number).unwrap();
-        service.as_str()
+        self.schedules.name(number)
     }
 }

@@ -6,7 +6,7 @@ ghost use Rattle.service_days.specs.CalendarDates as spec;
 use crate::date::date_in;
 use desk_io::{Found, Memory};
 use gtfs_tables::{
-    Column, FeedFault, Paper, RecordReader, Row, column_in, filled_in, number_in, read_records,
+    Column, FeedFault, Paper, RecordReader, Row, column_in, filled_in, number_in, read_optional,
     text_in,
 };
 use indexmap::IndexMap;
@@ -163,12 +163,7 @@ impl CalendarDates {
         let mut dates = CalendarDates {
             exceptions: IndexMap::new(alloc),
         };
-        match found {
-            Found::Missing => {}
-            Found::TooLong | Found::File(_) => {
-                read_records(alloc, Paper::CalendarDates, found, &mut dates)?
-            }
-        }
+        read_optional(alloc, Paper::CalendarDates, found, &mut dates)?;
         Ok(dates)
     }
 

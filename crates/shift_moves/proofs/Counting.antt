@@ -6,9 +6,9 @@ use Rattle.trip_model.specs.Deficit.{deficit, live_moves}
 use Rattle.trip_model.specs.Maximum.{first_maximum, sum_of_maxima}
 use Rattle.trip_model.specs.Timetable.{TimetableView}
 use Rattle.trip_model.proofs.MaximumLemmas.{first_maximum-agree}
+use Rattle.trip_model.specs.Fleet.{deficit_sum}
 use Rattle.deficit_steps.specs.Changes.{changes_of, value, value_in}
 use Rattle.deficit_steps.proofs.DeficitsLemmas.{sum_of_maxima-agree}
-use Rattle.shift_moves.specs.Lowering.{deficit_sum}
 use Rattle.shift_moves.specs.Trial.{maxima_at}
 
 -- functions that agree but at one place differ in the sum by what they differ in there

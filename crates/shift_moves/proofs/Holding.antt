@@ -9,11 +9,11 @@ use Rattle.trip_model.specs.Deficit.{live_moves}
 use Rattle.trip_model.specs.Plain.{IsMove}
 use Rattle.trip_model.specs.Timetable.{Slot, TimetableView, IsTimetable, slot_at}
 use Rattle.trip_model.specs.Trip.{move_of, shifted, IsValidTrip}
+use Rattle.trip_model.specs.Fleet.{with_shift}
 use Rattle.deficit_steps.specs.Changes.{IsDeficits, changes_of, change_at, with_change, with_move, without_move}
 use Rattle.deficit_steps.specs.Holds.{Holds, leaving, arriving}
 use Rattle.deficit_steps.proofs.DeficitsLemmas.{change-held}
 use Rattle.deficit_steps.proofs.Held.{room_above, room_below}
-use Rattle.shift_moves.specs.Lowering.{with_shift}
 use Rattle.shift_moves.specs.Trial.{AreSwapped, HoldsAmong}
 
 live_moves-live : (slot : Slot) (slots : List Slot) → slot.trip.live ≡ true → live_moves (slot ∷ slots) ≡ move_of slot.trip ∷ live_moves slots

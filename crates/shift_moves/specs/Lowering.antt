@@ -1,17 +1,8 @@
 -- The shifts that lower the sum of the maxima of the deficits, and the first of them.
 use Rattle.std.specs.Prelude.{◌≡◌, ◌≢◌, ◌⊎◌, ℕ, ◌<◌, true, length, ℤ, pos, ◌<ℤ◌, unsigned_abs}
-use Rattle.trip_model.specs.Deficit.{deficit, live_moves}
-use Rattle.trip_model.specs.Maximum.{sum_of_maxima}
-use Rattle.trip_model.specs.Timetable.{TimetableView, slot_at, with_trip}
-use Rattle.trip_model.specs.Trip.{MayShift, shifted}
-
--- the timetable with the trip in a slot moved by so many minutes
-abbrev pub with_shift : TimetableView → ℕ → ℤ → TimetableView
-with_shift timetable slot by = with_trip timetable slot (shifted (slot_at timetable slot).trip by)
-
--- the sum of the maxima of the deficits of the trips that run, which is the fewest vehicles without deadheads
-abbrev pub deficit_sum : TimetableView → ℤ
-deficit_sum timetable = sum_of_maxima (deficit (live_moves timetable.slots)) (length timetable.places)
+use Rattle.trip_model.specs.Fleet.{deficit_sum, with_shift}
+use Rattle.trip_model.specs.Timetable.{TimetableView, slot_at}
+use Rattle.trip_model.specs.Trip.{MayShift}
 
 -- the trip in a slot runs, may be moved by so many minutes, of which there are some, and with it so moved the sum of the
 -- maxima is smaller

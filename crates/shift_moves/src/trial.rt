@@ -1,13 +1,14 @@
 ghost use Rattle.std.specs.Prelude.{◌≡◌, ◌≢◌, ℕ, ◌+◌, ◌<◌, ◌≤◌, true, false, List, ◌∷◌, ◌++◌, length, ℤ, pos, ◌<ℤ◌, ◌↔◌};
 ghost use Rattle.deficit_steps.specs.Changes.{IsDeficits, changes_of, value};
 ghost use Rattle.deficit_steps.specs.Holds.{Holds};
-ghost use Rattle.shift_moves.specs.Lowering.{IsLowering, deficit_sum, with_shift};
+ghost use Rattle.shift_moves.specs.Lowering.{IsLowering};
 ghost use Rattle.shift_moves.specs.Trial.{AreSwapped, HoldsAmong, maxima_at};
 ghost use Rattle.trip_model.specs.Deficit.{live_moves};
 ghost use Rattle.trip_model.specs.Plain.{IsMove};
 ghost use Rattle.trip_model.specs.Timetable.{slot_at};
 ghost use Rattle.trip_model.specs.Trip.{MayShift};
 ghost use Rattle.trip_model.specs.declared.trip.Move.{Move as ModelMove};
+ghost use Rattle.trip_model.specs.Fleet.{deficit_sum, with_shift};
 
 use deficit_steps::Deficits;
 use deficit_steps::laws::held_law;

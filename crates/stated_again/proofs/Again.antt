@@ -1,7 +1,6 @@
 -- What is read of the written feed states the blocks of the plan.
-use Rattle.std.proofs.Common.{◌≡◌, ℕ, ◌<◌, Bool, true, false, List, [], length, get_or, map, Result, Ok, refl, sym, ap, subst, ◌∙◌, arith}
+use Rattle.std.proofs.Common.{◌≡◌, ℕ, ◌<◌, Bool, false, List, [], length, get_or, map, Result, Ok, refl, sym, ap, subst, ◌∙◌, arith}
 use Rattle.std.specs.List.{range_with_len}
-use Rattle.std.specs.Str.{is_utf8}
 use Rattle.std.proofs.lemmas.List.{length-map, take_all}
 use Rattle.std.proofs.lemmas.List.Elements.{All-from_get_or}
 use Rattle.std.proofs.lemmas.List.FromFn.{get_or-map-range_with_len, get_or-range_with_len, length-range_with_len}
@@ -9,13 +8,14 @@ use Rattle.desk_io.specs.declared.shelf.Found.TheVariants.{File}
 use Rattle.gtfs_tables.specs.declared.paper.Column.TheVariants as column
 use Rattle.gtfs_tables.specs.declared.table.TableFault.{TableFault}
 use Rattle.gtfs_tables.specs.Table.{TableView, IsTable}
-use Rattle.desk_settings.specs.Settings.{SettingsView, is_chosen}
+use Rattle.gtfs_tables.specs.Reading.{field_at, place_of}
+use Rattle.desk_settings.specs.Selected.{chosen_in, is_selected, is_text_chosen}
+use Rattle.desk_settings.specs.Settings.{SettingsView}
 use Rattle.trip_model.specs.Links.{blocks_along}
 use Rattle.trip_model.specs.Order.{by_departure}
 use Rattle.trip_model.specs.Plain.{trip_moves}
 use Rattle.trip_model.specs.Timetable.{TimetableView, Slot, slot_names}
 use Rattle.deadhead_matrix.specs.Matrix.{MatrixView}
-use Rattle.block_writer.specs.Fields.{field_at, place_of}
 use Rattle.block_writer.specs.Trips.{header_written, trips_rows, with_blocks}
 use Rattle.block_writer.proofs.ReadAgain as writer
 use Rattle.block_audit.specs.Stated.{blocks_by, block_field, selected, stated_in}
@@ -27,8 +27,8 @@ use Rattle.round_trip.proofs.ReadBack.{base-forward, written-back}
 use Rattle.round_trip.proofs.Trips.{asked-field, asked-kept}
 use Rattle.stated_again.specs.Found.{AreOfPlan, StatesPlan}
 use Rattle.stated_again.specs.Laws as spec
-use Rattle.stated_again.specs.Planned.{AreChosen, NameSlots, service_field}
-use Rattle.stated_again.proofs.Chosen.{HasServices, feed-names-slots, feed-services, of-feed, place-asked}
+use Rattle.stated_again.specs.Planned.{NameSlots}
+use Rattle.stated_again.proofs.Chosen.{HasServices, feed-names-slots, feed-services, of-feed, place-asked, service_field}
 use Rattle.stated_again.proofs.Grouped.{filter-same}
 use Rattle.stated_again.proofs.Named.{count-rows, row_written}
 use Rattle.stated_again.proofs.Stated.{Clock, least-are-stated}
@@ -45,13 +45,14 @@ module _ (trips : TableView) (standing : TimetableView) (chosen : List Bool) (bl
       ∙ asked-field trips.header row _ (is.width r within) column.ServiceId has.place refl has.asked
       ∙ ap (field_at row) has.at
 
-  -- so the selected records are those that were selected, however it is said which they are
-  chosen-again : (settings : SettingsView) (again : List Bool) → IsTable trips → HasServices trips → AreChosen settings trips chosen → AreChosen settings (with_blocks trips standing chosen blocks prefix) again
-      → (r : ℕ) → r < length trips.rows → get_or again r false ≡ get_or chosen r false
-  chosen-again settings again is has are are_again r within =
-      let same = service-kept is has r within in
-      let text : is_utf8 (service_field (with_blocks trips standing chosen blocks prefix) r) ≡ true = ap is_utf8 same ∙ has.text r within in
-      are_again r (omega (arith, within, count-rows trips standing chosen blocks prefix)) text ∙ ap (is_chosen settings) same ∙ sym (are r within (has.text r within))
+  -- so the selected records are those that were selected
+  chosen-again : (settings : SettingsView) → IsTable trips → HasServices trips
+      → (r : ℕ) → r < length trips.rows → get_or (chosen_in settings (with_blocks trips standing chosen blocks prefix)) r false ≡ get_or (chosen_in settings trips) r false
+  chosen-again settings is has r within =
+      let written = with_blocks trips standing chosen blocks prefix in
+      get_or-map (is_selected settings (place_of column.ServiceId written.header)) written.rows r [] false (omega (arith, within, count-rows trips standing chosen blocks prefix))
+      ∙ ap (is_text_chosen settings) (service-kept is has r within)
+      ∙ sym (get_or-map (is_selected settings (place_of column.ServiceId trips.header)) trips.rows r [] false within)
 
   selected-again : (again : List Bool) → ((r : ℕ) → r < length trips.rows → get_or again r false ≡ get_or chosen r false)
       → selected (with_blocks trips standing chosen blocks prefix) again ≡ selected (with_blocks trips standing chosen blocks prefix) chosen
@@ -79,7 +80,7 @@ names-kept : (base standing : TimetableView) → Follows base standing → lengt
 names-kept base standing follows count =
     sym follows.names ∙ take_all (length base.slots) (slot_names standing) (omega (arith, count, length-map standing.slots (λ (s : Slot). s.name)))
 
--- a plan that a table states is stated however it is said which of its records are selected
+-- a plan that a table states is stated also where the same records are selected
 said-again : (trips : TableView) (timetable : TimetableView) (chosen again : List Bool) (matrix : MatrixView) (prefix : List ℕ) (blocks : List (List ℕ))
     → ((r : ℕ) → r < length trips.rows → get_or again r false ≡ get_or chosen r false) → stated_in trips timetable again ≡ stated_in trips timetable chosen
     → StatesPlan trips timetable chosen matrix prefix blocks → StatesPlan trips timetable again matrix prefix blocks
@@ -89,7 +90,8 @@ said-again trips timetable chosen again matrix prefix blocks same stated states 
 }
 
 pub written-states-plan : Clock → spec.WrittenFeedStatesPlan
-written-states-plan clock settings trips_bytes stop_times_bytes trips stop_times base standing chosen matrix next prefix feed are valid whole readable least trips_again base_again again trips_read base_read are_again =
+written-states-plan clock settings trips_bytes stop_times_bytes trips stop_times base standing matrix next prefix feed valid whole readable least trips_again base_again trips_read base_read =
+    let chosen = chosen_in settings trips in
     let blocks = blocks_along next (by_departure (trip_moves standing.slots)) in
     let written = with_blocks trips standing chosen blocks prefix in
     let timetable = as_written base standing in
@@ -100,12 +102,13 @@ written-states-plan clock settings trips_bytes stop_times_bytes trips stop_times
     ∙ base_read) in
     let has = feed-services settings trips_bytes (File stop_times_bytes) trips base feed.trips_are feed.read in
     let published = (of-feed settings (File trips_bytes) (File stop_times_bytes) base feed.read).runs in
-    let name : NameSlots trips chosen standing = feed-names-slots settings trips_bytes (File stop_times_bytes) trips base chosen feed.trips_are feed.read are ∙ names-kept base standing whole.follows whole.no_extras in
-    let agree = chosen-again trips standing chosen blocks prefix settings again feed.trips_table has are (subst (λ t. AreChosen settings t again) (sym table) are_again) in
+    let name : NameSlots trips chosen standing = feed-names-slots settings trips_bytes (File stop_times_bytes) trips base feed.trips_are feed.read ∙ names-kept base standing whole.follows whole.no_extras in
+    let again = chosen_in settings written in
+    let agree = chosen-again trips standing chosen blocks prefix settings feed.trips_table has in
     let states = said-again written timetable chosen again matrix prefix blocks (λ r within. agree r (omega (arith, within, count-rows trips standing chosen blocks prefix)))
     (stated-again trips standing chosen blocks prefix timetable again agree)
     (least-are-stated clock trips base standing chosen matrix next prefix feed.trips_table valid published whole name least) in
-    subst (λ t. StatesPlan trips_again t again matrix prefix blocks) same (subst (λ w. StatesPlan w timetable again matrix prefix blocks) table states)
+    subst (λ t. StatesPlan trips_again t (chosen_in settings trips_again) matrix prefix blocks) same (subst (λ w. StatesPlan w timetable (chosen_in settings w) matrix prefix blocks) table states)
 
 pub script-leaves-whole : spec.ScriptLeavesWhole
 script-leaves-whole settings trips_found stop_times_found base records said count runs = record {

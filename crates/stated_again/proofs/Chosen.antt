@@ -1,5 +1,5 @@
 -- The records of an accepted feed whose services are chosen name the trips of its slots.
-use Rattle.std.proofs.Common.{◌≡◌, ℕ, suc, ◌+◌, ◌<◌, ◌≤◌, ◌&&◌, Bool, true, false, cond, List, [], ◌∷◌, ◌++◌, length, filter, get_or, map, append_assoc, zero, Option, None, Some, Result, Ok, not, unwrap_or, refl, sym, ap, subst, ◌∙◌, arith}
+use Rattle.std.proofs.Common.{◌≡◌, ℕ, suc, ◌+◌, ◌<◌, ◌≤◌, ◌&&◌, Bool, true, false, cond, List, [], ◌∷◌, ◌++◌, length, filter, get_or, map, append_assoc, Option, None, Some, Result, Ok, not, unwrap_or, refl, sym, ap, subst, ◌∙◌, arith}
 use Rattle.std.specs.Prelude.{All}
 use Rattle.std.specs.List.{range_with_len}
 use Rattle.std.specs.Str.{is_utf8}
@@ -13,17 +13,17 @@ use Rattle.gtfs_tables.specs.declared.paper.Column.{Column}
 use Rattle.gtfs_tables.specs.declared.paper.Column.TheVariants as column
 use Rattle.gtfs_tables.specs.declared.paper.Paper.TheVariants as paper
 use Rattle.gtfs_tables.specs.Fold.{Step, paper_read}
-use Rattle.gtfs_tables.specs.Reading.{◌>>=◌, column_in, each_record, filled_in, text_in}
+use Rattle.gtfs_tables.specs.Reading.{◌>>=◌, column_in, each_record, filled_in, text_in, place_of}
 use Rattle.gtfs_tables.specs.Table.{TableView, table_of}
-use Rattle.desk_settings.specs.Entries.{Name}
+use Rattle.gtfs_tables.specs.Entries.{Name}
 use Rattle.desk_settings.specs.Names.{is_among}
+use Rattle.desk_settings.specs.Selected.{chosen_in as chosen_of, is_selected}
 use Rattle.desk_settings.specs.Settings.{SettingsView, class_of, is_chosen, is_classed}
 use Rattle.trip_model.specs.Timetable.{TimetableView, Slot, slot_names}
 use Rattle.feed_read.specs.Base.{base_of, ends_of, places_met, slot_of}
 use Rattle.feed_read.specs.FeedTrips.{feed_trips_in, feed_trips_of}
 use Rattle.feed_read.specs.Trips.{Selected, chosen_in, classed_columns_in, columns_in, nothing_selected, trips_in, with_chosen, with_classed_trip, with_selected, with_trip}
 use Rattle.feed_read.specs.StopTimes.{stop_times_for}
-use Rattle.block_writer.specs.Fields.{place_of}
 use Rattle.block_audit.specs.Stated.{selected}
 use Rattle.claim_files.proofs.EachRecord.{provided-parts, read-parts, same_Ok}
 use Rattle.round_trip.proofs.Base.{slots-of}
@@ -31,7 +31,7 @@ use Rattle.round_trip.proofs.Columns.{column_in-found}
 use Rattle.round_trip.proofs.FeedTrips.{feed_trips-named}
 use Rattle.round_trip.proofs.Records.{GivenBy, of-table, text-parts}
 use Rattle.stated_again.specs.Laws as spec
-use Rattle.stated_again.specs.Planned.{AllRun, AreChosen, service_field, trip_field}
+use Rattle.stated_again.specs.Planned.{AllRun, trip_field}
 
 -- where the columns stand, and where those that are read where vehicles are of classes
 abbrev Columns : Type 0
@@ -122,43 +122,41 @@ classed-adds settings header columns at number before more row e =
     by_class None = Ok before
     by_class (Some name) = text_in paper.Trips number column.RouteId (get_or row (read-parts (column_in paper.Trips column.RouteId header) _ columns (read-parts (columns_in header) _ columns at).2).0 []) >>= λ route. with_selected number before name (class_of settings route)
 
+-- the `service_id` of a record
+abbrev pub service_field : TableView → ℕ → List ℕ
+service_field trips r = get_or (get_or trips.rows r []) (place_of column.ServiceId trips.header) []
+
+-- a record whose service is text is selected where this is chosen
+looked-up : (settings : SettingsView) (trips : TableView) (r : ℕ) → r < length trips.rows → is_utf8 (service_field trips r) ≡ true
+    → get_or (chosen_of settings trips) r false ≡ is_chosen settings (service_field trips r)
+looked-up settings trips r within text =
+    get_or-map (is_selected settings (place_of column.ServiceId trips.header)) trips.rows r [] false within
+    ∙ ap (λ b. b && is_chosen settings (service_field trips r)) text
+
 -- the records of a table whose services are chosen add their names
 module _ (settings : SettingsView) (trips : TableView) (read : Step Selected) (adds : AddsNames settings trips.header read) where
-  -- the service of each is text
-  each-text : (number : ℕ) (before after : Selected) (rest : List (List (List ℕ))) → each_record read number before rest ≡ Ok after
-      → (i : ℕ) → i < length rest → is_utf8 (get_or (get_or rest i []) (place_of column.ServiceId trips.header) []) ≡ true
-  each-text number before after [] e i within = absurd (omega (arith, within))
-  each-text number before after (row ∷ rest) e i within =
-      let parts = read-parts (read number before row) (λ more. each_record read (number + 1) more rest) after e in
-      by (adds number before parts.0 row parts.1).text (each-text (number + 1) parts.0 after rest parts.2) i within
-    where
-      by : is_utf8 (get_or row (place_of column.ServiceId trips.header) []) ≡ true → ((i : ℕ) → i < length rest → is_utf8 (get_or (get_or rest i []) (place_of column.ServiceId trips.header) []) ≡ true)
-          → (i : ℕ) → i < length (row ∷ rest) → is_utf8 (get_or (get_or (row ∷ rest) i []) (place_of column.ServiceId trips.header) []) ≡ true
-      by here later zero within = here
-      by here later (suc i) within = later i (omega (arith, within))
-
-  each-named : (chosen : List Bool) → AreChosen settings trips chosen → (number s : ℕ) (before after : Selected) (rest : List (List (List ℕ)))
+  each-named : (number s : ℕ) (before after : Selected) (rest : List (List (List ℕ)))
       → ((i : ℕ) → i < length rest → get_or rest i [] ≡ get_or trips.rows (s + i) []) → s + length rest ≤ length trips.rows → each_record read number before rest ≡ Ok after
-      → after.names ≡ before.names ++ map (trip_field trips) (filter (λ r. get_or chosen r false) (range_with_len s (length rest)))
-  each-named chosen are number s before after [] each few e = sym (ap (λ (s : Selected). s.names) (same_Ok before after e)) ∙ sym (append-nil before.names)
-  each-named chosen are number s before after (row ∷ rest) each few e =
+      → after.names ≡ before.names ++ map (trip_field trips) (filter (λ r. get_or (chosen_of settings trips) r false) (range_with_len s (length rest)))
+  each-named number s before after [] each few e = sym (ap (λ (s : Selected). s.names) (same_Ok before after e)) ∙ sym (append-nil before.names)
+  each-named number s before after (row ∷ rest) each few e =
       let parts = read-parts (read number before row) (λ more. each_record read (number + 1) more rest) after e in
       let here = adds number before parts.0 row parts.1 in
       let zero_more : s + 0 ≡ s = omega arith in
       let row_is : row ≡ get_or trips.rows s [] = each 0 (omega arith) ∙ ap (λ n. get_or trips.rows n []) zero_more in
-      let chosen_is : get_or chosen s false ≡ is_chosen settings (get_or row (place_of column.ServiceId trips.header) []) =
-      are s (omega (arith, few)) (ap (λ row. is_utf8 (get_or row (place_of column.ServiceId trips.header) [])) (sym row_is) ∙ here.text)
+      let chosen_is : get_or (chosen_of settings trips) s false ≡ is_chosen settings (get_or row (place_of column.ServiceId trips.header) []) =
+      looked-up settings trips s (omega (arith, few)) (ap (λ row. is_utf8 (get_or row (place_of column.ServiceId trips.header) [])) (sym row_is) ∙ here.text)
       ∙ ap (λ row. is_chosen settings (get_or row (place_of column.ServiceId trips.header) [])) (sym row_is) in
-      let later = each-named chosen are (number + 1) (s + 1) parts.0 after rest
+      let later = each-named (number + 1) (s + 1) parts.0 after rest
       (λ i within. each (suc i) (omega (arith, within)) ∙ ap (λ n. get_or trips.rows n []) (let next : s + suc i ≡ s + 1 + i = omega arith in next))
       (omega (arith, few)) parts.2 in
-      let kept = filter (λ r. get_or chosen r false) (range_with_len (s + 1) (length rest)) in
+      let kept = filter (λ r. get_or (chosen_of settings trips) r false) (range_with_len (s + 1) (length rest)) in
       later
       ∙ ap (λ names. names ++ map (trip_field trips) kept) here.names
       ∙ ap (λ b. before.names ++ cond b (get_or row (place_of column.TripId trips.header) [] ∷ []) [] ++ map (trip_field trips) kept) (sym chosen_is)
-      ∙ by (get_or chosen s false) kept
-      ∙ ap (λ row. before.names ++ put (get_or chosen s false) (get_or row (place_of column.TripId trips.header) []) kept) row_is
-      ∙ ap (λ names. before.names ++ names) (again (get_or chosen s false) kept)
+      ∙ by (get_or (chosen_of settings trips) s false) kept
+      ∙ ap (λ row. before.names ++ put (get_or (chosen_of settings trips) s false) (get_or row (place_of column.TripId trips.header) []) kept) row_is
+      ∙ ap (λ names. before.names ++ names) (again (get_or (chosen_of settings trips) s false) kept)
     where
       -- the names of records, and one before them
       put : Bool → List ℕ → List ℕ → List (List ℕ)
@@ -209,28 +207,22 @@ is-read settings bytes trips found from e = by (is_classed settings) e
         record { read = with_trip settings columns.0; adds = trip-adds settings trips.header columns.0 columns.1; all = columns.2; service = service.0; service_at = service.1 }
 
 -- the trips that were selected have the names of the chosen records
-selected-named : (settings : SettingsView) (bytes : List ℕ) (trips : TableView) (found : Selected) (chosen : List Bool) → table_of bytes ≡ Ok trips → trips_in settings (File bytes) ≡ Ok found
-    → AreChosen settings trips chosen → map (trip_field trips) (selected trips chosen) ≡ found.names
-selected-named settings bytes trips found chosen from e are =
+selected-named : (settings : SettingsView) (bytes : List ℕ) (trips : TableView) (found : Selected) → table_of bytes ≡ Ok trips → trips_in settings (File bytes) ≡ Ok found
+    → map (trip_field trips) (selected trips (chosen_of settings trips)) ≡ found.names
+selected-named settings bytes trips found from e =
     let is = is-read settings bytes trips found from e in
-    sym (each-named settings trips is.read is.adds chosen are 1 0 nothing_selected found trips.rows (λ i within. ap (λ n. get_or trips.rows n []) (let same : i ≡ 0 + i = omega arith in same)) (omega arith) is.all)
+    sym (each-named settings trips is.read is.adds 1 0 nothing_selected found trips.rows (λ i within. ap (λ n. get_or trips.rows n []) (let same : i ≡ 0 + i = omega arith in same)) (omega arith) is.all)
 
--- the service of each record of an accepted feed is text, in a column that the header names
+-- the header of an accepted feed names the column of services
 pub record HasServices (trips : TableView) : Type 0 where
   pub place : ℕ
   pub asked : column_in paper.Trips column.ServiceId trips.header ≡ Ok place
   pub at : place ≡ place_of column.ServiceId trips.header
-  pub text : (r : ℕ) → r < length trips.rows → is_utf8 (service_field trips r) ≡ true
 
-services-text : (settings : SettingsView) (bytes : List ℕ) (trips : TableView) (found : Selected) → table_of bytes ≡ Ok trips → trips_in settings (File bytes) ≡ Ok found → HasServices trips
-services-text settings bytes trips found from e =
+services-in : (settings : SettingsView) (bytes : List ℕ) (trips : TableView) (found : Selected) → table_of bytes ≡ Ok trips → trips_in settings (File bytes) ≡ Ok found → HasServices trips
+services-in settings bytes trips found from e =
     let is = is-read settings bytes trips found from e in
-    record {
-      place = is.service;
-      asked = is.service_at;
-      at = place-asked column.ServiceId trips.header is.service is.service_at;
-      text = each-text settings trips is.read is.adds 1 nothing_selected found trips.rows is.all;
-    }
+    record { place = is.service; asked = is.service_at; at = place-asked column.ServiceId trips.header is.service is.service_at }
 
 -- the trips of a feed that is accepted: their slots are named by its selected records, and they run
 pub record IsOfFeed (settings : SettingsView) (trips_found : Found) (base : TimetableView) : Type 0 where
@@ -257,24 +249,12 @@ of-feed settings trips_found stop_times_found base said =
     Runs slot = slot.trip.live ≡ true
 
 pub feed-names-slots : spec.FeedNamesSlots
-feed-names-slots settings trips_bytes stop_times trips base chosen from said are =
+feed-names-slots settings trips_bytes stop_times trips base from said =
     let is = of-feed settings (File trips_bytes) stop_times base said in
-    selected-named settings trips_bytes trips is.chosen chosen from is.read are ∙ sym is.names
+    selected-named settings trips_bytes trips is.chosen from is.read ∙ sym is.names
 
 pub feed-services : (settings : SettingsView) (trips_bytes : List ℕ) (stop_times : Found) (trips : TableView) (base : TimetableView) → table_of trips_bytes ≡ Ok trips
     → base_of settings (File trips_bytes) stop_times ≡ Ok base → HasServices trips
 feed-services settings trips_bytes stop_times trips base from said =
     let is = of-feed settings (File trips_bytes) stop_times base said in
-    services-text settings trips_bytes trips is.chosen from is.read
-
--- the services that are chosen are those that are looked up, also where what is no text is taken for none
-pub services-are-chosen : spec.ServicesAreChosen
-services-are-chosen settings trips = (looked_up, texts)
-  where
-    looked_up : AreChosen settings trips (map (λ row. is_chosen settings (get_or row (place_of column.ServiceId trips.header) [])) trips.rows)
-    looked_up r within text = get_or-map (λ row. is_chosen settings (get_or row (place_of column.ServiceId trips.header) [])) trips.rows r [] false within
-
-    texts : AreChosen settings trips (map (λ row. is_utf8 (get_or row (place_of column.ServiceId trips.header) []) && is_chosen settings (get_or row (place_of column.ServiceId trips.header) [])) trips.rows)
-    texts r within text =
-        get_or-map (λ row. is_utf8 (get_or row (place_of column.ServiceId trips.header) []) && is_chosen settings (get_or row (place_of column.ServiceId trips.header) [])) trips.rows r [] false within
-        ∙ ap (λ b. b && is_chosen settings (service_field trips r)) text
+    services-in settings trips_bytes trips is.chosen from is.read

@@ -17,7 +17,7 @@ use Rattle.trip_model.proofs.Counting.{runs-within}
 use Rattle.trip_model.proofs.OrderLemmas.{RiseBy-by_departure, StandsOnce-by_departure, slot-live}
 use Rattle.trip_model.proofs.TimetableLemmas.{number_of-Some}
 use Rattle.deadhead_matrix.specs.Matrix.{MatrixView}
-use Rattle.price_check.specs.Claim.{network_of}
+use Rattle.deadhead_matrix.specs.Fitting.{network_of}
 use Rattle.block_writer.specs.Trips.{block_numbers, block_of, name_of, number_in, with_blocks}
 use Rattle.block_audit.specs.Stated.{NamedBlock, AreNames, blocks_by, slots_by, stated_in}
 use Rattle.block_audit.proofs.AboveLemmas.{standing-least}

@@ -6,7 +6,7 @@ use Rattle.gtfs_tables.specs.Table.{TableView}
 use Rattle.trip_model.specs.Blocking.{IsLeast}
 use Rattle.trip_model.specs.Timetable.{TimetableView}
 use Rattle.deadhead_matrix.specs.Matrix.{MatrixView}
-use Rattle.price_check.specs.Claim.{network_of}
+use Rattle.deadhead_matrix.specs.Fitting.{network_of}
 use Rattle.block_build.specs.Lines.{block_name}
 use Rattle.block_audit.specs.declared.cost.Above.TheVariants.{Nothing}
 use Rattle.block_audit.specs.Laws.{standing}

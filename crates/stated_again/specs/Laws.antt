@@ -1,11 +1,10 @@
 -- What is written of a feed states the blocks that were planned.
-use Rattle.std.specs.Prelude.{◌≡◌, ℕ, ◌&&◌, Bool, List, Option, length, map, Ok}
-use Rattle.std.specs.Str.{is_utf8}
+use Rattle.std.specs.Prelude.{◌≡◌, ℕ, Bool, List, Option, length, Ok}
 use Rattle.desk_io.specs.declared.shelf.Found.{Found}
 use Rattle.desk_io.specs.declared.shelf.Found.TheVariants.{File}
 use Rattle.gtfs_tables.specs.Table.{TableView, IsTable, table_of}
-use Rattle.gtfs_tables.specs.declared.paper.Column.TheVariants as column
-use Rattle.desk_settings.specs.Settings.{SettingsView, is_chosen}
+use Rattle.desk_settings.specs.Selected.{chosen_in}
+use Rattle.desk_settings.specs.Settings.{SettingsView}
 use Rattle.trip_model.specs.Blocking.{IsBlocking, IsLeast}
 use Rattle.trip_model.specs.Links.{blocks_along}
 use Rattle.trip_model.specs.Order.{by_departure}
@@ -14,14 +13,13 @@ use Rattle.trip_model.specs.Timetable.{TimetableView, AreDistinct, IsTimetable, 
 use Rattle.edit_script.specs.Machine.{Numbered, machine, timetable_at}
 use Rattle.feed_read.specs.Base.{base_of}
 use Rattle.deadhead_matrix.specs.Matrix.{MatrixView}
-use Rattle.price_check.specs.Claim.{network_of}
-use Rattle.block_writer.specs.Fields.{field_at, place_of}
+use Rattle.deadhead_matrix.specs.Fitting.{network_of}
 use Rattle.block_writer.specs.StopTimes.{stop_times_written}
 use Rattle.block_writer.specs.Trips.{trips_written, with_blocks}
 use Rattle.block_audit.specs.Stated.{slots_by, stated_in, stated_names}
 use Rattle.round_trip.specs.Written.{as_written}
 use Rattle.stated_again.specs.Found.{StatesPlan}
-use Rattle.stated_again.specs.Planned.{AllRun, AreChosen, AreReadable, IsFeed, IsWhole, NameSlots, names_by_slot}
+use Rattle.stated_again.specs.Planned.{AllRun, AreReadable, IsFeed, IsWhole, NameSlots, names_by_slot}
 
 -- the trips of the timetable that is written make the moves of those that stand
 abbrev pub SameMoves : Type 0
@@ -73,41 +71,32 @@ LeastAreStated =
     IsLeast (network_of standing matrix) blocks
     → StatesPlan (with_blocks trips standing chosen blocks prefix) (as_written base standing) chosen matrix prefix blocks
 
--- it is said which services are chosen where each is looked up, and also where a service that is no text is taken for none
-abbrev pub ServicesAreChosen : Type 0
-ServicesAreChosen =
-    (settings : SettingsView) (trips : TableView)
-    → let service : List (List ℕ) → List ℕ = λ row. field_at row (place_of column.ServiceId trips.header) in
-    AreChosen settings trips (map (λ row. is_chosen settings (service row)) trips.rows) × AreChosen settings trips (map (λ row. is_utf8 (service row) && is_chosen settings (service row)) trips.rows)
-
--- the records of a feed whose services are chosen name the trips of its slots, each in its turn
+-- the selected records of a feed name the trips of its slots, each in its turn
 abbrev pub FeedNamesSlots : Type 0
 FeedNamesSlots =
-    (settings : SettingsView) (trips_bytes : List ℕ) (stop_times : Found) (trips : TableView) (base : TimetableView) (chosen : List Bool)
+    (settings : SettingsView) (trips_bytes : List ℕ) (stop_times : Found) (trips : TableView) (base : TimetableView)
     → table_of trips_bytes ≡ Ok trips
     → base_of settings (File trips_bytes) stop_times ≡ Ok base
-    → AreChosen settings trips chosen
-    → NameSlots trips chosen base
+    → NameSlots trips (chosen_in settings trips) base
 
 -- Of a feed in which no trip is cancelled and to which none is added, the two texts that are written of a plan whose blocks
 -- are least, read again with the same settings, state this plan.
 abbrev pub WrittenFeedStatesPlan : Type 0
 WrittenFeedStatesPlan =
-    (settings : SettingsView) (trips_bytes stop_times_bytes : List ℕ) (trips stop_times : TableView) (base standing : TimetableView) (chosen : List Bool) (matrix : MatrixView) (next : List (Option ℕ)) (prefix : List ℕ)
+    (settings : SettingsView) (trips_bytes stop_times_bytes : List ℕ) (trips stop_times : TableView) (base standing : TimetableView) (matrix : MatrixView) (next : List (Option ℕ)) (prefix : List ℕ)
     → IsFeed settings trips_bytes stop_times_bytes trips stop_times base
-    → AreChosen settings trips chosen
     → IsTimetable standing
     → IsWhole base standing
     → let blocks = blocks_along next (by_departure (trip_moves standing.slots)) in
+    let chosen = chosen_in settings trips in
     let trips_text = trips_written trips standing chosen blocks prefix in
     let stop_times_text = stop_times_written stop_times standing (length base.slots) in
     AreReadable trips stop_times standing (length base.slots) chosen blocks prefix
     → IsLeast (network_of standing matrix) blocks
-    → (trips_again : TableView) (base_again : TimetableView) (chosen_again : List Bool)
+    → (trips_again : TableView) (base_again : TimetableView)
     → table_of trips_text ≡ Ok trips_again
     → base_of settings (File trips_text) (File stop_times_text) ≡ Ok base_again
-    → AreChosen settings trips_again chosen_again
-    → StatesPlan trips_again base_again chosen_again matrix prefix blocks
+    → StatesPlan trips_again base_again (chosen_in settings trips_again) matrix prefix blocks
 
 -- what stands after a script over a feed is whole where the script leaves as many trips, and all of them run
 abbrev pub ScriptLeavesWhole : Type 0

@@ -1,15 +1,14 @@
 -- A timetable in which all trips of a feed run and no others, and which records of `trips.txt` are those of its slots.
-use Rattle.std.specs.Prelude.{◌≡◌, ℕ, ◌<◌, Bool, true, false, List, length, map, slice_index_or, [], All, Ok}
+use Rattle.std.specs.Prelude.{◌≡◌, ℕ, Bool, true, List, length, map, slice_index_or, [], All, Ok}
 use Rattle.std.specs.List.{range_with_len}
-use Rattle.std.specs.Str.{is_utf8}
 use Rattle.csv.specs.Reading.{strip_bom}
 use Rattle.desk_io.specs.declared.shelf.Found.TheVariants.{File}
 use Rattle.gtfs_tables.specs.Table.{TableView, IsTable, table_of}
 use Rattle.gtfs_tables.specs.declared.paper.Column.TheVariants as column
-use Rattle.desk_settings.specs.Settings.{SettingsView, is_chosen}
+use Rattle.gtfs_tables.specs.Reading.{field_at, place_of}
+use Rattle.desk_settings.specs.Settings.{SettingsView}
 use Rattle.trip_model.specs.Timetable.{TimetableView, slot_names}
 use Rattle.feed_read.specs.Base.{base_of}
-use Rattle.block_writer.specs.Fields.{field_at, place_of}
 use Rattle.block_writer.specs.StopTimes.{stop_times_written}
 use Rattle.block_writer.specs.Trips.{name_of, number_in, trips_written}
 use Rattle.block_audit.specs.Stated.{selected}
@@ -26,21 +25,13 @@ pub record IsWhole (base standing : TimetableView) : Type 0 where
   pub no_extras : length standing.slots ≡ length base.slots
   pub runs : AllRun standing
 
--- the `trip_id` and the `service_id` of a record
+-- the `trip_id` of a record
 abbrev pub trip_field : TableView → ℕ → List ℕ
 trip_field trips r = field_at (slice_index_or trips.rows r []) (place_of column.TripId trips.header)
-
-abbrev pub service_field : TableView → ℕ → List ℕ
-service_field trips r = field_at (slice_index_or trips.rows r []) (place_of column.ServiceId trips.header)
 
 -- the selected records name the trips of the slots, the n-th that of the n-th slot
 abbrev pub NameSlots : TableView → List Bool → TimetableView → Type 0
 NameSlots trips chosen timetable = map (trip_field trips) (selected trips chosen) ≡ slot_names timetable
-
--- of each record whose service is text, it is said whether this is one of those that are chosen
-abbrev pub AreChosen : SettingsView → TableView → List Bool → Type 0
-AreChosen settings trips chosen =
-    (r : ℕ) → r < length trips.rows → is_utf8 (service_field trips r) ≡ true → slice_index_or chosen r false ≡ is_chosen settings (service_field trips r)
 
 -- for each of so many slots the name of the block in which it stands
 abbrev pub names_by_slot : List ℕ → List (List ℕ) → ℕ → List (List ℕ)

@@ -26,11 +26,9 @@ pub fn blocks_law()
     deadhead_law();
 }
 
-/// The records of a feed whose services are chosen name the trips of its slots, each in its turn, however it is said which
-/// these are.
+/// The selected records of a feed name the trips of its slots, each in its turn.
 pub fn services_law()
-    ensures chosen { spec.ServicesAreChosen }
-    ensures slots { spec.FeedNamesSlots }
+    ensures { spec.FeedNamesSlots }
 {}
 
 /// So the files that are written of a feed in which all trips run and no others, read again, state the plan.

@@ -27,7 +27,7 @@ mod reaching;
 mod summary;
 mod tree;
 
-pub use max_prefix::MaxPrefix;
+pub use max_prefix::{MOST_CHANGE, MaxPrefix};
 pub use summary::{LEAVES, Summary};
 pub use tree::Tree;
 

@@ -1,5 +1,8 @@
 use crate::summary::Summary;
 
+/// The most that one leaf adds or takes off.
+pub const MOST_CHANGE: u32 = 65_536;
+
 /// The sum of neighbouring leaves, and the greatest of their prefix sums.
 ///
 /// Of one leaf the sum lies between -65,536 and 65,536.

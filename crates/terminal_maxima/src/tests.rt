@@ -1,5 +1,6 @@
 ghost use Rattle.std.specs.Prelude.{◌≡◌, ◌<◌, pos, neg_ℤ, ◌≤ℤ◌};
 ghost use Rattle.terminal_maxima.specs.MaxPrefix.{SumsLeaves};
+ghost use Rattle.terminal_maxima.specs.declared.max_prefix.TheConstants.{MOST_CHANGE};
 
 use crate::{MaxPrefix, Summary, Tree};
 use desk_io::{Memory, Steps};
@@ -39,8 +40,8 @@ impl Summary for u16 {
 
 // A leaf that adds so much.
 fn adding(sum: i32) -> MaxPrefix
-    requires low { neg_ℤ (pos 65536) ≤ℤ sum }
-    requires high { sum ≤ℤ pos 65536 }
+    requires low { neg_ℤ (pos MOST_CHANGE) ≤ℤ sum }
+    requires high { sum ≤ℤ pos MOST_CHANGE }
     ensures { SumsLeaves result 1 }
 {
     MaxPrefix {

@@ -1,5 +1,6 @@
 pub mod Blocking
 pub mod Deficit
+pub mod Fleet
 pub mod Links
 pub mod Maximum
 pub mod Network

@@ -8,6 +8,7 @@ use Rattle.gtfs_tables.specs.Reading.{table_in}
 use Rattle.gtfs_tables.specs.Table.{TableView, table_of}
 use Rattle.gtfs_tables.specs.declared.paper.Paper.{Paper}
 use Rattle.gtfs_tables.specs.declared.paper.Paper.TheVariants as paper
+use Rattle.desk_settings.specs.Selected.{chosen_in}
 use Rattle.desk_settings.specs.Settings.{SettingsView}
 use Rattle.trip_model.specs.Blocking.{IsLeast, empty_minutes}
 use Rattle.trip_model.specs.Links.{blocks_along}
@@ -20,7 +21,7 @@ use Rattle.feed_read.specs.Base.{base_of}
 use Rattle.deadhead_matrix.specs.declared.entry.Entry.{Entry}
 use Rattle.deadhead_matrix.specs.declared.pulls.Pull.{Pull}
 use Rattle.deadhead_matrix.specs.Matrix.{MatrixView}
-use Rattle.price_check.specs.Claim.{network_of}
+use Rattle.deadhead_matrix.specs.Fitting.{network_of}
 use Rattle.block_writer.specs.StopTimes.{stop_times_written}
 use Rattle.block_writer.specs.Trips.{trips_written, with_blocks}
 use Rattle.block_writer.proofs.ReadAgain as writer
@@ -36,7 +37,7 @@ use Rattle.round_trip.proofs.ReadBack.{base-forward, written-back}
 use Rattle.stated_again.specs.Found.{StatesPlan}
 use Rattle.stated_again.specs.Laws.{WrittenFeedStatesPlan}
 use Rattle.stated_again.specs.Planned.{AreReadable, IsFeed, IsWhole}
-use Rattle.stated_again.proofs.Chosen.{of-feed, services-are-chosen}
+use Rattle.stated_again.proofs.Chosen.{of-feed}
 use Rattle.stated_again.proofs.Moves.{same-moves}
 use Rattle.desk_run.specs.Outcome.{OutcomeView, putting}
 use Rattle.desk_run.specs.declared.status.Ending.TheVariants as ending
@@ -47,9 +48,8 @@ use Rattle.desk_feed.specs.Script.{ending_by, first_records}
 use Rattle.desk_feed.proofs.OneNetwork.{network-same}
 use Rattle.desk_feed.proofs.ScriptLemmas.{first-none, refused-none, some-none, standing-places}
 use Rattle.feed_desk.proofs.DrawnLemmas.{drawn-scheduled, drawn-valid}
-use Rattle.written_feed.specs.Write.{IsWritten, chosen_in}
+use Rattle.written_feed.specs.Write.{IsWritten}
 use Rattle.audit_commands.specs.Audit.{AuditsBy, AuditsOf, IsAudited, IsCosted, IsJudged}
-use Rattle.audit_commands.specs.Audit.{chosen_in as audited_in}
 use Rattle.audit_commands.specs.Lines.{above_line, cost_line, costs_text}
 use Rattle.two_runs.specs.Audited.{IsWholeAfter, least_text}
 use Rattle.two_runs.proofs.ConfirmedLemmas.{MakesMoves}
@@ -79,7 +79,7 @@ stated-plan : WrittenFeedStatesPlan → (settings : SettingsView) (trips_bytes s
     → (table : TableView) (again : TimetableView)
     → table_of (trips_written trips now (chosen_in settings trips) blocks settings.prefix) ≡ Ok table
     → base_of settings (File (trips_written trips now (chosen_in settings trips) blocks settings.prefix)) (File (stop_times_written stop_times now (length read.slots))) ≡ Ok again
-    → StatesPlan table again (audited_in settings table) matrix settings.prefix blocks
+    → StatesPlan table again (chosen_in settings table) matrix settings.prefix blocks
 stated-plan states settings trips_bytes stop_times_bytes trips stop_times read now matrix next blocks along feed valid whole =
     subst
     (λ blocks. AreReadable trips stop_times now (length read.slots) (chosen_in settings trips) blocks settings.prefix
@@ -87,11 +87,10 @@ stated-plan states settings trips_bytes stop_times_bytes trips stop_times read n
     → (table : TableView) (again : TimetableView)
     → table_of (trips_written trips now (chosen_in settings trips) blocks settings.prefix) ≡ Ok table
     → base_of settings (File (trips_written trips now (chosen_in settings trips) blocks settings.prefix)) (File (stop_times_written stop_times now (length read.slots))) ≡ Ok again
-    → StatesPlan table again (audited_in settings table) matrix settings.prefix blocks)
+    → StatesPlan table again (chosen_in settings table) matrix settings.prefix blocks)
     (sym along)
     (λ readable least table again table_read base_read.
-    states settings trips_bytes stop_times_bytes trips stop_times read now (chosen_in settings trips) matrix next settings.prefix feed (services-are-chosen settings trips).0 valid whole readable least table again (audited_in settings table)
-    table_read base_read (services-are-chosen settings table).1)
+    states settings trips_bytes stop_times_bytes trips stop_times read now matrix next settings.prefix feed valid whole readable least table again table_read base_read)
 
 -- A feed whose timetable was read, between the places of another that knows more, and what was written of it after its script.
 module _ (states : WrittenFeedStatesPlan) (makes : MakesMoves) (settings : SettingsView) (read more : TimetableView) (entries : List Entry) (pulls : List Pull) (lines : List Line) (trips_bytes stop_times_bytes : List ℕ) (trips stop_times : TableView) (outcome : OutcomeView)
@@ -149,11 +148,11 @@ module _ (states : WrittenFeedStatesPlan) (makes : MakesMoves) (settings : Setti
   standing_again = ap (λ records. timetable_at base_again (machine base_again records)) (first-none [])
 
   -- an audit of stated blocks that are least
-  costed-least : (matrix : MatrixView) → IsLeast (network_of base_again matrix) (slots_by (stated_in table base_again (audited_in settings table)))
-      → (audit : OutcomeView) → IsCosted [] ending.Done base_again matrix (stated_in table base_again (audited_in settings table)) audit → TellsLeast audit
+  costed-least : (matrix : MatrixView) → IsLeast (network_of base_again matrix) (slots_by (stated_in table base_again (chosen_in settings table)))
+      → (audit : OutcomeView) → IsCosted [] ending.Done base_again matrix (stated_in table base_again (chosen_in settings table)) audit → TellsLeast audit
   costed-least matrix least audit costed =
       let network = network_of base_again matrix in
-      let stated = slots_by (stated_in table base_again (audited_in settings table)) in
+      let stated = slots_by (stated_in table base_again (chosen_in settings table)) in
       let other = costed.scheduled.least in
       let as_many : length costed.least ≡ length stated = omega (arith, least.fewest.fewest costed.least other.fewest.blocking, other.fewest.fewest stated least.fewest.blocking) in
       let as_long : empty_minutes network costed.least ≡ empty_minutes network stated =
@@ -173,7 +172,7 @@ module _ (states : WrittenFeedStatesPlan) (makes : MakesMoves) (settings : Setti
         written-back settings trips_bytes stop_times_bytes trips stop_times read now (chosen_in settings trips) written.blocks settings.prefix feed.trips_are feed.stop_times_are feed.trips_table feed.stop_times_table feed.read
         follows whole.times trips_unmarked stop_times_unmarked
 
-    plan : StatesPlan table again (audited_in settings table) written.matrix settings.prefix written.blocks
+    plan : StatesPlan table again (chosen_in settings table) written.matrix settings.prefix written.blocks
     plan =
         stated-plan states settings trips_bytes stop_times_bytes trips stop_times read now written.matrix written.plan.next written.blocks scheduled.along feed valid is_whole
         (record { times = whole.times; trips_unmarked = trips_unmarked; stop_times_unmarked = stop_times_unmarked })
@@ -181,7 +180,7 @@ module _ (states : WrittenFeedStatesPlan) (makes : MakesMoves) (settings : Setti
 
     audited-least : (audit : OutcomeView) → IsAudited said_again table audit → TellsLeast audit
     audited-least audit audited =
-        let chosen = audited_in settings table in
+        let chosen = chosen_in settings table in
         let stated = stated_in table base_again chosen in
         let network : network_of base_again written.matrix ≡ network_of base_again audited.matrix =
         network-same entries pulls (length more.places) written.matrix audited.matrix written.matrix_is audited.matrix_is (trip_moves again.slots) moves in

@@ -17,6 +17,7 @@ use Rattle.gtfs_tables.specs.declared.paper.TheConstants.{MOST_BYTES}
 use Rattle.gtfs_tables.specs.declared.table.TableFault.{TableFault}
 use Rattle.gtfs_tables.proofs.Body.{body-rows}
 use Rattle.gtfs_tables.proofs.CsvRecords.{length-records-le}
+use Rattle.desk_settings.specs.Selected.{chosen_in}
 use Rattle.desk_settings.specs.Settings.{SettingsView, settings_of}
 use Rattle.trip_model.specs.Timetable.{TimetableView}
 use Rattle.edit_script.specs.declared.edit.Line.{Line}
@@ -35,7 +36,7 @@ use Rattle.desk_feed.specs.Feed.{Said, deadheads_in, feed_papers, kept_on, lines
 use Rattle.desk_feed.specs.Judging.{Does, refusing, said_in}
 use Rattle.block_writer.specs.StopTimes.{stop_times_written}
 use Rattle.block_writer.specs.Trips.{trips_written}
-use Rattle.written_feed.specs.Write.{IsWritten, Writes, WritesBy, chosen_in, feed_files, files_of, stop_times_in, stop_times_name, trips_in, trips_name, write_asked}
+use Rattle.written_feed.specs.Write.{IsWritten, Writes, WritesBy, feed_files, files_of, stop_times_in, stop_times_name, trips_in, trips_name, write_asked}
 use Rattle.two_runs.specs.Audited.{IsLaid}
 use Rattle.two_runs.proofs.DeadheadsOver.{deadheads-over, slots-kept, with_slots}
 use Rattle.two_runs.proofs.TwoFiles.{first-stands, is_name, others-stand, second-stands, with_two, with_two_told}

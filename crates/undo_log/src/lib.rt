@@ -16,10 +16,10 @@
 //! [`Log::open`] takes all the memory that a log ever needs, items are moved, and an item that a push forgets from the
 //! undone ones is dropped.
 //!
-//! The contracts cite `Log`: the two lists (`LogView`), their limit (`undo_depth`, `IsWithinDepth`, `HasRoom`), what a
+//! The contracts cite `Log`: the two lists (`LogView`), their limit (`UNDO_DEPTH`, `IsWithinDepth`, `HasRoom`), what a
 //! push keeps (`latest_items`) and the item that an undo would take (`last_item`).
 #![tactic(auto)]
 
 mod log;
 
-pub use log::Log;
+pub use log::{Log, UNDO_DEPTH};

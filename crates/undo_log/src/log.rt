@@ -6,7 +6,7 @@ use std::alloc::Global;
 use std::marker::Model;
 
 /// The most items that can be undone and redone, both together.
-const DEPTH: usize = 256;
+pub const UNDO_DEPTH: usize = 256;
 
 /// The items that can be undone, the kept ones, and those that can be redone, the undone ones. The last of each list is
 /// the newest.
@@ -23,7 +23,8 @@ impl<T: Drop> Drop for Log<T> {
 
 impl<T> Model for Log<T> {
     ghost use Rattle.std.specs.Prelude.{◌≡◌};
-    ghost use Rattle.undo_log.specs.Log.{LogView, log_code, undo_depth, IsWithinDepth};
+    ghost use Rattle.undo_log.specs.declared.log.TheConstants.{UNDO_DEPTH};
+    ghost use Rattle.undo_log.specs.Log.{LogView, log_code, IsWithinDepth};
 
     ghost Value = { LogView T };
 
@@ -31,11 +32,12 @@ impl<T> Model for Log<T> {
 
     ghost view = { λ a. record { kept = a.kept.items; undone = a.undone.items } };
 
-    ghost invariant = { λ a. (a.kept.capacity ≡ undo_depth) × (a.undone.capacity ≡ undo_depth) × IsWithinDepth (record { kept = a.kept.items; undone = a.undone.items }) };
+    ghost invariant = { λ a. (a.kept.capacity ≡ UNDO_DEPTH) × (a.undone.capacity ≡ UNDO_DEPTH) × IsWithinDepth (record { kept = a.kept.items; undone = a.undone.items }) };
 }
 
 impl<T: Drop> Log<T> {
-    ghost use Rattle.undo_log.specs.Log.{undo_depth, IsWithinDepth, HasRoom, latest_items, last_item};
+    ghost use Rattle.undo_log.specs.declared.log.TheConstants.{UNDO_DEPTH};
+    ghost use Rattle.undo_log.specs.Log.{IsWithinDepth, HasRoom, latest_items, last_item};
 
     /// A log in which nothing is kept and nothing undone. All the memory that it will ever need is taken here, and
     /// `Memory` says that there was too little.
@@ -43,8 +45,8 @@ impl<T: Drop> Log<T> {
         ensures { IfOk result (λ opened. opened ≡ record { kept = []; undone = [] }) }
     {
         Ok(Log {
-            kept: HeapCircularBuffer::with_capacity(alloc, DEPTH)?,
-            undone: HeapCircularBuffer::with_capacity(alloc, DEPTH)?,
+            kept: HeapCircularBuffer::with_capacity(alloc, UNDO_DEPTH)?,
+            undone: HeapCircularBuffer::with_capacity(alloc, UNDO_DEPTH)?,
         })
     }
 
@@ -52,7 +54,7 @@ impl<T: Drop> Log<T> {
     /// them, which can no longer be undone.
     pub fn push(&mut self, item: T) -> Option<T>
         ensures lists { self.new ≡ record { kept = latest_items (self.old.kept ++ item ∷ []); undone = [] } }
-        ensures full { IsSome result ↔ (length self.old.kept ≡ undo_depth) }
+        ensures full { IsSome result ↔ (length self.old.kept ≡ UNDO_DEPTH) }
         ensures oldest { IfSome result (λ oldest. slice_get self.old.kept 0 ≡ Some oldest) }
         ensures within { IsWithinDepth self.new }
     {

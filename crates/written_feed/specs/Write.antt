@@ -1,5 +1,5 @@
 -- What `write` asks, and what it writes of a feed.
-use Rattle.std.specs.Prelude.{◌≡◌, ◌⊎◌, ℕ, Bool, false, List, [], ◌∷◌, ◌++◌, length, map, None, Result, Ok, Err, codes, if◌then◌else◌}
+use Rattle.std.specs.Prelude.{◌≡◌, ◌⊎◌, ℕ, false, List, [], ◌∷◌, ◌++◌, length, None, Result, Ok, Err, codes, if◌then◌else◌}
 use Rattle.std.specs.Str.{IsUtf8}
 use Rattle.gtfs_tables.specs.Reading.{table_in}
 use Rattle.gtfs_tables.specs.Table.{TableView}
@@ -8,11 +8,11 @@ use Rattle.gtfs_tables.specs.declared.paper.Column.{Column}
 use Rattle.gtfs_tables.specs.declared.paper.Column.TheVariants as column
 use Rattle.gtfs_tables.specs.declared.paper.Paper.{Paper}
 use Rattle.gtfs_tables.specs.declared.paper.Paper.TheVariants as paper
-use Rattle.desk_settings.specs.Settings.{SettingsView, is_chosen, is_classed}
+use Rattle.desk_settings.specs.Selected.{chosen_in}
+use Rattle.desk_settings.specs.Settings.{SettingsView, is_classed}
 use Rattle.trip_model.specs.Timetable.{TimetableView}
 use Rattle.deadhead_matrix.specs.Matrix.{MatrixView}
 use Rattle.deadhead_matrix.specs.Prices.{Plan}
-use Rattle.block_writer.specs.Fields.{field_at, place_of}
 use Rattle.block_writer.specs.StopTimes.{stop_time_columns, stop_times_written}
 use Rattle.block_writer.specs.Texts.{AreTexts, IsRefusedPaper, IsTextPaper}
 use Rattle.block_writer.specs.Trips.{trips_written}
@@ -40,10 +40,6 @@ abbrev pub trip_columns : SettingsView → List Column
 trip_columns settings =
     if is_classed settings then column.ServiceId ∷ column.TripId ∷ column.BlockId ∷ column.RouteId ∷ []
     else column.ServiceId ∷ column.TripId ∷ column.BlockId ∷ []
-
--- which records of `trips.txt` are selected
-abbrev pub chosen_in : SettingsView → TableView → List Bool
-chosen_in settings trips = map (λ row. is_chosen settings (field_at row (place_of column.ServiceId trips.header))) trips.rows
 
 -- the names of the two files, and the line that is put
 abbrev pub trips_name : List ℕ

@@ -9,7 +9,7 @@ ghost use Rattle.feed_desk.specs.Plans.{most_to};
 ghost use Rattle.written_feed.specs.Write.{Writes, files_of, stop_times_in, trips_in, write_asked};
 ghost use Rattle.written_feed.specs.Writable.{IsWritable, IsWrittenOf};
 
-use crate::judging::{chosen_in, trip_columns};
+use crate::judging::trip_columns;
 use block_build::Blocks;
 use block_writer::{read_texts, stop_times_text, trips_text};
 use deadhead_matrix::{Deadheads, Pulls};
@@ -17,7 +17,7 @@ use desk_feed::{FEED_PAPERS, FeedCommand, OnFeed, matrix_of, refuse};
 use desk_io::{Bytes, Memory, Shelf, Sink, Steps, Text};
 use desk_keeper::Keeper;
 use desk_run::{Outcome, Read, Writing, perform};
-use desk_settings::Settings;
+use desk_settings::{Settings, chosen_in};
 use edit_script::Line;
 use feed_desk::{Drawn, draw_after};
 use gtfs_tables::{FeedFault, Paper, Table};

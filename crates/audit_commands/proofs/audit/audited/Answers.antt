@@ -2,7 +2,7 @@ use Rattle.std.proofs.Common.{◌≡◌, List, [], sym, subst}
 use Rattle.std.specs.Prelude.{IfOk}
 use Rattle.trip_model.specs.Blocking.{IsBlocking}
 use Rattle.trip_model.specs.Timetable.{TimetableView}
-use Rattle.price_check.specs.Claim.{network_of}
+use Rattle.deadhead_matrix.specs.Fitting.{network_of}
 use Rattle.block_audit.specs.Misfits.{misfits_in}
 use Rattle.block_audit.specs.Stated.{NamedBlock, slots_by, stated_in}
 use Rattle.audit_commands.specs.Audit.{IsJudged}

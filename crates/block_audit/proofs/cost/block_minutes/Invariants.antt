@@ -1,6 +1,6 @@
 use Rattle.std.proofs.Common.{◌≡◌, ◌+◌, ◌-◌, ◌≤◌, drop, get_or}
 use Rattle.trip_model.specs.Blocking.{Follow, block_minutes, minutes_after}
-use Rattle.price_check.specs.Claim.{network_of}
+use Rattle.deadhead_matrix.specs.Fitting.{network_of}
 use Rattle.block_audit.proofs.cost.block_minutes.Given as goal
 
 abbrev pub invariant-loop-n : goal.invariant-loop-n

@@ -4,7 +4,7 @@ use Rattle.trip_model.specs.Blocking.{IsBlock, block_minutes}
 use Rattle.trip_model.specs.Plain.{trip_moves, move_of_slot}
 use Rattle.trip_model.specs.Timetable.{slot_at}
 use Rattle.trip_model.proofs.OrderLemmas.{slot-live}
-use Rattle.price_check.specs.Claim.{network_of}
+use Rattle.deadhead_matrix.specs.Fitting.{network_of}
 use Rattle.block_build.proofs.CostLemmas.{block-live, block-made, minutes-few, minutes-from}
 use Rattle.block_audit.specs.Stated.{NamedBlock, slots_by}
 use Rattle.block_audit.proofs.StepsLemmas.{slots-at}

@@ -1,6 +1,6 @@
 use Rattle.std.proofs.Common.{◌≡◌, ◌+◌, drop}
 use Rattle.trip_model.specs.Blocking.{empty_minutes}
-use Rattle.price_check.specs.Claim.{network_of}
+use Rattle.deadhead_matrix.specs.Fitting.{network_of}
 use Rattle.block_audit.specs.Stated.{slots_by}
 use Rattle.block_audit.proofs.cost.stated_cost.Given as goal
 

@@ -1,7 +1,7 @@
 use Rattle.std.proofs.Common.{◌≡◌, ◌+◌, ◌-◌, ◌++◌, [], ◌∷◌, cond, false, get_or, sym, ap, subst, ◌∙◌, arith}
 use Rattle.std.specs.Str.{IsUtf8}
 use Rattle.gtfs_tables.specs.declared.paper.Column.TheVariants as column
-use Rattle.block_writer.specs.Fields.{field_at, place_of}
+use Rattle.gtfs_tables.specs.Reading.{field_at, place_of}
 use Rattle.block_audit.specs.Stated.{block_field}
 use Rattle.block_audit.proofs.StepsLemmas.{passing-more}
 use Rattle.block_audit.proofs.names.names_in.Goals as goal

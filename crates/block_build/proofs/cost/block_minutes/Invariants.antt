@@ -1,12 +1,11 @@
 use Rattle.std.proofs.Common.{◌≡◌, ◌+◌, ◌-◌, ◌≤◌, drop, get_or}
-use Rattle.deadhead_matrix.specs.Fitting.{deadhead_network}
+use Rattle.deadhead_matrix.specs.Fitting.{network_of}
 use Rattle.trip_model.specs.Blocking.{Follow, block_minutes, minutes_after}
-use Rattle.trip_model.specs.Plain.{trip_moves}
 use Rattle.block_build.proofs.cost.block_minutes.Given as goal
 
 abbrev pub invariant-loop-n : goal.invariant-loop-n
 invariant-loop-n l =
-    let network = deadhead_network (trip_moves l.timetable.slots) l.matrix in
+    let network = network_of l.timetable l.matrix in
     record {
       begun : 1 ≤ l.n;
       follow : Follow network (get_or l.block (l.n - 1) 0) (drop l.n l.block);

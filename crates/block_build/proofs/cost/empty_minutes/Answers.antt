@@ -1,6 +1,6 @@
 use Rattle.std.proofs.Common.{◌<◌, ℕ, List, [], get_or, length, sym, ap, ◌∙◌, arith}
 use Rattle.std.proofs.lemmas.List.{length-map}
-use Rattle.deadhead_matrix.specs.Fitting.{deadhead_network}
+use Rattle.deadhead_matrix.specs.Fitting.{deadhead_network, network_of}
 use Rattle.trip_model.specs.Blocking.{block_minutes}
 use Rattle.trip_model.specs.Plain.{trip_moves, move_of_slot}
 use Rattle.trip_model.specs.Timetable.{slot_at}
@@ -11,7 +11,7 @@ use Rattle.block_build.proofs.cost.empty_minutes.Goals as goal
 pub block_minutes-minutes-requires-clause-live : goal.block_minutes-minutes-requires-clause-live
 block_minutes-minutes-requires-clause-live c = λ k d h.
     let t = c.args.timetable.now in
-    let network = deadhead_network (trip_moves t.slots) c.args.matrix.now in
+    let network = network_of t c.args.matrix.now in
     let block = ap (λ (xs : List ℕ). get_or xs k d) c.block.ensures in
     let within : k < length (get_or c.args.blocks.now c.loop-number.number []) = omega (arith, h, ap length c.block.ensures) in
     ap (λ s. (slot_at t s).trip.live) block

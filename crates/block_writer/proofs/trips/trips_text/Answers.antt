@@ -2,7 +2,7 @@ use Rattle.std.proofs.Common.{length, ap, ◌∙◌, arith}
 use Rattle.block_build.proofs.FilesWritten.{if-text}
 use Rattle.gtfs_tables.specs.Writing.{record_text}
 use Rattle.gtfs_tables.specs.declared.paper.Column.TheVariants as column
-use Rattle.block_writer.specs.Fields.{place_of}
+use Rattle.gtfs_tables.specs.Reading.{place_of}
 use Rattle.block_writer.specs.Trips.{header_written}
 use Rattle.block_writer.proofs.FieldsWritten.{row-text}
 use Rattle.block_writer.proofs.Numbered.{numbers-count}

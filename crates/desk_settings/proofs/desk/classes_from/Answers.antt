@@ -2,7 +2,7 @@ use Rattle.std.proofs.Common.{◌≡◌, ◌∷◌, ◌++◌, [], sym, ap, subst
 use Rattle.std.specs.List.Sorted.{IsStrictlySortedBy}
 use Rattle.std.proofs.lemmas.Grind.{common_steps}
 use Rattle.toml.specs.View.{members_view}
-use Rattle.desk_settings.specs.Entries.{Name}
+use Rattle.gtfs_tables.specs.Entries.{Name}
 use Rattle.desk_settings.specs.Desk.{class_in, entries_from}
 use Rattle.desk_settings.proofs.DeskLemmas.{AreNew, AreNew-none, AreNew-push, entries_go_on}
 use Rattle.desk_settings.proofs.desk.classes_from.Goals as goal

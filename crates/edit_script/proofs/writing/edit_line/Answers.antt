@@ -1,11 +1,8 @@
-use Rattle.edit_script.proofs.LinesWritten.{two-texts, three-texts, six-texts}
+use Rattle.edit_script.proofs.LinesWritten.{two-texts, six-texts}
 use Rattle.edit_script.proofs.writing.edit_line.Goals as goal
 
 pub record_line-requires : goal.record_line-requires
-record_line-requires c = three-texts c.as_bytes.result.now c.as_bytes-in-Shift.result.now c.as_bytes-in-Shift-2.result.now c.as_bytes.ensures.utf8 c.as_bytes-in-Shift.ensures.utf8 c.as_bytes-in-Shift-2.ensures.utf8
-
-pub record_line-requires-in-Cancel : goal.record_line-requires-in-Cancel
-record_line-requires-in-Cancel c = two-texts c.as_bytes-in-Cancel.result.now c.as_bytes-in-Cancel-2.result.now c.as_bytes-in-Cancel.ensures.utf8 c.as_bytes-in-Cancel-2.ensures.utf8
+record_line-requires c = two-texts c.as_bytes.result.now c.as_bytes-in-Cancel.result.now c.as_bytes.ensures.utf8 c.as_bytes-in-Cancel.ensures.utf8
 
 pub record_line-requires-in-Restore : goal.record_line-requires-in-Restore
 record_line-requires-in-Restore c = two-texts c.as_bytes-in-Restore.result.now c.as_bytes-in-Restore-2.result.now c.as_bytes-in-Restore.ensures.utf8 c.as_bytes-in-Restore-2.ensures.utf8

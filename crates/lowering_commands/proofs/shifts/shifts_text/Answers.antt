@@ -1,9 +1,11 @@
 use Rattle.std.proofs.Common.{◌≡◌, ◌≤◌, ◌++◌, length, Ok, sym, ap, subst, ◌∙◌, arith}
 use Rattle.std.specs.Prelude.{codes, string_bytes}
 use Rattle.std.proofs.lemmas.List.{append_assoc}
+use Rattle.trip_model.specs.Deficit.{live_moves}
 use Rattle.trip_model.specs.Timetable.{TimetableView}
 use Rattle.lowering_commands.specs.Fleet.{total_line}
 use Rattle.lowering_commands.specs.Shifts.{IsShiftsText, shift_line, steps_of_search}
+use Rattle.lowering_commands.proofs.FleetLemmas.{fleet-few, live-few}
 use Rattle.lowering_commands.proofs.ShiftsLemmas.{no-shift, shift-before, sum-falls, times-le, times-more, times-next}
 use Rattle.lowering_commands.proofs.shifts.shifts_text.Goals as goal
 
@@ -14,7 +16,8 @@ loop-text-init g c =
     let same = c.in_ok-moved.ensures in
     let slots = ap (λ (t : TimetableView). length t.slots) same in
     let sum = c.in_ok-sum.sum in
-    let few : sum ≤ n = omega (arith, c.in_ok-sum.ensures.few, slots) in
+    let moved = c.in_ok-moved.moved in
+    let few : sum ≤ n = omega (arith, fleet-few (live_moves moved.slots) (length moved.places) sum c.in_ok-sum.ensures.sum, live-few moved.slots, slots) in
     record {
       slots = slots;
       sum = c.in_ok-sum.ensures.sum;
@@ -31,7 +34,7 @@ returns-in_err-put_next-clause-counted g c =
 pub returns-in_err-sum-2-clause-counted : goal.returns-in_err-sum-2-clause-counted
 returns-in_err-sum-2-clause-counted g c =
     let n = length c.args.timetable.now.slots in
-    omega (arith, c.loop-text.invariant.counted, c.in_ok-put_next.ensures.counted, c.in_ok-put_next.ensures.slots, c.loop-text.invariant.slots, c.sum_of-in-loop-text.ensures.counted, times-next (steps_of_search n) n)
+    omega (arith, c.loop-text.invariant.counted, c.in_ok-put_next.ensures.counted, c.in_ok-put_next.ensures.slots, c.loop-text.invariant.slots, c.fixed_of-in-loop-text.ensures.counted, times-next (steps_of_search n) n)
 
 pub loop-text-smaller : goal.loop-text-smaller
 loop-text-smaller g c =

@@ -1,6 +1,6 @@
 use Rattle.std.proofs.Common.{◌≡◌, ◌+◌, ◌*◌, ◌≤◌, ◌++◌, ℕ, List, length, pos}
 use Rattle.std.specs.Prelude.{string_bytes}
-use Rattle.shift_moves.specs.Lowering.{deficit_sum}
+use Rattle.trip_model.specs.Fleet.{deficit_sum}
 use Rattle.lowering_commands.specs.Shifts.{IsShiftsText, steps_of_search}
 use Rattle.lowering_commands.proofs.shifts.shifts_text.Given as goal
 

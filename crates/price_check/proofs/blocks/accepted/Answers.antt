@@ -3,7 +3,8 @@ use Rattle.std.specs.Prelude.{IsSome}
 use Rattle.std.proofs.lemmas.List.{length-map, get_or_read, drop_all}
 use Rattle.price_check.specs.declared.claim.BlockRow.{BlockRow}
 use Rattle.price_check.specs.declared.verdict.Verdict.TheVariants.{Yes}
-use Rattle.price_check.specs.Claim.{block_row, begin_with, slot_before, blocks_in, network_of}
+use Rattle.deadhead_matrix.specs.Fitting.{network_of}
+use Rattle.price_check.specs.Claim.{block_row, begin_with, slot_before, blocks_in}
 use Rattle.price_check.specs.Reasons.{minutes_before}
 use Rattle.price_check.proofs.CostLemmas.{minutes_of, names-known, minutes-next, blocks-next, minutes_of-blocks}
 use Rattle.price_check.proofs.RowLemmas.{named-map}

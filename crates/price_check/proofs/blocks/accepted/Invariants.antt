@@ -1,5 +1,6 @@
 use Rattle.std.proofs.Common.{◌≡◌, ◌+◌, ◌*◌, ◌≤◌, length, drop, None}
-use Rattle.price_check.specs.Claim.{network_of, slot_before, blocks_in}
+use Rattle.deadhead_matrix.specs.Fitting.{network_of}
+use Rattle.price_check.specs.Claim.{slot_before, blocks_in}
 use Rattle.price_check.proofs.CostLemmas.{minutes_of}
 use Rattle.price_check.proofs.blocks.accepted.Given as goal
 

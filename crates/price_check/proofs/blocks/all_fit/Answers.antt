@@ -2,7 +2,7 @@ use Rattle.std.proofs.Common.{◌+◌, not, sym, ap, ◌∙◌}
 use Rattle.std.specs.Bool.{then_some}
 use Rattle.std.proofs.lemmas.List.{get_or_read}
 use Rattle.price_check.specs.declared.verdict.Reason.TheVariants.{NotFit}
-use Rattle.price_check.specs.Claim.{network_of}
+use Rattle.deadhead_matrix.specs.Fitting.{network_of}
 use Rattle.price_check.specs.Reasons.{fit}
 use Rattle.price_check.proofs.First.{none_first, found_first}
 use Rattle.price_check.proofs.blocks.all_fit.Goals as goal

@@ -1,4 +1,4 @@
-use Rattle.price_check.specs.Claim.{network_of}
+use Rattle.deadhead_matrix.specs.Fitting.{network_of}
 use Rattle.price_check.specs.Reasons.{differing}
 use Rattle.price_check.proofs.First.{NoneBelow}
 use Rattle.price_check.proofs.blocks.all_shown.Given as goal

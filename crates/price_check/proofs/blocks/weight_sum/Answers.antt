@@ -2,7 +2,7 @@ use Rattle.std.proofs.Common.{◌≡◌, ◌+◌, length, ap, ◌∙◌, sym, ar
 use Rattle.std.proofs.lemmas.List.{get_or_read}
 use Rattle.trip_model.proofs.Counting.{sum_below}
 use Rattle.deadhead_matrix.proofs.Duality.{sum_by-range}
-use Rattle.price_check.specs.Claim.{network_of}
+use Rattle.deadhead_matrix.specs.Fitting.{network_of}
 use Rattle.price_check.specs.Reasons.{link_weight, weight_before}
 use Rattle.price_check.proofs.CostLemmas.{sum_below-more}
 use Rattle.price_check.proofs.blocks.weight_sum.Goals as goal

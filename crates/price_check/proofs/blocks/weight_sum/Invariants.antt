@@ -1,6 +1,6 @@
 use Rattle.std.proofs.Common.{◌≡◌, ◌*◌, ◌≤◌}
 use Rattle.trip_model.proofs.Counting.{sum_below}
-use Rattle.price_check.specs.Claim.{network_of}
+use Rattle.deadhead_matrix.specs.Fitting.{network_of}
 use Rattle.price_check.specs.Reasons.{weight_before}
 use Rattle.price_check.proofs.blocks.weight_sum.Given as goal
 

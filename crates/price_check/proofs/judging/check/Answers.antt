@@ -1,6 +1,7 @@
 use Rattle.std.proofs.Common.{sym, subst}
 use Rattle.trip_model.specs.Blocking.{IsLeast}
-use Rattle.price_check.specs.Claim.{blocks_in, network_of}
+use Rattle.deadhead_matrix.specs.Fitting.{network_of}
+use Rattle.price_check.specs.Claim.{blocks_in}
 use Rattle.price_check.specs.Reasons.{OnYes}
 use Rattle.price_check.proofs.CertificateLemmas.{certificate-from}
 use Rattle.price_check.proofs.LeastLemmas.{certificate-least}

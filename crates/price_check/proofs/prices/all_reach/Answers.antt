@@ -1,7 +1,7 @@
 use Rattle.std.proofs.Common.{length, ap, ◌∙◌}
 use Rattle.std.proofs.lemmas.List.{get_or_read}
 use Rattle.std.proofs.lemmas.Result.{err_from_is_err_and}
-use Rattle.price_check.specs.Claim.{network_of}
+use Rattle.deadhead_matrix.specs.Fitting.{network_of}
 use Rattle.price_check.specs.Reasons.{low_from}
 use Rattle.price_check.proofs.First.{none_first, found_first}
 use Rattle.price_check.proofs.prices.all_reach.Goals as goal

@@ -1,4 +1,5 @@
-use Rattle.price_check.specs.Claim.{network_of, price_row}
+use Rattle.deadhead_matrix.specs.Fitting.{network_of}
+use Rattle.price_check.specs.Claim.{price_row}
 use Rattle.price_check.specs.Reasons.{low_from}
 use Rattle.price_check.proofs.First.{NoneBelow}
 use Rattle.price_check.proofs.prices.all_reach.Given as goal

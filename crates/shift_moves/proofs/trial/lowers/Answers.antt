@@ -2,7 +2,7 @@ use Rattle.std.proofs.Common.{refl, subst, ◌∙◌, arith}
 use Rattle.std.proofs.lemmas.Bool.{ltb-true, lt-ltb}
 use Rattle.std.proofs.lemmas.Int.{to_z-of_z}
 use Rattle.trip_model.specs.Deficit.{live_moves}
-use Rattle.shift_moves.specs.Lowering.{with_shift}
+use Rattle.trip_model.specs.Fleet.{with_shift}
 use Rattle.shift_moves.specs.Trial.{AreSwapped}
 use Rattle.shift_moves.proofs.Counting.{lower-read}
 use Rattle.shift_moves.proofs.Holding.{AreSwapped-back, HoldsAmong-replaced, HoldsAmong-swapped, Holds-swapped, same-held}

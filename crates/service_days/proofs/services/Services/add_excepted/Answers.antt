@@ -1,6 +1,6 @@
 use Rattle.std.proofs.Common.{◌≡◌, option_map, slice_get, Some, sym, ap, ◌∙◌}
 use Rattle.std.specs.BTreeSet.{BTreeSet}
-use Rattle.service_days.specs.Calendar.{Name}
+use Rattle.gtfs_tables.specs.Entries.{Name}
 use Rattle.service_days.specs.CalendarDates.{ServiceDate}
 use Rattle.service_days.specs.Services.{ServicesView, with_excepted, with_running}
 use Rattle.service_days.proofs.RunningLemmas.{not_of-date, of-date}

@@ -1,5 +1,5 @@
-use Rattle.desk_settings.proofs.EntriesLemmas.{pushed}
-use Rattle.desk_settings.proofs.entries.Entries.push.Goals as goal
+use Rattle.gtfs_tables.proofs.EntriesLemmas.{pushed}
+use Rattle.gtfs_tables.proofs.entries.Entries.push.Goals as goal
 
 pub returns-clause-pushed : goal.returns-clause-pushed
 returns-clause-pushed g c =

@@ -1,23 +1,23 @@
-ghost use Rattle.std.specs.Prelude.{◌≡◌, [], ◌∷◌, ◌++◌, false, length, OnOk, OnErr};
+ghost use Rattle.std.specs.Prelude.{◌≡◌, ◌<◌, [], ◌∷◌, ◌++◌, false, length, option_map, slice_get, Some, OnOk, OnErr};
 ghost use Rattle.std.specs.Option.{option_copied};
 ghost use Rattle.gtfs_tables.specs.Reading.{Gives};
-ghost use Rattle.desk_settings.specs.Entries.{value_of, has_name, with_record};
+ghost use Rattle.gtfs_tables.specs.Entries.{value_of, has_name, with_record};
 
+use crate::{FeedFault, Paper};
 use desk_io::Memory;
-use gtfs_tables::{FeedFault, Paper};
 use indexmap::IndexMap;
 use std::alloc::Global;
 use std::marker::Model;
 
 /// Names with a value each, in the order in which a file names them; a name is found without going over the others.
 #[derive(Drop)]
-pub(crate) struct Entries<V> {
+pub struct Entries<V> {
     map: IndexMap<String, V>,
 }
 
 impl<V> Model for Entries<V> {
     ghost use Rattle.std.specs.Prelude.{List, ℕ};
-    ghost use Rattle.desk_settings.specs.Entries.{entries_of};
+    ghost use Rattle.gtfs_tables.specs.Entries.{entries_of};
 
     ghost Value = { List (List ℕ × V) };
 
@@ -26,7 +26,7 @@ impl<V> Model for Entries<V> {
 
 impl<V> Entries<V> {
     /// No names.
-    pub(crate) fn new(alloc: Global) -> Entries<V>
+    pub fn new(alloc: Global) -> Entries<V>
         ensures { result ≡ [] }
     {
         Entries {
@@ -35,33 +35,42 @@ impl<V> Entries<V> {
     }
 
     /// The allocator of the entries.
-    pub(crate) fn allocator(&self) -> Global {
+    pub fn allocator(&self) -> Global {
         *self.map.allocator()
     }
 
     /// How many names there are.
-    pub(crate) fn len(&self) -> usize
+    pub fn len(&self) -> usize
         ensures { result ≡ length self.now }
     {
         self.map.len()
     }
 
+    /// The name of that number, from 0.
+    pub fn name(&self, number: usize) -> &str
+        requires { number < length self.now }
+        ensures { option_map (λ entry. entry.0) (slice_get self.now number) ≡ Some result.now }
+    {
+        let (name, _) = self.map.get_index(number).unwrap();
+        name.as_str()
+    }
+
     /// The value of a name.
-    pub(crate) fn find(&self, name: &str) -> Option<&V>
+    pub fn find(&self, name: &str) -> Option<&V>
         ensures { option_copied result ≡ value_of name.now self.now }
     {
         self.map.get(name)
     }
 
     /// Whether the name has a value.
-    pub(crate) fn has(&self, name: &str) -> bool
+    pub fn has(&self, name: &str) -> bool
         ensures { result ≡ has_name name.now self.now }
     {
         self.find(name).is_some()
     }
 
     /// Appends a new name with its value.
-    pub(crate) fn push(&mut self, name: &str, value: V) -> Result<(), Memory>
+    pub fn push(&mut self, name: &str, value: V) -> Result<(), Memory>
     where
         V: Drop,
         requires { has_name name.now self.old ≡ false }
@@ -73,8 +82,8 @@ impl<V> Entries<V> {
         Ok(())
     }
 
-    /// Appends the name of a record with its value, where it is new.
-    pub(crate) fn add_record(
+    /// Appends the name of a record with its value, which no earlier record may have.
+    pub fn add_record(
         &mut self,
         paper: Paper,
         number: u32,
@@ -83,7 +92,9 @@ impl<V> Entries<V> {
     ) -> Result<(), FeedFault>
     where
         V: Drop,
-        ensures { Gives (λ _. self.new) result (with_record paper number self.old (name.now, value)) }
+        ensures gives { Gives (λ _. self.new) result (with_record paper number self.old (name.now, value)) }
+        ensures added { OnOk result (self.new ≡ self.old ++ (name.now, value) ∷ []) }
+        ensures err { OnErr result (self.new ≡ self.old) }
     {
         if self.has(name) {
             return Err(FeedFault::DuplicateRow(paper, number));

@@ -1,7 +1,7 @@
 use Rattle.std.proofs.Common.{ap, ◌∙◌}
 use Rattle.trip_model.specs.Deficit.{deficit, live_moves}
 use Rattle.trip_model.specs.Maximum.{sum_of_maxima}
-use Rattle.feed_schedule.proofs.schedule.fixed_of.Goals as goal
+use Rattle.deficit_steps.proofs.trips.fixed_of.Goals as goal
 
 pub returns-clause-sum : goal.returns-clause-sum
 returns-clause-sum g c =

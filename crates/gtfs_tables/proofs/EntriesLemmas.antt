@@ -6,7 +6,7 @@ use Rattle.std.specs.Str.{bytes_eq}
 use Rattle.std.proofs.lemmas.List.{map-append}
 use Rattle.indexmap.specs.IndexMap.{IndexMap, insert_entry}
 use Rattle.indexmap.proofs.CallerLemmas.{insert_entry-new}
-use Rattle.desk_settings.specs.Entries.{Name, Entries, value_of, has_name, entries_of}
+use Rattle.gtfs_tables.specs.Entries.{Name, Entries, value_of, has_name, entries_of}
 
 -- a name has the value that the map finds
 pub value_of-entries_of : {X Y : Type 0} (name : Name) (es : List (String Y × X)) → value_of name (entries_of es) ≡ lookup (λ k. bytes_eq name (string_bytes k)) es

@@ -1,6 +1,6 @@
 use Rattle.std.proofs.Common.{◌≡◌, map, take}
-use Rattle.audit_commands.specs.Audit.{is_selected}
-use Rattle.audit_commands.proofs.judging.chosen_in.Given as goal
+use Rattle.desk_settings.specs.Selected.{is_selected}
+use Rattle.desk_settings.proofs.selected.chosen_in.Given as goal
 
 abbrev pub invariant-loop-before : goal.invariant-loop-before
 invariant-loop-before l = l.chosen.items ≡ map (is_selected l.settings l.place) (take l.before l.trips.rows)
