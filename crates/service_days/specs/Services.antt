@@ -1,5 +1,5 @@
 -- The services that run on a date.
-use Rattle.std.specs.Prelude.{ℕ, ◌==◌, Bool, true, false, ◌&&◌, not, List, [], fold, Option, Some, None, Result, Ok, Contains, IsTrue, ◌↔◌, if◌then◌else◌}
+use Rattle.std.specs.Prelude.{◌≡◌, ℕ, ◌==◌, Bool, true, false, ◌&&◌, not, List, [], fold, Option, Some, None, Result, Ok, Contains, IsTrue, ◌↔◌, if◌then◌else◌}
 use Rattle.std.specs.BTreeSet.{insert_key}
 use Rattle.std.specs.Cmp.Lexicographic.{slice_cmp}
 use Rattle.std.specs.List.Sorted.{IsStrictlySortedBy}
@@ -76,3 +76,9 @@ services_on services date = excepted_on services date (scheduled_on services dat
 -- those of the two files
 abbrev pub services_running : ℕ → Found → Found → Result (List Name) FeedFault
 services_running date calendar dates = services_of calendar dates >>= λ services. Ok (services_on services date)
+
+-- the services that run on a date by what the two files say
+pub record AreServicesOn (date : ℕ) (calendar dates : Found) (names : List Name) : Type 0 where
+  pub services : ServicesView
+  pub said : services_of calendar dates ≡ Ok services
+  pub running : AreRunning services date names

@@ -1,12 +1,7 @@
 //! Laws of the definitions that the contracts cite. Each is the contract of a function that does nothing.
-ghost use Rattle.service_days.specs.Laws.{DatesAreOfTheCalendar, RunningAreExact};
+ghost use Rattle.service_days.specs.Laws.{DatesAreOfTheCalendar};
 
 /// A number is told to be that of a date exactly where the calendar has its day.
 pub fn date_law()
     ensures { DatesAreOfTheCalendar }
-{}
-
-/// The services that the definition takes in are exactly those that run on the date, each once, in byte order.
-pub fn running_law()
-    ensures { RunningAreExact }
 {}

@@ -136,8 +136,8 @@ impl Services {
     }
 }
 
-/// The services that run on a date, which is an answer of [`crate::read_date`], each once, in byte order; or the first
-/// refusal, of `calendar.txt` and then of `calendar_dates.txt` ([`crate::laws::running_law`]). A file that is not there has no records, but where neither
+/// The services that run on a date, which is an answer of [`crate::read_date`]: exactly these, each once, in byte order; or the
+/// first refusal, of `calendar.txt` and then of `calendar_dates.txt`. A file that is not there has no records, but where neither
 /// is there `calendar.txt` is missing.
 pub fn running(
     alloc: Global,
@@ -148,7 +148,8 @@ pub fn running(
     requires date { IsDateNumber date }
     requires calendar { IsWithinLimit calendar.now }
     requires dates { IsWithinLimit dates.now }
-    ensures { Gives (λ names. names.items) result (spec.services_running date calendar.now dates.now) }
+    ensures gives { Gives (λ names. names.items) result (spec.services_running date calendar.now dates.now) }
+    ensures exact { IfOk result (λ names. spec.AreServicesOn date calendar.now dates.now names.items) }
 {
     let services = Services::read(alloc, calendar, dates)?;
     Ok(services.running(alloc, date)?)
