@@ -66,8 +66,3 @@ base-forward settings trips_found stop_times_found base said =
   where
     IsForward : Slot → Type 0
     IsForward slot = slot.trip.departs < slot.trip.ends
-
-pub after_script-back : spec.FeedAfterScriptReadsBack
-after_script-back settings trips_bytes stop_times_bytes trips stop_times base records chosen blocks prefix trips_are stop_times_are is_trips is_stop_times said =
-    written-back settings trips_bytes stop_times_bytes trips stop_times base (timetable_at base (machine base records)) chosen blocks prefix trips_are stop_times_are is_trips is_stop_times said
-    (standing-follows base records (base-forward settings (File trips_bytes) (File stop_times_bytes) base said))

@@ -33,22 +33,6 @@ WrittenFeedReadsBack =
 abbrev pub StandingFollows : Type 0
 StandingFollows = (base : TimetableView) (records : List Numbered) → AreForward base → Follows base (timetable_at base (machine base records))
 
--- What is written of a feed after its script reads back in the same way, with the trips at the minutes at which they stand
--- then: one that is cancelled as it was published, and none that is an extra.
-abbrev pub FeedAfterScriptReadsBack : Type 0
-FeedAfterScriptReadsBack =
-    (settings : SettingsView) (trips_bytes stop_times_bytes : List ℕ) (trips stop_times : TableView) (base : TimetableView) (records : List Numbered) (chosen : List Bool) (blocks : List (List ℕ)) (prefix : List ℕ)
-    → table_of trips_bytes ≡ Ok trips
-    → table_of stop_times_bytes ≡ Ok stop_times
-    → IsTable trips
-    → IsTable stop_times
-    → base_of settings (File trips_bytes) (File stop_times_bytes) ≡ Ok base
-    → let standing = timetable_at base (machine base records) in
-    AreWritable stop_times standing (length base.slots)
-    → strip_bom (trips_written trips standing chosen blocks prefix) ≡ trips_written trips standing chosen blocks prefix
-    → strip_bom (stop_times_written stop_times standing (length base.slots)) ≡ stop_times_written stop_times standing (length base.slots)
-    → base_of settings (File (trips_written trips standing chosen blocks prefix)) (File (stop_times_written stop_times standing (length base.slots))) ≡ Ok (as_written base standing)
-
 -- times before 99:00:00 can be written wherever their trips stand, since no trip is moved by more than an hour
 abbrev pub EarlyTimesAreWritable : Type 0
 EarlyTimesAreWritable = (table : TableView) (standing : TimetableView) (base : ℕ) → IsTimetable standing → AreEarly table → AreWritable table standing base

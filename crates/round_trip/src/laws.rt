@@ -12,11 +12,6 @@ pub fn follows_law()
     ensures { spec.StandingFollows }
 {}
 
-/// So the two files that are written of a feed after its script read as its timetable with its trips as they stand then.
-pub fn script_law()
-    ensures { spec.FeedAfterScriptReadsBack }
-{}
-
 /// All times can be written where those of the feed are before 99:00:00.
 pub fn early_law()
     ensures { spec.EarlyTimesAreWritable }

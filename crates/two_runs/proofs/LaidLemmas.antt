@@ -17,7 +17,6 @@ use Rattle.gtfs_tables.specs.declared.paper.TheConstants.{MOST_BYTES}
 use Rattle.gtfs_tables.specs.declared.table.TableFault.{TableFault}
 use Rattle.gtfs_tables.proofs.Body.{body-rows}
 use Rattle.gtfs_tables.proofs.CsvRecords.{length-records-le}
-use Rattle.desk_settings.specs.Selected.{chosen_in}
 use Rattle.desk_settings.specs.Settings.{SettingsView, settings_of}
 use Rattle.trip_model.specs.Timetable.{TimetableView}
 use Rattle.edit_script.specs.declared.edit.Line.{Line}
@@ -32,11 +31,9 @@ use Rattle.desk_run.specs.Commands.{IsGiven}
 use Rattle.desk_run.specs.Outcome.{OutcomeView, status_of}
 use Rattle.desk_run.specs.Reading.{ReadView, found_of, pages_in}
 use Rattle.desk_run.specs.declared.status.TheConstants.{EDITS_REFUSED}
-use Rattle.desk_feed.specs.Feed.{Said, deadheads_in, feed_papers, kept_on, lines_by, lines_in, pulls_in, said_by, said_with, settings_in, standing, timetable_in}
+use Rattle.desk_feed.specs.Feed.{Said, deadheads_in, feed_papers, kept_on, lines_by, lines_in, pulls_in, said_by, said_with, settings_in, timetable_in}
 use Rattle.desk_feed.specs.Judging.{Does, refusing, said_in}
-use Rattle.block_writer.specs.StopTimes.{stop_times_written}
-use Rattle.block_writer.specs.Trips.{trips_written}
-use Rattle.written_feed.specs.Write.{IsWritten, Writes, WritesBy, feed_files, files_of, stop_times_in, stop_times_name, trips_in, trips_name, write_asked}
+use Rattle.written_feed.specs.Write.{IsWritten, Writes, WritesBy, feed_files, files_of, stop_times_in, stop_times_name, stop_times_of, trips_in, trips_name, trips_of, write_asked}
 use Rattle.two_runs.specs.Audited.{IsLaid}
 use Rattle.two_runs.proofs.DeadheadsOver.{deadheads-over, slots-kept, with_slots}
 use Rattle.two_runs.proofs.TwoFiles.{first-stands, is_name, others-stand, second-stands, with_two, with_two_told}
@@ -169,13 +166,6 @@ written-said read outcome given low = by (said_in read) refl given.gives
     by : (result : Result Said FeedFault) → said_in read ≡ result → Does (Writes read) result outcome → (said : Said) × (said_in read ≡ Ok said) × HasWritten said (trips_in read) (stop_times_in read) outcome
     by (Ok said) is does = (said, is, has-written said (trips_in read) (stop_times_in read) outcome low does)
     by (Err refused) is does = absurd (refused-high outcome refused low does)
-
--- the texts of the two files
-abbrev pub trips_of : Said → TableView → List (List ℕ) → List ℕ
-trips_of said trips blocks = trips_written trips (standing said) (chosen_in said.settings trips) blocks said.settings.prefix
-
-abbrev pub stop_times_of : Said → TableView → List ℕ
-stop_times_of said stop_times = stop_times_written stop_times (standing said) (length said.base.slots)
 
 -- the files of a shelf with the two, and where the shelf tells them
 abbrev pub with_both : Files → List ℕ → List ℕ → Files

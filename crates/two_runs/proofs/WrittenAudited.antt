@@ -26,12 +26,12 @@ use Rattle.desk_run.specs.declared.status.TheConstants.{EDITS_REFUSED}
 use Rattle.desk_run.proofs.EachStatus.{pages_told}
 use Rattle.desk_feed.specs.Feed.{Said, feed_papers, said_by, said_with}
 use Rattle.desk_feed.specs.Judging.{Does, said_in}
-use Rattle.written_feed.specs.Write.{IsWritten, stop_times_in, stop_times_name, trips_in, trips_name, write_asked}
+use Rattle.written_feed.specs.Write.{IsWritten, stop_times_in, stop_times_name, stop_times_of, trips_in, trips_name, trips_of, write_asked}
 use Rattle.audit_commands.specs.Audit.{AuditsBy, audit_asked}
 use Rattle.two_runs.specs.Audited.{CanBeAudited, FindsLeast, IsLaid, IsReadable, IsWholeAfter}
 use Rattle.two_runs.proofs.AuditedLemmas.{TellsLeast, finds-least, read_again, table_again}
 use Rattle.two_runs.proofs.ConfirmedLemmas.{MakesMoves}
-use Rattle.two_runs.proofs.LaidLemmas.{HasParts, HasWritten, file-of, found-fits, has-parts, is-table, laid-alike, says-again, stop_times-stand, stop_times_of, trips-stand, trips_of, with_both, with_texts, written-files, written-said}
+use Rattle.two_runs.proofs.LaidLemmas.{HasParts, HasWritten, file-of, found-fits, has-parts, is-table, laid-alike, says-again, stop_times-stand, trips-stand, with_both, with_texts, written-files, written-said}
 use Rattle.two_runs.proofs.TwoFiles.{found-short}
 
 -- a readable file that stands is found as it is

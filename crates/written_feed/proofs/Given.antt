@@ -21,6 +21,7 @@ use Rattle.feed_desk.specs.Drawn.{HasDrawn}
 use Rattle.feed_desk.specs.declared.draw.Drawn.{Drawn}
 use Rattle.written_feed.specs.declared.write.Writable.TheVariants.{Texts, Refused}
 use Rattle.written_feed.specs.Writable.{IsWritable, IsWrittenOf}
+use Rattle.written_feed.proofs.ReadAgain.{read-again}
 use Rattle.written_feed.specs.Write.{EndsBy, IsRefusal, IsWritten, Writes, WritesBy, files_of, stop_times_in, trips_in, write_does, written_line}
 
 -- a table with a field that is not UTF-8 is not one of texts
@@ -122,6 +123,7 @@ written-given read said matrix drawn timetable base table text is has same count
       blocks = drawn.blocks;
       drawn = has.plan;
       text = written.text;
+      again = read-again said table second drawn.blocks;
       done = written.done ∙ (λ i. record {
         writes = files_of said.settings (has.timetable i) drawn.blocks table ((made ∙ (λ j. stop_times_written second ((same ∙ has.timetable) j) (count j))) i);
         lines = None;

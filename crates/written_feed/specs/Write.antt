@@ -1,8 +1,10 @@
 -- What `write` asks, and what it writes of a feed.
 use Rattle.std.specs.Prelude.{◌≡◌, ◌⊎◌, ℕ, false, List, [], ◌∷◌, ◌++◌, length, None, Result, Ok, Err, codes, if◌then◌else◌}
 use Rattle.std.specs.Str.{IsUtf8}
+use Rattle.csv.specs.Reading.{strip_bom}
+use Rattle.desk_io.specs.declared.shelf.Found.TheVariants.{File}
 use Rattle.gtfs_tables.specs.Reading.{table_in}
-use Rattle.gtfs_tables.specs.Table.{TableView}
+use Rattle.gtfs_tables.specs.Table.{TableView, IsTable, table_of}
 use Rattle.gtfs_tables.specs.declared.fault.FeedFault.{FeedFault}
 use Rattle.gtfs_tables.specs.declared.paper.Column.{Column}
 use Rattle.gtfs_tables.specs.declared.paper.Column.TheVariants as column
@@ -11,11 +13,13 @@ use Rattle.gtfs_tables.specs.declared.paper.Paper.TheVariants as paper
 use Rattle.desk_settings.specs.Selected.{chosen_in}
 use Rattle.desk_settings.specs.Settings.{SettingsView, is_classed}
 use Rattle.trip_model.specs.Timetable.{TimetableView}
+use Rattle.feed_read.specs.Base.{base_of}
 use Rattle.deadhead_matrix.specs.Matrix.{MatrixView}
 use Rattle.deadhead_matrix.specs.Prices.{Plan}
 use Rattle.block_writer.specs.StopTimes.{stop_time_columns, stop_times_written}
 use Rattle.block_writer.specs.Texts.{AreTexts, IsRefusedPaper, IsTextPaper}
 use Rattle.block_writer.specs.Trips.{trips_written}
+use Rattle.round_trip.specs.Written.{AreWritable, as_written}
 use Rattle.desk_run.specs.Commands.{Asked}
 use Rattle.desk_run.specs.Outcome.{OutcomeView}
 use Rattle.desk_run.specs.Reading.{ReadView, found_of}
@@ -62,8 +66,34 @@ files_of settings timetable blocks trips stop_times =
 abbrev pub feed_files : Said → TableView → TableView → List (List ℕ) → List Writing
 feed_files said trips stop_times blocks = files_of said.settings (standing said) blocks trips (stop_times_written stop_times (standing said) (length said.base.slots))
 
--- The files are those of the blocks of the plan after the script, and their names begin with a text; and the lines of refused
--- records are put, and then that the files were written.
+-- the texts of the two files of a feed and of blocks
+abbrev pub trips_of : Said → TableView → List (List ℕ) → List ℕ
+trips_of said trips blocks = trips_written trips (standing said) (chosen_in said.settings trips) blocks said.settings.prefix
+
+abbrev pub stop_times_of : Said → TableView → List ℕ
+stop_times_of said stop_times = stop_times_written stop_times (standing said) (length said.base.slots)
+
+-- two files are read as these tables, and as a timetable with the trips of a feed
+pub record AreReadAs (said : Said) (trips_bytes stop_times_bytes : List ℕ) (trips stop_times : TableView) (base : TimetableView) : Type 0 where
+  pub trips_are : table_of trips_bytes ≡ Ok trips
+  pub stop_times_are : table_of stop_times_bytes ≡ Ok stop_times
+  pub trips_table : IsTable trips
+  pub stop_times_table : IsTable stop_times
+  pub read : base_of said.settings (File trips_bytes) (File stop_times_bytes) ≡ Ok base
+  pub slots : base.slots ≡ said.base.slots
+
+-- The two written files, read again in the place of these, say the same timetable, with each trip that runs at its minutes after
+-- the script. Neither file may begin with a byte-order mark, and no time may be moved to 100:00:00 or later.
+abbrev pub AreReadAgain : Said → TableView → TableView → List (List ℕ) → Type 0
+AreReadAgain said trips stop_times blocks =
+    (trips_bytes stop_times_bytes : List ℕ) (base : TimetableView) → AreReadAs said trips_bytes stop_times_bytes trips stop_times base
+    → AreWritable stop_times (standing said) (length said.base.slots)
+    → strip_bom (trips_of said trips blocks) ≡ trips_of said trips blocks
+    → strip_bom (stop_times_of said stop_times) ≡ stop_times_of said stop_times
+    → base_of said.settings (File (trips_of said trips blocks)) (File (stop_times_of said stop_times)) ≡ Ok (as_written base (standing said))
+
+-- The files are those of the blocks of the plan after the script, and their names begin with a text; they are read again as the
+-- feed; and the lines of refused records are put, and then that the files were written.
 pub record IsWritten (said : Said) (trips stop_times : TableView) (outcome : OutcomeView) : Type 0 where
   pub matrix : MatrixView
   pub matrix_is : IsMatrixFor said matrix
@@ -71,6 +101,7 @@ pub record IsWritten (said : Said) (trips stop_times : TableView) (outcome : Out
   pub blocks : List (List ℕ)
   pub drawn : IsDrawn said.base said.lines matrix plan blocks
   pub text : IsUtf8 said.settings.prefix
+  pub again : AreReadAgain said trips stop_times blocks
   pub done : outcome ≡ record { writes = feed_files said trips stop_times blocks; lines = None; text = refused_of said ++ written_line; ending = ending_of said }
 
 -- the refusal of a paper is told
