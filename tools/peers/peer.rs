@@ -39,7 +39,7 @@ fn seconds(field: &[u8]) -> Option<u32> {
     Some(3600 * parts[0] + 60 * parts[1] + parts[2])
 }
 
-/// The settings of tools/make_city, as it writes them: services, the layover, and those of single terminals.
+/// The settings of the city of tools/make_feeds, as it writes them: services, the layover, and those of single terminals.
 fn settings(folder: &str) -> (HashSet<String>, u32, HashMap<String, u32>) {
     let desk = read_to_string(format!("{folder}/desk.toml")).unwrap();
     let line = |key: &str| desk.lines().find_map(|line| line.strip_prefix(key)).unwrap().to_string();
