@@ -22,7 +22,7 @@ def at_least(least: int) -> Callable[[str], int]:
     return number
 
 
-def folder(text: str) -> pathlib.Path:
+def folder_to_fill(text: str) -> pathlib.Path:
     """A folder that is there, or that can be made."""
     path = pathlib.Path(text)
     if path.exists() and not path.is_dir():
@@ -30,7 +30,7 @@ def folder(text: str) -> pathlib.Path:
     return path
 
 
-def file(text: str) -> pathlib.Path:
+def existing_file(text: str) -> pathlib.Path:
     """A file that is there."""
     path = pathlib.Path(text)
     if not path.is_file():
