@@ -1,12 +1,30 @@
-"""Blockdesk's questions answered with pandas, numpy and scipy: peer.py deficits|fixed|walks|plan|check FEED.
+"""Answers blockdesk's questions with pandas, numpy and scipy. tools/bench calls it.
 
-It puts the seconds of the step alone, after the feed was read where it is not reading that counts, and then the answer as
-blockdesk puts it.
+It puts the seconds of the step alone, and then the answer as blockdesk puts it. Only the seconds of `deficits` have the reading
+of the feed in them.
+
+Example: python3 tools/peers/peer.py plan /tmp/peaks
 """
+import argparse
 import pathlib
-import sys
 import time
 import tomllib
+
+
+def read_words() -> argparse.Namespace:
+    """The command and the folder of the feed."""
+    parser = argparse.ArgumentParser(prog="tools/peers/peer.py", description=__doc__,
+                                     formatter_class=argparse.RawDescriptionHelpFormatter)
+    parser.add_argument("command", choices=["deficits", "fixed", "walks", "plan", "check"], help="the question")
+    parser.add_argument("feed", metavar="FEED", type=pathlib.Path, help="the folder of the feed")
+    told = parser.parse_args()
+    if not told.feed.is_dir():
+        parser.error(f"{told.feed} is no folder")
+    return told
+
+
+# The words are read before the libraries are sought, which --help does not need.
+TOLD = read_words() if __name__ == "__main__" else None
 
 import numpy as np
 import pandas as pd
@@ -134,5 +152,5 @@ def main(command, folder):
     print(took, answer, sep="\n")
 
 
-if __name__ == "__main__":
-    main(sys.argv[1], pathlib.Path(sys.argv[2]))
+if TOLD:
+    main(TOLD.command, TOLD.feed)

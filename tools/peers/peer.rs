@@ -1,9 +1,17 @@
-//! What blockdesk does of a feed's two files, by hand over Rust's csv crate: `peer deficits FEED` puts the sum of the maxima of
-//! the deficit functions, and `peer write FEED FOLDER` writes both files again, with the blocks of FEED/blocks.csv. Each file is
-//! read by one record that is used again.
+//! What blockdesk does of a feed's two files, by hand over Rust's csv crate. tools/bench builds and calls it. Each file is read by
+//! one record that is used again.
 use csv::{ByteRecord, Reader, ReaderBuilder, Writer};
 use std::collections::{BTreeMap, HashMap, HashSet};
 use std::fs::{File, read_to_string};
+
+const HELP: &str = "\
+usage: peer deficits FEED | peer write FEED FOLDER
+
+deficits puts the sum of the maxima of the deficit functions. write writes both files of a feed into a folder, with the blocks
+of FEED/blocks.csv.
+
+Example: peer deficits /tmp/city
+";
 
 struct End {
     sequence: u64,
@@ -39,7 +47,7 @@ fn seconds(field: &[u8]) -> Option<u32> {
     Some(3600 * parts[0] + 60 * parts[1] + parts[2])
 }
 
-/// The settings of tools/make_city, as it writes them: services, the layover, and those of single terminals.
+/// The settings of the city of tools/make_feeds, as it writes them: services, the layover, and those of single terminals.
 fn settings(folder: &str) -> (HashSet<String>, u32, HashMap<String, u32>) {
     let desk = read_to_string(format!("{folder}/desk.toml")).unwrap();
     let line = |key: &str| desk.lines().find_map(|line| line.strip_prefix(key)).unwrap().to_string();
@@ -145,9 +153,14 @@ fn write(folder: &str, to: &str) {
 }
 
 fn main() {
-    let words: Vec<String> = std::env::args().collect();
-    match words[1].as_str() {
-        "deficits" => deficits(&words[2]),
-        _ => write(&words[2], &words[3]),
+    let words: Vec<String> = std::env::args().skip(1).collect();
+    match words.iter().map(String::as_str).collect::<Vec<_>>()[..] {
+        ["--help"] => print!("{HELP}"),
+        ["deficits", folder] => deficits(folder),
+        ["write", folder, to] => write(folder, to),
+        _ => {
+            eprintln!("{}", HELP.lines().next().unwrap());
+            std::process::exit(2);
+        }
     }
 }

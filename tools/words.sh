@@ -1,0 +1,16 @@
+# What the scripts of bash in this folder have alike in reading their words. They source it.
+#
+# A script's head says what it does, and has its usage line. --help prints the head, and does nothing else.
+
+# Ends with the usage line of the script.
+refuse_words() {
+    sed -n 's/^# \(usage: .*\)/\1/p' "$0" >&2
+    exit 2
+}
+
+for word; do
+    if [ "$word" = --help ] || [ "$word" = -h ]; then
+        sed -n -e 1d -e '/^#/!q' -e 's/^# \{0,1\}//p' "$0"
+        exit
+    fi
+done
