@@ -13,6 +13,7 @@ from desk.hints_forms import COMMANDS
 from desk.hints_machine import keeper_hints, read_hints, write_hints
 from desk.hints_refusals import refusal_hints
 from desk.hints_scripts import script_hints
+from desk.keeping import compared
 from desk.limits import MOST_TRIPS
 from desk.town import Town
 
@@ -32,6 +33,23 @@ def hints_of(command: str, words: Sequence[str], status: int, text: str) -> list
         return _hints(command, Town(words[0]), status, text)
     except (DeskError, OSError):
         return []
+
+
+def hints_before(command: str, words: Sequence[str]) -> list[str]:
+    """What is said once a run has succeeded and cannot be found after it: what `kept` writes over."""
+    if command != "kept" or len(words) != 1 or not Path(words[0]).is_dir():
+        return []
+    town, hints = Town(words[0]), []
+    try:
+        if not town.path("journal.db").exists():
+            hints.append(f"there was no journal in {town.folder}. `kept` has made an empty one and an empty edits.csv. `keep` fills a journal.")
+        gone = compared(town)[1] if town.has("edits.csv") else []
+        if gone:
+            edits = "1 edit" if len(gone) == 1 else f"{len(gone)} edits"
+            hints.append(f"edits.csv had {edits} that the journal does not have, from record {gone[0]} on. `kept` has written over them.")
+    except (DeskError, OSError):
+        return []
+    return hints
 
 
 def _hints(command: str, town: Town, status: int, text: str) -> list[str]:

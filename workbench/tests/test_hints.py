@@ -11,7 +11,7 @@ from pathlib import Path
 from unittest import mock
 
 from desk import program
-from desk.hints import hints_of
+from desk.hints import hints_before, hints_of
 from desk.hints_edits import wrong
 from desk.hints_machine import read_hints, write_hints
 from tests.feeds import Feed, FolderTest, needs_program, table, write_feed, zip_feed
@@ -411,6 +411,30 @@ class TestJournals(HintsTest):
         self.make("CREATE TABLE journal(seq INTEGER PRIMARY KEY, line TEXT NOT NULL)")
         with mock.patch("os.access", return_value=False):
             self.assertIn("may not be written by you", self.hint("keep", 7, ""))
+
+    def test_no_journal_before_kept(self) -> None:
+        (self.town / "edits.csv").unlink(missing_ok=True)
+        hint, = hints_before("kept", [str(self.town)])
+        self.assertIn(f"there was no journal in {self.town}. `kept` has made an empty one and an empty edits.csv", hint)
+        (self.town / "edits.csv").write_text("show\nshift,W1,1\ncancel,W2\n")
+        self.assertIn("edits.csv had 2 edits that the journal does not have, from record 2 on", hints_before("kept", [str(self.town)])[1])
+
+    def test_edits_that_kept_writes_over(self) -> None:
+        self.make("CREATE TABLE journal(seq INTEGER PRIMARY KEY, line TEXT NOT NULL)")
+        self.make("INSERT INTO journal(line) VALUES ('shift,W1,+1')")
+        (self.town / "edits.csv").write_text("shift,W1,1\ncancel,W2\n")
+        self.assertEqual(hints_before("kept", [str(self.town)]), [
+            "edits.csv had 1 edit that the journal does not have, from record 2 on. `kept` has written over them."])
+        (self.town / "edits.csv").write_text("shift,W1,1\n")
+        self.assertEqual(hints_before("kept", [str(self.town)]), [])
+
+    def test_nothing_is_said_before_another_command_or_of_a_journal_that_cannot_be_read(self) -> None:
+        for command, words in (("keep", [str(self.town)]), ("kept", []), ("kept", [str(self.room / "nowhere")])):
+            with self.subTest(command, words=words):
+                self.assertEqual(hints_before(command, words), [])
+        self.path.write_bytes(b"no database" * 200)
+        (self.town / "edits.csv").write_text("cancel,W2\n")
+        self.assertEqual(hints_before("kept", [str(self.town)]), [])
 
     def test_nothing_is_known_of_a_journal_in_order(self) -> None:
         self.make("CREATE TABLE journal(seq INTEGER PRIMARY KEY, line TEXT NOT NULL)")
