@@ -161,7 +161,11 @@ class Browser:
     def printed(self, width: float, height: float) -> bytes:
         """The page as it is printed on paper of this size, in centimetres."""
         sized = {"paperWidth": width / 2.54, "paperHeight": height / 2.54, "landscape": True, "preferCSSPageSize": False}
-        return base64.b64decode(self._tell("/goog/cdp/execute", {"cmd": "Page.printToPDF", "params": sized})["data"])
+        return base64.b64decode(self.command("Page.printToPDF", **sized)["data"])
+
+    def command(self, name: str, **words: Json) -> Json:
+        """What the browser answers to a command of its own protocol."""
+        return self._tell("/goog/cdp/execute", {"cmd": name, "params": words})
 
     def picture(self) -> bytes:
         """What is seen, as PNG."""
