@@ -39,8 +39,9 @@ class Browser:
         self.profile = tempfile.mkdtemp(prefix="desk-browser-")
         self.driver = subprocess.Popen([DRIVER or "", "--port=0"], stdout=subprocess.PIPE, stderr=subprocess.DEVNULL, text=True)
         self.address = f"http://127.0.0.1:{self._port()}/session"
-        options = {"binary": CHROMIUM, "args": ["--headless=new", "--no-sandbox", "--disable-gpu", f"--user-data-dir={self.profile}",
-                                                f"--window-size={width},{height}"]}
+        words = ["--headless=new", "--no-sandbox", "--disable-gpu", "--touch-events=enabled", f"--user-data-dir={self.profile}",
+                 f"--window-size={width},{height}"]
+        options = {"binary": CHROMIUM, "args": words}
         wanted = {"capabilities": {"alwaysMatch": {"goog:chromeOptions": options, "goog:loggingPrefs": {"browser": "ALL"},
                                                    "timeouts": {"script": 120_000, "pageLoad": 120_000}}}}
         try:
@@ -153,6 +154,17 @@ class Browser:
     def point(self, selector: str) -> None:
         """Moves the mouse over an element."""
         self._pointer([{"type": "pointerMove", "duration": 0, "x": 0, "y": 0, "origin": {ELEMENT: self.find(selector)}}])
+
+    def pinch(self, selector: str, apart: int, until: int) -> None:
+        """Puts two fingers on an element, so many pixels apart, and moves them in four steps until they are so many apart."""
+        element, fingers = self.find(selector), []
+        for name, side in (("one", -1), ("other", 1)):
+            moves = [{"type": "pointerMove", "duration": 0, "x": side * (apart // 2), "y": 0, "origin": {ELEMENT: element}},
+                     {"type": "pointerDown", "button": 0}]
+            moves += [{"type": "pointerMove", "duration": 60, "x": side * ((until - apart) // 8), "y": 0, "origin": "pointer"}] * 4
+            fingers.append({"type": "pointer", "id": name, "parameters": {"pointerType": "touch"},
+                            "actions": [*moves, {"type": "pointerUp", "button": 0}]})
+        self._tell("/actions", {"actions": fingers})
 
     def _pointer(self, actions: list[Json]) -> None:
         mouse = {"type": "pointer", "id": "mouse", "parameters": {"pointerType": "mouse"}, "actions": actions}

@@ -52,6 +52,16 @@ return [...document.querySelectorAll(able)].filter((one) => one.tabIndex >= 0 &&
   .map((one) => one.id || one.dataset.trip || one.textContent);
 """
 
+MIDDLE = """
+const frame = document.querySelector('#panel-Vehicles .frame').getBoundingClientRect();
+const off = (bar) => {
+  const box = bar.getBoundingClientRect();
+  return Math.hypot(box.x + box.width / 2 - frame.x - frame.width / 2, box.y - frame.y - frame.height / 2);
+};
+return [...document.querySelectorAll('.sheet .trip')].reduce((one, other) => (off(other) < off(one) ? other : one)).dataset.trip;
+"""
+"""The trip that is nearest to the middle of the vehicles."""
+
 FOCUSED = "const one = document.activeElement; return one === document.body ? null : one.id || one.dataset.trip || one.textContent"
 
 
@@ -167,6 +177,15 @@ class LookTest(BrowserTest):
         wide = self.box(".sheet")["width"]
         self.browser.keys("0")
         self.assertLess(self.box(".sheet")["width"], wide)
+
+    def test_fingers(self) -> None:
+        """Two fingers make the hours as much wider as they move apart, though the bars below them are drawn anew, and narrower again."""
+        self.open(400)
+        wide, middle = self.box(".sheet")["width"], self.browser.run(MIDDLE)
+        for apart, until, times in ((40, 200, 5), (200, 104, 2.6)):
+            self.browser.pinch(self.bar(middle), apart, until)
+            self.assertAlmostEqual(self.box(".sheet")["width"] / wide, times, delta=0.3)
+        self.assertEqual(self.browser.errors(), [])
 
     def test_without_colour(self) -> None:
         """Lines have marks that differ without colour, and hatching, dashes and lines tell the other bars."""
