@@ -42,7 +42,8 @@ def hints_before(command: str, words: Sequence[str]) -> list[str]:
     town, hints = Town(words[0]), []
     try:
         if not town.path("journal.db").exists():
-            hints.append(f"there was no journal in {town.folder}. `kept` has made an empty one and an empty edits.csv. `keep` fills a journal.")
+            hints.append(f"there was no journal in {town.folder}. `kept` has made an empty one and an empty edits.csv. "
+                         "`keep` fills a journal.")
         gone = compared(town)[1] if town.has("edits.csv") else []
         if gone:
             edits = "1 edit" if len(gone) == 1 else f"{len(gone)} edits"

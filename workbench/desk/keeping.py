@@ -1,7 +1,7 @@
 """The script beside the journal, and `keep` from the page: the edits that the journal does not have yet go into it.
 
-The script stays as it is. `keep` does all records of `edits.csv` again behind those of the journal. Where the script begins with the journal's records, it is
-shortened to what is new while `keep` runs.
+The script stays as it is. `keep` does all records of `edits.csv` again behind those of the journal. Where the script begins with
+the journal's records, it is shortened to what is new while `keep` runs.
 """
 from __future__ import annotations
 

@@ -38,8 +38,8 @@ REFUSED: list[tuple[str, int | None]] = [
     ("a = {b = 1\nc = 2}", 1), ("a = {\nb = 1979-05-27\n07:32:00}", 1), ('a = "\\x4"', 1), ('a = "\\E"', 1), ("a = 7:30", 1),
     ("a = {b = 1,} # c\nc == 2", 2), ("a = {\n\nb = 1,\n}\nc = {\nd = 1, # d\nd = 2,\n}\n", 7),
     ("x = 1\na = {b = {\nc = 1,\n", 2),
-    ("a = {\nb = 1,\nlayover = 5\nlate = 2\n", 1), ("a = [1,\n2\n", None), ("a = {b = 1,}\n[a]\n", 2), ("layover: 5", 1), ("a = {b = 1]", 1),
-    ("a = \"{\n}\nb = 1", 1), ("a = {b = 'c}\n,d = 1,}", 1), ('a = {b = """c}\n,d = 1,}', 1),
+    ("a = {\nb = 1,\nlayover = 5\nlate = 2\n", 1), ("a = [1,\n2\n", None), ("a = {b = 1,}\n[a]\n", 2),
+    ("layover: 5", 1), ("a = {b = 1]", 1), ("a = \"{\n}\nb = 1", 1), ("a = {b = 'c}\n,d = 1,}", 1), ('a = {b = """c}\n,d = 1,}', 1),
 ]
 """Texts that are not TOML 1.1, each with the line of which the error tells, None at the end of the text."""
 
