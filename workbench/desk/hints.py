@@ -37,19 +37,24 @@ def hints_of(command: str, words: Sequence[str], status: int, text: str) -> list
 
 def hints_before(command: str, words: Sequence[str]) -> list[str]:
     """What is said once a run has succeeded and cannot be found after it: what `kept` writes over."""
-    if command != "kept" or len(words) != 1 or not Path(words[0]).is_dir():
-        return []
-    town, hints = Town(words[0]), []
     try:
-        if not town.path("journal.db").exists():
-            hints.append(f"there was no journal in {town.folder}. `kept` has made an empty one and an empty edits.csv. "
-                         "`keep` fills a journal.")
-        gone = compared(town)[1] if town.has("edits.csv") else []
-        if gone:
-            edits = "1 edit" if len(gone) == 1 else f"{len(gone)} edits"
-            hints.append(f"edits.csv had {edits} that the journal does not have, from record {gone[0]} on. `kept` has written over them.")
+        return written_over(Town(words[0])) if command == "kept" and len(words) == 1 else []
     except (DeskError, OSError):
         return []
+
+
+def written_over(town: Town) -> list[str]:
+    """What `kept` writes over in a town."""
+    if not town.folder.is_dir():
+        return []
+    hints = []
+    if not town.path("journal.db").exists():
+        hints.append(f"there was no journal in {town.folder}. `kept` has made an empty one and an empty edits.csv. "
+                     "`keep` fills a journal.")
+    gone = compared(town)[1] if town.has("edits.csv") else []
+    if gone:
+        edits = "1 edit" if len(gone) == 1 else f"{len(gone)} edits"
+        hints.append(f"edits.csv had {edits} that the journal does not have, from record {gone[0]} on. `kept` has written over them.")
     return hints
 
 
