@@ -1,7 +1,7 @@
 """The script beside the journal, and `keep` from the page: the edits that the journal does not have yet go into it.
 
 The script stays as it is. `keep` does all records of `edits.csv` again behind those of the journal. Where the script begins with
-the journal's records, it is shortened to what is new while `keep` runs.
+the journal's records, or with its last ones, it is shortened to what is new while `keep` runs.
 """
 from __future__ import annotations
 
@@ -21,13 +21,13 @@ NOTHING = "All edits stand in the journal: there is nothing new to keep.\n"
 
 def keep(town: Town, script: Script, records: list[Record]) -> str:
     """Keeps what is new of a script whose records the program has judged. Gives what `keep` puts."""
-    kept = journal_records(town)
     edits = [record for record in records if record.ok and record.fields[0] != "show"]
-    if not kept or [canonical(record.fields) for record in edits[:len(kept)]] != kept:
+    count = kept_already([canonical(record.fields) for record in edits], journal_records(town))
+    if count == 0:
         return run_keep(town)
-    if len(edits) == len(kept):
+    if count == len(edits):
         return NOTHING
-    fresh = "".join(record.text + "\n" for record in edits[len(kept):])
+    fresh = "".join(record.text + "\n" for record in edits[count:])
     with script.replaced(fresh.encode("utf-8", "surrogateescape")):
         return run_keep(town)
 
