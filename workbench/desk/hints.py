@@ -38,12 +38,12 @@ def hints_of(command: str, words: Sequence[str], status: int, text: str) -> list
 def hints_before(command: str, words: Sequence[str]) -> list[str]:
     """What is said once a run has succeeded and cannot be found after it: what `kept` writes over."""
     try:
-        return written_over(Town(words[0])) if command == "kept" and len(words) == 1 else []
+        return _written_over(Town(words[0])) if command == "kept" and len(words) == 1 else []
     except (DeskError, OSError):
         return []
 
 
-def written_over(town: Town) -> list[str]:
+def _written_over(town: Town) -> list[str]:
     """What `kept` writes over in a town."""
     if not town.folder.is_dir():
         return []
