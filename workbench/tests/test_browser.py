@@ -178,6 +178,35 @@ class LookTest(BrowserTest):
         self.browser.keys("0")
         self.assertLess(self.box(".sheet")["width"], wide)
 
+    def test_service(self) -> None:
+        """The curve above the rows tells the most vehicles that are away from the depot at one time."""
+        self.open(400)
+        blocks = self.day.blocks
+        most = max(sum(block.leaves <= other.leaves < block.returns for block in blocks) for other in blocks)
+        self.assertEqual(self.browser.text("#panel-Vehicles .peak"), str(most))
+
+    def test_hover(self) -> None:
+        """A bar below the pointer tells all of itself beside it."""
+        self.open(400)
+        name = self.browser.run(MIDDLE)
+        self.browser.point(self.bar(name))
+        self.browser.wait(lambda: not self.browser.run("return document.getElementById('tip').hidden"))
+        block = next(block.name for block in self.day.blocks if any(ride.name == name for ride in block.rides))
+        told = self.browser.text("#tip")
+        for words in (name, f"block {block}", "layover 4 minutes", "to passengers: to Terminal", "published", "service weekday"):
+            self.assertIn(words, told)
+
+    def test_wheel(self) -> None:
+        """The wheel with Ctrl makes the hours wider, and what is below the pointer stays there."""
+        self.open(400)
+        bar, wide = self.bar(self.browser.run(MIDDLE)), self.box(".sheet")["width"]
+        before = self.box(bar)
+        turn = """const [bar, x] = [document.querySelector(arguments[0]), arguments[1]];
+          bar.dispatchEvent(new WheelEvent('wheel', { deltaY: -300, ctrlKey: true, clientX: x, bubbles: true, cancelable: true }));"""
+        self.browser.run(turn, bar, before["left"])
+        self.assertAlmostEqual(self.box(".sheet")["width"] / wide, 2.718, delta=0.05)
+        self.assertAlmostEqual(self.box(bar)["left"], before["left"], delta=2)
+
     def test_fingers(self) -> None:
         """Two fingers make the hours as much wider as they move apart, though the bars below them are drawn anew, and narrower again."""
         self.open(400)
