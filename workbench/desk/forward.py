@@ -12,7 +12,7 @@ from typing import BinaryIO
 
 from desk.errors import DeskError, complain
 from desk.files import reason
-from desk.hints import hints_before, hints_of
+from desk.hints import DONE, hints_before, hints_of
 from desk.program import program_path
 from desk.texts import as_json
 
@@ -53,7 +53,7 @@ def run(arguments: argparse.Namespace) -> int:
     status, text = ask([command, *words])
     if not put(as_shown(command, words, text) if arguments.json and text else text):
         return WRITE_FAULT
-    for hint in (before if status == 0 else []) + without_mistakes(hints_of, command, words, status, text):
+    for hint in (before if status in DONE else []) + without_mistakes(hints_of, command, words, status, text):
         complain(hint)
     return status
 

@@ -196,6 +196,14 @@ class TestTheProgram(FolderTest):
         self.assertEqual((copies[1] / "edits.csv").read_bytes(), b"")
         self.assertIn(b"there was no journal in", through.stderr)
 
+    def test_keep_twice_gives_the_same_text_and_a_hint(self) -> None:
+        feed = write_feed(self.room / "feed", CLEAN | {"edits.csv": "shift,W1,+1\ncancel,W9\n"})
+        program.run(["keep", feed])
+        alone, through, _ = self.both("keep", feed)
+        self.assertEqual((through.returncode, through.stdout), (alone.status, alone.text))
+        self.assertEqual(alone.status, 1)
+        self.assertIn(b"the journal had record 1 of edits.csv already", through.stderr)
+
     def test_a_fault_gives_the_same_line_and_a_hint(self) -> None:
         feed = write_feed(self.room / "feed", CLEAN)
         (feed / "blocks.csv").mkdir()

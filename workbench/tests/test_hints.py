@@ -432,8 +432,20 @@ class TestJournals(HintsTest):
         (self.town / "edits.csv").write_text("shift,W1,1\n")
         self.assertEqual(hints_before("kept", [str(self.town)]), [])
 
+    def test_edits_that_keep_does_twice(self) -> None:
+        self.make("CREATE TABLE journal(seq INTEGER PRIMARY KEY, line TEXT NOT NULL)")
+        self.make("INSERT INTO journal(line) VALUES ('cancel,W3'), ('shift,W1,+1')")
+        for script, words in (("shift,W1,1\ncancel,W2\n", ["record 1 of edits.csv"]), ("cancel,W2\n", []),
+                              ("cancel,W3\nshow\nshift,W1,1\n", ["records 1 to 3 of edits.csv"])):
+            with self.subTest(script):
+                (self.town / "edits.csv").write_text(script)
+                hints = hints_before("keep", [str(self.town)])
+                self.assertEqual([word in hint for hint, word in zip(hints, words, strict=True)], [True] * len(words))
+        (self.town / "edits.csv").unlink()
+        self.assertEqual(hints_before("keep", [str(self.town)]), [])
+
     def test_nothing_is_said_before_another_command_or_of_a_journal_that_cannot_be_read(self) -> None:
-        for command, words in (("keep", [str(self.town)]), ("kept", []), ("kept", [str(self.room / "nowhere")])):
+        for command, words in (("blocks", [str(self.town)]), ("keep", [str(self.town)]), ("kept", []), ("kept", [str(self.room / "nowhere")])):
             with self.subTest(command, words=words):
                 self.assertEqual(hints_before(command, words), [])
         self.path.write_bytes(b"no database" * 200)

@@ -36,7 +36,7 @@ class TestRandomBytes(FolderTest):
             for case, content in enumerate(contents(SEED + number, CLEAN.get(name, "W1,cancel\n").encode())):
                 with self.subTest(f"{name} {case}"):
                     town = str(write_feed(self.room / "town", CLEAN | {name: content}))
-                    self.told(hints_before("kept", [town]))
+                    self.told(hints_before("keep", [town]) + hints_before("kept", [town]))
                     for said in refusals(name):
                         self.told(hints_of("blocks", [town], 3, f"feed refused: {said}\n"))
                     self.told(hints_of("planners", [town], 1, scripts))
