@@ -22,7 +22,8 @@ body { margin: 0; font: 10pt/1.3 "Liberation Sans", Arial, Helvetica, sans-serif
 section { break-before: page; }
 section:first-of-type { break-before: auto; }
 h1, h2 { margin: 0; font-size: 22pt; line-height: 1.1; }
-header { display: flex; justify-content: space-between; align-items: flex-end; gap: 6mm; border-bottom: 1.2mm solid #000; padding-bottom: 1.5mm; }
+header { display: flex; justify-content: space-between; align-items: flex-end; gap: 6mm; }
+header { border-bottom: 1.2mm solid #000; padding-bottom: 1.5mm; }
 header p { margin: 0; text-align: right; font-size: 9pt; line-height: 1.25; }
 .ends { display: flex; flex-wrap: wrap; align-items: baseline; gap: 0 9mm; margin: 1.5mm 0 0; font-size: 9pt; }
 .ends b { font-size: 13pt; }

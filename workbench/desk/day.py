@@ -7,20 +7,25 @@ from __future__ import annotations
 
 import datetime
 import filecmp
+import re
 from dataclasses import dataclass, field
 from pathlib import Path
 
 from desk.errors import DeskError
 from desk.files import read_bytes
 from desk.plans import Block, Ride, ask
+from desk.records import record_text
 from desk.rooms import SCRIPTS, room_of, state_of
-from desk.scripts import Record, fields_of, judged, refuse_open_quote, with_edits, with_show
+from desk.scripts import Record, fields_of, judged, refuse_open_quote, with_edits, with_record, with_show
 from desk.texts import Json, minute_of
 from desk.times import arrival_minute, departure_minute, parse_minute
 from desk.town import DayTrip, Town
 
 Scripts = dict[str, bytes]
 """The scripts of a town by the names of their files."""
+
+MOST_ASKED = 8
+"""Of how many planners it is asked whether an undo would be refused. Each costs a run of the program."""
 
 
 @dataclass(frozen=True, slots=True)
@@ -36,11 +41,23 @@ class Published:
 
 @dataclass(frozen=True, slots=True)
 class Planners:
-    """The edits of several planners: their records with what the program says of each, and those that stand."""
+    """The edits of several planners: their records with what the program says of each, and those that stand.
+
+    `held` has what the program says to an undo of each planner to whom it refuses one.
+    """
 
     records: list[Record]
     standing: list[Json]
     cost: tuple[int, int, int]
+    held: dict[str, str]
+
+    def holder(self, said: str) -> str:
+        """The record that holds an undo of which this is said; empty where none does."""
+        found = re.search("held by record ([0-9]+)$", said)
+        if found is None:
+            return ""
+        planner, *edit = self.records[int(found[1]) - 1].fields
+        return f"{planner}: {', '.join(edit)}"
 
 
 @dataclass(frozen=True, slots=True)
@@ -100,7 +117,34 @@ def read_planners(town: Town, scripts: Scripts) -> Planners:
     with room_of(town, scripts) as room:
         told = ask_in(room, town, "planners")
     records = judged("planner_edits.csv", script, told["records"], "planner")
-    return Planners(records, told["standing"], (told["fixed"], told["vehicles"], told["minutes"]))
+    names = may_be_held(told["standing"])[:MOST_ASKED]
+    held = {name: said for name in names if (said := undo_refused(town, scripts, name))}
+    return Planners(records, told["standing"], (told["fixed"], told["vehicles"], told["minutes"]), held)
+
+
+def may_be_held(standing: list[Json]) -> list[str]:
+    """The planners of whom the program is asked: a later edit of another one names the trip of the last edit of each."""
+    found: list[str] = []
+    planners: set[str] = set()
+    trips: set[str] = set()
+    for edit in reversed(standing):
+        if edit["planner"] not in planners and edit["trip"] in trips:
+            found.append(edit["planner"])
+        planners.add(edit["planner"])
+        trips.add(edit["trip"])
+    return found
+
+
+def undo_refused(town: Town, scripts: Scripts, planner: str) -> str | None:
+    """What the program says to an undo of a planner where it refuses one; None where it is done, or cannot be asked."""
+    undo = record_text([planner, "undo"]).encode("utf-8", "surrogateescape")
+    script = with_record(scripts.get("planner_edits.csv", b""), undo)
+    try:
+        with room_of(town, {**scripts, "planner_edits.csv": script}) as room:
+            told = ask_in(room, town, "planners")["records"][-1]
+    except DeskError:
+        return None
+    return None if told["ok"] else told["why"]
 
 
 def ask_in(room: Path, town: Town, command: str) -> Json:

@@ -153,7 +153,8 @@ def _text_of_all(figures: Figures) -> str:
     """The sums."""
     share = f"{100 * figures['empty_share']:.1f} % of platform and empty"
     lines = [f"vehicles {figures['vehicles']}, empty minutes {figures['empty']}, as the program says",
-             f"trips {figures['trips']}", "hours and minutes:", f"platform {hours(figures['platform'])}", f"layover {hours(figures['layover'])}",
+             f"trips {figures['trips']}", "hours and minutes:", f"platform {hours(figures['platform'])}",
+             f"layover {hours(figures['layover'])}",
              f"empty {hours(figures['empty'])}, {share}", f"waiting {hours(figures['waiting'])}", f"in all {hours(figures['span'])}"]
     for name, title in (("spans", "span, from the depot to the depot"), ("lengths", "length, the span without waiting")):
         if found := figures[name]:

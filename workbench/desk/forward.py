@@ -7,11 +7,12 @@ import os
 import subprocess
 import sys
 import threading
+from collections.abc import Callable
 from typing import BinaryIO
 
 from desk.errors import DeskError, complain
 from desk.files import reason
-from desk.hints import hints_of
+from desk.hints import DONE, hints_before, hints_of
 from desk.program import program_path
 from desk.texts import as_json
 
@@ -48,16 +49,21 @@ def add_arguments(parser: argparse.ArgumentParser) -> None:
 def run(arguments: argparse.Namespace) -> int:
     """Runs the program, passes on what it puts, and says what helps. The status is that of the program."""
     command, words = arguments.word, arguments.words
+    before = without_mistakes(hints_before, command, words)
     status, text = ask([command, *words])
     if not put(as_shown(command, words, text) if arguments.json and text else text):
         return WRITE_FAULT
-    try:
-        hints = hints_of(command, words, status, text)
-    except Exception as error:  # pylint: disable=broad-except
-        hints = [f"no hint could be made, by a mistake of the workbench itself: {type(error).__name__}: {error}"]
-    for hint in hints:
+    for hint in (before if status in DONE else []) + without_mistakes(hints_of, command, words, status, text):
         complain(hint)
     return status
+
+
+def without_mistakes(find: Callable[..., list[str]], *found: object) -> list[str]:
+    """The hints that a function finds. A mistake in it is a hint too, and ends nothing."""
+    try:
+        return find(*found)
+    except Exception as error:  # pylint: disable=broad-except
+        return [f"no hint could be made, by a mistake of the workbench itself: {type(error).__name__}: {error}"]
 
 
 def ask(words: list[str]) -> tuple[int, str]:

@@ -13,8 +13,12 @@ from desk.hints_forms import COMMANDS
 from desk.hints_machine import keeper_hints, read_hints, write_hints
 from desk.hints_refusals import refusal_hints
 from desk.hints_scripts import script_hints
+from desk.keeping import compared
 from desk.limits import MOST_TRIPS
 from desk.town import Town
+
+DONE = (0, 1)
+"""The statuses of the program where it has done all but records that are refused."""
 
 USAGE, REFUSED, READ_FAULT, WRITE_FAULT, KEEPER_FAULT = 2, 3, 5, 6, 7
 """The statuses of the program of which more is known than it says."""
@@ -32,6 +36,38 @@ def hints_of(command: str, words: Sequence[str], status: int, text: str) -> list
         return _hints(command, Town(words[0]), status, text)
     except (DeskError, OSError):
         return []
+
+
+def hints_before(command: str, words: Sequence[str]) -> list[str]:
+    """What is said once a run is done and cannot be found after it: what `keep` does twice, and what `kept` writes over."""
+    finds = {"keep": _kept_twice, "kept": _written_over}
+    try:
+        return finds[command](Town(words[0])) if command in finds and len(words) == 1 and Path(words[0]).is_dir() else []
+    except (DeskError, OSError):
+        return []
+
+
+def _kept_twice(town: Town) -> list[str]:
+    """That the journal has edits already which `keep` puts behind it."""
+    count = compared(town)[0] if town.has("edits.csv") else 0
+    if not count:
+        return []
+    records = "record 1 of edits.csv" if count == 1 else f"records 1 to {count} of edits.csv"
+    return [f"the journal had {records} already, and `keep` has put them there a second time. "
+            f"`./desk notes {town.folder}` tells so before it is done."]
+
+
+def _written_over(town: Town) -> list[str]:
+    """What `kept` writes over in a town."""
+    hints = []
+    if not town.path("journal.db").exists():
+        hints.append(f"there was no journal in {town.folder}. `kept` has made an empty one and an empty edits.csv. "
+                     "`keep` fills a journal.")
+    gone = compared(town)[1] if town.has("edits.csv") else []
+    if gone:
+        edits = "1 edit" if len(gone) == 1 else f"{len(gone)} edits"
+        hints.append(f"edits.csv had {edits} that the journal does not have, from record {gone[0]} on. `kept` has written over them.")
+    return hints
 
 
 def _hints(command: str, town: Town, status: int, text: str) -> list[str]:

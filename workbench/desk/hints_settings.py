@@ -58,6 +58,8 @@ def _entry_hints(town: Town, key: str, table: dict[str, Any]) -> list[str]:
             number, line = found
             return [f"desk.toml line {number}: {shown(line)}: a name with a point stands in double quotes: write `{quoted_line(line)}`."]
         why = _why_class(name, value) if key == "classes" else _why_minutes(f"{shown(name)} in [layovers]", value, 240)
+        if why and name in KEYS and _why(name, value) is None:
+            return [f"desk.toml: `{name}` stands below [{key}]. Write the line above [{key}], and above every other line in brackets."]
         if why:
             return [f"desk.toml: {why}. Write {KEYS[key]}."]
     return []

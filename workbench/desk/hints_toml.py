@@ -2,7 +2,6 @@
 from __future__ import annotations
 
 import re
-import tomllib
 from collections.abc import Iterator
 from pathlib import Path
 from typing import Any
@@ -10,8 +9,8 @@ from typing import Any
 from desk.files import read_bytes
 from desk.hints_names import shown
 from desk.hints_tables import kind_of, save_as
+from desk.toml import UNCLOSED, TomlError, read_toml
 
-WHERE = re.compile(r"\(at (?:line ([0-9]+), column [0-9]+|end of document)\)")
 ENTRY = re.compile(r"""\s*(?P<key>"[^"]*"|'[^']*'|[^=:"']*?)\s*(?P<sign>[=:])\s*(?P<value>.*?)\s*""")
 BARE = re.compile(r"[A-Za-z0-9_-]+(?:\.[A-Za-z0-9_-]+)*")
 WORDS = re.compile(r"[^\W\d_][\w -]*")
@@ -25,7 +24,8 @@ MOST_DEPTH = 80
 
 TOO_DEEP, TOO_LARGE = "its tables and arrays stand too deep in one another.", "a number in it is too large."
 
-REASONS = {"overwrite": "this key stood before", "twice": "this table stood before", "Expected '='": "`=` is missing behind a key"}
+REASONS = {"overwrite": "this key stood before", "twice": "this table stood before", "Expected '='": "`=` is missing behind a key",
+           UNCLOSED: "a comma or the closing brace is missing in the table that begins here"}
 """What some words in an error of the reader mean for a planner."""
 
 
@@ -43,9 +43,9 @@ def toml_hints(path: Path) -> list[str]:
     if text.startswith("\ufeff"):
         return [f"{path.name}: two byte-order marks stand at its front. Take one out."]
     try:
-        return _value_hints(path, tomllib.loads(text))
-    except tomllib.TOMLDecodeError as error:
-        return [_line_hint(path, text.split("\n"), str(error))]
+        return _value_hints(path, read_toml(text))
+    except TomlError as error:
+        return [_line_hint(path, text.split("\n"), error)]
     except RecursionError:
         return [f"{path.name}: {TOO_DEEP}"]
     except ValueError:
@@ -68,15 +68,13 @@ def _values(value: Any, depth: int) -> Iterator[tuple[Any, int]]:
         yield from _values(item, depth + 1)
 
 
-def _line_hint(path: Path, lines: list[str], message: str) -> str:
+def _line_hint(path: Path, lines: list[str], error: TomlError) -> str:
     """The line of an error, and what would stand there rightly."""
-    found = WHERE.search(message)
     last = max((at for at, line in enumerate(lines, 1) if line.strip()), default=1)
-    number = min(int(found[1]), last) if found and found[1] else last
+    number = min(error.line or last, last)
     line = lines[number - 1].strip()
-    why = next((reason for words, reason in REASONS.items() if words in message), None)
-    other = WHERE.sub("", message).strip()
-    return f"{path.name} line {number}: {shown(line)}: {_mended(line) or why or other[:1].lower() + other[1:]}."
+    why = next((reason for words, reason in REASONS.items() if words in error.why), None)
+    return f"{path.name} line {number}: {shown(line)}: {_mended(line) or why or error.why[:1].lower() + error.why[1:]}."
 
 
 def _mended(line: str) -> str | None:
@@ -85,10 +83,6 @@ def _mended(line: str) -> str | None:
         return 'write straight quotes, `"`'
     if line.startswith(("//", ";", "--")):
         return "a comment begins with `#`"
-    if "{" in line:
-        return "write a table in braces on one line, without a comma at its end"
-    if re.search(r"\\[ex]", line):
-        return "write a letter in place of its escape"
     entry = ENTRY.fullmatch(line.partition(" #")[0])
     if entry is None or not entry["key"]:
         return None

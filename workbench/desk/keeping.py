@@ -1,7 +1,7 @@
-"""`keep` from the page: the edits that the journal does not have yet go into it, and the script stays as it is.
+"""The script beside the journal, and `keep` from the page: the edits that the journal does not have yet go into it.
 
-`keep` does all records of `edits.csv` again behind those of the journal. Where the script begins with the journal's records, it is
-shortened to what is new while `keep` runs.
+The script stays as it is. `keep` does all records of `edits.csv` again behind those of the journal. Where the script begins with
+the journal's records, or with its last ones, it is shortened to what is new while `keep` runs.
 """
 from __future__ import annotations
 
@@ -9,6 +9,8 @@ from pathlib import Path
 
 from desk import program
 from desk.edits import Script
+from desk.files import read_bytes
+from desk.hints_edits import is_edit
 from desk.hints_journal import journal_text
 from desk.scripts import Record, fields_of
 from desk.times import format_minute, parse_minute
@@ -19,13 +21,13 @@ NOTHING = "All edits stand in the journal: there is nothing new to keep.\n"
 
 def keep(town: Town, script: Script, records: list[Record]) -> str:
     """Keeps what is new of a script whose records the program has judged. Gives what `keep` puts."""
-    kept = journal_records(town)
     edits = [record for record in records if record.ok and record.fields[0] != "show"]
-    if not kept or [canonical(record.fields) for record in edits[:len(kept)]] != kept:
+    count = kept_already([canonical(record.fields) for record in edits], journal_records(town))
+    if count == 0:
         return run_keep(town)
-    if len(edits) == len(kept):
+    if count == len(edits):
         return NOTHING
-    fresh = "".join(record.text + "\n" for record in edits[len(kept):])
+    fresh = "".join(record.text + "\n" for record in edits[count:])
     with script.replaced(fresh.encode("utf-8", "surrogateescape")):
         return run_keep(town)
 
@@ -49,3 +51,27 @@ def canonical(fields: tuple[str, ...]) -> tuple[str, ...]:
     if fields[0] == "extra":
         return *fields[:4], *(format_minute(parse_minute(text) or 0) for text in fields[4:])
     return fields
+
+
+def compared(town: Town) -> tuple[int, list[int]]:
+    """How many records at the front of the script stand in the journal too, and the numbers of the edits that do not."""
+    kept = as_kept(journal_records(town))
+    script = as_kept(fields_of("edits.csv", read_bytes(town.path("edits.csv"))))
+    count = kept_already(script, kept)
+    return count, [number for number, edit in enumerate(script, 1) if number > count and is_edit(edit) and edit[0] != "show"]
+
+
+def as_kept(records: list[tuple[str, ...]]) -> list[tuple[str, ...]]:
+    """The records of a script, edits as the journal has them."""
+    return [canonical(fields) if is_edit(fields) else fields for fields in records]
+
+
+def kept_already(script: list[tuple[str, ...]], kept: list[tuple[str, ...]]) -> int:
+    """How many records at the front of a script are all of the journal, as after `kept`, or its last ones, as after `keep`."""
+    if kept and script[:len(kept)] == kept:
+        return len(kept)
+    edits = [(number, edit) for number, edit in enumerate(script, 1) if is_edit(edit) and edit[0] != "show"]
+    for count in range(min(len(edits), len(kept)), 0, -1):
+        if [edit for _, edit in edits[:count]] == kept[-count:]:
+            return edits[count - 1][0]
+    return 0

@@ -10,7 +10,8 @@ from pathlib import Path
 from desk import new_steps
 from desk.calendars import format_date, parse_date
 from desk.deadheads import Pace, find_depot
-from desk.errors import UsageError
+from desk.errors import DeskError, UsageError
+from desk.hints_refusals import refusal_hints
 from desk.new_report import Report, counted
 from desk.new_room import left_as_they_were, settle, town_room
 from desk.town import Town
@@ -40,13 +41,23 @@ def run(arguments: argparse.Namespace) -> int:
         raise UsageError(f"{arguments.town} is the feed itself: name another folder for the town")
     report = Report(str(arguments.town))
     with town_room(town, arguments.replace) as room:
-        _make(room, arguments, report)
+        try:
+            _make(room, arguments, report)
+        except DeskError as error:
+            raise _with_hints(error, Town(room / "agency")) from error
         left = left_as_they_were(room, town)
         if left:
             report.draft(", ".join(left), "left as they were")
         settle(room, town)
     print(report.text(), end="")
     return 1 if report.problems else 0
+
+
+def _with_hints(error: DeskError, agency: Town) -> DeskError:
+    """An error with what is known of it: why a file of the agency cannot be read as it should."""
+    place = str(error).partition(": ")[0]
+    hints = [hint.removeprefix(f"{place}: ") for hint in refusal_hints(agency, str(error)) if str(agency.folder) not in hint]
+    return type(error)(": ".join([str(error), *hints]))
 
 
 def _make(room: Path, arguments: argparse.Namespace, report: Report) -> None:

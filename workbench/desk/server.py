@@ -51,7 +51,10 @@ def run(arguments: argparse.Namespace) -> int:
 
 
 def run_directly() -> None:
-    """Names the program itself, where the launcher tells its path. The launcher compares all sources in each run, and an edit makes three."""
+    """Names the program itself, where the launcher tells its path.
+
+    The launcher compares all sources in each run, and an edit makes three runs.
+    """
     if "BLOCKDESK" not in os.environ:
         told = program.run(["--program"])
         if told.status == 0:

@@ -55,7 +55,8 @@ class Session:
                 return {"done": False, "said": CHANGED, "day": self._view(self._read())}
             told = self._records(after)[-1]
             if not told.ok:
-                return {"done": False, "said": told.said + self._holder(after, told)}
+                holder = after.planners.holder(told.said) if after.planners else ""
+                return {"done": False, "said": told.said + (f" ({holder})" if holder else "")}
             script.append(record)
             self._day = replace(after, state=state_of(after.town))
             return {"done": True, "said": told.said, "moved": moved(before, after), "day": self._view(self._day)}
@@ -119,14 +120,6 @@ class Session:
     def _records(self, day: Day) -> list[Record]:
         """The records of the script that is written."""
         return day.records if day.planners is None else day.planners.records
-
-    def _holder(self, day: Day, told: Record) -> str:
-        """Whose record holds an undo, where one does."""
-        held = told.said.rpartition("held by record ")[2] if day.planners else ""
-        if not held.isdigit() or "held by record" not in told.said:
-            return ""
-        planner, *edit = self._records(day)[int(held) - 1].fields
-        return f" ({planner}: {', '.join(edit)})"
 
     def _view(self, day: Day) -> Json:
         """The day as the page reads it, with who edits."""

@@ -2,7 +2,6 @@
 from __future__ import annotations
 
 import datetime
-import tomllib
 from dataclasses import dataclass
 from functools import cached_property
 from pathlib import Path
@@ -14,6 +13,7 @@ from desk.files import read_text
 from desk.records import Records, open_records
 from desk.stops import Stop, read_stops
 from desk.times import is_no_time, parse_time
+from desk.toml import read_toml
 
 
 @dataclass(slots=True)
@@ -66,7 +66,7 @@ class Town:
         if not self.has("desk.toml"):
             return {}
         try:
-            return tomllib.loads(read_text(self.path("desk.toml")))
+            return read_toml(read_text(self.path("desk.toml")))
         except (ValueError, RecursionError) as error:
             raise DeskError(f"desk.toml: not TOML: {error}") from error
 

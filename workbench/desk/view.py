@@ -115,8 +115,12 @@ def _record(record: Record) -> Json:
 
 
 def _planners(day: Day) -> Json | None:
-    """The planners' records, and which of their edits stand."""
+    """The planners' records, and which of their edits stand. The last one of a planner has who holds it, as the program says."""
     if day.planners is None:
         return None
-    edits = [{"planner": edit["planner"], "trip": edit["trip"], "text": edit_text(edit)} for edit in day.planners.standing]
+    last = {edit["planner"]: edit for edit in day.planners.standing}
+    edits = []
+    for edit in day.planners.standing:
+        said = day.planners.held.get(edit["planner"], "") if edit is last[edit["planner"]] else ""
+        edits.append({"planner": edit["planner"], "trip": edit["trip"], "text": edit_text(edit), "held": day.planners.holder(said)})
     return {"records": [_record(record) for record in day.planners.records], "standing": edits}

@@ -45,6 +45,7 @@ class WebServer(ThreadingHTTPServer):
     """The server of one session on 127.0.0.1, with its token and the page's own files."""
 
     daemon_threads = True
+    request_queue_size = 64
 
     def __init__(self, session: Session, token: str, port: int = 0) -> None:
         self.session = session

@@ -39,8 +39,9 @@ class Browser:
         self.profile = tempfile.mkdtemp(prefix="desk-browser-")
         self.driver = subprocess.Popen([DRIVER or "", "--port=0"], stdout=subprocess.PIPE, stderr=subprocess.DEVNULL, text=True)
         self.address = f"http://127.0.0.1:{self._port()}/session"
-        options = {"binary": CHROMIUM, "args": ["--headless=new", "--no-sandbox", "--disable-gpu", f"--user-data-dir={self.profile}",
-                                                f"--window-size={width},{height}"]}
+        words = ["--headless=new", "--no-sandbox", "--disable-gpu", "--touch-events=enabled", f"--user-data-dir={self.profile}",
+                 f"--window-size={width},{height}"]
+        options = {"binary": CHROMIUM, "args": words}
         wanted = {"capabilities": {"alwaysMatch": {"goog:chromeOptions": options, "goog:loggingPrefs": {"browser": "ALL"},
                                                    "timeouts": {"script": 120_000, "pageLoad": 120_000}}}}
         try:
@@ -154,6 +155,17 @@ class Browser:
         """Moves the mouse over an element."""
         self._pointer([{"type": "pointerMove", "duration": 0, "x": 0, "y": 0, "origin": {ELEMENT: self.find(selector)}}])
 
+    def pinch(self, selector: str, apart: int, until: int) -> None:
+        """Puts two fingers on an element, so many pixels apart, and moves them in four steps until they are so many apart."""
+        element, fingers = self.find(selector), []
+        for name, side in (("one", -1), ("other", 1)):
+            moves = [{"type": "pointerMove", "duration": 0, "x": side * (apart // 2), "y": 0, "origin": {ELEMENT: element}},
+                     {"type": "pointerDown", "button": 0}]
+            moves += [{"type": "pointerMove", "duration": 60, "x": side * ((until - apart) // 8), "y": 0, "origin": "pointer"}] * 4
+            fingers.append({"type": "pointer", "id": name, "parameters": {"pointerType": "touch"},
+                            "actions": [*moves, {"type": "pointerUp", "button": 0}]})
+        self._tell("/actions", {"actions": fingers})
+
     def _pointer(self, actions: list[Json]) -> None:
         mouse = {"type": "pointer", "id": "mouse", "parameters": {"pointerType": "mouse"}, "actions": actions}
         self._tell("/actions", {"actions": [mouse]})
@@ -161,7 +173,11 @@ class Browser:
     def printed(self, width: float, height: float) -> bytes:
         """The page as it is printed on paper of this size, in centimetres."""
         sized = {"paperWidth": width / 2.54, "paperHeight": height / 2.54, "landscape": True, "preferCSSPageSize": False}
-        return base64.b64decode(self._tell("/goog/cdp/execute", {"cmd": "Page.printToPDF", "params": sized})["data"])
+        return base64.b64decode(self.command("Page.printToPDF", **sized)["data"])
+
+    def command(self, name: str, **words: Json) -> Json:
+        """What the browser answers to a command of its own protocol."""
+        return self._tell("/goog/cdp/execute", {"cmd": name, "params": words})
 
     def picture(self) -> bytes:
         """What is seen, as PNG."""

@@ -13,7 +13,7 @@ from desk.session import Session
 from desk.view import as_text, as_view
 from desk.web import WebServer
 from tests.browser import Browser, needs_browser
-from tests.feeds import FolderTest, needs_program
+from tests.feeds import FolderTest, needs_program, table, write_feed
 from tests.made_days import made_day
 
 LEAST_CONTRAST = 4.5
@@ -51,6 +51,16 @@ const able = 'button, input, select, a[href], [tabindex="0"]';
 return [...document.querySelectorAll(able)].filter((one) => one.tabIndex >= 0 && !one.disabled && one.getClientRects().length)
   .map((one) => one.id || one.dataset.trip || one.textContent);
 """
+
+MIDDLE = """
+const frame = document.querySelector('#panel-Vehicles .frame').getBoundingClientRect();
+const off = (bar) => {
+  const box = bar.getBoundingClientRect();
+  return Math.hypot(box.x + box.width / 2 - frame.x - frame.width / 2, box.y - frame.y - frame.height / 2);
+};
+return [...document.querySelectorAll('.sheet .trip')].reduce((one, other) => (off(other) < off(one) ? other : one)).dataset.trip;
+"""
+"""The trip that is nearest to the middle of the vehicles."""
 
 FOCUSED = "const one = document.activeElement; return one === document.body ? null : one.id || one.dataset.trip || one.textContent"
 
@@ -168,6 +178,44 @@ class LookTest(BrowserTest):
         self.browser.keys("0")
         self.assertLess(self.box(".sheet")["width"], wide)
 
+    def test_service(self) -> None:
+        """The curve above the rows tells the most vehicles that are away from the depot at one time."""
+        self.open(400)
+        blocks = self.day.blocks
+        most = max(sum(block.leaves <= other.leaves < block.returns for block in blocks) for other in blocks)
+        self.assertEqual(self.browser.text("#panel-Vehicles .peak"), str(most))
+
+    def test_hover(self) -> None:
+        """A bar below the pointer tells all of itself beside it."""
+        self.open(400)
+        name = self.browser.run(MIDDLE)
+        self.browser.point(self.bar(name))
+        self.browser.wait(lambda: not self.browser.run("return document.getElementById('tip').hidden"))
+        block = next(block.name for block in self.day.blocks if any(ride.name == name for ride in block.rides))
+        told = self.browser.text("#tip")
+        for words in (name, f"block {block}", "layover 4 minutes", "to passengers: to Terminal", "published", "service weekday"):
+            self.assertIn(words, told)
+
+    def test_wheel(self) -> None:
+        """The wheel with Ctrl makes the hours wider, and what is below the pointer stays there."""
+        self.open(400)
+        bar, wide = self.bar(self.browser.run(MIDDLE)), self.box(".sheet")["width"]
+        before = self.box(bar)
+        turn = """const [bar, x] = [document.querySelector(arguments[0]), arguments[1]];
+          bar.dispatchEvent(new WheelEvent('wheel', { deltaY: -300, ctrlKey: true, clientX: x, bubbles: true, cancelable: true }));"""
+        self.browser.run(turn, bar, before["left"])
+        self.assertAlmostEqual(self.box(".sheet")["width"] / wide, 2.718, delta=0.05)
+        self.assertAlmostEqual(self.box(bar)["left"], before["left"], delta=2)
+
+    def test_fingers(self) -> None:
+        """Two fingers make the hours as much wider as they move apart, though the bars below them are drawn anew, and narrower again."""
+        self.open(400)
+        wide, middle = self.box(".sheet")["width"], self.browser.run(MIDDLE)
+        for apart, until, times in ((40, 200, 5), (200, 104, 2.6)):
+            self.browser.pinch(self.bar(middle), apart, until)
+            self.assertAlmostEqual(self.box(".sheet")["width"] / wide, times, delta=0.3)
+        self.assertEqual(self.browser.errors(), [])
+
     def test_without_colour(self) -> None:
         """Lines have marks that differ without colour, and hatching, dashes and lines tell the other bars."""
         self.open(400)
@@ -249,15 +297,12 @@ class LookTest(BrowserTest):
         self.assertEqual(rows, [block.name for block in self.day.blocks])
 
 
-@needs_browser
-@needs_program
-class OpenTest(BrowserTest):
-    """The page of `desk open` on an example, beside the program's text and the script."""
+class ServedTest(BrowserTest):
+    """A test of the page of `desk open`."""
 
-    def setUp(self) -> None:
-        super().setUp()
-        self.town = self.room / "small_town"
-        shutil.copytree(ROOT / "examples" / "small_town", self.town, ignore=shutil.ignore_patterns("expected"))
+    def serve(self, town: Path) -> None:
+        """Opens the page of a town."""
+        self.town = town
         self.server = WebServer(Session(self.town), "the-token-of-the-tests")
         thread = threading.Thread(target=self.server.serve_forever, kwargs={"poll_interval": 0.02}, daemon=True)
         thread.start()
@@ -265,6 +310,11 @@ class OpenTest(BrowserTest):
         self.addCleanup(self.server.server_close)
         self.addCleanup(self.server.shutdown)
         self.browser.open(self.server.address)
+
+    def serve_example(self, name: str) -> None:
+        """Opens the page of a copy of an example."""
+        shutil.copytree(ROOT / "examples" / name, self.room / name, ignore=shutil.ignore_patterns("expected"))
+        self.serve(self.room / name)
 
     def script(self) -> str:
         path: Path = self.town / "edits.csv"
@@ -274,6 +324,16 @@ class OpenTest(BrowserTest):
         """Waits until the page says that an edit was done, or was refused, and gives what it says."""
         said = "return [...document.querySelectorAll('#said, #refusal:not([hidden])')].map((box) => box.textContent).join()"
         return self.browser.wait(lambda: (text := self.browser.run(said)) if words in self.browser.run(said) else "")
+
+
+@needs_browser
+@needs_program
+class OpenTest(ServedTest):
+    """The page of an example, beside the program's text and the script."""
+
+    def setUp(self) -> None:
+        super().setUp()
+        self.serve_example("small_town")
 
     def test_as_the_program_says(self) -> None:
         """Numbers, blocks, trips and deficits of the page are those of the program."""
@@ -363,4 +423,36 @@ class OpenTest(BrowserTest):
         self.browser.click("#keep")
         self.browser.wait(lambda: "kept 0 records" in self.browser.text("#answered"))
         self.assertEqual(self.browser.run(CONTRASTS, LEAST_CONTRAST), [])
+        self.assertEqual(self.browser.errors(), [])
+
+
+@needs_browser
+@needs_program
+class SuggestionTest(ServedTest):
+    """Suggestions of the program that save a vehicle, each tried by a click."""
+
+    def try_first(self, word: str, told: str) -> str:
+        """Asks for suggestions, tries the first one, which tells of itself so, and gives what the page says."""
+        self.browser.click("#tab-Edits")
+        self.browser.click(f"#suggest-{word}")
+        self.browser.wait(lambda: told in self.browser.text("#suggested"))
+        self.browser.click("#suggested button")
+        return self.wait_for("Marked: ")
+
+    def test_shift(self) -> None:
+        """Two trips miss each other by a minute, and a shift saves the second vehicle."""
+        times = [("V1", 1, "06:00:00", "A"), ("V1", 2, "06:30:00", "B"), ("V2", 1, "06:29:00", "B"), ("V2", 2, "06:59:00", "A")]
+        self.serve(write_feed(self.room / "two", {
+            "desk.toml": "late = 1\n", "trips.txt": "service_id,trip_id\nW,V1\nW,V2\n",
+            "stop_times.txt": table("trip_id,stop_sequence,arrival_time,departure_time,stop_id",
+                                    [(trip, number, time, time, stop) for trip, number, time, stop in times])}))
+        self.assertIn("vehicles 2 → 1", self.try_first("shifts", "V2 by 1"))
+        self.assertEqual(self.script(), "shift,V2,+1\n")
+        self.assertEqual(self.browser.errors(), [])
+
+    def test_chain(self) -> None:
+        """A deadhead becomes an extra trip."""
+        self.serve_example("depot")
+        self.assertIn("vehicles without deadheads 2 → 1", self.try_first("chains", "B 06:40 to C 07:00, then 1"))
+        self.assertEqual(self.script(), "extra,dh B 06:40 1,B,C,06:40,07:00\n")
         self.assertEqual(self.browser.errors(), [])

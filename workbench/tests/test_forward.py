@@ -127,6 +127,13 @@ class TestAnyProgram(FolderTest):
         self.assertEqual((status, out.getvalue()), (3, "text\n"))
         self.assertEqual(errors.getvalue(), "desk: no hint could be made, by a mistake of the workbench itself: IndexError: x\n")
 
+    def test_what_kept_wrote_over_is_told_once_it_has(self) -> None:
+        town = write_feed(self.room / "town", CLEAN | {"edits.csv": "cancel,W2\n"})
+        for status in (0, 7):
+            self.fake("kept 0 records\\n", status)
+            errors = self.desk("kept", town)[2]
+            self.assertEqual("there was no journal" in errors and "1 edit that the journal does not have" in errors, status == 0, errors)
+
     def test_json_of_a_text(self) -> None:
         self.fake("fixed 3, vehicles 2, minutes 10\\n")
         status, text, _ = self.desk("blocks", write_feed(self.room / "town", CLEAN), "--json")
@@ -180,6 +187,22 @@ class TestTheProgram(FolderTest):
         alone, through, _ = self.both("blocks", feed)
         self.assertEqual((through.returncode, through.stdout), (3, alone.text))
         self.assertIn(b"desk: desk.toml: `date` has other signs between its digits", through.stderr)
+
+    def test_kept_without_a_journal_gives_the_same_text_and_a_hint(self) -> None:
+        feed = write_feed(self.room / "feed", CLEAN)
+        alone, through, copies = self.both("kept", feed)
+        self.assertEqual((through.returncode, through.stdout), (0, b"kept 0 records\n"))
+        self.assertEqual((alone.status, alone.text), (0, through.stdout))
+        self.assertEqual((copies[1] / "edits.csv").read_bytes(), b"")
+        self.assertIn(b"there was no journal in", through.stderr)
+
+    def test_keep_twice_gives_the_same_text_and_a_hint(self) -> None:
+        feed = write_feed(self.room / "feed", CLEAN | {"edits.csv": "shift,W1,+1\ncancel,W9\n"})
+        program.run(["keep", feed])
+        alone, through, _ = self.both("keep", feed)
+        self.assertEqual((through.returncode, through.stdout), (alone.status, alone.text))
+        self.assertEqual(alone.status, 1)
+        self.assertIn(b"the journal had record 1 of edits.csv already", through.stderr)
 
     def test_a_fault_gives_the_same_line_and_a_hint(self) -> None:
         feed = write_feed(self.room / "feed", CLEAN)

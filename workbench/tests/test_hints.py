@@ -11,7 +11,7 @@ from pathlib import Path
 from unittest import mock
 
 from desk import program
-from desk.hints import hints_of
+from desk.hints import hints_before, hints_of
 from desk.hints_edits import wrong
 from desk.hints_machine import read_hints, write_hints
 from tests.feeds import Feed, FolderTest, needs_program, table, write_feed, zip_feed
@@ -58,8 +58,12 @@ REFUSED: list[tuple[str, dict[str, str | bytes], str, str]] = [
     ("a key that stands twice", toml("layover = 5\nlayover = 6"), "desk.toml: not TOML", "line 3"),
     ("a table that stands twice", toml("layover = 5\n[layovers]\n"), "desk.toml: not TOML", "this table stood before"),
     ("a number that is too large", toml("layover = 99999999999999999999"), "desk.toml: not TOML", "too large"),
-    ("a table in braces and another mistake", toml("zones = {a = 1,\n"),
-     "desk.toml: not TOML", "on one line, without a comma at its end"),
+    ("a table in braces that is not closed", toml("zones = {a = 1,\n"),
+     "desk.toml: not TOML", 'line 2: "zones = {a = 1,": a comma or the closing brace is missing in the table that begins here'),
+    ("a mistake behind a table on several lines", toml("zones = {\n  a = 1,  # one\n}\nlayover: 5"),
+     "desk.toml: not TOML", 'line 5: "layover: 5": write `layover = 5`'),
+    ("a layover in a table on several lines", {"desk.toml": "layover = 5\nlayovers = {\n  Zoo = 3.5,\n}\n"},
+     "desk.toml: bad layovers", '"Zoo" in [layovers] is a number with a point'),
     ("arrays that stand too deep", toml("zones = " + "[" * 90 + "]" * 90), "desk.toml: not TOML", "too deep in one another"),
     ("settings in UTF-16", {"desk.toml": "layover = 5\n".encode("utf-16")}, "desk.toml: not TOML", "UTF-16"),
     ("settings in Latin-1", {"desk.toml": b"layover = 5\n# caf\xe9\n"},
@@ -79,6 +83,10 @@ REFUSED: list[tuple[str, dict[str, str | bytes], str, str]] = [
      "desk.toml: bad layovers", '"Zoo" in [layovers] is a number with a point'),
     ("a late of two hours", toml("late = 120"), "desk.toml: bad late", "from 0 to 60"),
     ("services that are no list", toml('services = "weekday"'), "desk.toml: bad services", "a text and no list"),
+    ("a prefix below the layovers", {"desk.toml": '[layovers]\nblock_prefix = "V"\n'},
+     "desk.toml: bad layovers", "`block_prefix` stands below [layovers]. Write the line above [layovers]"),
+    ("a tolerance below the classes", {"desk.toml": '[classes]\nline_1 = "big"\nlate = 3\n'},
+     "desk.toml: bad classes", "`late` stands below [classes]"),
     ("a class with a slash", {"desk.toml": '[classes]\nline_1 = "big/long"\n'},
      "desk.toml: bad classes", "has a slash"),
     ("a class that is a number", {"desk.toml": "[classes]\nline_1 = 12\n"},
@@ -407,6 +415,42 @@ class TestJournals(HintsTest):
         self.make("CREATE TABLE journal(seq INTEGER PRIMARY KEY, line TEXT NOT NULL)")
         with mock.patch("os.access", return_value=False):
             self.assertIn("may not be written by you", self.hint("keep", 7, ""))
+
+    def test_no_journal_before_kept(self) -> None:
+        (self.town / "edits.csv").unlink(missing_ok=True)
+        hint, = hints_before("kept", [str(self.town)])
+        self.assertIn(f"there was no journal in {self.town}. `kept` has made an empty one and an empty edits.csv", hint)
+        (self.town / "edits.csv").write_text("show\nshift,W1,1\ncancel,W2\n")
+        self.assertIn("edits.csv had 2 edits that the journal does not have, from record 2 on", hints_before("kept", [str(self.town)])[1])
+
+    def test_edits_that_kept_writes_over(self) -> None:
+        self.make("CREATE TABLE journal(seq INTEGER PRIMARY KEY, line TEXT NOT NULL)")
+        self.make("INSERT INTO journal(line) VALUES ('shift,W1,+1')")
+        (self.town / "edits.csv").write_text("shift,W1,1\ncancel,W2\n")
+        self.assertEqual(hints_before("kept", [str(self.town)]), [
+            "edits.csv had 1 edit that the journal does not have, from record 2 on. `kept` has written over them."])
+        (self.town / "edits.csv").write_text("shift,W1,1\n")
+        self.assertEqual(hints_before("kept", [str(self.town)]), [])
+
+    def test_edits_that_keep_does_twice(self) -> None:
+        self.make("CREATE TABLE journal(seq INTEGER PRIMARY KEY, line TEXT NOT NULL)")
+        self.make("INSERT INTO journal(line) VALUES ('cancel,W3'), ('shift,W1,+1')")
+        for script, words in (("shift,W1,1\ncancel,W2\n", ["record 1 of edits.csv"]), ("cancel,W2\n", []),
+                              ("cancel,W3\nshow\nshift,W1,1\n", ["records 1 to 3 of edits.csv"])):
+            with self.subTest(script):
+                (self.town / "edits.csv").write_text(script)
+                hints = hints_before("keep", [str(self.town)])
+                self.assertEqual([word in hint for hint, word in zip(hints, words, strict=True)], [True] * len(words))
+        (self.town / "edits.csv").unlink()
+        self.assertEqual(hints_before("keep", [str(self.town)]), [])
+
+    def test_nothing_is_said_before_another_command_or_of_a_journal_that_cannot_be_read(self) -> None:
+        for command, words in (("blocks", [str(self.town)]), ("keep", [str(self.town)]), ("kept", []), ("kept", [str(self.room / "nowhere")])):
+            with self.subTest(command, words=words):
+                self.assertEqual(hints_before(command, words), [])
+        self.path.write_bytes(b"no database" * 200)
+        (self.town / "edits.csv").write_text("cancel,W2\n")
+        self.assertEqual(hints_before("kept", [str(self.town)]), [])
 
     def test_nothing_is_known_of_a_journal_in_order(self) -> None:
         self.make("CREATE TABLE journal(seq INTEGER PRIMARY KEY, line TEXT NOT NULL)")

@@ -4,7 +4,7 @@ from __future__ import annotations
 import shutil
 import unittest
 
-from desk.hints import hints_of
+from desk.hints import hints_before, hints_of
 from desk.hints_forms import COLUMNS, COMMANDS, KEYS
 from tests.feeds import FolderTest, write_feed
 from tests.test_hints import EDITS, refused_line
@@ -36,6 +36,7 @@ class TestRandomBytes(FolderTest):
             for case, content in enumerate(contents(SEED + number, CLEAN.get(name, "W1,cancel\n").encode())):
                 with self.subTest(f"{name} {case}"):
                     town = str(write_feed(self.room / "town", CLEAN | {name: content}))
+                    self.told(hints_before("keep", [town]) + hints_before("kept", [town]))
                     for said in refusals(name):
                         self.told(hints_of("blocks", [town], 3, f"feed refused: {said}\n"))
                     self.told(hints_of("planners", [town], 1, scripts))
@@ -58,6 +59,7 @@ class TestRandomBytes(FolderTest):
     def test_a_folder_of_any_name_gives_lines_or_none(self) -> None:
         for name in ("", "\0", "x" * 5000, "\udcff", "a\nb", "/", ".."):
             with self.subTest(name):
+                self.told(hints_before("kept", [name]))
                 for status in (1, 2, 3, 4, 5, 6, 7):
                     self.told(hints_of("blocks", [name], status, "feed refused: trips.txt: missing\n"))
 

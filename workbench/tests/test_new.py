@@ -180,6 +180,19 @@ class Demonstration(NewTest):
 class OtherFeeds(NewTest):
     """Feeds that lack something, or have too much of it."""
 
+    def test_files_that_cannot_be_read_as_they_should(self) -> None:
+        """The error says what was found beside what is missing."""
+        trips, times = demonstration()["trips.txt"], demonstration()["stop_times.txt"]
+        for name, content, message in (
+                ("trips.txt", trips.replace(",", ";"), "no column service_id: semicolons stand between its fields. Write commas"),
+                ("trips.txt", "\ufeff\ufeffservice_id,trip_id\n", "no column service_id: .* without the second byte-order mark in front"),
+                ("stop_times.txt", times.encode("utf-16"), "no column trip_id: it is UTF-16. Save it as CSV in UTF-8"),
+                ("calendar.txt", demonstration()["calendar.txt"].replace("20101231", "2010-12-31"),
+                 "calendar.txt record 1: bad end_date: `end_date` has .*Write no hyphens")):
+            with self.subTest(message):
+                feed: Feed = {key: text for key, text in demonstration().items() if key != "frequencies.txt"}
+                self.refused({**feed, name: content}, message)
+
     def test_no_calendars(self) -> None:
         feed = {name: text for name, text in agency().items() if not name.startswith("calendar")}
         text = self.new(feed, status=1)
@@ -336,7 +349,8 @@ class Replaced(NewTest):
         self.new(agency())
         before = self.tree()
         status, _, errors = self.desk("new", write_feed(self.room / "bad", {**agency(), "stop_times.txt": "x\n"}), self.town, "--replace")
-        self.assertEqual((1, "desk: stop_times.txt: no column trip_id\n"), (status, errors))
+        self.assertEqual(1, status)
+        self.assertRegex(errors, '^desk: stop_times.txt: no column trip_id: its first record "x" is no header. Write `trip_id,.*` above it.\n$')
         self.assertEqual(before, self.tree())
         self.assertEqual(["bad", "feed.zip", "town"], sorted(os.listdir(self.room)))
 

@@ -462,6 +462,13 @@ class TestAnswers(NotesTest):
                 self.assertEqual((note.kind, note.file), ("unreadable", "desk.toml"))
                 self.assertIn(words, note.do)
 
+    def test_settings_of_the_newer_toml_are_read(self) -> None:
+        """A table over several lines, with a comma at its end, is read as the program reads it."""
+        tables = 'layovers = {\n  Station = 8,  # platforms A to C\n  %s = 3,\n}\n'
+        head = 'date = "20260907"\nlayover = 5\nblock_prefix = "\\x56"\n'
+        self.assertEqual(self.notes(desk__toml=head + tables % "Zoo"), [])
+        self.assertIn('"Staton"', self.only("no-such-key", self.notes(desk__toml=head + tables % "Staton")).found)
+
     def test_a_feed_without_trips_txt(self) -> None:
         notes = self.notes({name: text for name, text in CLEAN.items() if name != "trips.txt"} | {"Trips.txt": CLEAN["trips.txt"]})
         self.assertIn("Rename it", self.only("unreadable", notes).do)

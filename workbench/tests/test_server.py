@@ -342,8 +342,21 @@ class SessionTest(FolderTest):
         self.assertEqual((held["done"], held["said"]), (False, "planner 3: refused, U2: held by record 2 (bob: cancel, U2)"))
         self.assertEqual(self.script("planner_edits.csv"), "ann,shift,U2,+1\nbob,cancel,U2\n")
         day = ann.day()["day"]
-        standing = [(edit["planner"], edit["text"]) for edit in day["planners"]["standing"]]
-        self.assertEqual(standing, [("ann", "shift,U2,+1"), ("bob", "cancel,U2")])
+        standing = [(edit["planner"], edit["text"], edit["held"]) for edit in day["planners"]["standing"]]
+        self.assertEqual(standing, [("ann", "shift,U2,+1", "bob: cancel, U2"), ("bob", "cancel,U2", "")])
         self.assertEqual((day["planner"], day["numbers"]["vehicles"], self.script()), ("ann", 1, ""))
         with self.assertRaises(UsageError):
             ann.keep({})
+
+    def test_who_holds_whom(self) -> None:
+        """The last edit of each planner says who holds it, as the program says to an undo, or nothing where it cannot be asked."""
+        script = '"ann, early",shift,U2,+1\nbob,cancel,U1\n"ann, early",cancel,U2\ncy,restore,U1\nbob,shift,U2,+1\n'
+        (self.town / "planner_edits.csv").write_text(script)
+        told = Session(self.town, "ann, early").day()["day"]["planners"]
+        self.assertEqual([(edit["planner"], edit["text"], edit["held"]) for edit in told["standing"]], [
+            ("ann, early", "shift,U2,+1", ""), ("bob", "cancel,U1", "cy: restore, U1"), ("ann, early", "cancel,U2", ""),
+            ("cy", "restore,U1", "")])
+        self.assertEqual((self.town / "planner_edits.csv").read_text(), script)
+        (self.town / "planner_edits.csv").write_text("ann,shift,U2,+1\nbob,cancel,U2\n" + "ann,redo\n" * 4094)
+        told = Session(self.town, "ann").day()["day"]["planners"]
+        self.assertEqual([edit["held"] for edit in told["standing"]], ["", ""])

@@ -2,6 +2,7 @@
 
 import { byId } from "./elements.js";
 import { tell } from "./day.js";
+import { Pinch } from "./pinch.js";
 
 const NEAR = { ArrowLeft: [0, -1], ArrowRight: [0, 1], ArrowUp: [-1, 0], ArrowDown: [1, 0], PageUp: [-10, 0], PageDown: [10, 0] };
 
@@ -58,29 +59,14 @@ export class Chart {
   /** The wheel with Ctrl, and two fingers, zoom; the wheel and one finger scroll as everywhere. */
   listenToZoom(rows) {
     const frame = rows.frame;
-    const place = (event) => event.clientX - frame.getBoundingClientRect().left - rows.left;
+    const zoom = (factor, x) => this.zoom(factor, x - frame.getBoundingClientRect().left - rows.left);
     frame.addEventListener("wheel", (event) => {
       if (event.ctrlKey || event.metaKey) {
         event.preventDefault();
-        this.zoom(Math.exp(-event.deltaY / 300), place(event));
+        zoom(Math.exp(-event.deltaY / 300), event.clientX);
       }
     }, { passive: false });
-    frame.addEventListener("touchmove", (event) => {
-      if (event.touches.length === 2) {
-        event.preventDefault();
-        this.pinch([...event.touches].map(place));
-      }
-    }, { passive: false });
-    frame.addEventListener("touchend", () => { this.apart = null; });
-  }
-
-  /** Two fingers at these places. */
-  pinch([one, other]) {
-    const apart = Math.max(Math.abs(one - other), 10);
-    if (this.apart) {
-      this.zoom(apart / this.apart, (one + other) / 2);
-    }
-    this.apart = apart;
+    new Pinch(frame, zoom);
   }
 
   /** Bars tell what they are below the pointer and with the focus. */

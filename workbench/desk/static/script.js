@@ -78,14 +78,10 @@ export class ScriptPanel {
     byId(pressed.id).focus();
   }
 
-  /** The planners' edits that stand, and who holds whom. */
+  /** The planners' edits that stand, and who holds the last one of each. */
   standing(edits) {
-    const rows = edits.map((edit, at) => {
-      const holder = edits.slice(at + 1).find((later) => later.trip === edit.trip && later.planner !== edit.planner);
-      return [edit.planner, edit.text, holder ? `${holder.planner}: ${holder.text}` : ""];
-    });
     const row = (name, texts) => html("tr", {}, ...texts.map((text) => html(name, {}, text)));
     return html("table", { id: "planners" }, html("thead", {}, row("th", ["planner", "edit that stands", "held by"])),
-      html("tbody", {}, ...rows.map((texts) => row("td", texts))));
+      html("tbody", {}, ...edits.map((edit) => row("td", [edit.planner, edit.text, edit.held]))));
   }
 }
