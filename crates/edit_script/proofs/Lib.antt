@@ -1,6 +1,7 @@
 mod Digits
 mod EditBack
 mod FieldsRead
+mod JudgedLemmas
 mod KeptLemmas
 mod LinesWritten
 mod MachineLemmas

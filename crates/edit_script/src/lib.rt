@@ -2,9 +2,10 @@
 //! refused ones.
 //!
 //! [`read_edit`] reads a record as an [`Edit`], [`read_script`] the records of a file, and [`edit_line`] writes an edit as
-//! its canonical line. A [`Script`] is a timetable under edits, of which the last 256 can be undone: [`Script::step`] does
-//! an edit and answers what it [`Touched`], or refuses it and changes nothing. [`EditFault`] is why an edit is refused, and
-//! [`fault_text`] what is printed of it.
+//! its canonical line. A [`Script`] is a timetable under edits, of which the last 256 can be undone. [`Script::judge`] says
+//! what an edit of a trip does, or why it is refused, and [`Script::change`] does what was judged. [`Script::step`] is both
+//! for every edit: it answers what it [`Touched`], or refuses the edit and changes nothing. [`EditFault`] is why an edit is
+//! refused, and [`fault_text`] what is printed of it.
 //!
 //! The contract that the crates above use: a record is the edit of its form, or of none; a script has one line for each
 //! record. Every edit that is read is in form, and the canonical line of an edit in form reads back as the same edit
@@ -27,8 +28,8 @@
 //!
 //! The contracts cite `Edits` (which edits are in form), `Forms` (the forms of records, and the lines of a script), `Lines`
 //! (canonical lines and the texts of faults), `Changes` (what an edit of a trip does to a timetable), `Script` (what a
-//! script is seen as, and a step), `Machine` (the edit machine, with `Timetables`), and the law `Laws`. What a script keeps
-//! of its edits is said by `Made` and `Kept`.
+//! script is seen as, and a step), `Made` (what an edit was judged to do), `Machine` (the edit machine, with `Timetables`), and
+//! the law `Laws`. What a script keeps of its edits is said by `Kept`.
 #![tactic(auto)]
 
 mod changes;
@@ -41,6 +42,7 @@ mod script;
 mod touched;
 mod writing;
 
+pub use changes::Judged;
 pub use edit::{Edit, Line, MOST_MINUTE, MOST_SHIFT, MOST_SHOWS};
 pub use fault::{EditFault, Side, fault_text};
 pub use reading::{read_edit, read_script};
