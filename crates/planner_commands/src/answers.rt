@@ -5,10 +5,9 @@ ghost use Rattle.planner_commands.specs.Moments.{some_refused, stand_after};
 ghost use Rattle.planner_commands.specs.Reading.{IsPlannerScript};
 ghost use Rattle.planner_commands.specs.Stepped.{IsStepped, IsTold, IsToldIn};
 ghost use Rattle.planner_desk.specs.Forms.{IsPlannerLine};
-ghost use Rattle.planner_desk.specs.Standing.{trip_of as trip_named};
 
 use desk_io::{Memory, Text};
-use edit_script::{Edit, EditFault, edit_line, fault_text};
+use edit_script::{EditFault, edit_line, fault_text};
 use planner_desk::{PlannerEdit, PlannerFault, PlannerLine, Planners};
 use std::alloc::Global;
 use std::fmt::Write;
@@ -20,30 +19,12 @@ pub(crate) struct Answers {
     pub some: bool,
 }
 
-// The trip that an edit names.
-fn trip_of(edit: &Edit) -> &str
-    ensures { result.now ≡ trip_named edit.now }
-{
-    match edit {
-        Edit::Shift { trip, by: _ } | Edit::Cancel { trip } | Edit::Restore { trip } =>
-            trip.as_str(),
-        Edit::Extra {
-            trip,
-            from: _,
-            to: _,
-            departs: _,
-            arrives: _,
-        } => trip.as_str(),
-        Edit::Undo | Edit::Redo | Edit::Show => "",
-    }
-}
-
 // The trip of the last record of a planner, where one stands.
 fn last_trip<'p>(planners: &'p Planners, planner: &Text) -> &'p str
     ensures { result.now ≡ spec.last_trip planner.now planners.now.standing }
 {
     match planners.last_of(planner) {
-        Some(place) => trip_of(&planners.standing_edit(place).edit),
+        Some(place) => planners.standing_edit(place).edit.trip(),
         None => "",
     }
 }
@@ -61,7 +42,7 @@ fn push_trip(
         return Ok(());
     };
     let trip = match refused {
-        PlannerFault::Refused(_) => trip_of(&asked.edit),
+        PlannerFault::Refused(_) => asked.edit.trip(),
         PlannerFault::HeldBy(_) => last_trip(planners, &asked.planner),
         PlannerFault::NotAnEdit | PlannerFault::NothingToUndo | PlannerFault::Memory => return Ok(
             (),
