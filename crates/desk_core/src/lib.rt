@@ -24,5 +24,6 @@ mod counts;
 mod desk;
 mod follow;
 pub mod laws;
+mod repair;
 
 pub use desk::Desk;
