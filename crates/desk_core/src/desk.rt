@@ -186,7 +186,14 @@ impl Desk {
             unreachable!();
         };
         let timetable = self.script.timetable();
-        repair(&mut self.history, timetable, &self.matrix, edit, slot, steps);
+        repair(
+            &mut self.history,
+            timetable,
+            &self.matrix,
+            edit,
+            slot,
+            steps,
+        );
         Ok(())
     }
 
