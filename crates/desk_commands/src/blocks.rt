@@ -65,7 +65,7 @@ fn planned<L: Ledger>(
     ensures counted { steps.new ≤ steps.old + (most_steps (length timetable.slots) + most_to timetable lines.now (length lines.now)) }
 {
     let answers = Numbers { prefix };
-    let followed = follow_script(alloc, timetable, lines, matrix, &answers, steps)?;
+    let followed = follow_script(alloc, timetable, lines, matrix, answers, steps)?;
     finished(alloc, followed, prefix)
 }
 

@@ -1,20 +1,23 @@
 -- A desk after an edit.
-use Rattle.std.proofs.Common.{◌≡◌, ℕ, zero, suc, ◌-◌, ◌<◌, Bool, true, false, List, [], ◌∷◌, ◌++◌, length, drop, set, Option, None, Some, ℤ, pos, refl, sym, ap, subst, ◌∙◌}
-use Rattle.std.specs.Prelude.{Result, Ok, Err, int_le, nat_lt, not, ◌+ℤ◌, IfErr, OnOk}
+use Rattle.std.proofs.Common.{◌≡◌, ℕ, zero, suc, ◌+◌, ◌-◌, ◌*◌, ◌<◌, ◌≤◌, Bool, true, false, cond, List, [], ◌∷◌, ◌++◌, length, drop, set, Option, None, Some, ℤ, pos, refl, sym, ap, subst, ◌∙◌, arith, eq-eqb}
+use Rattle.std.specs.Prelude.{Result, Ok, Err, int_le, nat_lt, not, ◌+ℤ◌, IfErr, IfSome, OnOk}
 use Rattle.std.specs.Str.{bytes_eq}
 use Rattle.std.proofs.Math.ListN.{length-set}
-use Rattle.std.proofs.lemmas.List.{length-map, map-set, set-set}
+use Rattle.std.proofs.lemmas.Bool.{ne_eqb}
+use Rattle.std.proofs.lemmas.List.{length-append, map-set, set-set}
 use Rattle.deadhead_matrix.specs.Matrix.{MatrixView}
+use Rattle.deadhead_matrix.specs.Paths.{IsAdded, IsTaken, with_slot}
 use Rattle.deadhead_matrix.specs.Prices.{Plan, IsCertified, IsPlanFor}
 use Rattle.deficit_steps.specs.Holds.{Holds}
-use Rattle.edit_script.specs.Changes.{provided, is_within, with_live, with_extra, extra_trip, shifted_at, cancelled_at, restored_at, extra_to, extra_from, extra_new}
+use Rattle.edit_script.specs.Changes.{IsSlotNamed, IsSlotOf, edited, provided, is_within, with_live, with_extra, extra_trip, shifted_at, cancelled_at, restored_at, extra_to, extra_from, extra_new}
+use Rattle.edit_script.specs.Edits.{EditsTrip}
 use Rattle.edit_script.specs.Script.{ScriptView, all_but_last, last_alone, if_edited, if_redone, if_undone, stepped, with_edit}
 use Rattle.edit_script.specs.declared.edit.Edit.{Edit}
 use Rattle.edit_script.specs.declared.edit.Edit.TheVariants.{Shift, Cancel, Restore, Extra, Undo, Redo, Show}
 use Rattle.edit_script.specs.declared.fault.EditFault.{EditFault}
 use Rattle.edit_script.specs.declared.fault.EditFault.TheVariants as fault
-use Rattle.pair_graph.specs.Pairs.{PairsView, pairs_of, pairs_network}
-use Rattle.plan_history.specs.History.{HistoryView}
+use Rattle.pair_graph.specs.Pairs.{pairs_of, pairs_network}
+use Rattle.plan_history.specs.History.{HistoryView, IsReplaced}
 use Rattle.price_repair.specs.Without.{IsCertifiedWith, IsCertifiedWithout}
 use Rattle.price_repair.proofs.EditLemmas.{IsCertifiedWith-left_out, IsCertifiedWith-cancelled, IsCertifiedWithout-replaced, IsCertifiedWithout-restored, IsCertifiedWithout-appended}
 use Rattle.trip_model.specs.Deficit.{live_moves}
@@ -26,7 +29,8 @@ use Rattle.trip_model.specs.declared.trip.Trip.{Trip}
 use Rattle.trip_model.specs.Fleet.{with_shift}
 use Rattle.undo_log.specs.Log.{latest_items, last_item}
 use Rattle.undo_log.proofs.LastItem.{take_last_item}
-use Rattle.desk_core.specs.Desk.{DeskView, desk_seen, ArePlansFor, IsDesk, IsDone, IsExtra, IsRefused}
+use Rattle.desk_core.specs.Desk.{DeskView, desk_seen, ArePlansAfter, ArePlansFor, AreRepaired, IsDesk, IsDone, IsKept, IsRefused, most_steps}
+use Rattle.desk_core.specs.Repair.{IsRepairedIn, MayRepair}
 
 -- plans beside timetables: as one more stands at the end, as the oldest go, and the last of each
 pub plans-length : (m : MatrixView) (ts : List TimetableView) (ps : List Plan) → ArePlansFor m ts ps → length ts ≡ length ps
@@ -144,15 +148,6 @@ extra-new : (s next : ScriptView) (number : ℕ) (trip from to : List ℕ) (depa
 extra-new s next number trip from to departs arrives (Some a) e = absurd (cc)
 extra-new s next number trip from to departs arrives None e = extra-from s next number trip to departs arrives (number_of (place_names s.timetable) from) e
 
-pub stepped-extra : (s next : ScriptView) (number : ℕ) (edit : Edit) → IsExtra edit → stepped s number edit ≡ Ok next → (trip : List ℕ) × IsAddedTo s next number trip
-stepped-extra s next number (Extra trip from to departs arrives) is e = (trip, extra-new s next number trip from to departs arrives (number_of (slot_names s.timetable) trip) e)
-stepped-extra s next number (Shift trip by) is e = absurd is
-stepped-extra s next number (Cancel trip) is e = absurd is
-stepped-extra s next number (Restore trip) is e = absurd is
-stepped-extra s next number Undo is e = absurd is
-stepped-extra s next number Redo is e = absurd is
-stepped-extra s next number Show is e = absurd is
-
 -- an edit of a trip goes to one timetable
 pub record IsEdited (s next : ScriptView) (number : ℕ) : Type 0 where
   pub timetable : TimetableView
@@ -163,39 +158,11 @@ pub edited-any : (s next : ScriptView) (number : ℕ) (r : Result TimetableView 
 edited-any s next number (Ok t) e = record { timetable = t; is = cc }
 edited-any s next number (Err why) e = absurd (cc)
 
--- what a reserve leaves of a history
-abbrev pub SameButRoom : HistoryView → HistoryView → Type 0
-SameButRoom h reserved = reserved ≡ record h { room = reserved.room }
-
--- what the repair after an edit asks of the plan
-pub certified-cancel : (s next : ScriptView) (m : MatrixView) (h reserved : HistoryView) (deficits : List (List ℤ)) (number : ℕ) (edit : Edit) (trip : List ℕ) (slot : ℕ) (pairs : PairsView)
-    → IsDesk (desk_seen s m h) deficits → SameButRoom h reserved → IsTimetable s.timetable → edit ≡ Cancel trip → Some slot ≡ number_of (slot_names s.timetable) trip → stepped s number edit ≡ Ok next
-    → pairs ≡ pairs_of next.timetable m None → IsCertifiedWith pairs slot reserved.plan
-certified-cancel s next m h reserved deficits number edit trip slot pairs desk same valid is found accepted over =
-    let to = stepped-cancel s next number trip slot (sym found) (ap (stepped s number) (sym is) ∙ accepted) in
-    subst (λ p. IsCertifiedWith p slot reserved.plan) (sym (over ∙ ap (λ (n : ScriptView). pairs_of n.timetable m None) to))
-    (subst (λ p. IsCertifiedWith (pairs_of (with_live s.timetable slot false) m None) slot p) (sym (ap (λ (k : HistoryView). k.plan) same))
-    (IsCertifiedWith-cancelled s.timetable m h.plan slot (record (slot_at s.timetable slot).trip { live = false }) valid desk.places refl desk.plan.certified))
-
-pub certified-restore : (s next : ScriptView) (m : MatrixView) (h reserved : HistoryView) (deficits : List (List ℤ)) (number : ℕ) (edit : Edit) (trip : List ℕ) (slot : ℕ) (pairs : PairsView)
-    → IsDesk (desk_seen s m h) deficits → SameButRoom h reserved → slot < length s.timetable.slots → edit ≡ Restore trip → Some slot ≡ number_of (slot_names s.timetable) trip → stepped s number edit ≡ Ok next
-    → pairs ≡ pairs_of next.timetable m None → IsCertifiedWithout pairs slot reserved.plan
-certified-restore s next m h reserved deficits number edit trip slot pairs desk same within is found accepted over =
-    let to = stepped-restore s next number trip slot (sym found) (ap (stepped s number) (sym is) ∙ accepted) in
-    subst (λ p. IsCertifiedWithout p slot reserved.plan) (sym (over ∙ ap (λ (n : ScriptView). pairs_of n.timetable m None) to.1))
-    (subst (λ p. IsCertifiedWithout (pairs_of (with_live s.timetable slot true) m None) slot p) (sym (ap (λ (k : HistoryView). k.plan) same))
-    (IsCertifiedWithout-restored s.timetable m h.plan slot (record (slot_at s.timetable slot).trip { live = true }) within to.0 refl desk.plan.certified))
-
-pub certified-extra : (s next : ScriptView) (m : MatrixView) (h reserved : HistoryView) (deficits : List (List ℤ)) (number : ℕ) (edit : Edit) (slot : ℕ) (pairs : PairsView)
-    → IsDesk (desk_seen s m h) deficits → SameButRoom h reserved → slot ≡ length s.timetable.slots → IsExtra edit → stepped s number edit ≡ Ok next
-    → pairs ≡ pairs_of next.timetable m None → IsCertifiedWithout pairs slot reserved.plan
-certified-extra s next m h reserved deficits number edit slot pairs desk same last is accepted over =
-    let to = stepped-extra s next number edit is accepted in
-    let slot' : Slot = record { name = to.0; trip = to.1.added } in
-    subst (λ p. IsCertifiedWithout p slot reserved.plan) (sym (over ∙ ap (λ (n : ScriptView). pairs_of n.timetable m None) to.1.is))
-    (subst (λ n. IsCertifiedWithout (pairs_of (with_extra s.timetable to.0 to.1.added) m None) n reserved.plan) (sym last)
-    (subst (λ p. IsCertifiedWithout (pairs_of (with_extra s.timetable to.0 to.1.added) m None) (length s.timetable.slots) p) (sym (ap (λ (k : HistoryView). k.plan) same))
-    (IsCertifiedWithout-appended s.timetable m h.plan slot' to.1.live desk.plan.certified)))
+pub edited-trip : (s next : ScriptView) (number : ℕ) (edit : Edit) → EditsTrip edit → stepped s number edit ≡ Ok next → IsEdited s next number
+edited-trip s next number Undo trips e = absurd trips
+edited-trip s next number Redo trips e = absurd trips
+edited-trip s next number Show trips e = absurd trips
+edited-trip s next number edit trips e = edited-any s next number (edited s.timetable edit) e
 
 -- without the trip in a slot the pairs are the same with another trip in it
 pairs-replaced : (t : TimetableView) (m : MatrixView) (s : ℕ) (trip : Trip) → pairs_of (with_trip t s trip) m (Some s) ≡ pairs_of t m (Some s)
@@ -205,62 +172,118 @@ pairs-replaced t m s trip =
     ap (λ moves. set moves s None) (map-set move_of_slot t.slots s slot) ∙ set-set (trip_moves t.slots) s (move_of_slot slot) None in
     λ i. record { moves = moves i; matrix = m }
 
-pub certified-shift : (s next : ScriptView) (m : MatrixView) (h reserved : HistoryView) (deficits : List (List ℤ)) (number : ℕ) (edit : Edit) (trip : List ℕ) (slot : ℕ) (without : PairsView)
-    → IsDesk (desk_seen s m h) deficits → SameButRoom h reserved → IsTimetable s.timetable → (by : ℤ) × (edit ≡ Shift trip by) → Some slot ≡ number_of (slot_names s.timetable) trip → stepped s number edit ≡ Ok next
-    → without ≡ pairs_of next.timetable m (Some slot) → IsCertifiedWith without slot reserved.plan
-certified-shift s next m h reserved deficits number edit trip slot without desk same valid is found accepted over =
-    let to = stepped-shift s next number trip is.0 slot (sym found) (ap (stepped s number) (sym is.1) ∙ accepted) in
-    subst (λ p. IsCertifiedWith p slot reserved.plan) (sym (over ∙ (ap (λ (n : ScriptView). pairs_of n.timetable m (Some slot)) to.1 ∙ pairs-replaced s.timetable m slot (shifted (slot_at s.timetable slot).trip is.0))))
-    (subst (λ p. IsCertifiedWith (pairs_of s.timetable m (Some slot)) slot p) (sym (ap (λ (k : HistoryView). k.plan) same))
-    (IsCertifiedWith-left_out s.timetable m h.plan slot valid desk.places desk.plan.certified))
+-- one slot more makes as many links, and a slot that is there no more
+with_slot-there : (links : List (Option ℕ)) (s : ℕ) → s < length links → length (with_slot links s) ≡ length links
+with_slot-there links s within = ap (λ more. length (cond more (links ++ None ∷ []) links)) (ne_eqb (length links) s (λ e. absurd (omega (arith, within, e))))
 
-pub certified-shifted : (s next : ScriptView) (m : MatrixView) (number : ℕ) (edit : Edit) (trip : List ℕ) (slot : ℕ) (without pairs : PairsView)
-    → slot < length s.timetable.slots → (by : ℤ) × (edit ≡ Shift trip by) → Some slot ≡ number_of (slot_names s.timetable) trip → stepped s number edit ≡ Ok next
-    → without ≡ pairs_of next.timetable m (Some slot) → pairs ≡ pairs_of next.timetable m None → (plan : Plan) → IsCertified (pairs_network without) plan → IsCertifiedWithout pairs slot plan
-certified-shifted s next m number edit trip slot without pairs within is found accepted over_without over plan certified =
-    let to = stepped-shift s next number trip is.0 slot (sym found) (ap (stepped s number) (sym is.1) ∙ accepted) in
-    let rest : without ≡ pairs_of s.timetable m (Some slot) =
-    over_without ∙ (ap (λ (n : ScriptView). pairs_of n.timetable m (Some slot)) to.1 ∙ pairs-replaced s.timetable m slot (shifted (slot_at s.timetable slot).trip is.0)) in
-    subst (λ p. IsCertifiedWithout p slot plan) (sym (over ∙ ap (λ (n : ScriptView). pairs_of n.timetable m None) to.1))
-    (IsCertifiedWithout-replaced s.timetable m plan slot (shifted (slot_at s.timetable slot).trip is.0) within to.0 (subst (λ p. IsCertified (pairs_network p) plan) rest certified))
+with_slot-new : (links : List (Option ℕ)) (s : ℕ) → length links ≡ s → length (with_slot links s) ≡ s + 1
+with_slot-new links s e = ap (λ more. length (cond more (links ++ None ∷ []) links)) (eq-eqb (length links) s e) ∙ length-append links (None ∷ []) ∙ ap (λ n. n + 1) e
 
-pub slots-shift : (s next : ScriptView) (number : ℕ) (edit : Edit) (trip : List ℕ) (slot : ℕ) → (by : ℤ) × (edit ≡ Shift trip by) → Some slot ≡ number_of (slot_names s.timetable) trip → stepped s number edit ≡ Ok next
-    → length next.timetable.slots ≡ length s.timetable.slots
-slots-shift s next number edit trip slot is found accepted =
-    let to = stepped-shift s next number trip is.0 slot (sym found) (ap (stepped s number) (sym is.1) ∙ accepted) in
-    ap (λ (n : ScriptView). length n.timetable.slots) to.1 ∙ length-set s.timetable.slots slot (record (slot_at s.timetable slot) { trip = shifted (slot_at s.timetable slot).trip is.0 })
+some-inj : (n m : ℕ) → Some n ≡ Some m → n ≡ m
+some-inj n m e = cc
 
-pub edited-cancel : (s next : ScriptView) (number : ℕ) (edit : Edit) (trip : List ℕ) (slot : ℕ) → edit ≡ Cancel trip → Some slot ≡ number_of (slot_names s.timetable) trip → stepped s number edit ≡ Ok next → IsEdited s next number
-edited-cancel s next number edit trip slot is found accepted = record { timetable = with_live s.timetable slot false; is = stepped-cancel s next number trip slot (sym found) (ap (stepped s number) (sym is) ∙ accepted) }
+-- what the repair after an edit asks of a plan that was one for the timetable before it
+module _ (s next : ScriptView) (m : MatrixView) (plan : Plan) (number slot : ℕ) (is_plan : IsPlanFor s.timetable m plan) (places : length s.timetable.places ≡ length m.walks) (valid : IsTimetable s.timetable) where
+  length-put : (trip : Trip) → length (with_trip s.timetable slot trip).slots ≡ length s.timetable.slots
+  length-put trip = length-set s.timetable.slots slot (record (slot_at s.timetable slot) { trip = trip })
 
-pub edited-restore : (s next : ScriptView) (number : ℕ) (edit : Edit) (trip : List ℕ) (slot : ℕ) → edit ≡ Restore trip → Some slot ≡ number_of (slot_names s.timetable) trip → stepped s number edit ≡ Ok next → IsEdited s next number
-edited-restore s next number edit trip slot is found accepted = record { timetable = with_live s.timetable slot true; is = (stepped-restore s next number trip slot (sym found) (ap (stepped s number) (sym is) ∙ accepted)).1 }
+  may-shift : (trip : List ℕ) (by : ℤ) → IsSlotNamed trip s.timetable (Some slot) → stepped s number (Shift trip by) ≡ Ok next → MayRepair (Shift trip by) slot next.timetable m plan
+  may-shift trip by told e =
+      let to = stepped-shift s next number trip by slot (sym told.1) e in
+      let moved = shifted (slot_at s.timetable slot).trip by in
+      let rest = pairs-replaced s.timetable m slot moved in
+      subst (λ (n : ScriptView). MayRepair (Shift trip by) slot n.timetable m plan) (sym to.1) (
+        record {
+          slot = omega (arith, told.0, length-put moved);
+          slots = is_plan.slots ∙ sym (length-put moved);
+          certified = subst (λ p. IsCertifiedWith p slot plan) (sym rest) (IsCertifiedWith-left_out s.timetable m plan slot valid places is_plan.certified);
+        },
+        λ mid certified. IsCertifiedWithout-replaced s.timetable m mid slot moved told.0 to.0 (subst (λ p. IsCertified (pairs_network p) mid) rest certified),
+      )
 
-pub edited-shift : (s next : ScriptView) (number : ℕ) (edit : Edit) (trip : List ℕ) (slot : ℕ) → (by : ℤ) × (edit ≡ Shift trip by) → Some slot ≡ number_of (slot_names s.timetable) trip → stepped s number edit ≡ Ok next → IsEdited s next number
-edited-shift s next number edit trip slot is found accepted =
-    record { timetable = with_shift s.timetable slot is.0; is = (stepped-shift s next number trip is.0 slot (sym found) (ap (stepped s number) (sym is.1) ∙ accepted)).1 }
+  may-cancel : (trip : List ℕ) → IsSlotNamed trip s.timetable (Some slot) → stepped s number (Cancel trip) ≡ Ok next → MayRepair (Cancel trip) slot next.timetable m plan
+  may-cancel trip told e =
+      let idle = record (slot_at s.timetable slot).trip { live = false } in
+      subst (λ (n : ScriptView). MayRepair (Cancel trip) slot n.timetable m plan) (sym (stepped-cancel s next number trip slot (sym told.1) e)) (record {
+        slot = omega (arith, told.0, length-put idle);
+        slots = is_plan.slots ∙ sym (length-put idle);
+        certified = IsCertifiedWith-cancelled s.timetable m plan slot idle valid places refl is_plan.certified;
+      })
 
-pub edited-extra : (s next : ScriptView) (number : ℕ) (edit : Edit) → IsExtra edit → stepped s number edit ≡ Ok next → IsEdited s next number
-edited-extra s next number edit is accepted =
-    let to = stepped-extra s next number edit is accepted in record { timetable = with_extra s.timetable to.0 to.1.added; is = to.1.is }
+  may-restore : (trip : List ℕ) → IsSlotNamed trip s.timetable (Some slot) → stepped s number (Restore trip) ≡ Ok next → MayRepair (Restore trip) slot next.timetable m plan
+  may-restore trip told e =
+      let to = stepped-restore s next number trip slot (sym told.1) e in
+      let live = record (slot_at s.timetable slot).trip { live = true } in
+      subst (λ (n : ScriptView). MayRepair (Restore trip) slot n.timetable m plan) (sym to.1) (record {
+        slots = with_slot-there plan.next slot (omega (arith, told.0, is_plan.slots)) ∙ is_plan.slots ∙ sym (length-put live);
+        certified = IsCertifiedWithout-restored s.timetable m plan slot live told.0 to.0 refl is_plan.certified;
+      })
 
--- a desk whose plan was repaired after an edit of a trip
-pub IsDesk-edited : (s next : ScriptView) (m : MatrixView) (h reserved new : HistoryView) (deficits followed : List (List ℤ)) (number : ℕ) (pairs : PairsView) → IsDesk (desk_seen s m h) deficits → SameButRoom h reserved
-    → IsEdited s next number → Holds followed (live_moves next.timetable.slots) → length followed ≡ length deficits → length next.timetable.places ≡ length s.timetable.places → pairs ≡ pairs_of next.timetable m None
-    → length new.plan.next ≡ length pairs.moves → IsCertified (pairs_network pairs) new.plan → new.earlier ≡ latest_items (reserved.earlier ++ reserved.plan ∷ []) → new.later ≡ [] → IsDesk (desk_seen next m new) followed
-IsDesk-edited s next m h reserved new deficits followed number pairs desk same to held rows places over slots certified earlier later = record {
-  places = places ∙ desk.places;
-  plan = record {
-    slots = slots ∙ (ap (λ (p : PairsView). length p.moves) over ∙ length-map next.timetable.slots move_of_slot);
-    certified = subst (λ p. IsCertified (pairs_network p) new.plan) over certified;
-  };
-  earlier = subst (λ ts. ArePlansFor m ts new.earlier) (sym (ap (λ (n : ScriptView). n.earlier) to.is))
-      (subst (λ ps. ArePlansFor m (latest_items (s.earlier ++ s.timetable ∷ [])) ps) (sym (earlier ∙ ap (λ (k : HistoryView). latest_items (k.earlier ++ k.plan ∷ [])) same))
-      (plans-latest m s.earlier h.earlier s.timetable h.plan desk.earlier desk.plan));
-  later = subst (λ ts. ArePlansFor m ts new.later) (sym (ap (λ (n : ScriptView). n.later) to.is)) (subst (λ ps. ArePlansFor m [] ps) (sym later) tt);
-  held = held;
-  rows = rows ∙ (desk.rows ∙ sym places);
-}
+  may-extra : (trip from to : List ℕ) (departs arrives : ℕ) → Some slot ≡ Some (length s.timetable.slots) → stepped s number (Extra trip from to departs arrives) ≡ Ok next
+      → MayRepair (Extra trip from to departs arrives) slot next.timetable m plan
+  may-extra trip from to departs arrives told e =
+      let new = extra-new s next number trip from to departs arrives (number_of (slot_names s.timetable) trip) e in
+      let last : length s.timetable.slots ≡ slot = sym (some-inj slot (length s.timetable.slots) told) in
+      let own : Slot = record { name = trip; trip = new.added } in
+      subst (λ (n : ScriptView). MayRepair (Extra trip from to departs arrives) slot n.timetable m plan) (sym new.is) (record {
+        slots = with_slot-new plan.next slot (is_plan.slots ∙ last) ∙ ap (λ n. n + 1) (sym last) ∙ sym (length-append s.timetable.slots (own ∷ []));
+        certified = subst (λ n. IsCertifiedWithout (pairs_of (with_extra s.timetable trip new.added) m None) n plan) last (IsCertifiedWithout-appended s.timetable m plan own new.live is_plan.certified);
+      })
+
+  pub may-repair : (edit : Edit) → EditsTrip edit → IsSlotOf edit s.timetable (Some slot) → stepped s number edit ≡ Ok next → MayRepair edit slot next.timetable m plan
+  may-repair (Shift trip by) trips told e = may-shift trip by told e
+  may-repair (Cancel trip) trips told e = may-cancel trip told e
+  may-repair (Restore trip) trips told e = may-restore trip told e
+  may-repair (Extra trip from to departs arrives) trips told e = may-extra trip from to departs arrives told e
+  may-repair edit trips told e = absurd trips
+
+-- the links are repaired in the slot of the trip
+repaired-in : (edit : Edit) (t : TimetableView) (s : ℕ) (old new : List (Option ℕ)) → IsSlotOf edit t (Some s) → IsRepairedIn edit s old new → EditsTrip edit → AreRepaired edit t old new
+repaired-in (Shift trip by) t s old new told is trips = subst (λ o. IfSome o (λ s. IsReplaced old new s)) told.1 is
+repaired-in (Cancel trip) t s old new told is trips = subst (λ o. IfSome o (λ s. IsTaken old new s)) told.1 is
+repaired-in (Restore trip) t s old new told is trips = subst (λ o. IfSome o (λ s. IsAdded old new s)) told.1 is
+repaired-in (Extra trip from to departs arrives) t s old new told is trips = subst (λ s. IsAdded old new s) (some-inj s (length t.slots) told) is
+repaired-in edit t s old new told is trips = absurd trips
+
+kept-after : (edit : Edit) (old new : DeskView) → EditsTrip edit → IsKept old new → ArePlansAfter edit old new
+kept-after Undo old new trips kept = absurd trips
+kept-after Redo old new trips kept = absurd trips
+kept-after Show old new trips kept = absurd trips
+kept-after edit old new trips kept = kept
+
+pub counted-trip : (edit : Edit) (n slots old between new : ℕ) → EditsTrip edit → slots ≡ n → between ≤ old + 56 → new ≤ between + (4 * slots * slots + 4 * slots) → new ≤ old + most_steps edit n
+counted-trip Undo n slots old between new trips same one two = absurd trips
+counted-trip Redo n slots old between new trips same one two = absurd trips
+counted-trip Show n slots old between new trips same one two = absurd trips
+counted-trip edit n slots old between new trips same one two = omega (arith, one, two, ap (λ k. 4 * k * k + 4 * k) same)
+
+-- a desk whose plan was repaired after an edit of a trip, when memory was reserved
+module _ (s next : ScriptView) (m : MatrixView) (h reserved new : HistoryView) (number : ℕ) (edit : Edit) (same : reserved ≡ record h { room = reserved.room }) (trips : EditsTrip edit) (accepted : stepped s number edit ≡ Ok next)
+    (earlier : new.earlier ≡ latest_items (reserved.earlier ++ reserved.plan ∷ [])) (later : new.later ≡ []) where
+  keeps : new.earlier ≡ latest_items (h.earlier ++ h.plan ∷ [])
+  keeps = earlier ∙ ap (λ (k : HistoryView). latest_items (k.earlier ++ k.plan ∷ [])) same
+
+  pub IsDesk-edited : (deficits followed : List (List ℤ)) → IsDesk (desk_seen s m h) deficits → IsPlanFor next.timetable m new.plan
+      → Holds followed (live_moves next.timetable.slots) → length followed ≡ length deficits → length next.timetable.places ≡ length s.timetable.places → IsDesk (desk_seen next m new) followed
+  IsDesk-edited deficits followed desk plan held rows places =
+      let to = edited-trip s next number edit trips accepted in
+      record {
+        places = places ∙ desk.places;
+        plan = plan;
+        earlier = subst (λ ts. ArePlansFor m ts new.earlier) (sym (ap (λ (n : ScriptView). n.earlier) to.is))
+            (subst (λ ps. ArePlansFor m (latest_items (s.earlier ++ s.timetable ∷ [])) ps) (sym keeps) (plans-latest m s.earlier h.earlier s.timetable h.plan desk.earlier desk.plan));
+        later = subst (λ ts. ArePlansFor m ts new.later) (sym (ap (λ (n : ScriptView). n.later) to.is)) (subst (λ ps. ArePlansFor m [] ps) (sym later) tt);
+        held = held;
+        rows = rows ∙ (desk.rows ∙ sym places);
+      }
+
+  pub IsDone-edited : (slot : ℕ) → IsSlotOf edit s.timetable (Some slot) → IsRepairedIn edit slot reserved.plan.next new.plan.next → IsDone number edit (desk_seen s m h) (desk_seen next m new)
+  IsDone-edited slot told links = record {
+    script = accepted;
+    matrix = refl;
+    links = repaired-in edit s.timetable slot h.plan.next new.plan.next told (subst (λ (k : HistoryView). IsRepairedIn edit slot k.plan.next new.plan.next) same links) trips;
+    plans = kept-after edit (desk_seen s m h) (desk_seen next m new) trips (record { earlier = keeps; later = later });
+  }
 
 -- an undo and a redo that are accepted
 pub record IsStepBack (s next : ScriptView) : Type 0 where
@@ -332,12 +355,6 @@ IsDesk-redone s next m h new deficits followed number edit desk is e held rows p
       held = held;
       rows = rows ∙ (desk.rows ∙ sym places);
     }
-
--- the slots of the pairs after a shift are those of before
-pub length-shift : (s next : ScriptView) (m : MatrixView) (number : ℕ) (edit : Edit) (trip : List ℕ) (slot : ℕ) (pairs : PairsView) → (by : ℤ) × (edit ≡ Shift trip by) → Some slot ≡ number_of (slot_names s.timetable) trip
-    → stepped s number edit ≡ Ok next → pairs ≡ pairs_of next.timetable m None → length pairs.moves ≡ length s.timetable.slots
-length-shift s next m number edit trip slot pairs is found accepted over =
-    ap (λ (p : PairsView). length p.moves) over ∙ (length-map next.timetable.slots move_of_slot ∙ slots-shift s next number edit trip slot is found accepted)
 
 -- an undo, by its edit
 pub done-undo : {T : Type 0} (r : Result T EditFault) (number : ℕ) (edit : Edit) (old new : DeskView) → edit ≡ Undo → OnOk r ((number : ℕ) → IsDone number Undo old new) → OnOk r (IsDone number edit old new)

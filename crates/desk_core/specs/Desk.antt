@@ -42,11 +42,6 @@ pub record IsDesk (desk : DeskView) (deficits : List (List ℤ)) : Type 0 where
   pub held : Holds deficits (live_moves desk.script.timetable.slots)
   pub rows : length deficits ≡ length desk.script.timetable.places
 
--- the edit adds a trip
-abbrev pub IsExtra : Edit → Type 0
-IsExtra (Extra trip from to departs arrives) = ⊤
-IsExtra edit = ⊥
-
 -- along which paths an edit of a trip changes the links of a plan for a timetable: those of a trip that is taken, added, or
 -- taken and added, in the slot of its name, or in a new last one. A show changes none.
 abbrev pub AreRepaired : Edit → TimetableView → List (Option ℕ) → List (Option ℕ) → Type 0

@@ -1,4 +1,5 @@
 pub mod Counts
 pub mod Desk
 pub mod Follow
+pub mod Repair
 pub mod Standing

@@ -1,9 +1,9 @@
-ghost use Rattle.std.specs.Prelude.{◌≡◌, ◌≢◌, ℕ, ℤ, ◌+◌, ◌*◌, ◌≤◌, [], length, pos, IfErr, IfOk, IfSome, IsNone, OnErr, OnOk, ◌↔◌, Some};
+ghost use Rattle.std.specs.Prelude.{◌≡◌, ◌≢◌, ℕ, ◌+◌, ◌*◌, ◌≤◌, [], length, pos, IfErr, IfOk, IfSome, IsNone, OnErr, OnOk, ◌↔◌, Some};
 ghost use Rattle.deadhead_matrix.specs.Prices.{Plan as PlanView, IsPlanFor};
 ghost use Rattle.deficit_steps.specs.Holds.{Holds};
 ghost use Rattle.desk_core.specs.Counts.{blocks_in, minutes_in};
-ghost use Rattle.desk_core.specs.Desk.{ArePlansFor, IsDone, IsExtra, IsRefused, most_steps};
-ghost use Rattle.edit_script.specs.Edits.{InForm};
+ghost use Rattle.desk_core.specs.Desk.{ArePlansFor, IsDone, IsRefused, most_steps};
+ghost use Rattle.edit_script.specs.Edits.{EditsTrip, InForm};
 ghost use Rattle.edit_script.specs.Script.{IsNext, stepped};
 ghost use Rattle.plan_history.specs.Stands.{differences};
 ghost use Rattle.trip_model.specs.Deficit.{deficit, live_moves};
@@ -12,10 +12,11 @@ ghost use Rattle.undo_log.specs.Log.{last_item};
 
 use crate::counts::{block_count, block_minutes};
 use crate::follow::step;
+use crate::repair::repair;
 use deadhead_matrix::Matrix;
 use deficit_steps::laws::held_law;
 use deficit_steps::{Deficits, deficits_of};
-use desk_io::{Memory, Steps, Text};
+use desk_io::{Memory, Steps};
 use edit_script::{Edit, EditFault, Script};
 use pair_graph::Pairs;
 use plan_history::{Changed, PlanHistory};
@@ -161,15 +162,14 @@ impl Desk {
         self.history.last_change()
     }
 
-    // Cancels a trip, and takes it out of the plan.
-    fn cancel<L: Ledger>(
+    // Does an edit of a trip, and repairs the plan in the slot of the trip.
+    fn edit<L: Ledger>(
         &mut self,
         number: u32,
         edit: &Edit,
-        trip: &Text,
         steps: &mut Steps<L>,
     ) -> Result<(), EditFault>
-        requires is { edit.now ≡ Edit.Cancel trip.now }
+        requires trip { EditsTrip edit.now }
         requires form { InForm edit.now }
         requires next { IsNext self.old.script number edit.now }
         ensures done { OnOk result (IsDone number edit.now self.old self.new) }
@@ -181,93 +181,19 @@ impl Desk {
         self.history.reserve()?;
         // Its clause says that the timetable is valid.
         let _slots = self.script.timetable().slots();
-        let Some(slot) = self.script.timetable().find(trip.as_str()) else {
-            return Err(EditFault::UnknownTrip);
+        let touched = step(&mut self.script, &mut self.deficits, number, edit, steps)?;
+        let Some(slot) = touched.slot else {
+            unreachable!();
         };
-        step(&mut self.script, &mut self.deficits, number, edit, steps)?;
-        let pairs = Pairs::of(self.script.timetable(), &self.matrix);
-        self.history.take(&pairs, slot, steps);
-        Ok(())
-    }
-
-    // Lets a trip run again, and adds it to the plan.
-    fn restore<L: Ledger>(
-        &mut self,
-        number: u32,
-        edit: &Edit,
-        trip: &Text,
-        steps: &mut Steps<L>,
-    ) -> Result<(), EditFault>
-        requires is { edit.now ≡ Edit.Restore trip.now }
-        requires form { InForm edit.now }
-        requires next { IsNext self.old.script number edit.now }
-        ensures done { OnOk result (IsDone number edit.now self.old self.new) }
-        ensures refused { IfErr result (λ refused. IsRefused refused edit.now (stepped self.old.script number edit.now)) }
-        ensures unchanged { OnErr result (self.new ≡ self.old) }
-        ensures counted { OnOk result (steps.new ≤ steps.old + most_steps edit.now (length self.new.script.timetable.slots)) }
-        ensures uncounted { OnErr result (steps.new ≡ steps.old) }
-    {
-        self.history.reserve()?;
-        let Some(slot) = self.script.timetable().find(trip.as_str()) else {
-            return Err(EditFault::UnknownTrip);
-        };
-        step(&mut self.script, &mut self.deficits, number, edit, steps)?;
-        let pairs = Pairs::of(self.script.timetable(), &self.matrix);
-        self.history.add(&pairs, slot, steps);
-        Ok(())
-    }
-
-    // Shifts a trip, which is taken out of the plan and added again.
-    fn shift<L: Ledger>(
-        &mut self,
-        number: u32,
-        edit: &Edit,
-        trip: &Text,
-        steps: &mut Steps<L>,
-    ) -> Result<(), EditFault>
-        requires is { (by : ℤ) × (edit.now ≡ Edit.Shift trip.now by) }
-        requires form { InForm edit.now }
-        requires next { IsNext self.old.script number edit.now }
-        ensures done { OnOk result (IsDone number edit.now self.old self.new) }
-        ensures refused { IfErr result (λ refused. IsRefused refused edit.now (stepped self.old.script number edit.now)) }
-        ensures unchanged { OnErr result (self.new ≡ self.old) }
-        ensures counted { OnOk result (steps.new ≤ steps.old + most_steps edit.now (length self.new.script.timetable.slots)) }
-        ensures uncounted { OnErr result (steps.new ≡ steps.old) }
-    {
-        self.history.reserve()?;
-        // Its clause says that the timetable is valid.
-        let _slots = self.script.timetable().slots();
-        let Some(slot) = self.script.timetable().find(trip.as_str()) else {
-            return Err(EditFault::UnknownTrip);
-        };
-        step(&mut self.script, &mut self.deficits, number, edit, steps)?;
-        let without = Pairs::without(self.script.timetable(), &self.matrix, slot);
-        let pairs = Pairs::of(self.script.timetable(), &self.matrix);
-        self.history.replace(&without, &pairs, slot, steps);
-        Ok(())
-    }
-
-    // Adds a trip, to the plan too.
-    fn extra<L: Ledger>(
-        &mut self,
-        number: u32,
-        edit: &Edit,
-        steps: &mut Steps<L>,
-    ) -> Result<(), EditFault>
-        requires is { IsExtra edit.now }
-        requires form { InForm edit.now }
-        requires next { IsNext self.old.script number edit.now }
-        ensures done { OnOk result (IsDone number edit.now self.old self.new) }
-        ensures refused { IfErr result (λ refused. IsRefused refused edit.now (stepped self.old.script number edit.now)) }
-        ensures unchanged { OnErr result (self.new ≡ self.old) }
-        ensures counted { OnOk result (steps.new ≤ steps.old + most_steps edit.now (length self.new.script.timetable.slots)) }
-        ensures uncounted { OnErr result (steps.new ≡ steps.old) }
-    {
-        self.history.reserve()?;
-        let slot = self.script.timetable().slots();
-        step(&mut self.script, &mut self.deficits, number, edit, steps)?;
-        let pairs = Pairs::of(self.script.timetable(), &self.matrix);
-        self.history.add(&pairs, slot, steps);
+        let timetable = self.script.timetable();
+        repair(
+            &mut self.history,
+            timetable,
+            &self.matrix,
+            edit,
+            slot,
+            steps,
+        );
         Ok(())
     }
 
@@ -333,19 +259,10 @@ impl Desk {
         ensures uncounted { OnErr result (steps.new ≡ steps.old) }
     {
         match edit {
-            Edit::Shift { trip, by: _ } => self.shift(number, edit, trip, steps),
-            Edit::Cancel { trip } => self.cancel(number, edit, trip, steps),
-            Edit::Restore { trip } => self.restore(number, edit, trip, steps),
-            Edit::Extra {
-                trip: _,
-                from: _,
-                to: _,
-                departs: _,
-                arrives: _,
-            } => self.extra(number, edit, steps),
             Edit::Undo => self.undo(steps),
             Edit::Redo => self.redo(number, edit, steps),
             Edit::Show => self.show(number, edit),
+            _ => self.edit(number, edit, steps),
         }
     }
 }

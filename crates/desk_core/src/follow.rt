@@ -1,6 +1,7 @@
-ghost use Rattle.std.specs.Prelude.{◌≡◌, ◌+◌, ◌≤◌, List, [], ◌++◌, length, IfErr, IfSome, OnErr, OnOk};
+ghost use Rattle.std.specs.Prelude.{◌≡◌, ◌+◌, ◌≤◌, List, [], ◌++◌, length, IfErr, IfOk, IfSome, OnErr, OnOk};
 ghost use Rattle.deficit_steps.specs.Holds.{Holds};
 ghost use Rattle.desk_core.specs.Follow.{moves_of, HoldsAmong};
+ghost use Rattle.edit_script.specs.Changes.{IsSlotOf};
 ghost use Rattle.edit_script.specs.Edits.{InForm};
 ghost use Rattle.edit_script.specs.Script.{IsNext, IsRefusal, stepped};
 ghost use Rattle.trip_model.specs.Deficit.{live_moves};
@@ -11,7 +12,7 @@ ghost use Rattle.trip_model.specs.declared.trip.Move.{Move};
 use deficit_steps::Deficits;
 use deficit_steps::laws::held_law;
 use desk_io::Steps;
-use edit_script::{Edit, EditFault, Script};
+use edit_script::{Edit, EditFault, Script, Touched};
 use std::sync::ledger::Ledger;
 use trip_model::Trip;
 
@@ -51,19 +52,20 @@ fn put_in<L: Ledger>(deficits: &mut Deficits, trip: Option<Trip>, steps: &mut St
     deficits.add(&trip.as_move(), steps);
 }
 
-/// Does the edit of a record in a script, which deficits follow, or refuses it and changes nothing.
+/// Does the edit of a record in a script, which deficits follow, or refuses it and changes nothing. It answers what it touched.
 pub(crate) fn step<L: Ledger>(
     script: &mut Script,
     deficits: &mut Deficits,
     number: u32,
     edit: &Edit,
     steps: &mut Steps<L>,
-) -> Result<(), EditFault>
+) -> Result<Touched, EditFault>
     requires form { InForm edit.now }
     requires next { IsNext script.old number edit.now }
     requires held { Holds deficits.old (live_moves script.old.timetable.slots) }
     requires rows { length deficits.old ≡ length script.old.timetable.places }
     ensures accepted { OnOk result (stepped script.old number edit.now ≡ Ok script.new) }
+    ensures slot { IfOk result (λ touched. IsSlotOf edit.now script.old.timetable touched.slot) }
     ensures held { OnOk result (Holds deficits.new (live_moves script.new.timetable.slots)) }
     ensures rows { length deficits.new ≡ length deficits.old }
     ensures places { OnOk result (length script.new.timetable.places ≡ length script.old.timetable.places) }
@@ -79,5 +81,5 @@ pub(crate) fn step<L: Ledger>(
     let _after = script.timetable().slots();
     take_out(deficits, touched.before, steps);
     put_in(deficits, touched.after, steps);
-    Ok(())
+    Ok(touched)
 }

@@ -17,12 +17,13 @@
 //!
 //! The contracts cite `Desk` (what a desk is seen as, and what an edit does to it), `Counts` (its blocks and their empty
 //! minutes), `Standing` (moments), of `edit_script` `Script`, of `deadhead_matrix` `Prices` and `Paths`, and of
-//! `plan_history` `History` and `Stands`. `Follow` has terms for proofs alone.
+//! `plan_history` `History` and `Stands`. `Follow` and `Repair` have terms for proofs alone.
 #![tactic(auto)]
 
 mod counts;
 mod desk;
 mod follow;
 pub mod laws;
+mod repair;
 
 pub use desk::Desk;

@@ -1,5 +1,5 @@
 -- A script follows the edit machine over the records of a feed, and no edit changes the places.
-use Rattle.std.proofs.Common.{◌≡◌, ◌≢◌, ℕ, suc, ◌+◌, Bool, true, false, not, List, [], ◌∷◌, ◌++◌, length, fold, Option, None, Some, Result, Ok, Err, nat_lt, ◌||◌, ℤ, pos, refl, ap, ◌∙◌, arith}
+use Rattle.std.proofs.Common.{◌≡◌, ◌≢◌, ℕ, suc, ◌+◌, Bool, true, false, not, List, [], ◌∷◌, ◌++◌, length, fold, Option, None, Some, Result, Ok, Err, nat_lt, ◌||◌, ℤ, pos, refl, sym, ap, subst, ◌∙◌, arith}
 use Rattle.std.specs.Prelude.{IsOk, int_le, is_some, ◌+ℤ◌}
 use Rattle.std.specs.Str.{bytes_eq}
 use Rattle.std.proofs.lemmas.Bool.{false≢true}
@@ -14,9 +14,10 @@ use Rattle.edit_script.specs.declared.edit.Line.TheVariants as line
 use Rattle.edit_script.specs.declared.fault.EditFault.{EditFault}
 use Rattle.edit_script.specs.declared.fault.EditFault.TheVariants as fault
 use Rattle.edit_script.specs.Changes.{cancelled_at, edited, extra_from, extra_new, extra_to, extra_trip, is_within, provided, restored_at, shifted_at, with_extra, with_live}
-use Rattle.edit_script.specs.Machine.{Numbered, State, after_line, after_record, or_same}
+use Rattle.edit_script.specs.Follow.{IsLineAt}
+use Rattle.edit_script.specs.Machine.{IsAt, Numbered, State, after_line, after_record, machine, or_same}
 use Rattle.edit_script.specs.Script.{IsRefusal, ScriptView}
-use Rattle.desk_feed.specs.Script.{first_records, line_at, record_at, refusal_in, refusal_text, refused_to, some_refused, standing_at, state_at, step_at}
+use Rattle.desk_feed.specs.Script.{AreRefusals, IsStepped, first_records, line_at, record_at, refusal_in, refusal_text, refused_to, some_refused, standing_at, state_at, step_at}
 
 -- the records of a moment, and what was put of them
 pub first-none : (lines : List Line) → first_records lines 0 ≡ []
@@ -50,21 +51,31 @@ none-refused (Err refused) is = absurd (false≢true is)
 
 -- a refusal that is not want of memory is that of the script
 pub refusal-named : (refused : EditFault) (edit : Edit) (due : Result ScriptView EditFault) → refused ≢ fault.Memory → IsRefusal refused edit due → due ≡ Err refused
-refusal-named fault.NotAnEdit edit due named is = is
-refusal-named fault.UnknownTrip edit due named is = is
-refusal-named fault.NotLive edit due named is = is
-refusal-named fault.NotCancelled edit due named is = is
-refusal-named (fault.OutsideTolerance sum) edit due named is = is
-refusal-named fault.BeforeMidnight edit due named is = is
-refusal-named fault.TripExists edit due named is = is
-refusal-named (fault.UnknownPlace side) edit due named is = is
-refusal-named fault.ClassesDiffer edit due named is = is
-refusal-named fault.NotForward edit due named is = is
-refusal-named fault.TooManyTrips edit due named is = is
-refusal-named fault.NothingToUndo edit due named is = is
-refusal-named fault.NothingToRedo edit due named is = is
-refusal-named fault.TooManyShows edit due named is = is
 refusal-named fault.Memory edit due named is = absurd (named refl)
+refusal-named refused edit due named is = is
+
+-- what a record does is that of its place
+pub IsStepped-at : (lines : List Line) (n number : ℕ) (l : Line) (refused : Option EditFault) (old new : ScriptView) → number ≡ n + 1 → IsLineAt lines n l → IsStepped number l refused old new → IsStepped (n + 1) (line_at lines n) refused old new
+IsStepped-at lines n number l refused old new number_is at stepped =
+    subst (λ number. IsStepped number (line_at lines n) refused old new) number_is (subst (λ l. IsStepped number l refused old new) (at.is line.NotAnEdit) stepped)
+
+-- before the first record, and after one more
+pub refusals-none : (base : TimetableView) (lines : List Line) (script : ScriptView) → IsAt base (machine base []) script → AreRefusals base lines 0 script [] false
+refusals-none base lines script at = record {
+  at = subst (λ records. IsAt base (machine base records) script) (sym (first-none lines)) at;
+  text_is = sym (refused-none base lines);
+  some_is = sym (some-none base lines);
+}
+
+pub refusals-next : (base : TimetableView) (lines : List Line) (n : ℕ) (refused : Option EditFault) (old new : ScriptView) (text more : List ℕ) (some some_more : Bool) → AreRefusals base lines n old text some
+    → IsStepped (n + 1) (line_at lines n) refused old new → more ≡ text ++ refusal_text (n + 1) (line_at lines n) refused → some_more ≡ (some || is_some refused) → AreRefusals base lines (n + 1) new more some_more
+refusals-next base lines n refused old new text more some some_more so_far stepped put some_is =
+    let step = stepped base (first_records lines n) so_far.at in
+    record {
+      at = subst (λ records. IsAt base (machine base records) new) (sym (first-next lines n (n + 1) refl)) step.1;
+      text_is = put ∙ (λ i. so_far.text_is i ++ refusal_text (n + 1) (line_at lines n) (step.0 i)) ∙ sym (refused-next base lines n (n + 1) refl);
+      some_is = some_is ∙ (λ i. so_far.some_is i || is_some (step.0 i)) ∙ sym (some-next base lines n (n + 1) refl);
+    }
 
 -- no edit changes the places
 abbrev Keeps : TimetableView → Result TimetableView EditFault → Type 0

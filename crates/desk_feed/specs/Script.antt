@@ -2,11 +2,11 @@
 use Rattle.std.specs.Prelude.{◌≡◌, ℕ, zero, suc, ◌+◌, ◌≤◌, Bool, false, List, [], ◌∷◌, ◌++◌, length, All, Option, None, Some, Result, Ok, Err, codes, slice_index_or, is_some, ◌||◌, if◌then◌else◌}
 use Rattle.std.specs.Fmt.{decimal}
 use Rattle.gtfs_tables.specs.declared.paper.TheConstants.{MOST_RECORDS}
-use Rattle.edit_script.specs.Edits.{IsLineInForm}
+use Rattle.edit_script.specs.Edits.{IsLineInForm, trip_of}
 use Rattle.edit_script.specs.Lines.{fault_text_of}
 use Rattle.edit_script.specs.Machine.{IsAt, Numbered, State, machine, state_after, timetable_at}
 use Rattle.edit_script.specs.Script.{ScriptView}
-use Rattle.edit_script.specs.declared.edit.Edit.TheVariants.{Shift, Cancel, Restore, Extra}
+use Rattle.edit_script.specs.declared.edit.Edit.TheVariants.{Undo, Redo, Show}
 use Rattle.edit_script.specs.declared.edit.Line.{Line}
 use Rattle.edit_script.specs.declared.edit.Line.TheVariants as line
 use Rattle.edit_script.specs.declared.fault.EditFault.{EditFault}
@@ -47,11 +47,11 @@ step_at base lines n = state_after base (state_at base lines n) (record_at lines
 
 -- the trip that the edit of a line names, as it is printed; the other edits name none
 abbrev pub trip_text : Line → List ℕ
-trip_text (line.Edit (Shift trip by)) = codes ", " ++ trip
-trip_text (line.Edit (Cancel trip)) = codes ", " ++ trip
-trip_text (line.Edit (Restore trip)) = codes ", " ++ trip
-trip_text (line.Edit (Extra trip from to departs arrives)) = codes ", " ++ trip
-trip_text line = []
+trip_text line.NotAnEdit = []
+trip_text (line.Edit Undo) = []
+trip_text (line.Edit Redo) = []
+trip_text (line.Edit Show) = []
+trip_text (line.Edit edit) = codes ", " ++ trip_of edit
 
 -- what is put of a refused record behind its number: the trip that it names, and why it is refused
 unfoldable pub reason_text : Line → EditFault → List ℕ
@@ -89,3 +89,9 @@ ending_by refused = if refused then ending.EditsRefused else ending.Done
 abbrev pub IsStepped : ℕ → Line → Option EditFault → ScriptView → ScriptView → Type 0
 IsStepped number line refused old new = (base : TimetableView) (records : List Numbered) → IsAt base (machine base records) old
     → (refused ≡ refusal_in (state_after base (machine base records) (numbered number line))) × IsAt base (machine base (records ++ numbered number line ∷ [])) new
+
+-- A script stands as the machine does after so many of the records, with the lines of those that were refused, and whether one was.
+pub record AreRefusals (base : TimetableView) (lines : List Line) (n : ℕ) (script : ScriptView) (text : List ℕ) (some : Bool) : Type 0 where
+  pub at : IsAt base (state_at base lines n) script
+  pub text_is : text ≡ refused_to base lines n
+  pub some_is : some ≡ some_refused base lines n

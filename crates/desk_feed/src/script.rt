@@ -7,7 +7,7 @@ ghost use Rattle.edit_script.specs.Edits.{IsLineInForm};
 use desk_io::{Memory, Text};
 use desk_run::{Ending, Outcome};
 use edit_script::laws::machine_law;
-use edit_script::{Edit, EditFault, Line, Script, fault_text};
+use edit_script::{Edit, EditFault, Follower, Line, Script, fault_text, follow_records};
 use std::alloc::Global;
 use std::fmt::Write;
 use trip_model::Timetable;
@@ -36,21 +36,13 @@ fn push_trip(text: &mut String, line: &Line) -> Result<(), Memory>
     let Line::Edit(edit) = line else {
         return Ok(());
     };
-    let trip = match edit {
-        Edit::Shift { trip, by: _ } => trip,
-        Edit::Cancel { trip } => trip,
-        Edit::Restore { trip } => trip,
-        Edit::Extra {
-            trip,
-            from: _,
-            to: _,
-            departs: _,
-            arrives: _,
-        } => trip,
-        Edit::Undo | Edit::Redo | Edit::Show => return Ok(()),
-    };
-    write!(text, ", {}", trip.as_str())?;
-    Ok(())
+    match edit {
+        Edit::Undo | Edit::Redo | Edit::Show => Ok(()),
+        _ => {
+            write!(text, ", {}", edit.trip())?;
+            Ok(())
+        }
+    }
 }
 
 /// Appends what stands behind the number of a refused record: the trip that it names, and why it is refused.
@@ -139,6 +131,38 @@ pub fn step_script(
     Ok(Some(refused))
 }
 
+// A script that is followed, the lines of the records that were refused, and whether one was.
+#[derive(Drop)]
+struct Refusals {
+    alloc: Global,
+    script: Script,
+    text: String,
+    some: bool,
+}
+
+impl Follower<()> for Refusals {
+    ghost use Rattle.std.specs.Prelude.{◌<◌, string_bytes};
+    ghost use Rattle.edit_script.specs.Edits.{IsLineInForm};
+    ghost use Rattle.desk_feed.specs.Script.{AreRefusals};
+
+    type Line = Line;
+
+    ghost Fits = { IsLineInForm };
+
+    ghost IsReady = { λ refusals number. refusals.script.last < number };
+
+    ghost Stands = { λ was _ lines n now _. AreRefusals was.script.timetable lines n now.script (string_bytes now.text) now.some };
+
+    ghost Stops = { λ _ _ _ _. Unit {0} };
+
+    fn follow(&mut self, number: u32, line: &Line, _lent: &mut ()) -> Result<(), Memory> {
+        let refused = step_script(&mut self.script, number, line)?;
+        push_if_refused(self.alloc, &mut self.text, number, line, &refused)?;
+        self.some |= refused.is_some();
+        Ok(())
+    }
+}
+
 /// The timetable of a feed after its script.
 pub fn after_script(alloc: Global, timetable: Timetable, lines: &[Line]) -> Result<Edited, Memory>
     requires { IsScript lines.now }
@@ -146,20 +170,18 @@ pub fn after_script(alloc: Global, timetable: Timetable, lines: &[Line]) -> Resu
     ensures places { IfOk result (λ edited. edited.script.timetable.places ≡ timetable.places) }
 {
     machine_law();
-    let mut script = Script::open(alloc, timetable)?;
-    let mut text = String::new(alloc);
-    let mut some = false;
-    for n in 0..lines.len() {
-        let number = n as u32 + 1;
-        let line = &lines[n];
-        let refused = step_script(&mut script, number, line)?;
-        push_if_refused(alloc, &mut text, number, line, &refused)?;
-        some |= refused.is_some();
-    }
-    Ok(Edited {
+    let script = Script::open(alloc, timetable)?;
+    let mut refusals = Refusals {
+        alloc,
         script,
-        refused: Text::wrap(text),
-        ending: ending_by(some),
+        text: String::new(alloc),
+        some: false,
+    };
+    follow_records(&mut refusals, lines, &mut ())?;
+    Ok(Edited {
+        script: refusals.script,
+        refused: Text::wrap(refusals.text),
+        ending: ending_by(refusals.some),
     })
 }
 

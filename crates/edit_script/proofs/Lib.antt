@@ -1,5 +1,6 @@
 mod EditBack
 mod FieldsRead
+mod JudgedLemmas
 mod KeptLemmas
 mod LinesWritten
 mod MachineLemmas

@@ -1,5 +1,5 @@
 -- What an edit of a trip does to a timetable, and why it is refused.
-use Rattle.std.specs.Prelude.{ℕ, ◌+◌, ◌&&◌, ℤ, pos, neg_ℤ, ◌+ℤ◌, Bool, true, false, not, List, [], ◌∷◌, ◌++◌, length, Option, Some, None, Result, Ok, Err, int_le, nat_lt, if◌then◌else◌}
+use Rattle.std.specs.Prelude.{◌≡◌, ℕ, ◌+◌, ◌<◌, ◌&&◌, ℤ, pos, neg_ℤ, ◌+ℤ◌, Bool, true, false, not, List, [], ◌∷◌, ◌++◌, length, Option, Some, None, Result, Ok, Err, int_le, nat_lt, ⊤, if◌then◌else◌}
 use Rattle.std.specs.Str.{bytes_eq}
 use Rattle.trip_model.specs.declared.limits.TheConstants.{MOST_SLOTS}
 use Rattle.trip_model.specs.declared.trip.Trip.{Trip}
@@ -85,3 +85,17 @@ edited t (Extra trip from to departs arrives) = extra_new t trip from to departs
 edited t Undo = Ok t
 edited t Redo = Ok t
 edited t Show = Ok t
+
+-- the slot of the trip that an edit of a trip names, which is there; that of an extra trip is a new last one
+abbrev pub IsSlotNamed : List ℕ → TimetableView → Option ℕ → Type 0
+IsSlotNamed trip t None = ⊥
+IsSlotNamed trip t (Some s) = (s < length t.slots) × (Some s ≡ number_of (slot_names t) trip)
+
+abbrev pub IsSlotOf : Edit → TimetableView → Option ℕ → Type 0
+IsSlotOf (Shift trip by) t slot = IsSlotNamed trip t slot
+IsSlotOf (Cancel trip) t slot = IsSlotNamed trip t slot
+IsSlotOf (Restore trip) t slot = IsSlotNamed trip t slot
+IsSlotOf (Extra trip from to departs arrives) t slot = slot ≡ Some (length t.slots)
+IsSlotOf Undo t slot = ⊤
+IsSlotOf Redo t slot = ⊤
+IsSlotOf Show t slot = ⊤

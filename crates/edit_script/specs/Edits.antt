@@ -1,5 +1,5 @@
 -- Edits, and which of them are in form.
-use Rattle.std.specs.Prelude.{◌<◌, ◌≤◌, length, unsigned_abs, ⊤}
+use Rattle.std.specs.Prelude.{ℕ, ◌<◌, ◌≤◌, List, [], length, unsigned_abs, ⊤}
 use Rattle.std.specs.Str.{IsUtf8}
 use Rattle.edit_script.specs.declared.edit.Edit.{Edit}
 use Rattle.edit_script.specs.declared.edit.Edit.TheVariants.{Shift, Cancel, Restore, Extra, Undo, Redo, Show}
@@ -17,6 +17,23 @@ InForm (Extra trip from to departs arrives) = (0 < length trip) × (departs ≤ 
 InForm Undo = ⊤
 InForm Redo = ⊤
 InForm Show = ⊤
+
+-- an edit of a trip
+abbrev pub EditsTrip : Edit → Type 0
+EditsTrip Undo = ⊥
+EditsTrip Redo = ⊥
+EditsTrip Show = ⊥
+EditsTrip edit = ⊤
+
+-- the trip that an edit names; the others name none
+abbrev pub trip_of : Edit → List ℕ
+trip_of (Shift trip by) = trip
+trip_of (Cancel trip) = trip
+trip_of (Restore trip) = trip
+trip_of (Extra trip from to departs arrives) = trip
+trip_of Undo = []
+trip_of Redo = []
+trip_of Show = []
 
 -- the names of an edit are texts, as they are of every edit in memory
 abbrev pub HasTexts : Edit → Type 0

@@ -1,5 +1,6 @@
 pub mod Changes
 pub mod Edits
+pub mod Follow
 pub mod Forms
 pub mod Kept
 pub mod Laws

@@ -1,16 +1,19 @@
 -- What was done to the trip in a slot, made and taken back.
-use Rattle.std.specs.Prelude.{◌≡◌, ℕ, ◌+◌, ◌<◌, ◌≤◌, ℤ, neg_ℤ, unsigned_abs, true, false, List, length, take, Contains, Result, Ok, Err}
+use Rattle.std.specs.Prelude.{◌≡◌, ℕ, ◌+◌, ◌<◌, ◌≤◌, ℤ, neg_ℤ, unsigned_abs, true, false, List, length, take, Contains, Some, IsOk, Result, Ok, Err}
 use Rattle.trip_model.specs.declared.limits.TheConstants.{MOST_SLOTS}
 use Rattle.trip_model.specs.declared.trip.Trip.{Trip}
 use Rattle.trip_model.specs.Timetable.{TimetableView, slot_at, slot_names}
 use Rattle.trip_model.specs.Trip.{IsValidTrip, MayShift}
 use Rattle.trip_model.specs.Fleet.{with_shift}
 use Rattle.edit_script.specs.declared.changes.Change.{Change}
+use Rattle.edit_script.specs.declared.changes.Judged.{Judged}
 use Rattle.edit_script.specs.declared.changes.Made.{Made}
 use Rattle.edit_script.specs.declared.changes.Made.TheVariants.{Moved, Cancelled, Restored, Added}
+use Rattle.edit_script.specs.declared.edit.Edit.{Edit}
 use Rattle.edit_script.specs.declared.edit.TheConstants.{MOST_SHIFT}
 use Rattle.edit_script.specs.declared.fault.EditFault.{EditFault}
-use Rattle.edit_script.specs.Changes.{with_extra, with_live}
+use Rattle.edit_script.specs.declared.fault.EditFault.TheVariants as fault
+use Rattle.edit_script.specs.Changes.{IsSlotOf, edited, with_extra, with_live}
 
 -- the timetable after it was done to the trip in a slot
 abbrev pub with_made : TimetableView → ℕ → Made → TimetableView
@@ -72,7 +75,21 @@ pub record WasMade (t : TimetableView) (change : Change) : Type 0 where
   pub makes : MayMake (without_change t change) change
   pub again : with_change (without_change t change) change ≡ t
 
--- an edit of a trip is judged: it does something to the trip in a slot, or it is refused
-abbrev pub IsJudged : Result ℕ EditFault → TimetableView → Made → Result TimetableView EditFault → Type 0
-IsJudged (Ok s) t made due = CanMake t s made × (due ≡ Ok (with_made t s made))
-IsJudged (Err refused) t made due = due ≡ Err refused
+-- what an edit of a trip was judged to do can be done, and the timetable after it
+abbrev pub CanDo : TimetableView → Judged → Type 0
+CanDo t judged = CanMake t judged.slot judged.made
+
+abbrev pub with_judged : TimetableView → Judged → TimetableView
+with_judged t judged = with_made t judged.slot judged.made
+
+-- it can be done to the slot of the trip, and is what the edit does
+pub record IsDue (t : TimetableView) (edit : Edit) (judged : Judged) : Type 0 where
+  pub can : CanDo t judged
+  pub slot : IsSlotOf edit t (Some judged.slot)
+  pub does : edited t edit ≡ Ok (with_judged t judged)
+
+-- an edit of a trip is judged: it is known what it does, or why it is refused, or memory is wanted for one that is accepted
+abbrev pub IsJudged : Result Judged EditFault → TimetableView → Edit → Type 0
+IsJudged (Ok judged) t edit = IsDue t edit judged
+IsJudged (Err fault.Memory) t edit = IsOk (edited t edit)
+IsJudged (Err refused) t edit = edited t edit ≡ Err refused

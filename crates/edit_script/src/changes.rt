@@ -1,13 +1,15 @@
-ghost use Rattle.std.specs.Prelude.{◌≡◌, ◌≤◌, ◌<◌, ◌++◌, ◌∷◌, [], IfOk, OnErr, MatchResult, length, unsigned_abs, int_le, pos, ◌+ℤ◌};
-ghost use Rattle.edit_script.specs.Changes.{cancelled_at, extra_new, is_within, restored_at, shifted_at, with_extra};
-ghost use Rattle.edit_script.specs.Made.{CanMake, CanUnmake, IsJudged, MayAdd, MayMake, WasMade, with_change, with_made, without_change, without_made};
+ghost use Rattle.std.specs.Prelude.{◌≡◌, ◌≤◌, ◌<◌, ◌++◌, ◌∷◌, [], IfOk, OnErr, Some, unsigned_abs, int_le, pos, ◌+ℤ◌};
+ghost use Rattle.edit_script.specs.Changes.{is_within};
+ghost use Rattle.edit_script.specs.Made.{CanMake, CanUnmake, IsJudged, MayMake, WasMade, with_change, with_made, without_change, without_made};
 ghost use Rattle.edit_script.specs.Script.{IsTouched, all_but_last, trip_in};
 ghost use Rattle.trip_model.specs.declared.limits.TheConstants.{LAST_DEPARTURE};
+ghost use Rattle.edit_script.specs.declared.edit.Edit.TheVariants.{Cancel, Extra, Restore, Shift};
 ghost use Rattle.edit_script.specs.declared.edit.TheConstants.{MOST_SHIFT};
-ghost use Rattle.trip_model.specs.Timetable.{IsTimetable, number_of, slot_names};
+ghost use Rattle.trip_model.specs.Timetable.{IsTimetable};
 
 use crate::{EditFault, Side, Touched};
 use desk_io::{Memory, Text};
+use std::alloc::Global;
 use trip_model::{MOST_SLOTS, Timetable, Trip};
 
 /// What an edit did to the trip in a slot.
@@ -21,6 +23,13 @@ pub(crate) enum Made {
     Restored,
     /// It was added in a new last slot.
     Added { name: Text, trip: Trip },
+}
+
+/// What an edit of a trip was judged to do to the trip in a slot.
+#[derive(Drop)]
+pub struct Judged {
+    pub slot: u16,
+    pub(crate) made: Made,
 }
 
 /// An edit that stands or was undone: the number of its record, and what it did to the trip in a slot.
@@ -45,11 +54,11 @@ fn departs_in_day(trip: &Trip, by: i16) -> bool
     i32::from(trip.departs) + i32::from(by) >= 0
 }
 
-/// The slot of a trip that can be moved by so many minutes.
-pub(crate) fn shift_slot(timetable: &Timetable, trip: &Text, by: i16) -> Result<u16, EditFault>
+/// What a shift of a trip by so many minutes does.
+pub(crate) fn judge_shift(timetable: &Timetable, trip: &Text, by: i16) -> Result<Judged, EditFault>
     requires moves { 0 < unsigned_abs by }
     requires most { unsigned_abs by ≤ MOST_SHIFT }
-    ensures { IsJudged result timetable.now (Made.Moved by) (shifted_at timetable.now by (number_of (slot_names timetable.now) trip.now)) }
+    ensures { IsJudged result timetable.now (Shift trip.now by) }
 {
     let Some(slot) = timetable.find(trip.as_str()) else {
         return Err(EditFault::UnknownTrip);
@@ -65,12 +74,13 @@ pub(crate) fn shift_slot(timetable: &Timetable, trip: &Text, by: i16) -> Result<
     if !departs_in_day(&found, by) {
         return Err(EditFault::BeforeMidnight);
     }
-    Ok(slot)
+    let made = Made::Moved(by);
+    Ok(Judged { slot, made })
 }
 
-/// The slot of a trip that can be cancelled.
-pub(crate) fn cancel_slot(timetable: &Timetable, trip: &Text) -> Result<u16, EditFault>
-    ensures { IsJudged result timetable.now Made.Cancelled (cancelled_at timetable.now (number_of (slot_names timetable.now) trip.now)) }
+/// What a cancelling of a trip does.
+pub(crate) fn judge_cancel(timetable: &Timetable, trip: &Text) -> Result<Judged, EditFault>
+    ensures { IsJudged result timetable.now (Cancel trip.now) }
 {
     let Some(slot) = timetable.find(trip.as_str()) else {
         return Err(EditFault::UnknownTrip);
@@ -78,12 +88,13 @@ pub(crate) fn cancel_slot(timetable: &Timetable, trip: &Text) -> Result<u16, Edi
     if !timetable.trip(slot).live {
         return Err(EditFault::NotLive);
     }
-    Ok(slot)
+    let made = Made::Cancelled;
+    Ok(Judged { slot, made })
 }
 
-/// The slot of a trip that can run again.
-pub(crate) fn restore_slot(timetable: &Timetable, trip: &Text) -> Result<u16, EditFault>
-    ensures { IsJudged result timetable.now Made.Restored (restored_at timetable.now (number_of (slot_names timetable.now) trip.now)) }
+/// What it does that a trip runs again.
+pub(crate) fn judge_restore(timetable: &Timetable, trip: &Text) -> Result<Judged, EditFault>
+    ensures { IsJudged result timetable.now (Restore trip.now) }
 {
     let Some(slot) = timetable.find(trip.as_str()) else {
         return Err(EditFault::UnknownTrip);
@@ -91,24 +102,23 @@ pub(crate) fn restore_slot(timetable: &Timetable, trip: &Text) -> Result<u16, Ed
     if timetable.trip(slot).live {
         return Err(EditFault::NotCancelled);
     }
-    Ok(slot)
+    let made = Made::Restored;
+    Ok(Judged { slot, made })
 }
 
-/// The extra trip, where it can be added.
-pub(crate) fn extra(
+/// What an extra trip does.
+pub(crate) fn judge_extra(
+    alloc: Global,
     timetable: &Timetable,
     trip: &Text,
     from: &Text,
     to: &Text,
     departs: u16,
     arrives: u16,
-) -> Result<Trip, EditFault>
+) -> Result<Judged, EditFault>
     requires departs { departs ≤ LAST_DEPARTURE }
     requires arrives { arrives ≤ LAST_DEPARTURE }
-    ensures added { IfOk result (λ added. MayAdd timetable.now (length timetable.now.slots) trip.now added) }
-    ensures judged { MatchResult result
-        (λ added. extra_new timetable.now trip.now from.now to.now departs arrives (number_of (slot_names timetable.now) trip.now) ≡ Ok (with_extra timetable.now trip.now added))
-        (λ refused. extra_new timetable.now trip.now from.now to.now departs arrives (number_of (slot_names timetable.now) trip.now) ≡ Err refused) }
+    ensures { IsJudged result timetable.now (Extra trip.now from.now to.now departs arrives) }
 {
     if timetable.find(trip.as_str()).is_some() {
         return Err(EditFault::TripExists);
@@ -125,10 +135,12 @@ pub(crate) fn extra(
     if arrives <= departs {
         return Err(EditFault::NotForward);
     }
-    if timetable.slots() >= MOST_SLOTS {
+    let slot = timetable.slots();
+    if slot >= MOST_SLOTS {
         return Err(EditFault::TooManyTrips);
     }
-    Ok(Trip {
+    let name = Text::of(alloc, trip.as_str())?;
+    let trip = Trip {
         from,
         to,
         departs,
@@ -137,7 +149,9 @@ pub(crate) fn extra(
         early: timetable.early(),
         late: timetable.late(),
         live: true,
-    })
+    };
+    let made = Made::Added { name, trip };
+    Ok(Judged { slot, made })
 }
 
 // The trip in a slot, if the slot is there.
@@ -196,6 +210,7 @@ pub(crate) fn make(
     ensures was { IfOk result (λ _. WasMade timetable.new change.now) }
     ensures standing { IfOk result (λ _. standing.new.items ≡ standing.old.items ++ change.now.number ∷ []) }
     ensures touched { IfOk result (λ touched. IsTouched touched timetable.old timetable.new) }
+    ensures slot { IfOk result (λ touched. touched.slot ≡ Some change.now.slot) }
     ensures unchanged { OnErr result (timetable.new ≡ timetable.old) }
     ensures unmoved { OnErr result (standing.new.items ≡ standing.old.items) }
 {

@@ -2,9 +2,14 @@
 //! refused ones.
 //!
 //! [`read_edit`] reads a record as an [`Edit`], [`read_script`] the records of a file, and [`edit_line`] writes an edit as
-//! its canonical line, as [`shift_line`] does a shift. A [`Script`] is a timetable under edits, of which the last 256 can be undone: [`Script::step`] does
-//! an edit and answers what it [`Touched`], or refuses it and changes nothing. [`EditFault`] is why an edit is refused, and
-//! [`fault_text`] what is printed of it.
+//! its canonical line, as [`shift_line`] does a shift. A [`Script`] is a timetable under edits, of which the last 256 can be
+//! undone. [`Script::judge`] says
+//! what an edit of a trip does, or why it is refused, and [`Script::change`] does what was judged. [`Script::step`] is both
+//! for every edit: it answers what it [`Touched`], or refuses the edit and changes nothing. [`EditFault`] is why an edit is
+//! refused, and [`fault_text`] what is printed of it.
+//!
+//! [`follow_records`] goes through the records of a script, each once and in order. A [`Follower`] does what a record asks,
+//! and answers whoever asked: a script or a desk, the replay of a journal, several planners.
 //!
 //! The contract that the crates above use: a record is the edit of its form, or of none; a script has one line for each
 //! record. Every edit that is read is in form, and the canonical line of an edit in form reads back as the same edit
@@ -27,22 +32,25 @@
 //!
 //! The contracts cite `Edits` (which edits are in form), `Forms` (the forms of records, and the lines of a script), `Lines`
 //! (canonical lines and the texts of faults), `Changes` (what an edit of a trip does to a timetable), `Script` (what a
-//! script is seen as, and a step), `Machine` (the edit machine, with `Timetables`), and the law `Laws`. What a script keeps
-//! of its edits is said by `Made` and `Kept`.
+//! script is seen as, and a step), `Made` (what an edit was judged to do), `Machine` (the edit machine, with `Timetables`),
+//! `Follow` (the lines of a script, one after the other), and the law `Laws`. What a script keeps of its edits is said by `Kept`.
 #![tactic(auto)]
 
 mod changes;
 mod edit;
 mod fault;
 mod fields;
+mod follow;
 pub mod laws;
 mod reading;
 mod script;
 mod touched;
 mod writing;
 
+pub use changes::Judged;
 pub use edit::{Edit, Line, MOST_SHIFT, MOST_SHOWS};
 pub use fault::{EditFault, Side, fault_text};
+pub use follow::{Follower, follow_records};
 pub use reading::{read_edit, read_script};
 pub use script::Script;
 pub use touched::Touched;

@@ -1,8 +1,10 @@
-ghost use Rattle.std.specs.Prelude.{◌≡◌, ◌≤◌, ◌<◌, IfOk, IfErr, OnErr, length, unsigned_abs};
+ghost use Rattle.std.specs.Prelude.{◌≡◌, ◌<◌, IfOk, IfErr, OnErr, Some, length};
 
-use crate::changes::{Change, Made, cancel_slot, extra, make, restore_slot, shift_slot, unmake};
+use crate::changes::{
+    Change, Judged, judge_cancel, judge_extra, judge_restore, judge_shift, make, unmake,
+};
 use crate::{Edit, EditFault, MOST_SHOWS, Touched};
-use desk_io::{Memory, Text};
+use desk_io::Memory;
 use std::alloc::Global;
 use std::marker::Model;
 use trip_model::Timetable;
@@ -43,10 +45,9 @@ impl Model for Script {
 }
 
 impl Script {
-    ghost use Rattle.trip_model.specs.declared.limits.TheConstants.{LAST_DEPARTURE};
-    ghost use Rattle.edit_script.specs.declared.edit.TheConstants.{MOST_SHIFT};
-    ghost use Rattle.edit_script.specs.Edits.{InForm};
-    ghost use Rattle.edit_script.specs.Made.{CanMake, with_made};
+    ghost use Rattle.edit_script.specs.Changes.{IsSlotOf};
+    ghost use Rattle.edit_script.specs.Edits.{EditsTrip, InForm};
+    ghost use Rattle.edit_script.specs.Made.{CanDo, IsJudged, with_judged};
     ghost use Rattle.edit_script.specs.Script.{IsNext, IsRefusal, IsRising, IsTouched, if_redone, if_shown, if_undone, numbers_along, opened, stepped, with_edit};
     ghost use Rattle.undo_log.specs.Log.{last_item};
 
@@ -107,77 +108,61 @@ impl Script {
         self.last
     }
 
-    // Does an edit of a trip that was judged, and keeps its change.
-    fn change(&mut self, number: u32, slot: u16, made: Made) -> Result<Touched, Memory>
+    /// What an edit of a trip does to the timetable that stands, or why it is refused. It changes nothing yet.
+    pub fn judge(&self, edit: &Edit) -> Result<Judged, EditFault>
+        requires form { InForm edit.now }
+        requires trip { EditsTrip edit.now }
+        ensures { IsJudged result self.now.timetable edit.now }
+    {
+        let timetable = &self.timetable;
+        match edit {
+            Edit::Shift { trip, by } => judge_shift(timetable, trip, *by),
+            Edit::Cancel { trip } => judge_cancel(timetable, trip),
+            Edit::Restore { trip } => judge_restore(timetable, trip),
+            Edit::Extra {
+                trip,
+                from,
+                to,
+                departs,
+                arrives,
+            } => judge_extra(self.alloc, timetable, trip, from, to, *departs, *arrives),
+            Edit::Undo | Edit::Redo | Edit::Show => unreachable!(),
+        }
+    }
+
+    /// Does what an edit of a trip was judged to do, as the edit of a record of that number.
+    pub fn change(&mut self, number: u32, judged: Judged) -> Result<Touched, Memory>
         requires next { self.old.last < number }
-        requires can { CanMake self.old.timetable slot made }
-        ensures done { IfOk result (λ _. self.new ≡ with_edit self.old number (with_made self.old.timetable slot made)) }
+        requires can { CanDo self.old.timetable judged }
+        ensures done { IfOk result (λ _. self.new ≡ with_edit self.old number (with_judged self.old.timetable judged)) }
         ensures touched { IfOk result (λ touched. IsTouched touched self.old.timetable self.new.timetable) }
+        ensures slot { IfOk result (λ touched. touched.slot ≡ Some judged.slot) }
         ensures unchanged { OnErr result (self.new ≡ self.old) }
     {
-        let change = Change { number, slot, made };
+        let change = Change {
+            number,
+            slot: judged.slot,
+            made: judged.made,
+        };
         let touched = make(&mut self.timetable, &mut self.standing, &change)?;
         self.last = number;
         let _forgotten = self.log.push(change);
         Ok(touched)
     }
 
-    fn shift(&mut self, number: u32, trip: &Text, by: i16) -> Result<Touched, EditFault>
+    // Judges an edit of a trip, and does it.
+    fn edit(&mut self, number: u32, edit: &Edit) -> Result<Touched, EditFault>
+        requires form { InForm edit.now }
+        requires trip { EditsTrip edit.now }
         requires next { self.old.last < number }
-        requires moves { 0 < unsigned_abs by }
-        requires most { unsigned_abs by ≤ MOST_SHIFT }
-        ensures accepted { IfOk result (λ _. stepped self.old number (Edit.Shift trip.now by) ≡ Ok self.new) }
+        ensures accepted { IfOk result (λ _. stepped self.old number edit.now ≡ Ok self.new) }
         ensures touched { IfOk result (λ touched. IsTouched touched self.old.timetable self.new.timetable) }
-        ensures refused { IfErr result (λ refused. IsRefusal refused (Edit.Shift trip.now by) (stepped self.old number (Edit.Shift trip.now by))) }
+        ensures slot { IfOk result (λ touched. IsSlotOf edit.now self.old.timetable touched.slot) }
+        ensures refused { IfErr result (λ refused. IsRefusal refused edit.now (stepped self.old number edit.now)) }
         ensures unchanged { OnErr result (self.new ≡ self.old) }
     {
-        let slot = shift_slot(&self.timetable, trip, by)?;
-        Ok(self.change(number, slot, Made::Moved(by))?)
-    }
-
-    fn cancel(&mut self, number: u32, trip: &Text) -> Result<Touched, EditFault>
-        requires next { self.old.last < number }
-        ensures accepted { IfOk result (λ _. stepped self.old number (Edit.Cancel trip.now) ≡ Ok self.new) }
-        ensures touched { IfOk result (λ touched. IsTouched touched self.old.timetable self.new.timetable) }
-        ensures refused { IfErr result (λ refused. IsRefusal refused (Edit.Cancel trip.now) (stepped self.old number (Edit.Cancel trip.now))) }
-        ensures unchanged { OnErr result (self.new ≡ self.old) }
-    {
-        let slot = cancel_slot(&self.timetable, trip)?;
-        Ok(self.change(number, slot, Made::Cancelled)?)
-    }
-
-    fn restore(&mut self, number: u32, trip: &Text) -> Result<Touched, EditFault>
-        requires next { self.old.last < number }
-        ensures accepted { IfOk result (λ _. stepped self.old number (Edit.Restore trip.now) ≡ Ok self.new) }
-        ensures touched { IfOk result (λ touched. IsTouched touched self.old.timetable self.new.timetable) }
-        ensures refused { IfErr result (λ refused. IsRefusal refused (Edit.Restore trip.now) (stepped self.old number (Edit.Restore trip.now))) }
-        ensures unchanged { OnErr result (self.new ≡ self.old) }
-    {
-        let slot = restore_slot(&self.timetable, trip)?;
-        Ok(self.change(number, slot, Made::Restored)?)
-    }
-
-    fn extra(
-        &mut self,
-        number: u32,
-        trip: &Text,
-        from: &Text,
-        to: &Text,
-        departs: u16,
-        arrives: u16,
-    ) -> Result<Touched, EditFault>
-        requires next { self.old.last < number }
-        requires departs { departs ≤ LAST_DEPARTURE }
-        requires arrives { arrives ≤ LAST_DEPARTURE }
-        ensures accepted { IfOk result (λ _. stepped self.old number (Edit.Extra trip.now from.now to.now departs arrives) ≡ Ok self.new) }
-        ensures touched { IfOk result (λ touched. IsTouched touched self.old.timetable self.new.timetable) }
-        ensures refused { IfErr result (λ refused. IsRefusal refused (Edit.Extra trip.now from.now to.now departs arrives) (stepped self.old number (Edit.Extra trip.now from.now to.now departs arrives))) }
-        ensures unchanged { OnErr result (self.new ≡ self.old) }
-    {
-        let added = extra(&self.timetable, trip, from, to, departs, arrives)?;
-        let name = Text::of(self.alloc, trip.as_str())?;
-        let slot = self.timetable.slots();
-        Ok(self.change(number, slot, Made::Added { name, trip: added })?)
+        let judged = self.judge(edit)?;
+        Ok(self.change(number, judged)?)
     }
 
     // Takes the last edit back.
@@ -241,23 +226,15 @@ impl Script {
         requires next { IsNext self.old number edit.now }
         ensures accepted { IfOk result (λ _. stepped self.old number edit.now ≡ Ok self.new) }
         ensures touched { IfOk result (λ touched. IsTouched touched self.old.timetable self.new.timetable) }
+        ensures slot { IfOk result (λ touched. IsSlotOf edit.now self.old.timetable touched.slot) }
         ensures refused { IfErr result (λ refused. IsRefusal refused edit.now (stepped self.old number edit.now)) }
         ensures unchanged { OnErr result (self.new ≡ self.old) }
     {
         match edit {
-            Edit::Shift { trip, by } => self.shift(number, trip, *by),
-            Edit::Cancel { trip } => self.cancel(number, trip),
-            Edit::Restore { trip } => self.restore(number, trip),
-            Edit::Extra {
-                trip,
-                from,
-                to,
-                departs,
-                arrives,
-            } => self.extra(number, trip, from, to, *departs, *arrives),
             Edit::Undo => self.undo(),
             Edit::Redo => self.redo(),
             Edit::Show => self.show(),
+            _ => self.edit(number, edit),
         }
     }
 }

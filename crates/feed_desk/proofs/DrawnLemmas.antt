@@ -1,5 +1,5 @@
 -- What is drawn after a script: the last plan, and its blocks.
-use Rattle.std.proofs.Common.{◌≡◌, ℕ, List, length, ap, refl, sym, subst, ◌∙◌, arith}
+use Rattle.std.proofs.Common.{◌≡◌, ℕ, List, length, ap, sym, subst, ◌∙◌, arith}
 use Rattle.std.specs.Prelude.{string_bytes}
 use Rattle.trip_model.specs.Timetable.{TimetableView, IsTimetable}
 use Rattle.edit_script.specs.declared.edit.Line.{Line}

@@ -1,6 +1,6 @@
 -- The desk and the plan at each moment of a script.
-use Rattle.std.proofs.Common.{◌≡◌, ◌≢◌, ℕ, zero, suc, ◌+◌, ◌-◌, ◌<◌, ◌≤◌, ◌⊎◌, inl, inr, ⊎_elim, Bool, true, false, List, [], ◌∷◌, ◌++◌, length, Option, None, Some, Result, Ok, Err, nat_le, if◌then◌else◌, refl, sym, ap, subst, ◌∙◌, arith}
-use Rattle.std.specs.Prelude.{All, IsSome, pos, string_bytes, unsigned_abs}
+use Rattle.std.proofs.Common.{◌≡◌, ◌≢◌, ℕ, zero, suc, ◌+◌, ◌-◌, ◌<◌, ◌≤◌, ◌⊎◌, inl, inr, ⊎_elim, ◌||◌, Bool, true, false, List, [], ◌∷◌, ◌++◌, length, Option, None, Some, Result, Err, nat_le, if◌then◌else◌, refl, sym, ap, subst, ◌∙◌, arith}
+use Rattle.std.specs.Prelude.{All, IsSome, is_some, pos, string_bytes, unsigned_abs}
 use Rattle.std.proofs.lemmas.Bool.{false≢true, cases_lt, le-leb, leb-true}
 use Rattle.trip_model.specs.Blocking.{IsFewest, IsLeast}
 use Rattle.trip_model.specs.Deficit.{deficit, live_moves}
@@ -27,6 +27,7 @@ use Rattle.desk_core.specs.Desk.{DeskView, IsRefused}
 use Rattle.desk_core.specs.Standing.{IsLed, IsOpened}
 use Rattle.desk_feed.specs.Script.{IsStepped, first_records, line_at, record_at, refusal_in, refusal_text, refused_to, standing_at, state_at, step_at}
 use Rattle.desk_feed.specs.Edited.{ending_after}
+use Rattle.desk_feed.proofs.ScriptLemmas.{first-next, first-none, some-next, some-none}
 use Rattle.feed_desk.specs.Answers.{Answer, answers_by, refusals}
 use Rattle.feed_desk.specs.Plans.{ArePlanned, AreRelinked, IsFixed, IsPlannedAt, fixed_number, most_of, most_to}
 use Rattle.feed_desk.specs.Drawn.{HasFollowed}
@@ -35,21 +36,8 @@ use Rattle.feed_desk.specs.Moments.{AreMoments, IsAnswered, IsFollowed, IsMoment
 
 -- a refusal that is not want of memory is that of the script
 pub refusal-named : (refused : EditFault) (edit : Edit) (due : Result ScriptView EditFault) → refused ≢ fault.Memory → IsRefused refused edit due → due ≡ Err refused
-refusal-named fault.NotAnEdit edit due named is = is
-refusal-named fault.UnknownTrip edit due named is = is
-refusal-named fault.NotLive edit due named is = is
-refusal-named fault.NotCancelled edit due named is = is
-refusal-named (fault.OutsideTolerance sum) edit due named is = is
-refusal-named fault.BeforeMidnight edit due named is = is
-refusal-named fault.TripExists edit due named is = is
-refusal-named (fault.UnknownPlace side) edit due named is = is
-refusal-named fault.ClassesDiffer edit due named is = is
-refusal-named fault.NotForward edit due named is = is
-refusal-named fault.TooManyTrips edit due named is = is
-refusal-named fault.NothingToUndo edit due named is = is
-refusal-named fault.NothingToRedo edit due named is = is
-refusal-named fault.TooManyShows edit due named is = is
 refusal-named fault.Memory edit due named is = absurd (named refl)
+refusal-named refused edit due named is = is
 
 -- a record of a number above those before it may be applied
 pub next-of : (s : ScriptView) (number : ℕ) (edit : Edit) → s.last < number → IsNext s number edit
@@ -88,14 +76,6 @@ answers-same answer base lines plans other (suc n) same = λ i.
     answers-same answer base lines plans other n (λ k le. same k (omega (arith, le))) i
     ++ answer (n + 1) (line_at lines n) (standing_at base lines (suc n)) (same (suc n) (omega arith) i) (refusal_in (step_at base lines n))
 
-first-none : (lines : List Line) → first_records lines 0 ≡ []
-unfolding first_records
-first-none lines = refl
-
-first-more : (lines : List Line) (n : ℕ) → first_records lines (suc n) ≡ first_records lines n ++ record_at lines n ∷ []
-unfolding first_records
-first-more lines n = refl
-
 answers-none : (answer : Answer) (base : TimetableView) (lines : List Line) (plans : ℕ → Plan) → answers_by answer base lines plans 0 ≡ []
 unfolding answers_by
 answers-none answer base lines plans = refl
@@ -131,8 +111,8 @@ abbrev StartsAt : Type 0
 StartsAt = (base : TimetableView) → IsAt base (machine base []) (opened base)
 
 pub IsAnswered-none : StartsAt → (answer : Answer) (lines : List Line) (desk : DeskView) → IsOpened desk → IsPlanFor desk.script.timetable desk.matrix desk.plan → IsTimetable desk.script.timetable
-    → IsAnswered answer desk.script.timetable lines desk 0 desk []
-IsAnswered-none starts answer lines desk is plan valid =
+    → (had : ℕ) → IsAnswered answer desk.script.timetable lines desk had 0 desk [] false had
+IsAnswered-none starts answer lines desk is plan valid had =
     let base = desk.script.timetable in
     let script : opened base ≡ desk.script = ap opened (ap (λ s. s.timetable) is.script) ∙ sym is.script in
     let at : IsAt base (state_at base lines 0) desk.script = subst (λ records. IsAt base (machine base records) desk.script) (sym (first-none lines)) (subst (IsAt base (machine base [])) script (starts base)) in
@@ -145,20 +125,23 @@ IsAnswered-none starts answer lines desk is plan valid =
         follow = λ k lt. absurd (omega (arith, lt));
       };
       put = sym (answers-none answer base lines (λ k. desk.plan));
+      some_is = sym (some-none base lines);
+      counted = omega arith;
     }
 
 -- and after each
-module _ (answer : MatrixView → Answer) (base : TimetableView) (lines : List Line) (first : DeskView) (m : ℕ) (last next : DeskView) (text more : List ℕ) (refused : Option EditFault)
-    (so_far : IsAnswered (answer first.matrix) base lines first m last text) (stepped : IsStepped (m + 1) (line_at lines m) refused last.script next.script) (followed : IsFollowed (line_at lines m) refused last next)
+module _ (answer : MatrixView → Answer) (base : TimetableView) (lines : List Line) (first : DeskView) (had m : ℕ) (last next : DeskView) (text more : List ℕ) (some : Bool) (old now : ℕ) (refused : Option EditFault)
+    (so_far : IsAnswered (answer first.matrix) base lines first had m last text some old) (stepped : IsStepped (m + 1) (line_at lines m) refused last.script next.script) (followed : IsFollowed (line_at lines m) refused last next)
     (matrix : next.matrix ≡ last.matrix) (plan : IsPlanFor next.script.timetable next.matrix next.plan) (valid : IsTimetable next.script.timetable)
-    (put : more ≡ text ++ answer next.matrix (m + 1) (line_at lines m) next.script.timetable next.plan refused) where
+    (put : more ≡ text ++ answer next.matrix (m + 1) (line_at lines m) next.script.timetable next.plan refused)
+    (counted : now ≤ old + most_of (line_at lines m) (length next.script.timetable.slots) refused) where
   abbrev before : AreMoments base lines first m last so_far.desks
   before = so_far.are
 
   last_is : IsMoment base lines first.matrix m last
   last_is = subst (IsMoment base lines first.matrix m) before.ends (before.each m (omega arith))
 
-  pub step : (refused ≡ refusal_in (step_at base lines m)) × IsAt base (machine base (first_records lines m ++ record_at lines m ∷ [])) next.script
+  step : (refused ≡ refusal_in (step_at base lines m)) × IsAt base (machine base (first_records lines m ++ record_at lines m ∷ [])) next.script
   step = stepped base (first_records lines m) last_is.at
 
   same_matrix : next.matrix ≡ first.matrix
@@ -166,7 +149,7 @@ module _ (answer : MatrixView → Answer) (base : TimetableView) (lines : List L
 
   next_is : IsMoment base lines first.matrix (suc m) next
   next_is = record {
-    at = subst (λ records. IsAt base (machine base records) next.script) (sym (first-more lines m)) step.1;
+    at = subst (λ records. IsAt base (machine base records) next.script) (sym (first-next lines m (suc m) (omega arith))) step.1;
     matrix_is = same_matrix;
     plan = subst (λ matrix. IsPlanFor next.script.timetable matrix next.plan) same_matrix plan;
     valid = valid;
@@ -213,13 +196,18 @@ module _ (answer : MatrixView → Answer) (base : TimetableView) (lines : List L
       ∙ sym (answers-more (answer first.matrix) base lines (λ k. (desks k).plan) m)
 
   -- the steps of the record are counted with those before it
-  pub most-next : (k : ℕ) → k ≡ m + 1 → most_to base lines k ≡ most_to base lines m + most_of (line_at lines m) (length next.script.timetable.slots) refused
-  most-next k is =
-      let same : suc m ≡ k = omega (arith, is) in
-      sym (ap (most_to base lines) same) ∙ most-more base lines m ∙ (λ i. most_to base lines m + most_of (line_at lines m) (length (sym next_is.at.timetable i).slots) (sym step.0 i))
+  most-next : most_to base lines (suc m) ≡ most_to base lines m + most_of (line_at lines m) (length next.script.timetable.slots) refused
+  most-next = most-more base lines m ∙ (λ i. most_to base lines m + most_of (line_at lines m) (length (sym next_is.at.timetable i).slots) (sym step.0 i))
 
-  pub IsAnswered-next : (k : ℕ) → k ≡ m + 1 → IsAnswered (answer first.matrix) base lines first k next more
-  IsAnswered-next k is = subst (λ k. IsAnswered (answer first.matrix) base lines first k next more) (let next : suc m ≡ k = omega (arith, is) in next) (record { desks = desks; are = moments; put = written })
+  pub IsAnswered-next : (some_more : Bool) → some_more ≡ (some || is_some refused) → IsAnswered (answer first.matrix) base lines first had (m + 1) next more some_more now
+  IsAnswered-next some_more some_is =
+      subst (λ k. IsAnswered (answer first.matrix) base lines first had k next more some_more now) (let next : suc m ≡ m + 1 = omega arith in next) (record {
+        desks = desks;
+        are = moments;
+        put = written;
+        some_is = some_is ∙ (λ i. so_far.some_is i || is_some (step.0 i)) ∙ sym (some-next base lines m (suc m) (omega arith));
+        counted = omega (arith, so_far.counted, counted, most-next);
+      })
 
 -- what is needed of the laws
 abbrev pub AreRestored : Type 0

@@ -1,5 +1,5 @@
 -- The desk at each moment of a script: terms of the functions inside.
-use Rattle.std.specs.Prelude.{◌≡◌, ℕ, suc, ◌<◌, ◌≤◌, List, Option, None, Some}
+use Rattle.std.specs.Prelude.{◌≡◌, ℕ, suc, ◌+◌, ◌<◌, ◌≤◌, Bool, List, Option, None, Some}
 use Rattle.trip_model.specs.Timetable.{TimetableView, IsTimetable}
 use Rattle.edit_script.specs.Machine.{IsAt}
 use Rattle.edit_script.specs.Script.{IsNext}
@@ -10,8 +10,9 @@ use Rattle.edit_script.specs.declared.fault.EditFault.{EditFault}
 use Rattle.deadhead_matrix.specs.Matrix.{MatrixView}
 use Rattle.deadhead_matrix.specs.Prices.{IsPlanFor}
 use Rattle.desk_core.specs.Desk.{DeskView, IsDone}
-use Rattle.desk_feed.specs.Script.{line_at, refusal_in, state_at, step_at}
+use Rattle.desk_feed.specs.Script.{line_at, refusal_in, some_refused, state_at, step_at}
 use Rattle.feed_desk.specs.Answers.{Answer, answers_by}
+use Rattle.feed_desk.specs.Plans.{most_to}
 
 -- an edit is done as that of some record, which may be applied
 pub record IsEdited (edit : Edit) (old new : DeskView) : Type 0 where
@@ -39,8 +40,11 @@ pub record AreMoments (base : TimetableView) (lines : List Line) (first : DeskVi
   pub each : (k : ℕ) → k ≤ m → IsMoment base lines first.matrix k (desks k)
   pub follow : (k : ℕ) → k < m → IsFollowed (line_at lines k) (refusal_in (step_at base lines k)) (desks k) (desks (suc k))
 
--- what was put of the records from a first moment to a last one
-pub record IsAnswered (answer : Answer) (base : TimetableView) (lines : List Line) (first : DeskView) (m : ℕ) (last : DeskView) (text : List ℕ) : Type 0 where
+-- What was put of the records from a first moment to a last one, whether one was refused, and how many steps there were before
+-- and are now.
+pub record IsAnswered (answer : Answer) (base : TimetableView) (lines : List Line) (first : DeskView) (had m : ℕ) (last : DeskView) (text : List ℕ) (some : Bool) (steps : ℕ) : Type 0 where
   pub desks : ℕ → DeskView
   pub are : AreMoments base lines first m last desks
   pub put : text ≡ answers_by answer base lines (λ k. (desks k).plan) m
+  pub some_is : some ≡ some_refused base lines m
+  pub counted : steps ≤ had + most_to base lines m

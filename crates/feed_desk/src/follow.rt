@@ -1,11 +1,9 @@
-ghost use Rattle.std.specs.Prelude.{◌≡◌, ◌≢◌, ◌+◌, ◌<◌, ◌≤◌, length, IfOk, OnErr, Some, string_bytes};
-ghost use Rattle.desk_core.specs.Standing.{IsOpened};
-ghost use Rattle.desk_feed.specs.Edited.{ending_after};
+ghost use Rattle.std.specs.Prelude.{◌≡◌, ◌≢◌, ◌+◌, ◌<◌, ◌≤◌, length, IfOk, OnErr, Some};
 ghost use Rattle.desk_feed.specs.Schedule.{most_steps};
 ghost use Rattle.desk_feed.specs.Script.{IsScript, IsStepped};
 ghost use Rattle.edit_script.specs.Edits.{IsLineInForm};
 ghost use Rattle.feed_desk.specs.Drawn.{HasFollowed};
-ghost use Rattle.feed_desk.specs.Moments.{IsAnswered, IsFollowed};
+ghost use Rattle.feed_desk.specs.Moments.{IsFollowed};
 ghost use Rattle.feed_desk.specs.Plans.{most_of, most_to};
 
 use crate::answers::Answers;
@@ -17,7 +15,7 @@ use desk_feed::ending_by;
 use desk_io::{Memory, Steps};
 use desk_run::Ending;
 use edit_script::laws::machine_law;
-use edit_script::{EditFault, Line, Script};
+use edit_script::{EditFault, Follower, Line, Script, follow_records};
 use fixed_fleet::laws::plain_blocks_law;
 use std::alloc::Global;
 use std::sync::ledger::Ledger;
@@ -32,15 +30,18 @@ pub struct Followed {
     pub ending: Ending,
 }
 
-// What was put of the records of a script, and how a run ends by them.
+// A desk that follows records, what is put of these, and whether one was refused.
 #[derive(Drop)]
-struct Answered {
+struct Following<A> {
+    alloc: Global,
+    answers: A,
+    desk: Desk,
     text: String,
-    ending: Ending,
+    some: bool,
 }
 
 // Does what a record says: why it is refused, if it is.
-fn follow<L: Ledger>(
+fn step_desk<L: Ledger>(
     desk: &mut Desk,
     number: u32,
     line: &Line,
@@ -69,67 +70,77 @@ fn follow<L: Ledger>(
     Ok(Some(refused))
 }
 
-// Applies the records of a script to a desk to which nothing was done, one after the other, and puts what becomes of each.
-fn answer_all<A: Answers, L: Ledger>(
-    alloc: Global,
-    desk: &mut Desk,
-    lines: &[Line],
-    answers: &A,
-    steps: &mut Steps<L>,
-) -> Result<Answered, Memory>
-    requires script { IsScript lines.now }
-    requires opened { IsOpened desk.old }
-    ensures answered { IfOk result (λ answered. IsAnswered (A.answer answers.now desk.old.matrix) desk.old.script.timetable lines.now desk.old (length lines.now) desk.new (string_bytes answered.text)) }
-    ensures ending { IfOk result (λ answered. answered.ending ≡ ending_after desk.old.script.timetable lines.now) }
-    ensures counted { steps.new ≤ steps.old + most_to desk.old.script.timetable lines.now (length lines.now) }
-{
-    machine_law();
-    let mut text = String::new(alloc);
-    let mut some = false;
-    // Their clauses say that the plan is certified, and that the timetable is valid.
-    let _plan = desk.plan();
-    let _slots = desk.timetable().slots();
-    for n in 0..lines.len() {
-        let number = n as u32 + 1;
-        let line = &lines[n];
-        let refused = follow(desk, number, line, steps)?;
-        let _plan = desk.plan();
-        let _slots = desk.timetable().slots();
-        answers.push_answer(alloc, &mut text, desk, number, line, &refused)?;
-        some |= refused.is_some();
+impl<A: Answers, L: Ledger> Follower<Steps<L>> for Following<A> {
+    ghost use Rattle.std.specs.Prelude.{◌≡◌, ◌+◌, ◌<◌, ◌≤◌, length, string_bytes};
+    ghost use Rattle.edit_script.specs.Edits.{IsLineInForm};
+    ghost use Rattle.feed_desk.specs.Moments.{IsAnswered};
+    ghost use Rattle.feed_desk.specs.Plans.{most_to};
+
+    type Line = Line;
+
+    ghost Fits = { IsLineInForm };
+
+    ghost IsReady = { λ following number. following.desk.script.last < number };
+
+    ghost Stands = { λ was had lines n now steps. (now.answers ≡ was.answers)
+        × IsAnswered (A.answer was.answers was.desk.matrix) was.desk.script.timetable lines was.desk had n now.desk (string_bytes now.text) now.some steps };
+
+    ghost Stops = { λ was had lines steps. steps ≤ had + most_to was.desk.script.timetable lines (length lines) };
+
+    fn follow(&mut self, number: u32, line: &Line, steps: &mut Steps<L>) -> Result<(), Memory> {
+        let refused = step_desk(&mut self.desk, number, line, steps)?;
+        // Their clauses say that the plan is certified, and that the timetable is valid.
+        let _plan = self.desk.plan();
+        let _slots = self.desk.timetable().slots();
+        self.answers.push_answer(
+            self.alloc,
+            &mut self.text,
+            &self.desk,
+            number,
+            line,
+            &refused,
+        )?;
+        self.some |= refused.is_some();
+        Ok(())
     }
-    Ok(Answered {
-        text,
-        ending: ending_by(some),
-    })
 }
 
 /// Schedules the base timetable of a feed, and follows its script with a desk.
-pub fn follow_script<A: Answers, L: Ledger>(
+pub fn follow_script<A: Answers + Drop, L: Ledger>(
     alloc: Global,
     timetable: Timetable,
     lines: &[Line],
     matrix: Matrix,
-    answers: &A,
+    answers: A,
     steps: &mut Steps<L>,
 ) -> Result<Followed, Memory>
     requires script { IsScript lines.now }
     requires places { length timetable.places ≡ length matrix.walks }
-    ensures followed { IfOk result (HasFollowed (A.answer answers.now matrix) timetable lines.now matrix) }
+    ensures followed { IfOk result (HasFollowed (A.answer answers matrix) timetable lines.now matrix) }
     ensures counted { steps.new ≤ steps.old + (most_steps (length timetable.slots) + most_to timetable lines.now (length lines.now)) }
 {
     plan_law();
     plain_law();
     plain_blocks_law();
     standing_law();
-    // Its clause says that no pull is longer than a day.
+    machine_law();
+    // Their clauses say that no pull is longer than a day, that the plan is certified, and that the timetable is valid.
     let _places = matrix.places();
     let script = Script::open(alloc, timetable)?;
-    let mut desk = Desk::open(alloc, script, matrix, steps)?;
-    let answered = answer_all(alloc, &mut desk, lines, answers, steps)?;
-    Ok(Followed {
+    let desk = Desk::open(alloc, script, matrix, steps)?;
+    let _plan = desk.plan();
+    let _slots = desk.timetable().slots();
+    let mut following = Following {
+        alloc,
+        answers,
         desk,
-        text: answered.text,
-        ending: answered.ending,
+        text: String::new(alloc),
+        some: false,
+    };
+    follow_records(&mut following, lines, steps)?;
+    Ok(Followed {
+        desk: following.desk,
+        text: following.text,
+        ending: ending_by(following.some),
     })
 }

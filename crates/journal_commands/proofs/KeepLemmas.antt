@@ -5,33 +5,25 @@ use Rattle.std.proofs.lemmas.Bool.{true≢false}
 use Rattle.std.proofs.lemmas.List.{append_assoc}
 use Rattle.trip_model.specs.Timetable.{TimetableView}
 use Rattle.edit_script.specs.declared.edit.Line.{Line}
-use Rattle.edit_script.specs.Machine.{IsAt, machine}
-use Rattle.edit_script.specs.Script.{ScriptView}
 use Rattle.desk_keeper.specs.Keeper.{Journal}
 use Rattle.desk_run.specs.Outcome.{OutcomeView}
 use Rattle.desk_run.specs.Reading.{ReadView}
 use Rattle.desk_feed.specs.Feed.{Said}
 use Rattle.desk_feed.specs.Judging.{IsGivenOf}
 use Rattle.desk_feed.specs.Script.{ending_by}
-use Rattle.journal_commands.specs.declared.replay.Answers.{Answers}
+use Rattle.journal_commands.specs.declared.replay.Replay.{Replay}
 use Rattle.journal_commands.specs.declared.replay.Source.TheVariants as source
 use Rattle.journal_commands.specs.Journal.{script_with}
 use Rattle.journal_commands.specs.Keep.{appending, keep_does, keeping, keeping_lines, kept_lines, answers, records_line, some_refused}
 use Rattle.journal_commands.specs.Replay.{all_records, answers_to, kept_to, some_to}
-use Rattle.journal_commands.specs.Replayed.{IsReplayed, IsThrough}
+use Rattle.journal_commands.specs.Replayed.{IsThrough}
 use Rattle.journal_commands.proofs.ReplayLemmas.{kept-journal}
 
 -- after both, the answers are those to the journal and then to the script
-module _ (base : TimetableView) (stored : Journal) (journal lines : List Line) (begun middle last : Answers) (start between end : ScriptView)
-    (starts : IsAt base (machine base []) start) (first : IsReplayed source.Journal 0 journal (length journal) start begun between middle)
-    (second : IsReplayed source.Edits (length journal) lines (length lines) between middle end last)
+module _ (base : TimetableView) (stored : Journal) (journal lines : List Line) (begun middle last : Replay)
+    (one : IsThrough base [] source.Journal 0 journal (length journal) begun middle)
+    (two : IsThrough base (all_records 0 journal) source.Edits (length journal) lines (length lines) middle last)
     (text : string_bytes begun.text ≡ records_line (codes "journal ") (length journal)) (kept : begun.kept.items ≡ []) (some : begun.some ≡ false) where
-  one : IsThrough base [] source.Journal 0 journal (length journal) begun middle between
-  one = first base [] starts
-
-  two : IsThrough base (all_records 0 journal) source.Edits (length journal) lines (length lines) middle last end
-  two = second base (all_records 0 journal) one.at
-
   text-both : string_bytes last.text ≡ answers base journal lines
   text-both =
       two.text

@@ -5,14 +5,13 @@ use Rattle.std.proofs.lemmas.List.{append-nil, append_assoc}
 use Rattle.edit_script.specs.declared.edit.Line.{Line}
 use Rattle.edit_script.specs.declared.fault.EditFault.{EditFault}
 use Rattle.edit_script.specs.Machine.{IsAt, Numbered, machine, state_after}
-use Rattle.edit_script.specs.Script.{ScriptView}
 use Rattle.trip_model.specs.Timetable.{TimetableView}
 use Rattle.desk_feed.specs.Script.{IsStepped, line_at, numbered, refusal_in}
-use Rattle.journal_commands.specs.declared.replay.Answers.{Answers}
+use Rattle.journal_commands.specs.declared.replay.Replay.{Replay}
 use Rattle.journal_commands.specs.declared.replay.Source.{Source}
 use Rattle.journal_commands.specs.declared.replay.Source.TheVariants as source
 use Rattle.journal_commands.specs.Replay.{answer_line, answers_to, kept_line, kept_to, records_from, refusal_at, some_to}
-use Rattle.journal_commands.specs.Replayed.{IsReplayed, IsThrough}
+use Rattle.journal_commands.specs.Replayed.{IsThrough}
 
 pub records-none : (before : ℕ) (lines : List Line) → records_from before lines 0 ≡ []
 unfolding records_from
@@ -56,28 +55,28 @@ module _ (base : TimetableView) (first : List Numbered) (source : Source) (befor
   unfolding some_to
   some-next n = refl
 
-  through-none : (was : Answers) (script : ScriptView) → IsAt base (machine base first) script → IsThrough base first source before lines 0 was was script
-  through-none was script at = record {
-    at = subst (λ records. IsAt base (machine base records) script) (sym (ap (λ rs. first ++ rs) (records-none before lines) ∙ append-nil first)) at;
+  pub through-none : (was : Replay) → IsAt base (machine base first) was.script → IsThrough base first source before lines 0 was was
+  through-none was at = record {
+    at = subst (λ records. IsAt base (machine base records) was.script) (sym (ap (λ rs. first ++ rs) (records-none before lines) ∙ append-nil first)) at;
     text = sym (ap (λ t. string_bytes was.text ++ t) answers-none ∙ append-nil (string_bytes was.text));
     kept = sym (ap (λ k. was.kept.items ++ k) kept-none ∙ append-nil was.kept.items);
     some = or-false was.some ∙ ap (λ b. was.some || b) (sym some-none);
   }
 
-  through-next : (n : ℕ) (was now next : Answers) (script after : ScriptView) (line : Line) (refused : Option EditFault) → IsThrough base first source before lines n was now script
-      → line ≡ line_at lines n → IsStepped (before + (n + 1)) line refused script after
+  pub through-next : (n : ℕ) (was now next : Replay) (line : Line) (refused : Option EditFault) → IsThrough base first source before lines n was now
+      → line ≡ line_at lines n → IsStepped (before + (n + 1)) line refused now.script next.script
       → string_bytes next.text ≡ string_bytes now.text ++ answer_line source (n + 1) line refused
       → next.kept.items ≡ now.kept.items ++ kept_line source line refused
       → next.some ≡ (now.some || is_some refused)
-      → IsThrough base first source before lines (suc n) was next after
-  through-next n was now next script after line refused through line_is stepped text kept some =
+      → IsThrough base first source before lines (n + 1) was next
+  through-next n was now next line refused through line_is stepped text kept some =
       let here = subst (λ l. (refused ≡ refusal_in (state_after base (machine base (first ++ records_from before lines n)) (numbered (before + (n + 1)) l)))
-      × IsAt base (machine base ((first ++ records_from before lines n) ++ numbered (before + (n + 1)) l ∷ [])) after) line_is
+      × IsAt base (machine base ((first ++ records_from before lines n) ++ numbered (before + (n + 1)) l ∷ [])) next.script) line_is
       (stepped base (first ++ records_from before lines n) through.at) in
       let grown : (first ++ records_from before lines n) ++ numbered (before + (n + 1)) (line_at lines n) ∷ [] ≡ first ++ records_from before lines (suc n) =
       append_assoc first (records_from before lines n) (numbered (before + (n + 1)) (line_at lines n) ∷ []) ∙ ap (λ rs. first ++ rs) (sym (records-next before lines n)) in
-      record {
-        at = subst (λ records. IsAt base (machine base records) after) grown here.1;
+      subst (λ m. IsThrough base first source before lines m was next) (let count : suc n ≡ n + 1 = omega arith in count) (record {
+        at = subst (λ records. IsAt base (machine base records) next.script) grown here.1;
         text = text ∙ (λ i. through.text i ++ answer_line source (n + 1) (line_is i) (here.0 i))
             ∙ append_assoc (string_bytes was.text) (answers_to base first source before lines n) (answer_line source (n + 1) (line_at lines n) (refusal_at base first source before lines n))
             ∙ ap (λ t. string_bytes was.text ++ t) (sym (answers-next n));
@@ -86,23 +85,9 @@ module _ (base : TimetableView) (first : List Numbered) (source : Source) (befor
             ∙ ap (λ k. was.kept.items ++ k) (sym (kept-next n));
         some = some ∙ (λ i. through.some i || is_some (here.0 i)) ∙ or-assoc was.some (some_to base first source before lines n) (is_some (refusal_at base first source before lines n))
             ∙ ap (λ b. was.some || b) (sym (some-next n));
-      }
+      })
 
 -- of the journal's own records nothing is kept
 pub kept-journal : (base : TimetableView) (first : List Numbered) (before : ℕ) (lines : List Line) (n : ℕ) → kept_to base first source.Journal before lines n ≡ []
 kept-journal base first before lines zero = kept-none base first source.Journal before lines
 kept-journal base first before lines (suc n) = kept-next base first source.Journal before lines n ∙ append-nil (kept_to base first source.Journal before lines n) ∙ kept-journal base first before lines n
-
-pub replayed-none : (source : Source) (before : ℕ) (lines : List Line) (was : Answers) (script : ScriptView) → IsReplayed source before lines 0 script was script was
-replayed-none source before lines was script = λ base first at. through-none base first source before lines was script at
-
-pub replayed-next : (source : Source) (before : ℕ) (lines : List Line) (n k : ℕ) (was now next : Answers) (old script after : ScriptView) (line : Line) (refused : Option EditFault) → k ≡ n + 1
-    → IsReplayed source before lines n old was script now → line ≡ line_at lines n → IsStepped (before + (n + 1)) line refused script after
-    → string_bytes next.text ≡ string_bytes now.text ++ answer_line source (n + 1) line refused
-    → next.kept.items ≡ now.kept.items ++ kept_line source line refused
-    → next.some ≡ (now.some || is_some refused)
-    → IsReplayed source before lines k old was after next
-replayed-next source before lines n k was now next old script after line refused e through line_is stepped text kept some = λ base first at.
-    let count : k ≡ suc n = omega (arith, e) in
-    subst (λ m. IsThrough base first source before lines m was next after) (sym count)
-    (through-next base first source before lines n was now next script after line refused (through base first at) line_is stepped text kept some)

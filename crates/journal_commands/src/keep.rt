@@ -8,7 +8,7 @@ ghost use Rattle.journal_commands.specs.Keep as spec;
 ghost use Rattle.journal_commands.specs.Keep.{keep_asked};
 
 use crate::journal::{journal_text, lines_loaded, script_loaded, text_script};
-use crate::replay::{Answers, Source, replay};
+use crate::replay::{Replay, Source};
 use deadhead_matrix::{Deadheads, Pulls};
 use desk_feed::{FEED_PAPERS, FeedCommand, OnFeed, ending_by, refuse};
 use desk_io::{Memory, Shelf, Sink, Steps, Text};
@@ -16,7 +16,7 @@ use desk_keeper::{Keeper, Lines};
 use desk_run::{Loaded, Outcome, Read, perform};
 use desk_settings::Settings;
 use edit_script::laws::machine_law;
-use edit_script::{Line, Script};
+use edit_script::{Line, Script, follow_records};
 use gtfs_tables::{FeedFault, MOST_RECORDS, Paper};
 use std::alloc::Global;
 use std::fmt::Write;
@@ -34,17 +34,17 @@ fn script_with(alloc: Global, stored: &[Text], kept: &[Text]) -> Result<Vec<Line
     text_script(alloc, &text)
 }
 
-// What is done of the answers to all records.
-fn appended(alloc: Global, stored: &[Text], answers: Answers) -> Result<Outcome, Memory>
-    ensures { IfOk result (λ outcome. outcome ≡ spec.appending (string_bytes answers.text) answers.kept.items (ending_by answers.some)
-        (journal_spec.script_with stored.now answers.kept.items)) }
+// What is done after all records.
+fn appended(alloc: Global, stored: &[Text], replay: Replay) -> Result<Outcome, Memory>
+    ensures { IfOk result (λ outcome. outcome ≡ spec.appending (string_bytes replay.text) replay.kept.items (ending_by replay.some)
+        (journal_spec.script_with stored.now replay.kept.items)) }
 {
-    match script_with(alloc, stored, &answers.kept) {
+    match script_with(alloc, stored, &replay.kept) {
         Ok(lines) => {
-            let mut text = answers.text;
+            let mut text = replay.text;
             writeln!(text, "kept {} records", lines.len())?;
-            let kept = Lines::wrap(answers.kept);
-            let ending = ending_by(answers.some);
+            let kept = Lines::wrap(replay.kept);
+            let ending = ending_by(replay.some);
             Ok(Outcome::of(Vec::new(alloc), Some(kept), Text::wrap(text), ending))
         }
         Err(FeedFault::Memory) => Err(Memory),
@@ -65,30 +65,22 @@ fn kept_lines(
     ensures { IfOk result (λ outcome. outcome ≡ spec.keeping_lines timetable stored.now journal.now lines.now) }
 {
     machine_law();
-    let mut script = Script::open(alloc, timetable)?;
-    let mut answers = Answers {
-        text: format!(in alloc; "journal {} records\n", journal.len())?,
+    let script = Script::open(alloc, timetable)?;
+    let text = format!(in alloc; "journal {} records\n", journal.len())?;
+    let mut replay = Replay {
+        alloc,
+        source: Source::Journal,
+        before: 0,
+        script,
+        text,
         kept: Vec::new(alloc),
         some: false,
     };
-    let count = journal.len() as u32;
-    replay(
-        alloc,
-        &mut script,
-        &mut answers,
-        Source::Journal,
-        0,
-        journal,
-    )?;
-    replay(
-        alloc,
-        &mut script,
-        &mut answers,
-        Source::Edits,
-        count,
-        lines,
-    )?;
-    appended(alloc, stored, answers)
+    follow_records(&mut replay, journal, &mut ())?;
+    replay.source = Source::Edits;
+    replay.before = journal.len() as u32;
+    follow_records(&mut replay, lines, &mut ())?;
+    appended(alloc, stored, replay)
 }
 
 // What is done of a journal as it was loaded, and of a script.

@@ -1,13 +1,10 @@
-ghost use Rattle.std.specs.Prelude.{◌≡◌, ◌≢◌, ◌+◌, ◌<◌, ◌≤◌, ◌++◌, length, OnOk, Some, IfOk, string_bytes};
-ghost use Rattle.gtfs_tables.specs.declared.paper.TheConstants.{MOST_RECORDS};
+ghost use Rattle.std.specs.Prelude.{◌≡◌, ◌≢◌, ◌++◌, OnOk, Some, string_bytes};
 ghost use Rattle.edit_script.specs.Edits.{IsLineInForm};
-ghost use Rattle.desk_feed.specs.Script.{IsScript};
 ghost use Rattle.journal_commands.specs.Replay as spec;
-ghost use Rattle.journal_commands.specs.Replayed.{IsReplayed};
 
 use desk_feed::{push_reason, push_refusal, step_script};
 use desk_io::{Memory, Text};
-use edit_script::{Edit, EditFault, Line, Script, edit_line};
+use edit_script::{Edit, EditFault, Follower, Line, Script, edit_line};
 use std::alloc::Global;
 use std::fmt::Write;
 
@@ -18,9 +15,14 @@ pub(crate) enum Source {
     Edits,
 }
 
-/// What is put of records, what is kept of them, and whether one was refused.
+/// A script that is taken through records, which are numbered on from `before`: what is put of them, what is kept of them, and
+/// whether one was refused.
 #[derive(Drop)]
-pub(crate) struct Answers {
+pub(crate) struct Replay {
+    pub alloc: Global,
+    pub source: Source,
+    pub before: u32,
+    pub script: Script,
     pub text: String,
     pub kept: Vec<Text>,
     pub some: bool,
@@ -75,28 +77,34 @@ fn keep_line(
     }
 }
 
-/// Takes lines, of which the first has the number after `before`, through the edit machine.
-pub(crate) fn replay(
-    alloc: Global,
-    script: &mut Script,
-    answers: &mut Answers,
-    source: Source,
-    before: u32,
-    lines: &[Line],
-) -> Result<(), Memory>
-    requires lines { IsScript lines.now }
-    requires before { before ≤ MOST_RECORDS }
-    requires next { script.old.last ≤ before }
-    ensures replayed { OnOk result (IsReplayed source before lines.now (length lines.now) script.old answers.old script.new answers.new) }
-    ensures last { OnOk result (script.new.last ≤ before + length lines.now) }
-{
-    for n in 0..lines.len() {
-        let count = n as u32 + 1;
-        let line = &lines[n];
-        let refused = step_script(script, before + count, line)?;
-        push_answer(alloc, &mut answers.text, source, count, line, &refused)?;
-        keep_line(alloc, &mut answers.kept, source, line, &refused)?;
-        answers.some |= refused.is_some();
+impl Follower<()> for Replay {
+    ghost use Rattle.std.specs.Prelude.{◌+◌, ◌<◌, ◌≤◌};
+    ghost use Rattle.gtfs_tables.specs.declared.paper.TheConstants.{MOST_RECORDS};
+    ghost use Rattle.edit_script.specs.Edits.{IsLineInForm};
+    ghost use Rattle.journal_commands.specs.Replayed.{HasReplayed};
+
+    type Line = Line;
+
+    ghost Fits = { IsLineInForm };
+
+    ghost IsReady = { λ replay number. (replay.before ≤ MOST_RECORDS) × (replay.script.last < replay.before + number) };
+
+    ghost Stands = { λ was _ lines n now _. HasReplayed lines n was now };
+
+    ghost Stops = { λ _ _ _ _. Unit {0} };
+
+    fn follow(&mut self, number: u32, line: &Line, _lent: &mut ()) -> Result<(), Memory> {
+        let refused = step_script(&mut self.script, self.before + number, line)?;
+        push_answer(
+            self.alloc,
+            &mut self.text,
+            self.source,
+            number,
+            line,
+            &refused,
+        )?;
+        keep_line(self.alloc, &mut self.kept, self.source, line, &refused)?;
+        self.some |= refused.is_some();
+        Ok(())
     }
-    Ok(())
 }

@@ -3,11 +3,12 @@ use Rattle.std.specs.Prelude.{ℕ, zero, suc, ◌+◌, List, [], ◌∷◌, ◌+
 use Rattle.std.specs.Fmt.{decimal}
 use Rattle.std.specs.List.{flat_map}
 use Rattle.gtfs_tables.specs.Writing.{record_text}
+use Rattle.edit_script.specs.Edits.{trip_of}
 use Rattle.edit_script.specs.Lines.{fault_text_of, fields_of}
 use Rattle.edit_script.specs.declared.fault.EditFault.TheVariants as edit_fault
 use Rattle.trip_model.specs.Timetable.{TimetableView}
 use Rattle.planner_desk.specs.Laws.{trip_at}
-use Rattle.planner_desk.specs.Standing.{last_place, trip_of}
+use Rattle.planner_desk.specs.Standing.{last_place}
 use Rattle.planner_desk.specs.declared.edit.PlannerEdit.{PlannerEdit}
 use Rattle.planner_desk.specs.declared.edit.PlannerLine.{PlannerLine}
 use Rattle.planner_desk.specs.declared.edit.PlannerLine.TheVariants as line

@@ -1,41 +1,23 @@
-ghost use Rattle.std.specs.Prelude.{◌≡◌, ◌+◌, ◌++◌, [], length, IfOk, OnOk, string_bytes};
+ghost use Rattle.std.specs.Prelude.{◌≡◌, ◌++◌, [], length, IfOk, OnOk, string_bytes};
 ghost use Rattle.edit_script.specs.Edits.{InForm};
 ghost use Rattle.planner_commands.specs.Answers as spec;
-ghost use Rattle.planner_commands.specs.Moments.{some_refused, stand_after};
 ghost use Rattle.planner_commands.specs.Reading.{IsPlannerScript};
-ghost use Rattle.planner_commands.specs.Stepped.{IsStepped, IsTold, IsToldIn};
+ghost use Rattle.planner_commands.specs.Stepped.{AreAnswers, IsStepped, IsTold, IsToldIn};
 ghost use Rattle.planner_desk.specs.Forms.{IsPlannerLine};
-ghost use Rattle.planner_desk.specs.Standing.{trip_of as trip_named};
 
 use desk_io::{Memory, Text};
-use edit_script::{Edit, EditFault, edit_line, fault_text};
+use edit_script::{EditFault, Follower, edit_line, fault_text, follow_records};
 use planner_desk::{PlannerEdit, PlannerFault, PlannerLine, Planners};
 use std::alloc::Global;
 use std::fmt::Write;
 
-/// What was put of the records of planners, and whether one was refused.
+/// Planners whose records are followed, what was put of these, and whether one was refused.
 #[derive(Drop)]
 pub(crate) struct Answers {
+    pub alloc: Global,
+    pub planners: Planners,
     pub text: String,
     pub some: bool,
-}
-
-// The trip that an edit names.
-fn trip_of(edit: &Edit) -> &str
-    ensures { result.now ≡ trip_named edit.now }
-{
-    match edit {
-        Edit::Shift { trip, by: _ } | Edit::Cancel { trip } | Edit::Restore { trip } =>
-            trip.as_str(),
-        Edit::Extra {
-            trip,
-            from: _,
-            to: _,
-            departs: _,
-            arrives: _,
-        } => trip.as_str(),
-        Edit::Undo | Edit::Redo | Edit::Show => "",
-    }
 }
 
 // The trip of the last record of a planner, where one stands.
@@ -43,7 +25,7 @@ fn last_trip<'p>(planners: &'p Planners, planner: &Text) -> &'p str
     ensures { result.now ≡ spec.last_trip planner.now planners.now.standing }
 {
     match planners.last_of(planner) {
-        Some(place) => trip_of(&planners.standing_edit(place).edit),
+        Some(place) => planners.standing_edit(place).edit.trip(),
         None => "",
     }
 }
@@ -61,7 +43,7 @@ fn push_trip(
         return Ok(());
     };
     let trip = match refused {
-        PlannerFault::Refused(_) => trip_of(&asked.edit),
+        PlannerFault::Refused(_) => asked.edit.trip(),
         PlannerFault::HeldBy(_) => last_trip(planners, &asked.planner),
         PlannerFault::NotAnEdit | PlannerFault::NothingToUndo | PlannerFault::Memory => return Ok(
             (),
@@ -112,7 +94,7 @@ fn push_answer(
 }
 
 // Does what a record says: why it is refused, if it is.
-fn follow(
+fn step_planners(
     planners: &mut Planners,
     number: u32,
     line: &PlannerLine,
@@ -132,29 +114,46 @@ fn follow(
     }
 }
 
+impl Follower<()> for Answers {
+    ghost use Rattle.planner_commands.specs.Stepped.{AreAnswers};
+    ghost use Rattle.planner_desk.specs.Forms.{IsPlannerLine};
+
+    type Line = PlannerLine;
+
+    ghost Fits = { IsPlannerLine };
+
+    ghost IsReady = { λ _ _. Unit {0} };
+
+    ghost Stands = { λ was _ lines n now _. AreAnswers was.planners.base lines n now };
+
+    ghost Stops = { λ _ _ _ _. Unit {0} };
+
+    fn follow(&mut self, number: u32, line: &PlannerLine, _lent: &mut ()) -> Result<(), Memory> {
+        let refused = step_planners(&mut self.planners, number, line)?;
+        push_answer(self.alloc, &mut self.text, &self.planners, number, line, &refused)?;
+        self.some |= refused.is_some();
+        Ok(())
+    }
+}
+
 /// Takes the lines of planners who did nothing yet, one after the other, and puts what becomes of each.
 pub(crate) fn answer_all(
     alloc: Global,
-    planners: &mut Planners,
+    planners: Planners,
     lines: &[PlannerLine],
 ) -> Result<Answers, Memory>
     requires script { IsPlannerScript lines.now }
-    requires opened { planners.old.standing ≡ [] }
-    ensures base { IfOk result (λ _. planners.new.base ≡ planners.old.base) }
-    ensures stand { IfOk result (λ _. planners.new.standing ≡ stand_after planners.old.base lines.now) }
-    ensures text { IfOk result (λ answers. string_bytes answers.text ≡ spec.answers_to planners.old.base lines.now (length lines.now)) }
-    ensures some { IfOk result (λ answers. answers.some ≡ some_refused planners.old.base lines.now (length lines.now)) }
+    requires opened { planners.standing ≡ [] }
+    ensures { IfOk result (AreAnswers planners.base lines.now (length lines.now)) }
 {
-    let mut text = String::new(alloc);
-    let mut some = false;
-    for n in 0..lines.len() {
-        let number = n as u32 + 1;
-        let line = &lines[n];
-        let refused = follow(planners, number, line)?;
-        push_answer(alloc, &mut text, planners, number, line, &refused)?;
-        some |= refused.is_some();
-    }
-    Ok(Answers { text, some })
+    let mut answers = Answers {
+        alloc,
+        planners,
+        text: String::new(alloc),
+        some: false,
+    };
+    follow_records(&mut answers, lines, &mut ())?;
+    Ok(answers)
 }
 
 // Appends a record that stands.

@@ -99,11 +99,11 @@ fn planned<L: Ledger>(
 {
     let base = edited.script.timetable();
     let copy = base.copy(alloc)?;
-    let mut planners = Planners::open(alloc, copy)?;
-    let answers = answer_all(alloc, &mut planners, lines)?;
+    let planners = Planners::open(alloc, copy)?;
+    let answers = answer_all(alloc, planners, lines)?;
     let mut text = answers.text;
-    push_standing(alloc, &mut text, &planners)?;
-    let timetable = planners.timetable();
+    push_standing(alloc, &mut text, &answers.planners)?;
+    let timetable = answers.planners.timetable();
     push_numbers(alloc, &mut text, timetable, matrix, steps)?;
     let ending = ending_with(answers.some, edited.ending);
     putting_after(alloc, &edited.refused, &Text::wrap(text), ending)

@@ -18,7 +18,7 @@ use Rattle.edit_script.specs.declared.fault.EditFault.{EditFault}
 use Rattle.edit_script.specs.declared.fault.EditFault.TheVariants as fault
 use Rattle.edit_script.specs.Changes.{cancelled_at, edited, extra_from, extra_new, extra_to, extra_trip, is_within, provided, restored_at, shifted_at, with_extra}
 use Rattle.edit_script.specs.Machine.{or_same}
-use Rattle.planner_desk.specs.Standing.{trip_of}
+use Rattle.edit_script.specs.Edits.{trip_of}
 use Rattle.planner_desk.proofs.Slots.{names_of, trip_among, trip_among-None, trip_among-Some, trip_among-added, trip_among-new, trip_among-other, trip_among-put, with_slot}
 
 -- two lists of slots agree on the trips of every name but one, and the second has no more slots

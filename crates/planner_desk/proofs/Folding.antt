@@ -17,8 +17,9 @@ use Rattle.planner_desk.specs.declared.fault.PlannerFault.{PlannerFault}
 use Rattle.planner_desk.specs.declared.standing.Standing.{Standing}
 use Rattle.planner_desk.specs.Laws.{AlwaysFolds, StaysFolding}
 use Rattle.planner_desk.specs.Machine.{Numbered, line_after, or_stays, with_record}
+use Rattle.edit_script.specs.Edits.{trip_of}
 use Rattle.planner_desk.specs.Planners.{asked_record, if_accepted, standing_by}
-use Rattle.planner_desk.specs.Standing.{Folds, after_standing, holder, last_from, last_place, standing_at, timetable_of, trip_of, undone, unless_held, without_last}
+use Rattle.planner_desk.specs.Standing.{Folds, after_standing, holder, last_from, last_place, standing_at, timetable_of, undone, unless_held, without_last}
 use Rattle.planner_desk.proofs.Agreement.{Agree, edit-differs, edit-goes_on, with_slots}
 
 -- no record is of a planner

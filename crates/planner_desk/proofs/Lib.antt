@@ -2,7 +2,6 @@ pub mod Accepted
 pub mod Agreement
 pub mod FieldsRead
 pub mod Folding
-pub mod JudgedShift
 pub mod Slots
 pub mod Under
 pub mod UndoLemmas

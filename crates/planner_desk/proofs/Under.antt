@@ -6,17 +6,17 @@ use Rattle.std.proofs.lemmas.List.Elements.{All-append, All-drop, All-push, All-
 use Rattle.std.proofs.lemmas.List.Sums.{fold_push}
 use Rattle.trip_model.specs.Timetable.{TimetableView}
 use Rattle.edit_script.specs.Changes.{edited}
-use Rattle.edit_script.specs.Edits.{InForm}
+use Rattle.edit_script.specs.Edits.{EditsTrip, InForm}
 use Rattle.edit_script.specs.Machine.{or_same}
 use Rattle.planner_desk.specs.declared.edit.PlannerEdit.{PlannerEdit}
 use Rattle.planner_desk.specs.declared.standing.Standing.{Standing}
-use Rattle.planner_desk.specs.Planners.{EditsTrip, IsOfTrip, IsUnder, asked_record}
+use Rattle.planner_desk.specs.Planners.{IsOfTrip, IsUnder, asked_record}
 use Rattle.planner_desk.specs.Standing.{Folds, after_standing, numbers, timetable_of}
 use Rattle.planner_desk.proofs.Folding.{folds-push}
 
 -- one more record, which is accepted
 pub IsUnder-push : (base t next : TimetableView) (given more : List ℕ) (standing longer : List Standing) (number : ℕ) (asked : PlannerEdit) (last : Standing) → IsUnder base t given standing
-    → InForm asked.edit → EditsTrip asked.edit → IsOk (edited (timetable_of base standing) asked.edit) → last ≡ asked_record number asked → next ≡ or_same t (edited t asked.edit)
+    → InForm asked.edit → EditsTrip asked.edit → IsOk (edited t asked.edit) → last ≡ asked_record number asked → next ≡ or_same t (edited t asked.edit)
     → more ≡ given ++ last.number ∷ [] → longer ≡ standing ++ last ∷ [] → IsUnder base next more longer
 IsUnder-push base t next given more standing longer number asked last under form trip ok last_is next_is more_is longer_is =
     let r = asked_record number asked in
@@ -25,7 +25,7 @@ IsUnder-push base t next given more standing longer number asked last under form
       timetable_is = next_is ∙ ap (λ t. or_same t (edited t asked.edit)) under.timetable_is ∙ sym (fold_push after_standing base standing r);
       numbered = more_is ∙ (λ i. under.numbered i ++ (last_is i).number ∷ []) ∙ sym (map-append (λ (r : Standing). r.number) standing (r ∷ []));
       trips = All-push IsOfTrip standing r under.trips (form, trip);
-      folds = folds-push base standing r under.folds ok;
+      folds = folds-push base standing r under.folds (subst (λ t. IsOk (edited t asked.edit)) under.timetable_is ok);
     })
 
 -- the numbers of records without the one of a place

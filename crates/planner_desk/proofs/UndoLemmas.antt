@@ -10,7 +10,8 @@ use Rattle.planner_desk.specs.declared.fault.PlannerFault.{PlannerFault}
 use Rattle.planner_desk.specs.declared.fault.PlannerFault.TheVariants as fault
 use Rattle.planner_desk.specs.declared.standing.Standing.{Standing}
 use Rattle.planner_desk.specs.Laws.{HasLast, HasNone, HolderStands, IsHeld, NothingStands, TakesBack, UndoTakesBack, trip_at}
-use Rattle.planner_desk.specs.Standing.{holder, last_from, last_place, standing_at, trip_of, unless_held, without_last}
+use Rattle.edit_script.specs.Edits.{trip_of}
+use Rattle.planner_desk.specs.Standing.{holder, last_from, last_place, standing_at, unless_held, without_last}
 use Rattle.planner_desk.proofs.Folding.{NoneNames, NoneOf, none_names, place-is_last}
 
 has_none : (planner : List ℕ) (standing : List Standing) → NoneOf planner standing → HasNone planner standing

@@ -1,11 +1,12 @@
 -- What an undo takes back, and that whatever planners ask for each edit that stands is accepted.
 use Rattle.std.specs.Prelude.{◌≡◌, ◌≢◌, ℕ, ◌+◌, ◌<◌, List, All, drop, length, remove, Ok, Err}
 use Rattle.trip_model.specs.Timetable.{TimetableView}
+use Rattle.edit_script.specs.Edits.{trip_of}
 use Rattle.planner_desk.specs.declared.fault.PlannerFault.TheVariants as fault
 use Rattle.planner_desk.specs.declared.standing.Standing.{Standing}
 use Rattle.planner_desk.specs.Machine.{Numbered, planners_machine}
 use Rattle.planner_desk.specs.Planners.{standing_after}
-use Rattle.planner_desk.specs.Standing.{Folds, standing_at, trip_of, undone}
+use Rattle.planner_desk.specs.Standing.{Folds, standing_at, undone}
 
 -- the trip that the record of a place names
 abbrev pub trip_at : List Standing → ℕ → List ℕ

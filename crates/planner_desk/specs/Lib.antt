@@ -1,5 +1,4 @@
 pub mod Forms
-pub mod Judging
 pub mod Laws
 pub mod Machine
 pub mod Planners

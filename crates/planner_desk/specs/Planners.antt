@@ -5,7 +5,7 @@ use Rattle.edit_script.specs.declared.edit.Edit.{Edit}
 use Rattle.edit_script.specs.declared.edit.Edit.TheVariants.{Undo, Redo, Show}
 use Rattle.edit_script.specs.declared.fault.EditFault.{EditFault}
 use Rattle.edit_script.specs.Changes.{edited}
-use Rattle.edit_script.specs.Edits.{InForm}
+use Rattle.edit_script.specs.Edits.{EditsTrip, InForm}
 use Rattle.planner_desk.specs.declared.edit.PlannerEdit.{PlannerEdit}
 use Rattle.planner_desk.specs.declared.fault.PlannerFault.{PlannerFault}
 use Rattle.planner_desk.specs.declared.fault.PlannerFault.TheVariants as fault
@@ -22,13 +22,6 @@ abbrev pub MayAsk : Edit → Type 0
 MayAsk Redo = ⊥
 MayAsk Show = ⊥
 MayAsk edit = ⊤
-
--- an edit of a trip
-abbrev pub EditsTrip : Edit → Type 0
-EditsTrip Undo = ⊥
-EditsTrip Redo = ⊥
-EditsTrip Show = ⊥
-EditsTrip edit = ⊤
 
 -- the record of an edit of a trip stands, where the edit is accepted
 abbrev pub if_accepted : List Standing → Standing → Result TimetableView EditFault → Result (List Standing) PlannerFault

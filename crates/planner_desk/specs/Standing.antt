@@ -2,23 +2,13 @@
 use Rattle.std.specs.Prelude.{ℕ, ◌+◌, ◌&&◌, Bool, not, List, [], ◌∷◌, fold, map, drop, remove, slice_index_or, Option, Some, None, IsOk, Result, Ok, Err, ⊤, if◌then◌else◌}
 use Rattle.std.specs.Str.{bytes_eq}
 use Rattle.trip_model.specs.Timetable.{TimetableView}
-use Rattle.edit_script.specs.declared.edit.Edit.{Edit}
-use Rattle.edit_script.specs.declared.edit.Edit.TheVariants.{Shift, Cancel, Restore, Extra, Undo, Redo, Show}
+use Rattle.edit_script.specs.declared.edit.Edit.TheVariants.{Undo}
 use Rattle.edit_script.specs.Changes.{edited}
+use Rattle.edit_script.specs.Edits.{trip_of}
 use Rattle.edit_script.specs.Machine.{or_same}
 use Rattle.planner_desk.specs.declared.fault.PlannerFault.{PlannerFault}
 use Rattle.planner_desk.specs.declared.fault.PlannerFault.TheVariants as fault
 use Rattle.planner_desk.specs.declared.standing.Standing.{Standing}
-
--- the trip that an edit names; the others name none
-abbrev pub trip_of : Edit → List ℕ
-trip_of (Shift trip by) = trip
-trip_of (Cancel trip) = trip
-trip_of (Restore trip) = trip
-trip_of (Extra trip from to departs arrives) = trip
-trip_of Undo = []
-trip_of Redo = []
-trip_of Show = []
 
 -- the timetable after the edit of a record that stands
 abbrev pub after_standing : TimetableView → Standing → TimetableView

@@ -28,12 +28,11 @@
 //!
 //! The contracts cite `Standing` (the timetable of records that stand, and what an undo takes out), `Planners` (what planners are
 //! seen as, and a step), `Machine` (the machine over the records of a script), `Forms` (the forms of records, and the lines of a
-//! script), `Judging`, and the laws `Laws`.
+//! script), and the laws `Laws`.
 #![tactic(auto)]
 
 mod edit;
 mod fault;
-mod judging;
 pub mod laws;
 mod planners;
 mod reading;

@@ -1,16 +1,16 @@
 ghost use Rattle.std.specs.Prelude.{◌≡◌, ◌<◌, ◌++◌, ◌∷◌, [], All, IfOk, IfErr, IfSome, IsOk, OnErr, drop, length, remove};
 ghost use Rattle.edit_script.specs.Changes.{edited};
-ghost use Rattle.edit_script.specs.Edits.{InForm};
+ghost use Rattle.edit_script.specs.Edits.{EditsTrip, InForm};
 ghost use Rattle.edit_script.specs.Machine.{or_same};
-ghost use Rattle.planner_desk.specs.Planners.{EditsTrip, IsOfTrip};
+ghost use Rattle.edit_script.specs.Made.{CanDo, IsDue, with_judged};
+ghost use Rattle.planner_desk.specs.Planners.{IsOfTrip};
 ghost use Rattle.planner_desk.specs.Standing as spec;
 ghost use Rattle.planner_desk.specs.Standing.{Folds, timetable_of};
 
-use crate::judging::judge;
 use crate::standing::{Standing, holder, last_place, push, record_of};
 use crate::{PlannerEdit, PlannerFault};
 use desk_io::{Memory, Text};
-use edit_script::{Edit, EditFault, Script};
+use edit_script::{Edit, EditFault, Judged, Script};
 use std::alloc::Global;
 use std::marker::Model;
 use trip_model::Timetable;
@@ -56,20 +56,29 @@ fn only_memory(refused: EditFault) -> Memory
     }
 }
 
-// Does an edit of a trip, which is accepted.
-fn do_edit(script: &mut Script, edit: &Edit) -> Result<(), Memory>
-    requires form { InForm edit.now }
-    requires trip { EditsTrip edit.now }
-    requires accepted { IsOk (edited script.old.timetable edit.now) }
-    ensures done { IfOk result (λ _. script.new.timetable ≡ or_same script.old.timetable (edited script.old.timetable edit.now)) }
+// Does what an edit of a trip was judged to do.
+fn do_judged(script: &mut Script, judged: Judged) -> Result<(), Memory>
+    requires { CanDo script.old.timetable judged }
+    ensures done { IfOk result (λ _. script.new.timetable ≡ with_judged script.old.timetable judged) }
     ensures unchanged { OnErr result (script.new ≡ script.old) }
 {
     // The script counts its edits by itself. There is no memory for as many as it cannot count.
     let Some(number) = script.last().checked_add(1) else {
         return Err(Memory);
     };
-    match script.step(number, edit) {
-        Ok(_) => Ok(()),
+    script.change(number, judged)?;
+    Ok(())
+}
+
+// Does an edit of a trip, which is accepted.
+fn do_edit(script: &mut Script, edit: &Edit) -> Result<(), Memory>
+    requires form { InForm edit.now }
+    requires trip { EditsTrip edit.now }
+    requires accepted { IsOk (edited script.old.timetable edit.now) }
+    ensures { IfOk result (λ _. script.new.timetable ≡ or_same script.old.timetable (edited script.old.timetable edit.now)) }
+{
+    match script.judge(edit) {
+        Ok(judged) => do_judged(script, judged),
         Err(refused) => Err(only_memory(refused)),
     }
 }
@@ -155,17 +164,17 @@ impl Planners {
         last_place(&self.standing, planner)
     }
 
-    // Does an edit of a trip that was judged, and keeps its record.
-    fn keep(&mut self, number: u32, asked: &PlannerEdit) -> Result<(), Memory>
+    // Does what an edit of a trip was judged to do, and keeps its record: it is pushed first, and popped where that fails.
+    fn keep(&mut self, number: u32, asked: &PlannerEdit, judged: Judged) -> Result<(), Memory>
         requires form { InForm asked.now.edit }
         requires trip { EditsTrip asked.now.edit }
-        requires accepted { IsOk (edited (timetable_of self.old.base self.old.standing) asked.now.edit) }
+        requires due { IsDue (timetable_of self.old.base self.old.standing) asked.now.edit judged }
         ensures kept { IfOk result (λ _. self.new ≡ record self.old { standing = self.old.standing ++ asked_record number asked.now ∷ [] }) }
         ensures unchanged { OnErr result (self.new ≡ self.old) }
     {
         let last = record_of(self.alloc, number, asked)?;
         push(&mut self.numbers, &mut self.standing, last)?;
-        match do_edit(&mut self.script, &asked.edit) {
+        match do_judged(&mut self.script, judged) {
             Ok(()) => Ok(()),
             Err(memory) => {
                 self.numbers.pop();
@@ -185,8 +194,9 @@ impl Planners {
             (if_accepted self.old.standing (asked_record number asked.now) (edited (timetable_of self.old.base self.old.standing) asked.now.edit))) }
         ensures unchanged { OnErr result (self.new ≡ self.old) }
     {
-        match judge(self.script.timetable(), &asked.edit) {
-            Ok(()) => Ok(self.keep(number, asked)?),
+        match self.script.judge(&asked.edit) {
+            Ok(judged) => Ok(self.keep(number, asked, judged)?),
+            Err(EditFault::Memory) => Err(PlannerFault::Memory),
             Err(refused) => Err(PlannerFault::Refused(refused)),
         }
     }

@@ -5,7 +5,6 @@ ghost use Rattle.planner_desk.specs.Standing.{standing_at};
 
 use crate::PlannerEdit;
 use desk_io::{Memory, Text};
-use edit_script::Edit;
 use std::alloc::Global;
 
 /// A record that stands.
@@ -13,40 +12,6 @@ use std::alloc::Global;
 pub(crate) struct Standing {
     pub(crate) number: u32,
     pub(crate) asked: PlannerEdit,
-}
-
-// An equal edit.
-fn edit_copy(alloc: Global, edit: &Edit) -> Result<Edit, Memory>
-    ensures { IfOk result (λ copy. copy ≡ edit.now) }
-{
-    match edit {
-        Edit::Shift { trip, by } => Ok(Edit::Shift {
-            trip: Text::of(alloc, trip.as_str())?,
-            by: *by,
-        }),
-        Edit::Cancel { trip } => Ok(Edit::Cancel {
-            trip: Text::of(alloc, trip.as_str())?,
-        }),
-        Edit::Restore { trip } => Ok(Edit::Restore {
-            trip: Text::of(alloc, trip.as_str())?,
-        }),
-        Edit::Extra {
-            trip,
-            from,
-            to,
-            departs,
-            arrives,
-        } => Ok(Edit::Extra {
-            trip: Text::of(alloc, trip.as_str())?,
-            from: Text::of(alloc, from.as_str())?,
-            to: Text::of(alloc, to.as_str())?,
-            departs: *departs,
-            arrives: *arrives,
-        }),
-        Edit::Undo => Ok(Edit::Undo),
-        Edit::Redo => Ok(Edit::Redo),
-        Edit::Show => Ok(Edit::Show),
-    }
 }
 
 /// The record of that number with an equal edit of the same planner.
@@ -57,27 +22,9 @@ pub(crate) fn record_of(alloc: Global, number: u32, asked: &PlannerEdit) -> Resu
         number,
         asked: PlannerEdit {
             planner: Text::of(alloc, asked.planner.as_str())?,
-            edit: edit_copy(alloc, &asked.edit)?,
+            edit: asked.edit.copy(alloc)?,
         },
     })
-}
-
-// The trip that an edit names.
-fn trip_of(edit: &Edit) -> &str
-    ensures { result.now ≡ spec.trip_of edit.now }
-{
-    match edit {
-        Edit::Shift { trip, by: _ } | Edit::Cancel { trip } | Edit::Restore { trip } =>
-            trip.as_str(),
-        Edit::Extra {
-            trip,
-            from: _,
-            to: _,
-            departs: _,
-            arrives: _,
-        } => trip.as_str(),
-        Edit::Undo | Edit::Redo | Edit::Show => "",
-    }
 }
 
 /// The place of the last record of a planner.
@@ -98,8 +45,7 @@ pub(crate) fn last_place(standing: &[Standing], planner: &Text) -> Option<usize>
 fn holds(held: &Standing, later: &Standing) -> bool
     ensures { result ≡ spec.holds held.now later.now }
 {
-    later.asked.planner != held.asked.planner
-        && trip_of(&later.asked.edit) == trip_of(&held.asked.edit)
+    later.asked.planner != held.asked.planner && later.asked.edit.trip() == held.asked.edit.trip()
 }
 
 /// The number of the first record after a place that is of another planner and names the trip of the record there.

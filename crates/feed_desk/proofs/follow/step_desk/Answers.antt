@@ -7,7 +7,7 @@ use Rattle.desk_feed.specs.Script.{IsStepped, refusal_in}
 use Rattle.desk_feed.proofs.ScriptLemmas.{none-refused}
 use Rattle.feed_desk.specs.Moments.{IsFollowed}
 use Rattle.feed_desk.proofs.MomentsLemmas.{next-of, refusal-named}
-use Rattle.feed_desk.proofs.follow.follow.Goals as goal
+use Rattle.feed_desk.proofs.follow.step_desk.Goals as goal
 
 pub returns-in_default-apply-clause-stepped : goal.returns-in_default-apply-clause-stepped
 returns-in_default-apply-clause-stepped g c =
