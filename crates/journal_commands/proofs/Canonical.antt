@@ -15,7 +15,7 @@ use Rattle.edit_script.specs.Lines.{fields_of}
 use Rattle.edit_script.specs.Script.{all_but_last}
 use Rattle.edit_script.specs.Laws.{EditReadsBack}
 use Rattle.journal_commands.specs.Journal.{canonical_line, journal_text, with_feed}
-use Rattle.journal_commands.specs.Laws.{IsWritten}
+use Rattle.journal_commands.specs.Keep.{IsWritten}
 
 -- a record without its line end
 abbrev front_of : List (List ℕ) → List ℕ

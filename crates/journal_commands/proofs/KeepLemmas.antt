@@ -5,6 +5,7 @@ use Rattle.std.proofs.lemmas.Bool.{true≢false}
 use Rattle.std.proofs.lemmas.List.{append_assoc}
 use Rattle.trip_model.specs.Timetable.{TimetableView}
 use Rattle.edit_script.specs.declared.edit.Line.{Line}
+use Rattle.edit_script.specs.Laws.{EditReadsBack}
 use Rattle.desk_keeper.specs.Keeper.{Journal}
 use Rattle.desk_run.specs.Outcome.{OutcomeView}
 use Rattle.desk_run.specs.Reading.{ReadView}
@@ -18,6 +19,7 @@ use Rattle.journal_commands.specs.Keep.{appending, keep_does, keeping, keeping_l
 use Rattle.journal_commands.specs.Replay.{all_records, answers_to, kept_to, some_to}
 use Rattle.journal_commands.specs.Replayed.{IsThrough}
 use Rattle.journal_commands.proofs.ReplayLemmas.{kept-journal}
+use Rattle.journal_commands.proofs.Replays.{replays}
 
 -- after both, the answers are those to the journal and then to the script
 module _ (base : TimetableView) (stored : Journal) (journal lines : List Line) (begun middle last : Replay)
@@ -49,10 +51,11 @@ module _ (base : TimetableView) (stored : Journal) (journal lines : List Line) (
   kept-done (Ok outcome) done = done ∙ (λ i. appending (text-both i) (kept-both i) (ending_by (some-both i)) (script_with stored (kept-both i)))
 
 -- what `keep` does of an accepted feed is what it asks
-pub keep-given : {E : Type 0} (read : ReadView) (said : Said) (result : Result OutcomeView E) → IfOk result (λ outcome. outcome ≡ keeping read said) → IfOk result (IsGivenOf keep_does read said)
-keep-given read said (Err e) done = tt
-keep-given read said (Ok outcome) done = record {
-  gives = done;
+pub keep-given : {E : Type 0} → EditReadsBack → (read : ReadView) (said : Said) (result : Result OutcomeView E) → IfOk result (λ outcome. outcome ≡ keeping read said)
+    → IfOk result (IsGivenOf keep_does read said)
+keep-given reads read said (Err e) done = tt
+keep-given reads read said (Ok outcome) done = record {
+  gives = record { done = done; replays = replays reads said.base said.lines };
   ends = ap (λ (o : OutcomeView). o.ending) done;
   unkept = λ no. absurd (true≢false no);
 }

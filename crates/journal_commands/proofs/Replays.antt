@@ -23,8 +23,7 @@ use Rattle.edit_script.specs.Machine.{Numbered, State, begun, machine, or_stays,
 use Rattle.desk_feed.specs.Script.{line_at, numbered, refusal_in}
 use Rattle.journal_commands.specs.declared.replay.Source.TheVariants as source
 use Rattle.journal_commands.specs.Journal.{canonical_line, journal_text, script_with}
-use Rattle.journal_commands.specs.Keep.{kept_lines}
-use Rattle.journal_commands.specs.Laws.{IsWritten, IsWrittenLine, standing_after, standing_after_both}
+use Rattle.journal_commands.specs.Keep.{IsWritten, IsWrittenLine, Replays, kept_lines, standing_after, standing_after_both}
 use Rattle.journal_commands.specs.Replay.{all_records, kept_line, kept_to, records_from, refusal_at}
 use Rattle.journal_commands.proofs.Canonical.{script-canonical}
 use Rattle.journal_commands.proofs.Dropped.{AreSame, due, lines_of, same-refl, same-timetable, show-same, step-same}
@@ -196,10 +195,8 @@ value-of x y result one other = ap (or x) (sym one ∙ other)
     or d (Ok x) = x
     or d (Err refused) = d
 
-pub replays : EditReadsBack → (base : TimetableView) (stored : List Edit) (lines script : List Line) → All IsWritten stored → All IsWrittenLine lines
-    → script_with (map canonical_line stored) (kept_lines base (map line.Edit stored) lines) ≡ Ok script
-    → standing_after base script ≡ standing_after_both base (map line.Edit stored) lines
-replays reads base stored lines script written all is =
+pub replays : EditReadsBack → (base : TimetableView) (lines : List Line) → Replays base lines
+replays reads base lines stored script written all is =
     let journal = map line.Edit stored in
     let first = all_records 0 journal in
     let before = length journal in

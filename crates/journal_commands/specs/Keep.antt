@@ -1,9 +1,12 @@
 -- What `keep` asks, and what it does.
-use Rattle.std.specs.Prelude.{◌≡◌, ℕ, Bool, true, List, [], ◌∷◌, ◌++◌, length, Some, codes, Result, Ok, Err, ◌||◌}
+use Rattle.std.specs.Prelude.{◌≡◌, ℕ, Bool, true, List, [], ◌∷◌, ◌++◌, length, map, All, Some, codes, Result, Ok, Err, ⊤, ◌||◌}
 use Rattle.std.specs.Fmt.{decimal}
 use Rattle.gtfs_tables.specs.declared.fault.FeedFault.{FeedFault}
+use Rattle.edit_script.specs.declared.edit.Edit.{Edit}
 use Rattle.edit_script.specs.declared.edit.Line.{Line}
-use Rattle.edit_script.specs.Machine.{Numbered}
+use Rattle.edit_script.specs.declared.edit.Line.TheVariants as line
+use Rattle.edit_script.specs.Edits.{HasTexts, InForm}
+use Rattle.edit_script.specs.Machine.{Numbered, machine, timetable_at}
 use Rattle.trip_model.specs.Timetable.{TimetableView}
 use Rattle.desk_keeper.specs.Keeper.{Journal}
 use Rattle.desk_run.specs.Commands.{Asked}
@@ -13,7 +16,7 @@ use Rattle.desk_run.specs.declared.status.Ending.{Ending}
 use Rattle.desk_feed.specs.Feed.{Said}
 use Rattle.desk_feed.specs.Judging.{FeedAsked, of_feed, refusing}
 use Rattle.desk_feed.specs.Script.{ending_by}
-use Rattle.journal_commands.specs.Journal.{lines_loaded, script_loaded, script_with}
+use Rattle.journal_commands.specs.Journal.{canonical_line, lines_loaded, script_loaded, script_with}
 use Rattle.journal_commands.specs.Replay.{all_records, answers_to, kept_to, some_to}
 use Rattle.journal_commands.specs.declared.replay.Source.TheVariants as source
 
@@ -59,12 +62,40 @@ keeping_by base stored lines (Err refused) = refusing refused
 abbrev pub keeping : ReadView → Said → OutcomeView
 keeping read said = keeping_by said.base (lines_loaded read.journal) said.lines (script_loaded read.journal)
 
+-- an edit that can be written and read: it is in form, and its names are texts
+abbrev pub IsWritten : Edit → Type 0
+IsWritten edit = InForm edit × HasTexts edit
+
+abbrev pub IsWrittenLine : Line → Type 0
+IsWrittenLine (line.Edit edit) = IsWritten edit
+IsWrittenLine line.NotAnEdit = ⊤
+
+-- the timetable that stands after the records of a script alone, and after those of a journal and then of a script
+abbrev pub standing_after : TimetableView → List Line → TimetableView
+standing_after base lines = timetable_at base (machine base (all_records 0 lines))
+
+abbrev pub standing_after_both : TimetableView → List Line → List Line → TimetableView
+standing_after_both base journal lines = timetable_at base (machine base (all_records 0 journal ++ all_records (length journal) lines))
+
+-- Where each line of a journal is a canonical line, the journal that `keep` leaves, replayed alone, gives the timetable that
+-- stood at its end.
+abbrev pub Replays : TimetableView → List Line → Type 0
+Replays base lines =
+    (stored : List Edit) (script : List Line) → All IsWritten stored → All IsWrittenLine lines
+    → script_with (map canonical_line stored) (kept_lines base (map line.Edit stored) lines) ≡ Ok script
+    → standing_after base script ≡ standing_after_both base (map line.Edit stored) lines
+
+-- what `keep` gives of what was read; and the journal that it leaves replays
+pub record Keeps (read : ReadView) (said : Said) (outcome : OutcomeView) : Type 0 where
+  pub done : outcome ≡ keeping read said
+  pub replays : Replays said.base said.lines
+
 abbrev pub keep_does : FeedAsked
 keep_does = record {
   further = [];
   keeps = true;
   Ends = λ read said end. end ≡ (keeping read said).ending;
-  Gives = λ read said outcome. outcome ≡ keeping read said;
+  Gives = Keeps;
   most = λ read said. 0;
 }
 

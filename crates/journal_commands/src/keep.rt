@@ -15,7 +15,7 @@ use desk_io::{Memory, Shelf, Sink, Steps, Text};
 use desk_keeper::{Keeper, Lines};
 use desk_run::{Loaded, Outcome, Read, perform};
 use desk_settings::Settings;
-use edit_script::laws::machine_law;
+use edit_script::laws::{machine_law, read_back_law};
 use edit_script::{Line, Script, follow_records};
 use gtfs_tables::{FeedFault, MOST_RECORDS, Paper};
 use std::alloc::Global;
@@ -128,6 +128,7 @@ impl FeedCommand for KeepEdits {
         lines: &[Line],
         _steps: &mut Steps<L>,
     ) -> Result<Outcome, Memory> {
+        read_back_law();
         kept(alloc, timetable, read.journal(), lines)
     }
 }

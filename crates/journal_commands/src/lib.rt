@@ -10,15 +10,14 @@
 //! let status = run_keep(alloc, shelf, out, keeper, steps);
 //! ```
 //!
-//! The contracts cite `Keep` and `Kept` (what each command asks and does), `Journal` (a journal as a script), `Replay` (what
-//! becomes of the records), and the laws `Laws`; of `desk_run` `Performs`, and of `desk_feed` `Feed`, `Judging` and `Script`.
-//! `Replayed` has terms of the functions inside.
+//! The contracts cite `Keep` and `Kept` (what each command asks and does), `Journal` (a journal as a script), and `Replay` (what
+//! becomes of the records); of `desk_run` `Performs`, and of `desk_feed` `Feed`, `Judging` and `Script`. `Replayed` has terms of
+//! the functions inside.
 #![tactic(auto)]
 
 mod journal;
 mod keep;
 mod kept;
-pub mod laws;
 mod replay;
 
 pub use keep::run_keep;

@@ -8,5 +8,5 @@ use Rattle.journal_commands.proofs.keep.KeepEditsFeedCommand.outcome.Goals as go
 
 pub returns-clause-given : goal.returns-clause-given
 returns-clause-given g c =
-    keep-given c.args.read.now (said_with c.args._settings.now c.args.timetable c.args._deadheads.now c.args._pulls c.args.lines.now) c.kept.result
+    keep-given c.read_back_law.ensures c.args.read.now (said_with c.args._settings.now c.args.timetable c.args._deadheads.now c.args._pulls c.args.lines.now) c.kept.result
     (subst (λ loaded. IfOk c.kept.result (λ outcome. outcome ≡ keeping_by c.args.timetable (lines_loaded loaded) c.args.lines.now (script_loaded loaded))) c.journal.ensures c.kept.ensures)
