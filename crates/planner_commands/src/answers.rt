@@ -130,7 +130,14 @@ impl Follower<()> for Answers {
 
     fn follow(&mut self, number: u32, line: &PlannerLine, _lent: &mut ()) -> Result<(), Memory> {
         let refused = step_planners(&mut self.planners, number, line)?;
-        push_answer(self.alloc, &mut self.text, &self.planners, number, line, &refused)?;
+        push_answer(
+            self.alloc,
+            &mut self.text,
+            &self.planners,
+            number,
+            line,
+            &refused,
+        )?;
         self.some |= refused.is_some();
         Ok(())
     }

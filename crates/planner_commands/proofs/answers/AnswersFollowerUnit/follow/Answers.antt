@@ -1,5 +1,5 @@
 use Rattle.std.proofs.Common.{◌≡◌, ◌+◌, ◌++◌, ◌||◌, refl, sym, ap, ◌∙◌}
-use Rattle.std.specs.Prelude.{is_some, string_bytes}
+use Rattle.std.specs.Prelude.{is_some}
 use Rattle.planner_desk.specs.Machine.{line_after, or_stays}
 use Rattle.planner_desk.specs.declared.edit.PlannerLine.TheVariants as line
 use Rattle.planner_commands.specs.Answers.{answer_line}
