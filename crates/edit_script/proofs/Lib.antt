@@ -10,3 +10,4 @@ mod ShiftBack
 mod ShiftLemmas
 mod TouchLemmas
 mod TimetablesLemmas
+pub mod FoldsLemmas

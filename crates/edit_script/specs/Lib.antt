@@ -9,3 +9,4 @@ pub mod Machine
 pub mod Made
 pub mod Script
 pub mod Timetables
+pub mod Folds

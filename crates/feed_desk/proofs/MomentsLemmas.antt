@@ -28,6 +28,7 @@ use Rattle.desk_core.specs.Standing.{IsLed, IsOpened}
 use Rattle.desk_feed.specs.Script.{IsStepped, first_records, line_at, record_at, refusal_in, refusal_text, refused_to, standing_at, state_at, step_at}
 use Rattle.desk_feed.specs.Edited.{ending_after}
 use Rattle.desk_feed.proofs.ScriptLemmas.{first-next, first-none, some-next, some-none}
+use Rattle.edit_script.proofs.FoldsLemmas.{standing-folds}
 use Rattle.feed_desk.specs.Answers.{Answer, answers_by, refusals}
 use Rattle.feed_desk.specs.Plans.{ArePlanned, AreRelinked, IsFixed, IsPlannedAt, fixed_number, most_of, most_to}
 use Rattle.feed_desk.specs.Drawn.{HasFollowed}
@@ -310,6 +311,7 @@ module _ (restores : AreRestored) (proves : AreProved) (makes : MakesMoves) (are
     planned = λ m le. planned m (omega (arith, all, le));
     restored = λ m k m_in k_in standing. restored m k (omega (arith, all, m_in)) (omega (arith, all, k_in)) standing;
     unchanged = λ m lt is. unchanged m (omega (arith, all, lt)) is;
+    folds = λ m le. standing-folds base (first_records lines m);
     repaired = λ m lt. repaired m (omega (arith, all, lt));
   }
 

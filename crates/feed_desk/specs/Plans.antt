@@ -5,6 +5,7 @@ use Rattle.trip_model.specs.Deficit.{deficit, live_moves}
 use Rattle.trip_model.specs.Maximum.{sum_of_maxima}
 use Rattle.trip_model.specs.Plain.{plain_network, trip_moves}
 use Rattle.trip_model.specs.Timetable.{TimetableView, IsTimetable}
+use Rattle.edit_script.specs.Folds.{Folds}
 use Rattle.edit_script.specs.declared.edit.Line.{Line}
 use Rattle.edit_script.specs.declared.edit.Line.TheVariants as line
 use Rattle.edit_script.specs.declared.fault.EditFault.{EditFault}
@@ -42,11 +43,12 @@ AreRelinked line refused timetable old new = new ≡ old
 
 -- One plan for each moment of a script, which is after so many of its records: each is a plan of the timetable that stands
 -- then. Where the same edits stand the plans are equal, prices included. A record that is refused leaves the plan as it is, and
--- the edit of a trip changes links along the paths of its repair alone.
+-- the edit of a trip changes links along the paths of its repair alone. The edits that stand are each accepted over those before.
 pub record ArePlanned (base : TimetableView) (lines : List Line) (matrix : MatrixView) (plans : ℕ → Plan) : Type 0 where
   pub planned : (m : ℕ) → m ≤ length lines → IsPlannedAt (standing_at base lines m) matrix (plans m)
   pub restored : (m k : ℕ) → m ≤ length lines → k ≤ length lines → (state_at base lines m).standing ≡ (state_at base lines k).standing → plans m ≡ plans k
   pub unchanged : (n : ℕ) → n < length lines → IsSome (refusal_in (step_at base lines n)) → plans (suc n) ≡ plans n
+  pub folds : (m : ℕ) → m ≤ length lines → Folds base (state_at base lines m).standing
   pub repaired : (n : ℕ) → n < length lines → AreRelinked (line_at lines n) (refusal_in (step_at base lines n)) (standing_at base lines n) (plans n).next (plans (suc n)).next
 
 -- the most steps of a record, with so many slots after it: none where it is refused
