@@ -71,30 +71,30 @@ pub struct Limits {
 /// The limits, in numbers.
 pub fn limits() -> Limits
     ensures { result ≡ record {
-        bytes = 536870912;
-        records = 65536;
-        last_second = 359999;
-        places = 512;
-        trips = 4096;
-        layover = 240;
-        tolerance = 60;
-        last_departure = 5999;
-        last_end = 6240;
-        last_minute = 8191;
-        deadhead = 1440;
-        walk = 735840;
-        shift = 120;
-        shows = 64;
-        undos = 256;
-        planner_edits = 4096;
-        prefix = 32;
-        class = 16;
-        price = 999999999999;
-        shown = 999999;
-        moves = 8191;
-        change = 65536;
-        column = 10;
-        sample = 4096;
+      bytes = 536870912;
+      records = 65536;
+      last_second = 359999;
+      places = 512;
+      trips = 4096;
+      layover = 240;
+      tolerance = 60;
+      last_departure = 5999;
+      last_end = 6240;
+      last_minute = 8191;
+      deadhead = 1440;
+      walk = 735840;
+      shift = 120;
+      shows = 64;
+      undos = 256;
+      planner_edits = 4096;
+      prefix = 32;
+      class = 16;
+      price = 999999999999;
+      shown = 999999;
+      moves = 8191;
+      change = 65536;
+      column = 10;
+      sample = 4096;
     } }
 {
     Limits {

@@ -29,15 +29,15 @@ pub struct Statuses {
 /// The statuses, in numbers.
 pub fn statuses() -> Statuses
     ensures { result ≡ record {
-        done = 0;
-        edits_refused = 1;
-        usage = 2;
-        feed_refused = 3;
-        no = 4;
-        read_fault = 5;
-        write_fault = 6;
-        keeper_fault = 7;
-        no_memory = 8;
+      done = 0;
+      edits_refused = 1;
+      usage = 2;
+      feed_refused = 3;
+      no = 4;
+      read_fault = 5;
+      write_fault = 6;
+      keeper_fault = 7;
+      no_memory = 8;
     } }
 {
     Statuses {

@@ -191,12 +191,9 @@ module _ (makes : MakesMoves) (seen again : Option ReadView) (before left later 
       → IsConfirmed before left later after second
   confirms files found told_left told_later stands blocks_short prices_short = by before.shelf.files refl
     where
-      abbrev with_both : Option Files → Option Files
-      with_both = with_texts text_of_blocks text_of_prices
-
       by : (o : Option Files) → before.shelf.files ≡ o → IsConfirmed before left later after second
-      by None told = absurd (none-some files (sym (ap with_both told) ∙ sym files_left ∙ told_left))
+      by None told = absurd (none-some files (sym (ap (with_texts text_of_blocks text_of_prices) told) ∙ sym files_left ∙ told_left))
       by (Some base) told =
-          let same : files ≡ written base text_of_blocks text_of_prices = same_Some files (written base text_of_blocks text_of_prices) (sym told_left ∙ files_left ∙ ap with_both told) in
+          let same : files ≡ written base text_of_blocks text_of_prices = same_Some files (written base text_of_blocks text_of_prices) (sym told_left ∙ files_left ∙ ap (with_texts text_of_blocks text_of_prices) told) in
           confirmed base told found told_later (subst (λ fs. StandAgain fs found) same stands) (subst (λ fs. IsShort fs paper.Blocks) same blocks_short)
           (subst (λ fs. IsShort fs paper.Prices) same prices_short)
