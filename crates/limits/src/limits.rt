@@ -69,7 +69,7 @@ pub struct Limits {
 }
 
 /// The limits, in numbers.
-pub fn limits() -> Limits
+pub fn all_limits() -> Limits
     ensures { result ≡ record {
       bytes = 536870912;
       records = 65536;

@@ -27,7 +27,7 @@ pub struct Statuses {
 }
 
 /// The statuses, in numbers.
-pub fn statuses() -> Statuses
+pub fn all_statuses() -> Statuses
     ensures { result ≡ record {
       done = 0;
       edits_refused = 1;
