@@ -2,6 +2,6 @@ use Rattle.std.proofs.Common.{arith}
 use Rattle.two_runs.proofs.ConfirmedLemmas.{confirms}
 use Rattle.two_runs.proofs.confirmed.later_law.Goals as goal
 
-pub returns-clause : goal.returns-clause
-returns-clause c = λ before left later after first second n m k l one two all low.
+pub returns : goal.returns
+returns c = λ before left later after first second n m k l one two all low.
     confirms c.plain_law.ensures.moves one.found two.found before left later after first second (one.run.ended (omega (arith, all))) (two.run.ended low) all

@@ -1,7 +1,7 @@
 use Rattle.two_runs.proofs.confirmed.run_blocks_and_check.Goals as goal
 
-pub returns-clause : goal.returns-clause
-returns-clause g c = record {
+pub returns : goal.returns
+returns g c = record {
   between = _;
   steps = _;
   blocks = c.run_blocks-first.ensures;
