@@ -5,9 +5,8 @@ ghost use Rattle.gtfs_tables.specs.declared.paper.Paper.TheVariants as paper;
 ghost use Rattle.planner_commands.specs.Reading as spec;
 ghost use Rattle.planner_commands.specs.Reading.{IsPlannerScript};
 
-use desk_io::Found;
 use desk_run::Read;
-use gtfs_tables::{FeedFault, Paper};
+use gtfs_tables::{FeedFault, Paper, optional_bytes};
 use planner_desk::{PlannerLine, read_planner_script};
 use std::alloc::Global;
 
@@ -17,9 +16,8 @@ pub(crate) fn read_lines(alloc: Global, read: &Read) -> Result<Vec<PlannerLine>,
     ensures gives { Gives (λ lines. lines.items) result (spec.lines_in read.now) }
     ensures script { IfOk result (λ lines. IsPlannerScript lines.items) }
 {
-    match read.found(Paper::PlannerEdits) {
-        Found::Missing => Ok(Vec::new(alloc)),
-        Found::TooLong => Err(FeedFault::TooLong(Paper::PlannerEdits)),
-        Found::File(bytes) => read_planner_script(alloc, bytes.as_slice()),
+    match optional_bytes(Paper::PlannerEdits, read.found(Paper::PlannerEdits))? {
+        Some(bytes) => read_planner_script(alloc, bytes),
+        None => Ok(Vec::new(alloc)),
     }
 }
