@@ -1,6 +1,7 @@
 """The server of `desk open`: whom it answers, and what a session writes."""
 from __future__ import annotations
 
+import contextlib
 import http.client
 import json
 import re
@@ -206,8 +207,11 @@ class OpenTest(FolderTest):
         """It puts the address, answers there and nowhere else, and ends with status 0 when it is stopped."""
         town = self.room / "town"
         shutil.copytree(ROOT / "examples" / "depot", town, ignore=shutil.ignore_patterns("expected"))
-        with subprocess.Popen([ROOT / "desk", "open", town], stdout=subprocess.PIPE, stderr=subprocess.PIPE, text=True) as running:
-            self.addCleanup(running.kill)
+        with subprocess.Popen([ROOT / "desk", "open", town], stdout=subprocess.PIPE, stderr=subprocess.PIPE, text=True,
+                              preexec_fn=lambda: signal.signal(signal.SIGINT, signal.SIG_DFL)) as running, \
+                contextlib.ExitStack() as ended:
+            # A shell starts what runs in the background with the signal ignored, and what is waited for at the end has to end.
+            ended.callback(running.kill)
             line = running.stdout.readline()
             found = re.fullmatch(r"open http://(127\.0\.0\.1:\d+)(/[\w-]{32}/) in a browser of this machine; Ctrl\+C ends\n", line)
             self.assertIsNotNone(found, line)
