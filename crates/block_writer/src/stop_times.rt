@@ -213,6 +213,8 @@ impl<'a> RecordReader for StopTimes<'a> {
 
     ghost Leaves = { λ _ _ _ _ _ _. Unit {0} };
 
+    ghost Changes = { λ _ _ _ _ _. Unit {0} };
+
     #[tactic(auto, unfolding(crate::specs::StopTimes::columns_in))]
     fn columns(&self, header: &Row) -> Result<Columns, FeedFault> {
         texts_of(

@@ -3,7 +3,7 @@ use Rattle.std.specs.Prelude.{ℕ, ◌≤◌, ◌+◌, ◌-◌, ◌*◌, ◌/◌
 use Rattle.std.specs.List.{range_with_len, reduce}
 use Rattle.std.specs.Option.{option_map_or}
 use Rattle.trip_model.specs.declared.trip.Move.{Move}
-use Rattle.chart_text.specs.declared.columns.TheConstants.{COLUMN_MINUTES}
+use Rattle.chart_text.specs.declared.columns.TheConstants.{COLUMN_MINUTES, LAST_COLUMN}
 
 -- the least departure of the moves, if there are any
 abbrev pub first_departure : List Move → Option ℕ
@@ -17,9 +17,9 @@ last_end moves = fold max 0 (map (λ m. m.arrives) moves)
 unfoldable pub columns_of : List Move → List ℕ
 columns_of moves = option_map_or (λ first. range_with_len (first / COLUMN_MINUTES) (last_end moves / COLUMN_MINUTES + 1 - first / COLUMN_MINUTES)) (first_departure moves) []
 
--- a column that begins by 105:00, by which all trips have ended
+-- a column that begins before all trips have ended, or then
 abbrev pub IsColumn : ℕ → Type 0
-IsColumn column = column ≤ 630
+IsColumn column = column ≤ LAST_COLUMN
 
 -- the ten minutes of the column of a number
 unfoldable pub minutes_of : ℕ → List ℕ

@@ -91,6 +91,8 @@ impl<'a> RecordReader for Blocks<'a> {
 
     ghost Leaves = { λ _ _ _ _ _ _. Unit {0} };
 
+    ghost Changes = { λ _ _ _ _ _. Unit {0} };
+
     #[tactic(auto, unfolding(crate::specs::Blocks::columns_in))]
     fn columns(&self, header: &Row) -> Result<Columns, FeedFault> {
         let block = column_in(Paper::Blocks, Column::BlockId, header)?;

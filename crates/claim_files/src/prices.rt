@@ -73,6 +73,8 @@ impl<'a> RecordReader for Prices<'a> {
 
     ghost Leaves = { λ _ _ _ _ _ _. Unit {0} };
 
+    ghost Changes = { λ _ _ _ _ _. Unit {0} };
+
     #[tactic(auto, unfolding(crate::specs::Prices::columns_in))]
     fn columns(&self, header: &Row) -> Result<Columns, FeedFault> {
         let trip = column_in(Paper::Prices, Column::TripId, header)?;

@@ -1,6 +1,5 @@
 -- The places that a file leaves, as the reading of its records tells them.
-use Rattle.std.proofs.Common.{◌≡◌, ℕ, ◌+◌, ◌≤◌, List, [], ◌∷◌, length, Result, Ok, Err, refl, sym, ap, ◌∙◌, arith}
-use Rattle.std.proofs.lemmas.List.{take-take, take_all}
+use Rattle.std.proofs.Common.{◌≡◌, ℕ, ◌+◌, List, [], ◌∷◌, Result, Ok, Err, refl, ◌∙◌}
 use Rattle.desk_io.specs.declared.shelf.Found.{Found}
 use Rattle.desk_io.specs.declared.shelf.Found.TheVariants.{File, Missing, TooLong}
 use Rattle.gtfs_tables.specs.declared.fault.FeedFault.{FeedFault}
@@ -11,7 +10,7 @@ use Rattle.gtfs_tables.specs.Table.{TableView}
 use Rattle.trip_model.specs.Timetable.{TimetableView}
 use Rattle.deadhead_matrix.specs.declared.read.Columns.{Columns}
 use Rattle.deadhead_matrix.specs.Deadheads.{ReadingView, columns_in, begun, with_deadhead}
-use Rattle.deadhead_matrix.specs.Left.{as_before, left_after, left_by, left_by_each, left_by_paper, left_by_table, timetable_left, Leaves}
+use Rattle.deadhead_matrix.specs.Left.{left_after, left_by, left_by_each, left_by_paper, left_by_table, timetable_left, Leaves}
 use Rattle.deadhead_matrix.specs.Posts.{Class, classes_of}
 
 -- what a record leaves, and those after it
@@ -59,18 +58,3 @@ left-file Missing classes before after are none judges each = cc judges
 left-file TooLong classes before after are none judges each = cc judges
 left-file (File bytes) classes before after are none judges each =
     left-paper classes (File bytes) before after judges each ∙ (λ i. left_by_paper (are i) (File bytes) (none i))
-
--- a timetable that has gained places is as before also without more of those that it had
-pub as_before-gained : (n : ℕ) (before after : TimetableView) → n ≤ length before.places → as_before (length before.places) after ≡ before → as_before n after ≡ as_before n before
-as_before-gained n before after few is =
-    ap (λ places. record after { places = places }) (sym (take-take n (length before.places) after.places few)) ∙ ap (as_before n) is
-
--- the same, where it has gained places twice
-pub as_before-twice : (n : ℕ) (before between after : TimetableView) → n ≤ length before.places → as_before (length before.places) between ≡ before → length before.places ≤ length between.places
-    → as_before (length between.places) after ≡ between → as_before n after ≡ as_before n before
-as_before-twice n before between after few first longer second =
-    as_before-gained n between after (omega arith) second ∙ as_before-gained n before between few first
-
--- a timetable is as before where no place is left out
-pub as_before-all : (timetable : TimetableView) → as_before (length timetable.places) timetable ≡ timetable
-as_before-all timetable = ap (λ places. record timetable { places = places }) (take_all (length timetable.places) timetable.places (omega arith))

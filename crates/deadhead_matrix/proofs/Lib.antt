@@ -6,6 +6,7 @@ pub mod GreatestPrice
 pub mod LeftLemmas
 pub mod Looseness
 pub mod MatrixLemmas
+pub mod NamedLemmas
 pub mod OneClass
 pub mod PathLemmas
 pub mod PlanLemmas

@@ -1,5 +1,5 @@
 -- The places that a timetable has gained of `deadheads.csv`, also where the file is refused.
-use Rattle.std.specs.Prelude.{◌≡◌, ℕ, ◌+◌, List, [], ◌∷◌, take, Result, Ok, Err}
+use Rattle.std.specs.Prelude.{◌≡◌, ℕ, ◌+◌, List, [], ◌∷◌, Result, Ok, Err}
 use Rattle.desk_io.specs.declared.shelf.Found.{Found}
 use Rattle.desk_io.specs.declared.shelf.Found.TheVariants.{Missing}
 use Rattle.gtfs_tables.specs.declared.fault.FeedFault.{FeedFault}
@@ -52,7 +52,3 @@ timetable_left found timetable = left_by_paper (classes_of timetable) found (beg
 -- what a refused record leaves of what those before it gave
 abbrev pub Leaves : List Class → Columns → ℕ → ReadingView → List (List ℕ) → ReadingView → Type 0
 Leaves classes columns number before fields after = after.timetable ≡ left_by classes columns number before.timetable fields
-
--- a timetable without the places after so many
-abbrev pub as_before : ℕ → TimetableView → TimetableView
-as_before places timetable = record timetable { places = take places timetable.places }

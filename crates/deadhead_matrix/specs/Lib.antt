@@ -3,6 +3,7 @@ pub mod Depot
 pub mod Fitting
 pub mod Left
 pub mod Matrix
+pub mod Named
 pub mod Paths
 pub mod Posts
 pub mod Prices

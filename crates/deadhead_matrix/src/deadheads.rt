@@ -4,7 +4,8 @@ ghost use Rattle.trip_model.specs.declared.limits.TheConstants.{MOST_PLACES};
 ghost use Rattle.deadhead_matrix.specs.declared.limits.TheConstants.{MOST_DEADHEAD};
 ghost use Rattle.gtfs_tables.specs.Papers.{IsWithinLimit};
 ghost use Rattle.deadhead_matrix.specs.Deadheads.{deadheads_of, has_entry, with_entries, with_entry};
-ghost use Rattle.deadhead_matrix.specs.Left.{as_before, timetable_left};
+ghost use Rattle.deadhead_matrix.specs.Left.{timetable_left};
+ghost use Rattle.deadhead_matrix.specs.Named.{HasGained, IsNamed};
 ghost use Rattle.deadhead_matrix.specs.Search.{way, AreRows, AreLeastRows};
 
 use crate::distances::Distances;
@@ -175,8 +176,8 @@ impl Deadheads {
         requires { IsWithinLimit deadheads.now }
         ensures gives { Gives (λ read. (timetable.new, read)) result (deadheads_of deadheads.now timetable.old) }
         ensures left { result ≢ Err FeedFault.Memory → timetable.new ≡ timetable_left deadheads.now timetable.old }
-        // Also after want of memory, the timetable is as it was but for places at the end of its list.
-        ensures kept { as_before (length timetable.old.places) timetable.new ≡ timetable.old }
+        // Also after want of memory: the timetable is as it was, but for places at the end of its list that records name.
+        ensures gained { HasGained (IsNamed deadheads.now timetable.old) timetable.old timetable.new }
     {
         read_deadheads(alloc, deadheads, timetable)
     }

@@ -86,6 +86,8 @@ impl RecordReader for Depot {
 
     ghost Leaves = { λ _ _ _ _ _ _. Unit {0} };
 
+    ghost Changes = { λ _ _ _ _ _. Unit {0} };
+
     #[tactic(auto, unfolding(crate::specs::Depot::columns_in))]
     fn columns(&self, header: &Row) -> Result<Columns, FeedFault> {
         let terminal = column_in(Paper::Depot, Column::Terminal, header)?;

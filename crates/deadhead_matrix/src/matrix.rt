@@ -6,8 +6,9 @@ ghost use Rattle.deadhead_matrix.specs.declared.limits.TheConstants.{LONGEST_WAL
 ghost use Rattle.deadhead_matrix.specs.declared.pulls.TheConstants.{NO_PULL};
 ghost use Rattle.deadhead_matrix.specs.Deadheads as spec;
 ghost use Rattle.deadhead_matrix.specs.Depot.{pulls_of};
-ghost use Rattle.deadhead_matrix.specs.Left.{as_before, timetable_left};
+ghost use Rattle.deadhead_matrix.specs.Left.{timetable_left};
 ghost use Rattle.deadhead_matrix.specs.Matrix.{AreLeastWalks, empty_matrix, walk};
+ghost use Rattle.deadhead_matrix.specs.Named.{HasGained, IsNamed};
 ghost use Rattle.deadhead_matrix.specs.Pulls.{pull_at, IsPull};
 ghost use Rattle.deadhead_matrix.specs.Walks.{IsLeastWalk};
 
@@ -83,8 +84,8 @@ impl Matrix {
         ensures pulls { IfOk result (λ matrix. matrix.pulls ≡ replicate (length timetable.new.places) NO_PULL) }
         ensures standing { IfOk result (λ matrix. matrix.entries ≡ [] → matrix ≡ empty_matrix (length timetable.new.places)) }
         ensures left { result ≢ Err FeedFault.Memory → timetable.new ≡ timetable_left deadheads.now timetable.old }
-        // Also after want of memory, the timetable is as it was but for places at the end of its list.
-        ensures kept { as_before (length timetable.old.places) timetable.new ≡ timetable.old }
+        // Also after want of memory: the timetable is as it was, but for places at the end of its list that records name.
+        ensures gained { HasGained (IsNamed deadheads.now timetable.old) timetable.old timetable.new }
     {
         let deadheads = Deadheads::read(alloc, deadheads, timetable)?;
         Ok(Matrix::of(alloc, &deadheads, timetable.places())?)

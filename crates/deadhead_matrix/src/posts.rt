@@ -4,7 +4,8 @@ ghost use Rattle.trip_model.specs.declared.limits.TheConstants.{MOST_PLACES};
 ghost use Rattle.trip_model.specs.Place.{has_slash};
 ghost use Rattle.trip_model.specs.Timetable.{place_names};
 ghost use Rattle.deadhead_matrix.specs.Deadheads as spec;
-ghost use Rattle.deadhead_matrix.specs.Left.{as_before, left_places};
+ghost use Rattle.deadhead_matrix.specs.Left.{left_places};
+ghost use Rattle.deadhead_matrix.specs.Named.{HasGained, IsPlaceOf};
 ghost use Rattle.deadhead_matrix.specs.Posts as posts;
 
 use desk_io::{Memory, Text};
@@ -96,8 +97,7 @@ fn place_of(
     requires { has_slash class.now ≡ false }
     ensures gives { Gives (λ place. (timetable.new, place)) result (spec.with_place timetable.old (posts.place_for timetable.old.classed terminal.now class.now)) }
     ensures err { OnErr result (timetable.new ≡ timetable.old) }
-    ensures kept { as_before (length timetable.old.places) timetable.new ≡ timetable.old }
-    ensures longer { length timetable.old.places ≤ length timetable.new.places }
+    ensures gained { HasGained (λ place. place ≡ posts.place_for timetable.old.classed terminal.now class.now) timetable.old timetable.new }
     ensures within { IfOk result (λ place. place < MOST_PLACES) }
 {
     let places = timetable.places();
@@ -121,8 +121,7 @@ pub(crate) fn places_of(
     requires { All (λ class. has_slash class ≡ false) classes.now }
     ensures gives { Gives (λ places. (timetable.new, places.items)) result (spec.with_places terminal.now timetable.old [] classes.now) }
     ensures left { result ≢ Err FeedFault.Memory → timetable.new ≡ left_places terminal.now timetable.old classes.now }
-    ensures kept { as_before (length timetable.old.places) timetable.new ≡ timetable.old }
-    ensures longer { length timetable.old.places ≤ length timetable.new.places }
+    ensures gained { HasGained (IsPlaceOf timetable.old.classed classes.now terminal.now) timetable.old timetable.new }
     ensures count { IfOk result (λ places. length places.items ≡ length classes.now) }
     ensures within { IfOk result (λ places. All (λ place. place < MOST_PLACES) places.items) }
 {

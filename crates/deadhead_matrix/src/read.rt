@@ -1,10 +1,11 @@
 ghost use Rattle.std.specs.Prelude.{◌≡◌, ◌≢◌, ◌≤◌, false, [], length, All, Err, IfOk};
 ghost use Rattle.gtfs_tables.specs.Papers.{IsWithinLimit};
-ghost use Rattle.gtfs_tables.specs.Reading.{Gives};
+ghost use Rattle.gtfs_tables.specs.Reading.{field_at, Gives};
 ghost use Rattle.trip_model.specs.Place.{has_slash};
 ghost use Rattle.deadhead_matrix.specs.declared.limits.TheConstants.{MOST_DEADHEAD};
 ghost use Rattle.deadhead_matrix.specs.Deadheads as spec;
 ghost use Rattle.deadhead_matrix.specs.Left as left;
+ghost use Rattle.deadhead_matrix.specs.Named.{HasGained, IsNamed};
 ghost use Rattle.deadhead_matrix.specs.Posts.{classes_of};
 
 use crate::deadheads::Deadheads;
@@ -52,6 +53,8 @@ fn deadhead_in<'a>(
     ensures gives { Gives (λ deadhead. (deadhead.0.now, deadhead.1.now, deadhead.2)) result (spec.deadhead_in columns.now number row.now) }
     ensures short { IfOk result (λ deadhead. deadhead.2 ≤ MOST_DEADHEAD) }
     ensures lasting { IfOk result (λ deadhead. 1 ≤ deadhead.2) }
+    ensures from { IfOk result (λ deadhead. deadhead.0.now ≡ field_at row.now columns.now.from) }
+    ensures to { IfOk result (λ deadhead. deadhead.1.now ≡ field_at row.now columns.now.to) }
 {
     let paper = Paper::Deadheads;
     let from = text_in(paper, number, Column::From, row.field(columns.from))?;
@@ -68,41 +71,41 @@ fn deadhead_in<'a>(
 }
 
 // The timetable with the places of the records that were read, their entries, and the ends of those whose terminals have no
-// places; how many places it had before, and the classes of these.
+// places; and the classes of the places that it had before.
 #[derive(Drop)]
 struct Reading {
     alloc: Global,
-    before: u16,
     classes: Vec<Text>,
     timetable: Timetable,
     deadheads: Deadheads,
     unplaced: Unplaced,
-    ghost gained: { before ≤ length timetable.places },
     ghost named: { All (λ class. has_slash class ≡ false) classes.items },
 }
 
 impl RecordReader for Reading {
-    ghost use Rattle.std.specs.Prelude.{◌≡◌, ℕ, List, take};
-    ghost use Rattle.trip_model.specs.Timetable.{TimetableView};
+    ghost use Rattle.std.specs.Prelude.{List};
     ghost use Rattle.deadhead_matrix.specs.Deadheads as spec;
     ghost use Rattle.deadhead_matrix.specs.Left as left;
+    ghost use Rattle.deadhead_matrix.specs.Named.{GainsNamed};
     ghost use Rattle.deadhead_matrix.specs.Posts.{Class};
 
     type Columns = Columns;
 
-    ghost Kept = { ℕ × TimetableView × List Class };
+    ghost Kept = { List Class };
 
     ghost State = { spec.ReadingView };
 
-    ghost kept = { λ read. (read.before, left.as_before read.before read.timetable, read.classes.items) };
+    ghost kept = { λ read. read.classes.items };
 
     ghost state = { λ read. record { timetable = read.timetable; entries = read.deadheads; unplaced = read.unplaced } };
 
     ghost columns_in = { spec.columns_in };
 
-    ghost step = { λ kept. spec.with_deadhead kept.2 };
+    ghost step = { spec.with_deadhead };
 
-    ghost Leaves = { λ kept. left.Leaves kept.2 };
+    ghost Leaves = { left.Leaves };
+
+    ghost Changes = { GainsNamed };
 
     #[tactic(auto, unfolding(crate::specs::Deadheads::columns_in))]
     fn columns(&self, header: &Row) -> Result<Columns, FeedFault> {
@@ -134,7 +137,7 @@ fn read_all(alloc: Global, found: &Found, reading: &mut Reading) -> Result<(), F
     requires classes { reading.old.classes.items ≡ classes_of reading.old.timetable }
     ensures gives { Gives (λ _. (reading.new.timetable, reading.new.deadheads)) result (spec.deadheads_of found.now reading.old.timetable) }
     ensures left { result ≢ Err FeedFault.Memory → reading.new.timetable ≡ left.timetable_left found.now reading.old.timetable }
-    ensures kept { left.as_before reading.old.before reading.new.timetable ≡ left.as_before reading.old.before reading.old.timetable }
+    ensures gained { HasGained (IsNamed found.now reading.old.timetable) reading.old.timetable reading.new.timetable }
 {
     match found {
         Found::Missing => Ok(()),
@@ -154,14 +157,13 @@ pub(crate) fn read_deadheads(
     requires { IsWithinLimit found.now }
     ensures gives { Gives (λ deadheads. (timetable.new, deadheads)) result (spec.deadheads_of found.now timetable.old) }
     ensures left { result ≢ Err FeedFault.Memory → timetable.new ≡ left.timetable_left found.now timetable.old }
-    ensures kept { left.as_before (length timetable.old.places) timetable.new ≡ timetable.old }
+    ensures gained { HasGained (IsNamed found.now timetable.old) timetable.old timetable.new }
 {
     let deadheads = Deadheads::none(alloc)?;
     let classes = classes_of(alloc, timetable)?;
     let none = Timetable::open(alloc, 0, 0);
     let mut reading = Reading {
         alloc,
-        before: timetable.places(),
         classes,
         timetable: mem::replace(timetable, none),
         deadheads,

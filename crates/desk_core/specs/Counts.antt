@@ -1,6 +1,6 @@
 -- The blocks of a plan, and how many vehicles and empty minutes they have.
 use Rattle.std.specs.Prelude.{ℕ, List, Option, None, Some, unwrap_or}
-use Rattle.deadhead_matrix.specs.Fitting.{deadhead_network}
+use Rattle.deadhead_matrix.specs.Fitting.{network_of}
 use Rattle.deadhead_matrix.specs.Matrix.{MatrixView}
 use Rattle.deadhead_matrix.specs.Prices.{Plan}
 use Rattle.trip_model.specs.Blocking as spec
@@ -16,7 +16,7 @@ blocks_in timetable plan = blocks_along plan.next (by_departure (trip_moves time
 
 -- their empty minutes
 abbrev pub minutes_in : TimetableView → MatrixView → Plan → ℕ
-minutes_in timetable matrix plan = spec.empty_minutes (deadhead_network (trip_moves timetable.slots) matrix) (blocks_in timetable plan)
+minutes_in timetable matrix plan = spec.empty_minutes (network_of timetable matrix) (blocks_in timetable plan)
 
 -- the empty minutes after the trip of a slot, to its next trip or home
 abbrev pub minutes_to : Network → ℕ → Option ℕ → ℕ

@@ -61,6 +61,8 @@ impl RecordReader for Terminals {
 
     ghost Leaves = { λ _ _ _ _ _ _. Unit {0} };
 
+    ghost Changes = { λ _ _ _ _ _. Unit {0} };
+
     #[tactic(auto, unfolding(crate::specs::Terminals::columns_in))]
     fn columns(&self, header: &Row) -> Result<Columns, FeedFault> {
         let stop = column_in(Paper::Terminals, Column::StopId, header)?;

@@ -70,6 +70,8 @@ impl RecordReader for Tolerances {
 
     ghost Leaves = { λ _ _ _ _ _ _. Unit {0} };
 
+    ghost Changes = { λ _ _ _ _ _. Unit {0} };
+
     #[tactic(auto, unfolding(crate::specs::Tolerances::columns_in))]
     fn columns(&self, header: &Row) -> Result<Columns, FeedFault> {
         let trip = column_in(Paper::Tolerances, Column::TripId, header)?;

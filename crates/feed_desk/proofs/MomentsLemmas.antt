@@ -10,7 +10,7 @@ use Rattle.trip_model.specs.Order.{by_departure}
 use Rattle.trip_model.specs.Plain.{made, plain_network, trip_moves, AreMoves}
 use Rattle.trip_model.specs.Timetable.{Slot, TimetableView, IsTimetable}
 use Rattle.trip_model.specs.declared.trip.Move.{Move}
-use Rattle.deadhead_matrix.specs.Fitting.{deadhead_network}
+use Rattle.deadhead_matrix.specs.Fitting.{network_of}
 use Rattle.deadhead_matrix.specs.Matrix.{MatrixView}
 use Rattle.deadhead_matrix.specs.Prices.{Plan, IsPlanFor}
 use Rattle.deadhead_matrix.specs.Pulls.{IsPull}
@@ -217,7 +217,7 @@ AreRestored = (start one two : DeskView) (before between : List DeskView) → Is
 
 abbrev pub AreProved : Type 0
 AreProved = (timetable : TimetableView) (matrix : MatrixView) (plan : Plan) → IsTimetable timetable → All IsPull matrix.pulls → IsPlanFor timetable matrix plan
-    → IsLeast (deadhead_network (trip_moves timetable.slots) matrix) (blocks_along plan.next (by_departure (trip_moves timetable.slots)))
+    → IsLeast (network_of timetable matrix) (blocks_along plan.next (by_departure (trip_moves timetable.slots)))
 
 abbrev pub MakesMoves : Type 0
 MakesMoves = (timetable : TimetableView) → IsTimetable timetable → AreMoves (length timetable.places) (trip_moves timetable.slots)

@@ -125,6 +125,8 @@ impl<'a> RecordReader for Trips<'a> {
 
     ghost Leaves = { λ _ _ _ _ _ _. Unit {0} };
 
+    ghost Changes = { λ _ _ _ _ _. Unit {0} };
+
     fn columns(&self, header: &Row) -> Result<Columns, FeedFault> {
         columns_in(header)
     }
@@ -165,6 +167,8 @@ impl<'a> RecordReader for ClassedTrips<'a> {
     ghost step = { spec.with_classed_trip };
 
     ghost Leaves = { λ _ _ _ _ _ _. Unit {0} };
+
+    ghost Changes = { λ _ _ _ _ _. Unit {0} };
 
     #[tactic(auto, unfolding(crate::specs::Trips::classed_columns_in))]
     fn columns(&self, header: &Row) -> Result<ClassedColumns, FeedFault> {

@@ -1,10 +1,10 @@
 -- The records of a paper taken in one after the other, and what those that are left still give.
-use Rattle.std.proofs.Common.{◌≡◌, ◌≢◌, ℕ, ◌+◌, ◌-◌, ◌<◌, ◌≤◌, List, [], ◌∷◌, length, map, Option, Some, None, Result, Ok, Err, refl, sym, ap, subst, arith, ◌∙◌}
+use Rattle.std.proofs.Common.{◌≡◌, ◌≢◌, ℕ, ◌+◌, ◌-◌, ◌<◌, ◌≤◌, ◌⊎◌, inl, inr, List, [], ◌∷◌, length, map, Option, Some, None, Result, Ok, Err, refl, sym, ap, subst, arith, ◌∙◌}
 use Rattle.std.proofs.lemmas.Bool.{le-ltb, lt-ltb}
 use Rattle.std.proofs.lemmas.List.{append-nil}
 use Rattle.gtfs_tables.proofs.Fields.{padded-length}
 use Rattle.gtfs_tables.proofs.ReadingLemmas.{Fails->>=, Fails-due, Fails-equal}
-use Rattle.gtfs_tables.specs.Fold.{bytes_read, due, longer_from, paper_read, rest_read, table_read, unless_longer, AreLeft, ColumnsIn, IsTableLeft, LeftBy, Leaving, Step}
+use Rattle.gtfs_tables.specs.Fold.{bytes_read, due, longer_from, paper_read, rest_read, table_read, unless_longer, AreChanged, AreLeft, Change, ColumnsIn, IsTableChanged, IsTableLeft, LeftBy, Leaving, Step}
 use Rattle.desk_io.specs.declared.shelf.Found.{Found}
 use Rattle.gtfs_tables.specs.Reading.{◌>>=◌, each_record, judged, nothing, or_refused, table_in, Fails}
 use Rattle.gtfs_tables.specs.Rows.{padded}
@@ -111,6 +111,32 @@ module _ {A : Type 0} (paper : Paper) (width : ℕ) (step : Step A) (leaving : L
     pub folded-end-left : AreLeft step leaving 1 start (map (padded width) all) now
     folded-end-left = folded.leaves now (subst (λ rows. AreLeft step leaving (number + 1) now (map (padded width) rows) now) (sym none_left) refl)
 
+-- what the records that are left change comes after what those before them changed
+abbrev pub ChangesOn : {A : Type 0} → ℕ → Change A → A → List Fields → A → List Fields → Type 0
+ChangesOn {A} width changes start all now left = (after : A) → AreChanged changes now (map (padded width) left) after → AreChanged changes start (map (padded width) all) after
+
+module _ {A : Type 0} (changes : Change A) where
+  -- nothing was changed yet
+  pub unchanged : (now : A) (rows : List Fields) → AreChanged changes now rows now
+  unchanged now [] = refl
+  unchanged now (fields ∷ rows) = inl refl
+
+  module _ (width : ℕ) (start : A) (all : List Fields) (now : A) (left : List Fields) (on : ChangesOn width changes start all now left) where
+    -- so far no more was changed than the records taken in change
+    pub changed-so_far : AreChanged changes start (map (padded width) all) now
+    changed-so_far = on now (unchanged now (map (padded width) left))
+
+    -- the next record was taken in, or refused
+    pub changed-more : (rest : List Fields) (fields row : Fields) (more : A) → left ≡ fields ∷ rest → row ≡ padded width fields → changes row now more
+        → ChangesOn width changes start all more rest
+    changed-more rest fields row more next is change after are =
+        on after (subst (λ rows. AreChanged changes now (map (padded width) rows) after) (sym next)
+        (inr (more, subst (λ padded_row. changes padded_row now more) is change, are)))
+
+    pub changed-record : (rest : List Fields) (fields row : Fields) (more : A) → left ≡ fields ∷ rest → row ≡ padded width fields → changes row now more
+        → AreChanged changes start (map (padded width) all) more
+    changed-record rest fields row more next is change = changed-more rest fields row more next is change more (unchanged more (map (padded width) rest))
+
 -- the records of a file are the header, as it was read, and those that are left
 pub header-split : (bytes : List ℕ) (all left : List Fields) (fields row : Fields) → all ≡ records bytes → all ≡ fields ∷ left → row ≡ padded 0 fields
     → records bytes ≡ row ∷ left
@@ -152,6 +178,12 @@ module _ {C A : Type 0} (paper : Paper) (columns_in : ColumnsIn C) (step : C →
         let parts = table-parts header left table (subst (λ rows. table_from rows ≡ Ok table) split is) in
         subst (λ t. IsTableLeft columns_in step leaving start t after) (sym parts.1)
         (subst (LeftBy (after ≡ start) (λ columns. AreLeft (step columns) (leaving columns) 1 start (map (padded (length header)) left) after)) (sym gives) (leaves parts.0))
+
+    pub columns-change : (changes : C → Change A) (table : TableView) (after : A) → table_of bytes ≡ Ok table
+        → AreChanged (changes columns) start (map (padded (length header)) left) after → IsTableChanged columns_in changes start table after
+    columns-change changes table after is are =
+        let parts = table-parts header left table (subst (λ rows. table_from rows ≡ Ok table) split is) in
+        subst (λ t. IsTableChanged columns_in changes start t after) (sym parts.1) (inr (columns, gives, are))
 
   module _ (refused told : FeedFault) (fails : Fails refused (columns_in header)) (tells : told ≡ due paper (longer_from (length header) 1 left) refused) where
     pub header-refused : Fails told (bytes_read paper columns_in step start bytes)

@@ -1,5 +1,5 @@
 -- Reading a paper record by record, by what is made of its columns and of each record.
-use Rattle.std.specs.Prelude.{◌≡◌, ℕ, ◌+◌, List, [], ◌∷◌, map, Option, Some, None, Result, Ok, Err}
+use Rattle.std.specs.Prelude.{◌≡◌, ℕ, ◌+◌, ◌⊎◌, List, [], ◌∷◌, map, Option, Some, None, Result, Ok, Err}
 use Rattle.std.specs.List.{position_from}
 use Rattle.desk_io.specs.declared.shelf.Found.{Found}
 use Rattle.gtfs_tables.specs.declared.fault.FeedFault.{FeedFault}
@@ -71,3 +71,17 @@ AreLeft step leaving number before (fields ∷ rows) after =
 abbrev pub IsTableLeft : {C A : Type 0} → ColumnsIn C → (C → Step A) → (C → Leaving A) → A → TableView → A → Type 0
 IsTableLeft columns_in step leaving start table after =
     LeftBy (after ≡ start) (λ columns. AreLeft (step columns) (leaving columns) 1 start table.rows after) (columns_in table.header)
+
+-- what a record changes at the most, whatever the answer is
+abbrev pub Change : Type 0 → Type 1
+Change A = List (List ℕ) → A → A → Type 0
+
+-- no more was changed than the first of these records change, one after the other
+abbrev pub AreChanged : {A : Type 0} → Change A → A → List (List (List ℕ)) → A → Type 0
+AreChanged changes before [] after = after ≡ before
+AreChanged {A} changes before (fields ∷ rows) after = (after ≡ before) ⊎ ((between : A) × changes fields before between × AreChanged changes between rows after)
+
+-- the same of the records of a table
+abbrev pub IsTableChanged : {C A : Type 0} → ColumnsIn C → (C → Change A) → A → TableView → A → Type 0
+IsTableChanged {C} columns_in changes start table after =
+    (after ≡ start) ⊎ ((columns : C) × (columns_in table.header ≡ Ok columns) × AreChanged (changes columns) start table.rows after)

@@ -1,7 +1,7 @@
 ghost use Rattle.std.specs.Prelude.{◌≡◌, ◌≢◌, ℕ, ◌+◌, ◌<◌, ◌≤◌, IfErr, IfOk, List, Ok, Err, None, Result, length, map};
 ghost use Rattle.gtfs_tables.specs.declared.fault.FeedFault.{FeedFault};
 ghost use Rattle.gtfs_tables.specs.declared.paper.TheConstants.{MOST_BYTES};
-ghost use Rattle.gtfs_tables.specs.Fold.{due, longer_from, bytes_read, optional_read, paper_read, rest_read, AreLeft, IsTableLeft};
+ghost use Rattle.gtfs_tables.specs.Fold.{due, longer_from, bytes_read, optional_read, paper_read, rest_read, AreChanged, AreLeft, IsTableChanged, IsTableLeft};
 ghost use Rattle.gtfs_tables.specs.Papers.{IsWithinLimit};
 ghost use Rattle.gtfs_tables.specs.Reading.{Gives, header_in, judged, table_in};
 ghost use Rattle.gtfs_tables.specs.Records.{records_left, IsReading};
@@ -33,6 +33,8 @@ pub trait RecordReader {
     ghost step: { Self.Kept → Self.Columns → ℕ → Self.State → List (List ℕ) → Result Self.State FeedFault };
     // What a refused record leaves of what those before it gave.
     ghost Leaves: { Self.Kept → Self.Columns → ℕ → Self.State → List (List ℕ) → Self.State → Type 0 };
+    // What a record changes at the most, whatever the answer is.
+    ghost Changes: { Self.Kept → Self.Columns → List (List ℕ) → Self.State → Self.State → Type 0 };
 
     /// The columns that it reads, or the refusal of the header.
     fn columns(&self, header: &Row) -> Result<Self::Columns, FeedFault>
@@ -42,6 +44,7 @@ pub trait RecordReader {
     fn record(&mut self, columns: &Self::Columns, number: u32, row: &Row) -> Result<(), FeedFault>
         ensures gives { Gives (λ _. Self.state self.new) result (Self.step (Self.kept self.old) columns.now number (Self.state self.old) row.now) }
         ensures left { IfErr result (λ refused. refused ≢ FeedFault.Memory → Self.Leaves (Self.kept self.old) columns.now number (Self.state self.old) row.now (Self.state self.new)) }
+        ensures changes { Self.Changes (Self.kept self.old) columns.now row.now (Self.state self.old) (Self.state self.new) }
         ensures kept { Self.kept self.new ≡ Self.kept self.old };
 }
 
@@ -83,6 +86,7 @@ fn read_rest<R: RecordReader>(
     ensures gives { Gives (λ _. R.state records.new) result (rest_read paper width (R.step (R.kept records.old) columns.now) 1 (R.state records.old) (records_left reader.old)) }
     ensures left { result ≢ Err FeedFault.Memory → longer_from width 1 (records_left reader.old) ≡ None
         → AreLeft (R.step (R.kept records.old) columns.now) (R.Leaves (R.kept records.old) columns.now) 1 (R.state records.old) (map (padded width) (records_left reader.old)) (R.state records.new) }
+    ensures changed { AreChanged (R.Changes (R.kept records.old) columns.now) (R.state records.old) (map (padded width) (records_left reader.old)) (R.state records.new) }
     ensures kept { R.kept records.new ≡ R.kept records.old }
 {
     let mut number: u32 = 0;
@@ -109,6 +113,8 @@ fn read_bytes<R: RecordReader>(
     ensures gives { Gives (λ _. R.state records.new) result (bytes_read paper R.columns_in (R.step (R.kept records.old)) (R.state records.old) bytes.now) }
     ensures left { (table : TableView) → table_of bytes.now ≡ Ok table → result ≢ Err FeedFault.Memory
         → IsTableLeft R.columns_in (R.step (R.kept records.old)) (R.Leaves (R.kept records.old)) (R.state records.old) table (R.state records.new) }
+    ensures changed { (table : TableView) → table_of bytes.now ≡ Ok table
+        → IsTableChanged R.columns_in (R.Changes (R.kept records.old)) (R.state records.old) table (R.state records.new) }
     ensures kept { R.kept records.new ≡ R.kept records.old }
 {
     let mut reader = reader_over(alloc, bytes);
@@ -136,6 +142,9 @@ pub fn read_records<R: RecordReader>(
     ensures gives { Gives (λ _. R.state records.new) result (paper_read paper R.columns_in (R.step (R.kept records.old)) (R.state records.old) found.now) }
     ensures left { (table : TableView) → table_in paper found.now ≡ Ok table → result ≢ Err FeedFault.Memory
         → IsTableLeft R.columns_in (R.step (R.kept records.old)) (R.Leaves (R.kept records.old)) (R.state records.old) table (R.state records.new) }
+    // Also after want of memory: no more was changed than the first records change.
+    ensures changed { (table : TableView) → table_in paper found.now ≡ Ok table
+        → IsTableChanged R.columns_in (R.Changes (R.kept records.old)) (R.state records.old) table (R.state records.new) }
     ensures kept { R.kept records.new ≡ R.kept records.old }
 {
     match found {
@@ -201,6 +210,8 @@ impl RecordReader for AnyRecord {
     ghost step = { λ _ _ _ _ _. nothing };
 
     ghost Leaves = { λ _ _ _ _ _ _. Unit {0} };
+
+    ghost Changes = { λ _ _ _ _ _. Unit {0} };
 
     fn columns(&self, _header: &Row) -> Result<(), FeedFault> {
         Ok(())

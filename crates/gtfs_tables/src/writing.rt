@@ -1,4 +1,4 @@
-ghost use Rattle.std.specs.Prelude.{◌≡◌, [], ◌++◌, IfOk, IsUtf8, OnOk, map};
+ghost use Rattle.std.specs.Prelude.{◌≡◌, [], ◌++◌, IfOk, IsUtf8, OnOk, OnErr, map};
 ghost use Rattle.gtfs_tables.specs.Writing.{record_text};
 
 use csv::{Writer, WriterBuilder};
@@ -6,8 +6,8 @@ use desk_io::{Bytes, Memory, Text};
 use std::alloc::Global;
 use std::marker::Model;
 
-/// Comma-separated text to which records are appended, a line feed at the end of each; seen as the bytes so far. Where no
-/// memory was found for a record, there is none for any other.
+/// Comma-separated text to which records are appended, a line feed at the end of each; seen as the bytes so far. Want of
+/// memory for a record loses them all: the bytes are none, and no other record is taken.
 pub struct RecordWriter {
     writer: Writer<Vec<u8>>,
     failed: bool,
@@ -23,13 +23,13 @@ impl Drop for RecordWriter {
 }
 
 impl Model for RecordWriter {
-    ghost use Rattle.std.specs.Prelude.{◌≡◌, List, ℕ, [], Some, unwrap_or, false};
+    ghost use Rattle.std.specs.Prelude.{◌≡◌, List, ℕ, [], Some, unwrap_or, false, if◌then◌else◌};
     ghost use Rattle.csv.specs.Writing.{fields_written, has_written, text_written, writer_setup};
     ghost use Rattle.gtfs_tables.specs.Writing.{record_writer};
 
     ghost Value = { List ℕ };
 
-    ghost view = { λ w. unwrap_or (text_written (λ bytes. Some bytes.items) w.writer) [] };
+    ghost view = { λ w. if w.failed then [] else unwrap_or (text_written (λ bytes. Some bytes.items) w.writer) [] };
 
     ghost invariant = { λ w. w.failed ≡ false → (writer_setup w.writer ≡ record_writer) × (fields_written w.writer ≡ 0) × (has_written w.writer ≡ false) };
 }
@@ -49,7 +49,8 @@ impl RecordWriter {
 
     /// Appends a record of these fields, in quotes where they need them.
     pub fn push(&mut self, fields: &[&[u8]]) -> Result<(), Memory>
-        ensures { OnOk result (self.new ≡ self.old ++ record_text (map (λ field. field.now) fields.now)) }
+        ensures pushed { OnOk result (self.new ≡ self.old ++ record_text (map (λ field. field.now) fields.now)) }
+        ensures err { OnErr result (self.new ≡ []) }
     {
         if self.failed {
             return Err(Memory);
@@ -66,7 +67,10 @@ impl RecordWriter {
     pub fn into_bytes(self) -> Result<Bytes, Memory>
         ensures { IfOk result (λ bytes. bytes ≡ self) }
     {
-        let RecordWriter { writer, failed: _ } = self;
+        let RecordWriter { writer, failed } = self;
+        if failed {
+            return Err(Memory);
+        }
         match writer.into_inner() {
             Ok(bytes) => Ok(Bytes::wrap(bytes)),
             Err(_) => Err(Memory),
@@ -78,7 +82,10 @@ impl RecordWriter {
         requires { IsUtf8 self }
         ensures { IfOk result (λ text. text ≡ self) }
     {
-        let RecordWriter { writer, failed: _ } = self;
+        let RecordWriter { writer, failed } = self;
+        if failed {
+            return Err(Memory);
+        }
         match writer.into_inner() {
             Ok(bytes) => match String::from_utf8(bytes) {
                 Ok(text) => Ok(Text::wrap(text)),

@@ -9,7 +9,7 @@ use Rattle.trip_model.specs.Maximum.{sum_of_maxima}
 use Rattle.trip_model.specs.Order.{by_departure}
 use Rattle.trip_model.specs.Plain.{made, plain_network, trip_moves, AreMoves}
 use Rattle.trip_model.specs.Timetable.{Slot, TimetableView, IsTimetable}
-use Rattle.deadhead_matrix.specs.Fitting.{deadhead_network}
+use Rattle.deadhead_matrix.specs.Fitting.{network_of}
 use Rattle.deadhead_matrix.specs.Matrix.{MatrixView}
 use Rattle.deadhead_matrix.specs.Prices.{Plan}
 use Rattle.fixed_fleet.specs.Rule.{first_in_first_out}
@@ -42,7 +42,7 @@ module _ (makes : MakesMoves) (are_made : AreMade) (reaches : ReachesMaxima) (ti
   maxima = reached.1 ∙ ap (λ ms. sum_of_maxima (deficit ms) (length timetable.places)) (are_made timetable.slots)
 
   pub numbers-put : {E : Type 0} (fixed vehicles minutes : ℕ) (old new : List ℕ) → pos fixed ≡ sum_of_maxima (deficit (live_moves timetable.slots)) (length timetable.places) → vehicles ≡ length blocks
-      → minutes ≡ empty_minutes (deadhead_network (trip_moves timetable.slots) matrix) blocks
+      → minutes ≡ empty_minutes (network_of timetable matrix) blocks
       → (result : Result (Unit {0}) E) → OnOk result (new ≡ old ++ numbers_line fixed vehicles minutes) → OnOk result (HasNumbers timetable matrix old new)
   numbers-put fixed vehicles minutes old new fixed_is vehicles_is minutes_is (Err e) put = tt
   numbers-put fixed vehicles minutes old new fixed_is vehicles_is minutes_is (Ok u) put =

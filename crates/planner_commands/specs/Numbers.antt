@@ -5,7 +5,7 @@ use Rattle.trip_model.specs.Deficit.{deficit, live_moves}
 use Rattle.trip_model.specs.Maximum.{sum_of_maxima}
 use Rattle.trip_model.specs.Plain.{plain_network, trip_moves}
 use Rattle.trip_model.specs.Timetable.{TimetableView}
-use Rattle.deadhead_matrix.specs.Fitting.{deadhead_network}
+use Rattle.deadhead_matrix.specs.Fitting.{network_of}
 use Rattle.deadhead_matrix.specs.Matrix.{MatrixView}
 use Rattle.deadhead_matrix.specs.Prices.{Plan}
 use Rattle.desk_feed.specs.Numbers.{numbers_line}
@@ -20,4 +20,4 @@ pub record IsNumbered (timetable : TimetableView) (matrix : MatrixView) (numbers
   pub without : List (List ℕ)
   pub fewest : IsFewest (plain_network (trip_moves timetable.slots)) without
   pub maxima : pos (length without) ≡ sum_of_maxima (deficit (live_moves timetable.slots)) (length timetable.places)
-  pub put : numbers ≡ numbers_line (length without) (length blocks) (empty_minutes (deadhead_network (trip_moves timetable.slots) matrix) blocks)
+  pub put : numbers ≡ numbers_line (length without) (length blocks) (empty_minutes (network_of timetable matrix) blocks)

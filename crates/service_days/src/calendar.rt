@@ -200,6 +200,8 @@ impl RecordReader for Calendar {
 
     ghost Leaves = { λ _ _ _ _ _ _. Unit {0} };
 
+    ghost Changes = { λ _ _ _ _ _. Unit {0} };
+
     #[tactic(auto, unfolding(crate::specs::Calendar::columns_in))]
     fn columns(&self, header: &Row) -> Result<Columns, FeedFault> {
         let paper = Paper::Calendar;

@@ -106,6 +106,8 @@ impl RecordReader for CalendarDates {
 
     ghost Leaves = { λ _ _ _ _ _ _. Unit {0} };
 
+    ghost Changes = { λ _ _ _ _ _. Unit {0} };
+
     #[tactic(auto, unfolding(crate::specs::CalendarDates::columns_in))]
     fn columns(&self, header: &Row) -> Result<Columns, FeedFault> {
         let paper = Paper::CalendarDates;
