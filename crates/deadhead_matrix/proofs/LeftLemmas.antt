@@ -7,7 +7,6 @@ use Rattle.gtfs_tables.specs.declared.paper.Paper.TheVariants as paper
 use Rattle.gtfs_tables.specs.Fold.{AreLeft, IsTableLeft, LeftBy}
 use Rattle.gtfs_tables.specs.Reading.{◌>>=◌, judged, nothing, table_in}
 use Rattle.gtfs_tables.specs.Table.{TableView}
-use Rattle.trip_model.specs.Timetable.{TimetableView}
 use Rattle.deadhead_matrix.specs.declared.read.Columns.{Columns}
 use Rattle.deadhead_matrix.specs.Deadheads.{ReadingView, columns_in, begun, with_deadhead}
 use Rattle.deadhead_matrix.specs.Left.{left_after, left_by, left_by_each, left_by_paper, left_by_table, timetable_left, Leaves}

@@ -13,5 +13,6 @@ pub mod PlanLemmas
 pub mod PriceSums
 pub mod SearchLemmas
 pub mod Standing
+pub mod TerminalWalks
 pub mod UnplacedLemmas
 pub mod WaysLemmas

@@ -1,6 +1,6 @@
 -- The places that a timetable gains of the records that were read so far.
-use Rattle.std.proofs.Common.{◌≡◌, ◌⊎◌, inl, inr, ℕ, Bool, List, [], ◌∷◌, ◌++◌, Result, Ok, Err, refl, sym, ap, subst, ◌∙◌, append_assoc, arith}
-use Rattle.std.specs.Prelude.{All, Contains}
+use Rattle.std.proofs.Common.{◌≡◌, inl, inr, ℕ, Bool, List, [], ◌∷◌, ◌++◌, Result, Ok, Err, refl, sym, ap, subst, ◌∙◌, append_assoc, arith}
+use Rattle.std.specs.Prelude.{Contains}
 use Rattle.std.proofs.lemmas.List.{append-nil}
 use Rattle.std.proofs.lemmas.List.Elements.{All-append, All-nil, All-push, Contains-append_right, Contains-get_or}
 use Rattle.desk_io.specs.declared.shelf.Found.{Found}
@@ -71,9 +71,9 @@ rows-named Named classed classes columns before after (fields ∷ rows) is named
     subst (λ (a : ReadingView). HasGained Named before.timetable a.timetable) (sym same) (gained-none Named before.timetable)
 rows-named Named classed classes columns before after (fields ∷ rows) is named (inr (between, gains, changed)) =
     let here = gained-as (IsNamedBy before.timetable.classed classes columns fields) Named before.timetable between.timetable
-        (λ place by. named fields place (Contains-get_or (fields ∷ rows) 0 fields (omega arith)) (subst (λ b. IsNamedBy b classes columns fields place) is by)) gains in
+    (λ place by. named fields place (Contains-get_or (fields ∷ rows) 0 fields (omega arith)) (subst (λ b. IsNamedBy b classes columns fields place) is by)) gains in
     let rest = rows-named Named classed classes columns between after rows (gained-classed _ before.timetable between.timetable gains ∙ is)
-        (λ other place among by. named other place (Contains-append_right (fields ∷ []) rows other among) by) changed in
+    (λ other place among by. named other place (Contains-append_right (fields ∷ []) rows other among) by) changed in
     gained-both Named before.timetable between.timetable after.timetable here rest
 
 -- a table adds no places but those that the file names

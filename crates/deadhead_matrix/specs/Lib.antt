@@ -9,4 +9,5 @@ pub mod Posts
 pub mod Prices
 pub mod Pulls
 pub mod Search
+pub mod Terminals
 pub mod Walks

@@ -1,5 +1,5 @@
 //! Laws of the definitions that the contracts cite. Each is the contract of a function that does nothing.
-ghost use Rattle.std.specs.Prelude.{◌≡◌, ◌≢◌, ℕ, ◌+◌, ◌-◌, ◌*◌, ◌<◌, ◌≤◌, true, List, length, sum, All, Option, None, Some, Ok};
+ghost use Rattle.std.specs.Prelude.{◌≡◌, ◌≢◌, ◌↔◌, ℕ, ◌+◌, ◌-◌, ◌*◌, ◌<◌, ◌≤◌, true, List, length, sum, All, Option, None, Some, Ok};
 ghost use Rattle.deadhead_matrix.specs.declared.limits.TheConstants.{MOST_DEADHEAD, VEHICLE_WEIGHT};
 ghost use Rattle.deadhead_matrix.specs.declared.entry.Entry.{Entry};
 ghost use Rattle.deadhead_matrix.specs.Deadheads.{deadheads_of};
@@ -8,7 +8,8 @@ ghost use Rattle.deadhead_matrix.specs.Matrix.{MatrixView, empty_matrix};
 ghost use Rattle.deadhead_matrix.specs.Posts.{JoinsOneClass};
 ghost use Rattle.deadhead_matrix.specs.Prices.{Plan, price, IsCertified, IsDay, IsLoose, IsPlanFor};
 ghost use Rattle.deadhead_matrix.specs.Pulls.{IsPull};
-ghost use Rattle.deadhead_matrix.specs.Walks.{IsWalk};
+ghost use Rattle.deadhead_matrix.specs.Terminals.{IsLeastTerminalWalk, terminal_at};
+ghost use Rattle.deadhead_matrix.specs.Walks.{IsLeastWalk, IsWalk};
 ghost use Rattle.desk_io.specs.declared.shelf.Found.{Found};
 ghost use Rattle.trip_model.specs.declared.limits.TheConstants.{MOST_SLOTS};
 ghost use Rattle.trip_model.specs.declared.trip.Move.{Move};
@@ -41,6 +42,18 @@ pub fn class_law()
         → deadheads_of found timetable ≡ Ok (after, entries) → All (JoinsOneClass after.places) entries }
     ensures walks { (places : List Place) (entries es : List Entry) (a b : ℕ) → All (JoinsOneClass places) entries
         → IsWalk entries a es b → class_of places a ≡ class_of places b }
+{}
+
+/// Between posts of one class the least walk is that of their terminals, along the deadheads that records of the file allow;
+/// between classes there is none.
+pub fn terminal_law()
+    ensures terminals { (found : Found) (timetable after : TimetableView) (entries : List Entry) → IsTimetable timetable → IsTimetable after
+        → deadheads_of found timetable ≡ Ok (after, entries) → (a b : ℕ) → a < length after.places → b < length after.places
+        → class_of after.places a ≡ class_of after.places b
+        → (m : Option ℕ) → IsLeastWalk entries a b m ↔ IsLeastTerminalWalk found (terminal_at after.places a) (terminal_at after.places b) m }
+    ensures none { (found : Found) (timetable after : TimetableView) (entries : List Entry) → IsTimetable timetable
+        → deadheads_of found timetable ≡ Ok (after, entries) → (a b : ℕ) → class_of after.places a ≢ class_of after.places b
+        → IsLeastWalk entries a b None }
 {}
 
 /// The blocks of a certified plan are least over all blockings: no blocking weighs more than all its prices, and a vehicle

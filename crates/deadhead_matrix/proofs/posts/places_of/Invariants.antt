@@ -1,4 +1,4 @@
-use Rattle.std.proofs.Common.{◌≡◌, ◌<◌, ◌≤◌, [], drop, length}
+use Rattle.std.proofs.Common.{◌≡◌, ◌<◌, [], drop, length}
 use Rattle.std.specs.Prelude.{All}
 use Rattle.deadhead_matrix.specs.Deadheads.{with_places}
 use Rattle.deadhead_matrix.specs.Left.{left_places}
