@@ -6,9 +6,7 @@
 //! The contract that the crates above use: a run performs what `audit` asks (`audit_asked`). It ends as no exactly where the stated
 //! blocks are not a blocking, and puts `least` exactly where they are least.
 //!
-//! ```text
-//! let status = run_audit(alloc, shelf, out, keeper, steps);
-//! ```
+//! `run` of `desk_program` calls it.
 //!
 //! The contracts cite `Audit` (what the command asks and does) and `Lines` (what it prints), of `block_audit` `Stated`, `Misfits`
 //! and `Laws`, of `desk_run` `Performs`, and of `desk_feed` `Feed`, `Judging` and `Schedule`. `Auditable` has terms of the

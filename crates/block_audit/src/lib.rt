@@ -6,10 +6,7 @@
 //! The contract that the crates above use: the stated blocks are a blocking of the timetable exactly where there is no misfit,
 //! and least exactly where they are above the least by nothing ([`laws`]).
 //!
-//! ```text
-//! let stated = stated_blocks(alloc, &trips, &timetable, &chosen)?;
-//! let misfits = misfits(alloc, &timetable, &matrix, &stated)?;
-//! ```
+//! `audit_commands` shows a use, in `src/audit.rt`.
 //!
 //! The contracts cite `Stated` (the stated blocks), `Misfits` (the pairs that do not fit), `Above` and `Laws`; of `trip_model`
 //! `Blocking`, `Order` and `Timetable`; of `deadhead_matrix` the network of a timetable and a matrix (`Fitting`); and of

@@ -6,10 +6,7 @@
 //! The contract that the crates above use: blocks are the chains of the links, in the order in which their first trips
 //! depart, and each live slot stands in them exactly once; a text is the definition of it, over all names.
 //!
-//! ```text
-//! let blocks = blocks_of(alloc, &timetable, &links)?;
-//! let text = block_lines(alloc, &timetable, &matrix, &blocks, "B")?;
-//! ```
+//! `feed_commands` shows a use, in `src/fixed.rt`.
 //!
 //! The contracts cite `Lines` (the printed texts) and `Files` (the written ones); of `trip_model` `Blocking`, `Links`, `Order`,
 //! `Plain` and `Timetable`; and of `deadhead_matrix` `Fitting` and `Matrix`.

@@ -6,9 +6,7 @@
 //! The contract that the crates above use: a run performs what `joined` asks (`joined_asked`). The maxima of the joined deficits add
 //! up to the number of the blocks, which are least over all blockings.
 //!
-//! ```text
-//! let status = run_joined(alloc, shelf, out, keeper, steps);
-//! ```
+//! `run` of `desk_program` calls it.
 //!
 //! The contracts cite `Joined` (what the command asks and does), of `joined_deficits` `Joined`, `Boards` and `Lines`, of `desk_run`
 //! `Performs`, of `feed_desk` `Drawn` and `Plans`, and of `desk_feed` `Feed`, `Judging` and `Schedule`.

@@ -8,10 +8,7 @@
 //! values of the deficits, or of the blocks. Where deficits hold a list of moves, it is the chart of the deficits of
 //! that list.
 //!
-//! ```text
-//! let deficits = deficit_chart(alloc, &timetable, &deficits)?;
-//! let blocks = block_chart(alloc, &timetable, &matrix, &blocks, "B")?;
-//! ```
+//! `plan_commands` shows a use, in `src/chart.rt`.
 //!
 //! The contracts cite `Columns` (which columns there are, and their minutes), `Deficits` (the characters and lines of
 //! places) and `Blocks` (those of blocks).

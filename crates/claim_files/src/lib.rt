@@ -7,12 +7,7 @@
 //! the fault is the first that is due, of `blocks.csv` before `prices.csv`. What is written of blocks and prices reads back
 //! ([`laws::read_back_law`]), and of a certified plan it is accepted ([`laws::accepted_law`]).
 //!
-//! ```text
-//! match read_claimed(alloc, &timetable, &blocks, &prices) {
-//!     Ok(claimed) => check(&timetable, &matrix, &claimed),
-//!     Err(fault) => claim_line(alloc, &fault)?,
-//! }
-//! ```
+//! `plan_commands` shows a use, in `src/check.rt`.
 //!
 //! The contracts cite `Claims` (what the two files claim, or why nothing), with `Blocks` and `Prices` (the records of each)
 //! and `Running` (the slots that names speak of), and `Lines` (the printed lines); the laws besides `Written` (the claim of

@@ -13,10 +13,7 @@
 //! Where they hold a list of moves, the value of each place at each minute is the deficit of that list
 //! ([`laws::held_law`]), a move that is added is held besides, and one that is taken away no more.
 //!
-//! ```text
-//! let deficits = deficits_of(alloc, &timetable, &mut steps)?;
-//! let (vehicles, minute) = deficits.max(0);
-//! ```
+//! `feed_commands` shows a use, in `src/deficits.rt`.
 //!
 //! The contracts cite `Changes` (values, and what a move changes that is added or taken away), `Holds` (when a list of
 //! moves is held), `NextMaximum` (the first minute from some minute on that has the greatest value) and `Lines` (the

@@ -7,9 +7,7 @@
 //! plan for each moment of the script, as `feed_desk` says. The text and the two files are the functions of these plans that the
 //! formats write out, and the two files are a claim on which the verdict is yes.
 //!
-//! ```text
-//! let status = run_blocks(alloc, shelf, out, keeper, steps);
-//! ```
+//! `run` of `desk_program` calls it.
 //!
 //! The contracts cite `Blocks` (what the command asks and does) and `Answers` (what is put of each record), of `feed_desk`
 //! `Plans` and `Answers`, of `claim_files` `Written`, of `desk_run` `Performs`, and of `desk_feed` `Feed`, `Judging` and

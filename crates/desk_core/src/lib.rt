@@ -9,11 +9,7 @@
 //! changes the links along the paths of its repair alone, and an undo and a redo restore the plan as it was, prices included.
 //! So at two moments at which the same edits stand the timetable and the plan are equal ([`laws::standing_law`]).
 //!
-//! ```text
-//! let mut desk = Desk::open(alloc, script, matrix, &mut steps)?;
-//! desk.apply(number, &edit, &mut steps)?;
-//! let vehicles = desk.vehicles();
-//! ```
+//! `feed_desk` shows a use, in `src/follow.rt`.
 //!
 //! The contracts cite `Desk` (what a desk is seen as, and what an edit does to it), `Counts` (its blocks and their empty
 //! minutes), `Standing` (moments), of `edit_script` `Script`, of `deadhead_matrix` `Prices` and `Paths`, and of

@@ -13,14 +13,7 @@
 //! refusal; each call answers by the definition of its name, and layovers are at most 240 minutes, tolerances at most 60.
 //! The keys of `desk.toml` are judged in byte order, since those of a document ascend (`laws`).
 //!
-//! ```text
-//! let settings = Settings::read(alloc, &settings, &terminals, &tolerances)?;
-//! if settings.chosen(service) {
-//!     let place = settings.terminal(stop);
-//!     let minutes = settings.layover(place);
-//!     let (early, late) = settings.tolerance(trip);
-//! }
-//! ```
+//! `desk_feed` shows a use, in `src/feed.rt`.
 //!
 //! The contracts cite `Settings` (what the settings are seen as, and what they answer), `Desk` (the table of `desk.toml`,
 //! key after key), `Terminals` and `Tolerances` (the two tables, record after record), `Names` (names without repeats),

@@ -10,13 +10,7 @@
 //! those that the deadheads leave one after the other; where none is answered, there is none; and with its deadheads added,
 //! the sum of the maxima is smaller by exactly one ([`laws::chain_law`]).
 //!
-//! ```text
-//! while let Some(chain) = next_chain(&deficits, &matrix) {
-//!     add_chain(&mut deficits, &chain, &mut steps);
-//!     count += 1;
-//!     let line = chain_line(alloc, &timetable, count, &chain, deficits.total())?;
-//! }
-//! ```
+//! `lowering_commands` shows a use, in `src/chains.rt`.
 //!
 //! The contracts cite `Chains` (which chains there are, and which is the first) and `Lines` (the printed line), of
 //! `deficit_steps` `Changes`, `Holds` and `NextMaximum`, of `deadhead_matrix` `Matrix`, and of `trip_model` `Deficit` and

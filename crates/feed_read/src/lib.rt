@@ -8,10 +8,7 @@
 //! The contract that the crates above use: the timetable is `base_of` the three, or the refusal is the first of the order
 //! of judging.
 //!
-//! ```text
-//! let settings = Settings::read(alloc, &settings, &terminals, &tolerances)?;
-//! let timetable = read_feed(alloc, &trips, &stop_times, &settings)?;
-//! ```
+//! `desk_feed` shows a use, in `src/feed.rt`.
 //!
 //! The contracts cite `Base` (the timetable of a feed), and by it `Trips` (the selected trips and their classes), `StopTimes`
 //! (their records of `stop_times.txt`) and `FeedTrips` (the first and the last of these, of which [`laws::ends_law`] speaks,

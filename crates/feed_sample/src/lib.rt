@@ -7,10 +7,7 @@
 //! The contract that the crates above use: the shelf has exactly these files, byte for byte (`sample_files`), and none of its
 //! calls fails.
 //!
-//! ```text
-//! let mut shelf = sample_shelf(alloc, 600)?;
-//! let status = run_blocks(alloc, &mut shelf, &mut out, &mut keeper, &mut steps);
-//! ```
+//! `sample_commands` shows a use, in `src/sample.rt`.
 //!
 //! The contracts cite `Sample` (the text of each file).
 #![tactic(auto)]

@@ -7,11 +7,7 @@
 //! The contract that the crates above use: of least blocks, the sum of the maxima of the joined moves is the number of the
 //! blocks ([`laws::joined_law`]). So with the deadheads of least blocks put in, every vehicle is seen in the deficits.
 //!
-//! ```text
-//! let moves = joined_moves(alloc, &timetable, &matrix, &blocks)?;
-//! let joined = joined_deficits(alloc, timetable.places(), &moves, &mut steps)?;
-//! let text = joined_lines(alloc, &timetable, &joined, &before, blocks.len())?;
-//! ```
+//! `board_commands` shows a use, in `src/joined.rt`.
 //!
 //! The contracts cite `Joined` (the joined moves), `Boards` (the written text) and `Lines` (the printed one); of `trip_model`
 //! `Blocking`, `Deficit`, `Maximum`, `Plain` and `Timetable`; of `deadhead_matrix` `Fitting` and `Matrix`; and of

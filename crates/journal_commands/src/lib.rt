@@ -6,9 +6,7 @@
 //!
 //! The contract that the crates above use: a run performs what its command asks (`keep_asked`, `kept_asked`).
 //!
-//! ```text
-//! let status = run_keep(alloc, shelf, out, keeper, steps);
-//! ```
+//! `run` of `desk_program` calls them.
 //!
 //! The contracts cite `Keep` and `Kept` (what each command asks and does), `Journal` (a journal as a script), and `Replay` (what
 //! becomes of the records); of `desk_run` `Performs`, and of `desk_feed` `Feed`, `Judging` and `Script`. `Replayed` has terms of

@@ -6,9 +6,7 @@
 //!
 //! The contract that the crates above use: a run performs what its command asks (`chains_asked`, `shifts_asked`).
 //!
-//! ```text
-//! let status = run_chains(alloc, shelf, out, keeper, steps);
-//! ```
+//! `run` of `desk_program` calls them.
 //!
 //! The contracts cite `Chains` and `Shifts` (what each command asks and shows), by these `Fleet` (the sum of the maxima, and
 //! the last line), of `dh_chains` `Chains`, of `shift_moves` `Lowering`, of `desk_run` `Performs`, and of `desk_feed`

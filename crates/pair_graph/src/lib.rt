@@ -10,13 +10,7 @@
 //! of deadheads; that network is one of one day, in which departures rise, as [`Pairs::slots`] says, so the laws of
 //! `deadhead_matrix` hold of plans over these pairs.
 //!
-//! ```text
-//! let pairs = Pairs::of(&timetable, &matrix);
-//! let saved = pairs.weight(0, 1, &mut steps);
-//! if let Some(row) = pairs.row(0) {
-//!     let reach = row.reach(2, &mut steps);
-//! }
-//! ```
+//! `feed_schedule` shows a use, in `src/schedule.rt`.
 //!
 //! The contracts cite `Pairs` (what the pairs are seen as), `Reach` (what a vehicle saves by the trips at one place), of
 //! `deadhead_matrix` `Fitting` and `Prices`, and of `trip_model` `Plain` and `Network`.

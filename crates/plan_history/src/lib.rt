@@ -10,12 +10,7 @@
 //! takes the memory that the next edit needs, so that an edit, an undo or a redo takes none and cannot fail. After each edit of
 //! a timetable its plan meets what is required, by `edit_law` of `price_repair` and [`laws::replace_law`].
 //!
-//! ```text
-//! history.solve(&pairs, &mut steps);
-//! history.reserve()?;
-//! history.take(&pairs, slot, &mut steps);
-//! history.undo();
-//! ```
+//! `desk_core` shows a use, in `src/desk.rt`.
 //!
 //! The contracts cite `History` (what a history is seen as), `Stands` (what a plan has for a slot, and the slots for which two
 //! plans differ), of `undo_log` `Log`, and of `price_repair` and `deadhead_matrix` what a repair asks and gives. `Items` (what

@@ -8,9 +8,7 @@
 //! planners' machine over the timetable after the script, and of blocks that are least over all blockings of its timetable. At
 //! each moment the edits that stand are each accepted, and an undo takes out its own planner's last one and it alone.
 //!
-//! ```text
-//! let status = run_planners(alloc, shelf, out, keeper, steps);
-//! ```
+//! `run` of `desk_program` calls it.
 //!
 //! The contracts cite `Planners` (what the command asks and does), `Reading` (the script of the planners), `Moments` (which records
 //! stand at each moment, and what holds of that), `Answers` (what is put of them) and `Numbers` (and of their timetable), of

@@ -12,19 +12,7 @@
 //! out is said by [`laws::undo_law`], and stepped over records planners stay at the state of their machine
 //! ([`laws::machine_law`]).
 //!
-//! ```text
-//! let mut planners = Planners::open(alloc, timetable)?;
-//! for line in read_planner_script(alloc, bytes)? {
-//!     number += 1;
-//!     if let PlannerLine::Edit(asked) = line {
-//!         match planners.step(number, &asked) {
-//!             Ok(()) => ..,
-//!             Err(PlannerFault::HeldBy(later)) => ..,
-//!             Err(fault) => ..,
-//!         }
-//!     }
-//! }
-//! ```
+//! `planner_commands` shows a use, in `src/planners.rt` and `src/answers.rt`.
 //!
 //! The contracts cite `Standing` (the timetable of records that stand, and what an undo takes out), `Planners` (what planners are
 //! seen as, and a step), `Machine` (the machine over the records of a script), `Forms` (the forms of records, and the lines of a

@@ -4,10 +4,7 @@
 //! against a timetable and a matrix of least walks, and takes no memory: it answers yes with the vehicles and the empty
 //! minutes of the blocks, or the first [`Reason`] why not. No solver stands below it.
 //!
-//! ```text
-//! let claimed = Claimed::of(blocks, prices);
-//! if let Verdict::Yes { vehicles, minutes } = check(&timetable, &matrix, &claimed) { .. }
-//! ```
+//! `plan_commands` shows a use, in `src/check.rt`.
 //!
 //! The contract that the crates above use: the verdict is its definition; no reason holds exactly against a certificate
 //! ([`laws::certificate_law`]), whose blocks are least ([`laws::least_law`]).

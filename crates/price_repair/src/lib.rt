@@ -8,11 +8,7 @@
 //! again for the pairs as they are; its links change along the two paths of a trip that is taken, or added, alone; and no
 //! more than 2n^2 + 2n steps are counted. After each edit of a timetable its plan meets what is required ([`laws::edit_law`]).
 //!
-//! ```text
-//! after_take(&mut solver, &Pairs::without(&timetable, &matrix, slot), slot, &mut steps);
-//! timetable.shift(slot, minutes);
-//! after_add(&mut solver, &Pairs::of(&timetable, &matrix), slot, &mut steps);
-//! ```
+//! `plan_history` shows a use, in `src/history.rt`.
 //!
 //! The contracts cite `Without` (plans for pairs with a trip more or less), of `deadhead_matrix` `Prices` and `Paths`, and of
 //! `pair_graph` `Pairs`. `Cut` (the plan between a take and its searches) is for proofs alone.

@@ -9,9 +9,7 @@
 //! then the fewest empty minutes over all blockings, and the two files of that plan are a claim on which `check` says yes. Where
 //! they are not, the line is that of their first refusal.
 //!
-//! ```text
-//! let status = run_sample(alloc, 600, shelf, out, keeper, steps);
-//! ```
+//! `run` of `desk_program` calls it.
 //!
 //! The contracts cite `Sample` (what the command asks, and the line); of `feed_sample` `Sample`, of `desk_run` `Performs`,
 //! of `desk_feed` `Feed`, `Judging` and `Schedule`, and of `claim_files` `Written`. `Summed` has terms of the functions

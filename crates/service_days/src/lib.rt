@@ -6,11 +6,7 @@
 //! The contract that the crates above use: a date is eight digits of a day that the calendar of `jiff` has; the answer is
 //! exactly the services that run on the date, each once, in byte order, or the first refusal of the two files.
 //!
-//! ```text
-//! if let Some(date) = read_date(word) {
-//!     let services = running(alloc, date, &calendar, &calendar_dates)?;
-//! }
-//! ```
+//! `desk_feed` shows a use, in `src/feed.rt`.
 //!
 //! The contracts cite `Dates` (dates and their weekdays), `Calendar` (the schedules, record after record),
 //! `CalendarDates` (the exceptions, record after record) and `Services` (the services that run). That a number is told to be

@@ -5,10 +5,7 @@
 //! is not there. Other programs then find it locked, until a call fails or the keeper is dropped. Each append is one
 //! transaction.
 //!
-//! ```text
-//! let mut keeper = SqliteKeeper::over(&rt, Text::of(rt.alloc(), "feed")?);
-//! let journal = keeper.load(rt.alloc(), 65_536)?;
-//! ```
+//! `blockdesk` shows a use, in `src/start.rt`.
 //!
 //! It tells nothing of its journal. So the contract that the crates above use is that of every `Keeper`: a load answers
 //! at most as many lines as were asked for, and `Failed` comes only where the count of faults rose.

@@ -11,10 +11,7 @@
 //! list, and every trip is valid. [`Timetable::places`] and [`Timetable::slots`] hand this fact on. Links are a list, and
 //! those along which departures rise make blocks in which each live slot stands once ([`laws::links_law`]).
 //!
-//! ```text
-//! let mut timetable = Timetable::open(alloc, 0, 0);
-//! let terminal = timetable.push_place("A", 5)?;
-//! ```
+//! `feed_read` shows a use, in `src/timetable.rt`.
 //!
 //! The contracts cite `Place` (terminals and posts), `Trip` (valid trips, the move of a trip), `Timetable` (what a
 //! timetable is seen as), `Deficit` (departures less arrivals), `Maximum` (the greatest value of a function of the minute,

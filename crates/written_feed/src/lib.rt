@@ -5,9 +5,7 @@
 //!
 //! The contract that the crates above use: a run performs what `write` asks (`write_asked`).
 //!
-//! ```text
-//! let status = run_write(alloc, shelf, out, keeper, steps);
-//! ```
+//! `run` of `desk_program` calls it.
 //!
 //! The contracts cite `Write` (what the command asks and writes), of `block_writer` `Trips`, `StopTimes` and `Texts`, of
 //! `feed_desk` `Drawn` and `Plans`, of `desk_run` `Performs`, and of `desk_feed` `Feed`, `Judging` and `Schedule`. `Writable` has
