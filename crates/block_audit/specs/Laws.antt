@@ -56,8 +56,8 @@ StandInOrder =
 abbrev pub standing : Network → List (List ℕ) → List (List ℕ) → Above
 standing network blocks least = above_by (length blocks) (empty_minutes network blocks) (length least) (empty_minutes network least)
 
--- what it says of blocks against least ones: nothing, exactly where they are least; else by how many vehicles they have more, or
--- by how many empty minutes where they have as few
+-- what it says of blocks against least ones: nothing, exactly where they are least. Else how many vehicles they have more, or
+-- with as few vehicles how many empty minutes
 abbrev pub Says : Network → List (List ℕ) → List (List ℕ) → Above → Type 0
 Says network blocks least Nothing = IsLeast network blocks
 Says network blocks least (Vehicles more) = (more ≢ 0) × (length blocks ≡ length least + more)

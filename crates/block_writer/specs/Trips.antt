@@ -17,7 +17,7 @@ is_in s block = list_any (λ x. x == s) block
 abbrev pub number_in : List (List ℕ) → ℕ → Option ℕ
 number_in blocks s = position_from (is_in s) 1 blocks
 
--- the number that a slot has after a block of that number: the one that it had, or this one where it stands in the block
+-- the number of a slot after a block: the number of the block where the slot is in it, else the one that it had
 abbrev pub numbered : Option ℕ → Bool → ℕ → Option ℕ
 numbered None stands number = if stands then Some number else None
 numbered (Some before) stands number = Some before

@@ -15,8 +15,8 @@ use Rattle.trip_model.specs.Deficit.{live_moves}
 use Rattle.trip_model.specs.Timetable.{TimetableView, number_of, slot_names}
 use Rattle.undo_log.specs.Log.{latest_items}
 
--- a desk: the script, the matrix, the plan, of each edit that can be undone the plan before it, and of each that can be
--- redone the plan after it; the last of each list is the newest
+-- a desk: the script, the matrix and the plan. Then the plan before each edit that can be undone, and the plan after each that
+-- can be redone, the newest last
 pub record DeskView : Type 0 where
   pub script : ScriptView
   pub matrix : MatrixView
@@ -32,8 +32,8 @@ desk_seen script matrix history = record { script = script; matrix = matrix; pla
 abbrev pub ArePlansFor : MatrixView → List TimetableView → List Plan → Type 0
 ArePlansFor matrix timetables plans = AllZip (λ (timetable : TimetableView) (plan : Plan). IsPlanFor timetable matrix plan) timetables plans
 
--- script, deficits and plans in lockstep: the matrix has the places of the timetable, the plan is one for both, and so is each
--- that can be undone or redone for its timetable; and the deficits hold the moves of the trips that run, and no others
+-- script, deficits and plans in lockstep. The matrix has the places of the timetable, and the plan is one for both. So is each
+-- plan that can be undone or redone, for its timetable. The deficits hold the moves of the trips that run, and no others
 pub record IsDesk (desk : DeskView) (deficits : List (List ℤ)) : Type 0 where
   pub places : length desk.script.timetable.places ≡ length desk.matrix.walks
   pub plan : IsPlanFor desk.script.timetable desk.matrix desk.plan
@@ -42,8 +42,8 @@ pub record IsDesk (desk : DeskView) (deficits : List (List ℤ)) : Type 0 where
   pub held : Holds deficits (live_moves desk.script.timetable.slots)
   pub rows : length deficits ≡ length desk.script.timetable.places
 
--- along which paths an edit of a trip changes the links of a plan for a timetable: those of a trip that is taken, added, or
--- taken and added, in the slot of its name, or in a new last one. A show changes none.
+-- along which paths an edit changes the links of a plan: those of a trip that is taken, added, or taken and added. Its slot is
+-- that of its name, or a new last one. A show changes none.
 abbrev pub AreRepaired : Edit → TimetableView → List (Option ℕ) → List (Option ℕ) → Type 0
 AreRepaired (Shift trip by) timetable old new = IfSome (number_of (slot_names timetable) trip) (λ s. IsReplaced old new s)
 AreRepaired (Cancel trip) timetable old new = IfSome (number_of (slot_names timetable) trip) (λ s. IsTaken old new s)

@@ -26,7 +26,7 @@ pub const MOST_CLASS: usize = 16;
 pub(crate) struct Desk {
     /// The services whose trips are selected; None where all are.
     pub(crate) services: Option<Names>,
-    /// The date of which the services that run are selected, where there is one.
+    /// The date whose services are selected, if there is one.
     pub(crate) date: Option<Date>,
     /// The classes of routes; vehicles are of none where there is no entry.
     pub(crate) classes: Entries<Class>,

@@ -61,8 +61,8 @@ LeadsBack plan item = IsItem (undone_by plan item) plan item
 abbrev pub LeadsForth : Plan → Item → Type 0
 LeadsForth plan item = IsItem plan (redone_by plan item) item
 
--- The plan to which steps along all items lead, the last item first; the plan of each item, from the farthest to the nearest;
--- and that each step may be taken.
+-- Steps along all items, the last item first. The plan to which they lead. The plan of each item, from the farthest to the
+-- nearest. Each step may be taken.
 abbrev pub led : (Plan → Item → Plan) → Plan → List Item → Plan
 led step plan [] = plan
 led step plan (item ∷ items) = step (led step plan items) item

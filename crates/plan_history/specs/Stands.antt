@@ -32,7 +32,7 @@ changed_at was plan s = change_of s (slice_get was s) (stand_at plan s)
 abbrev pub changes_upto : List Stand → Plan → ℕ → List Changed
 changes_upto was plan slots = flat_map (changed_at was plan) (range_with_len 0 slots)
 
--- The slots of the newer plan that the older one lacks, or for which it has another next trip or another price: each with
--- what stood before and after, ascending.
+-- The slots of the newer plan that the older one lacks, or for which it has another next trip or price. Each has what the plans
+-- say of it, before and after. Slots ascend.
 abbrev pub differences : Plan → Plan → List Changed
 differences old new = changes_upto (stands old) new (length new.next)

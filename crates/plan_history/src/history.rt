@@ -184,8 +184,8 @@ impl PlanHistory {
     }
 
     /// Repairs the plan after the trip of a slot became another one, and keeps that as one edit. The plan was certified for the
-    /// pairs with the trip that was there; `without` are the pairs without either, and `pairs` those with the one that is there
-    /// now, for which the plan is then certified. At most 4n^2 + 4n steps for n slots.
+    /// pairs with the trip that was there. `without` are the pairs without either trip. `pairs` are those with the trip that is
+    /// there now, and the plan is then certified for them. At most 4n^2 + 4n steps for n slots.
     pub fn replace<L: Ledger>(
         &mut self,
         without: &Pairs<'_>,

@@ -21,7 +21,7 @@ pub(crate) struct Columns {
     exception: usize,
 }
 
-/// What is said of a service on one date, whatever its schedule.
+/// What `calendar_dates.txt` has of a service on one date, whatever its schedule.
 #[derive(Clone, Copy)]
 pub(crate) enum Exception {
     /// It runs.

@@ -1,5 +1,5 @@
--- How a tree is kept in one list of nodes. Node 1 is the root, below node i stand 2 i and 2 i + 1, and the leaf of
--- place p is the node that stands p after the first leaf.
+-- How a tree is kept in one list of nodes. Node 1 is the root. Below node i are 2 i and 2 i + 1. The leaf of place p is p nodes
+-- after the first leaf.
 use Rattle.std.specs.Prelude.{◌≡◌, ℕ, ◌+◌, ◌*◌, ◌^◌, ◌<◌, ◌≤◌, List, length, slice_index_or}
 
 -- the node of this number

@@ -6,12 +6,15 @@
 //!
 //! `plan_history` shows a use, in `src/history.rt`.
 //!
-//! The one contract of the layer: each call says what both lists are afterwards and which item it handed back.
-//! [`Log::open`] takes all the memory that a log ever needs, items are moved, and an item that a push forgets from the
-//! undone ones is dropped.
+//! The one contract of the layer: each call says what both lists are afterwards and which item it handed back. [`Log::open`]
+//! takes all the memory that a log ever needs. Items are moved. An item that a push forgets from the undone ones is dropped.
 //!
-//! The contracts cite `Log`: the two lists (`LogView`), their limit (`UNDO_DEPTH`, `IsWithinDepth`, `HasRoom`), what a
-//! push keeps (`latest_items`) and the item that an undo would take (`last_item`).
+//! The contracts cite `Log`:
+//!
+//! - the two lists, `LogView`
+//! - their limit, `UNDO_DEPTH`, `IsWithinDepth` and `HasRoom`
+//! - what a push keeps, `latest_items`
+//! - the item that an undo would take, `last_item`
 #![tactic(auto)]
 
 mod log;
