@@ -4,8 +4,8 @@ ghost use Rattle.block_audit.specs.Laws as spec;
 use deadhead_matrix::laws::deadhead_law;
 use trip_model::laws::plain_law;
 
-/// Each trip that runs stands in the stated blocks once. They are a blocking exactly where there is no misfit. Where a way
-/// leads between the trips of a misfit, a vehicle comes too late by at least a minute.
+/// Each trip that runs is in the stated blocks once. They are a blocking exactly where there is no misfit. Where a way leads
+/// between the trips of a misfit, a vehicle comes too late by at least a minute.
 pub fn blocking_law()
     ensures stands { spec.EachStands }
     ensures blocking { spec.AreBlocking }
@@ -13,7 +13,7 @@ pub fn blocking_law()
     ensures late { spec.AreLate }
 {}
 
-/// Where the trips of a stated block can be made one after the other in some order, that is the order in which they stand.
+/// Where the trips of a stated block can be made one after the other in some order, that is their order there.
 pub fn order_law()
     ensures { spec.StandInOrder }
 {

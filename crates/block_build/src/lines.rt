@@ -68,7 +68,7 @@ fn push_joint(
     push_deadhead(text, matrix.minutes(from, to))
 }
 
-// The trips of a block, each but the first behind what stands before it.
+// The trips of a block, each but the first behind what is printed before it.
 fn push_trips(
     alloc: Global,
     text: &mut String,

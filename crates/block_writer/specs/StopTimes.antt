@@ -59,7 +59,7 @@ stop_times_written table timetable base = table_text (with_times table timetable
 abbrev pub stop_time_columns : List Column
 stop_time_columns = column.TripId ∷ column.ArrivalTime ∷ column.DepartureTime ∷ column.StopId ∷ column.StopSequence ∷ []
 
--- where the columns of a stop time stand that may be moved, in a header of texts
+-- where the columns of a stop time are that may be moved, in a header of texts
 unfoldable pub columns_in : List (List ℕ) → Result Columns FeedFault
 columns_in header =
     texts_in paper.StopTimes stop_time_columns header 0 header

@@ -148,7 +148,7 @@ fn push_by(
     push_moved(alloc, records, row, arrival, departure, offset)
 }
 
-/// Where the columns of a stop time stand that is written again.
+/// Where the columns of a stop time are that is written again.
 #[derive(Clone, Copy)]
 pub(crate) struct Columns {
     trip: usize,

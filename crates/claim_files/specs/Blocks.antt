@@ -16,7 +16,7 @@ use Rattle.claim_files.specs.declared.blocks.Columns.{Columns}
 use Rattle.claim_files.specs.declared.blocks.TheConstants.{MOST_SHOWN}
 use Rattle.claim_files.specs.Running.{running}
 
--- where the required columns stand
+-- where the required columns are
 unfoldable pub columns_in : List (List ℕ) → Result Columns FeedFault
 columns_in header = do
   block ← column_in paper.Blocks column.BlockId header

@@ -14,7 +14,7 @@ use Rattle.trip_model.specs.Timetable.{TimetableView}
 use Rattle.claim_files.specs.declared.prices.Columns.{Columns}
 use Rattle.claim_files.specs.Running.{running}
 
--- where the required columns stand
+-- where the required columns are
 unfoldable pub columns_in : List (List ℕ) → Result Columns FeedFault
 columns_in header = do
   trip ← column_in paper.Prices column.TripId header

@@ -53,17 +53,17 @@ AreRepaired Undo timetable old new = ⊤
 AreRepaired Redo timetable old new = ⊤
 AreRepaired Show timetable old new = new ≡ old
 
--- the plan that stood is the last that can be undone, of 256 at most, and none can be redone
+-- the plan before is the last that can be undone, of 256 at most, and none can be redone
 pub record IsKept (old new : DeskView) : Type 0 where
   pub earlier : new.earlier ≡ latest_items (old.earlier ++ old.plan ∷ [])
   pub later : new.later ≡ []
 
--- the plan is the last that could be undone, prices included, and the one that stood is the last that can be redone
+-- the plan is the last that could be undone, prices included, and the one before is the last that can be redone
 pub record IsUndone (old new : DeskView) : Type 0 where
   pub earlier : old.earlier ≡ new.earlier ++ new.plan ∷ []
   pub later : new.later ≡ old.later ++ old.plan ∷ []
 
--- the plan is the last that could be redone, prices included, and the one that stood is the last that can be undone
+-- the plan is the last that could be redone, prices included, and the one before is the last that can be undone
 pub record IsRedone (old new : DeskView) : Type 0 where
   pub later : old.later ≡ new.later ++ new.plan ∷ []
   pub earlier : new.earlier ≡ old.earlier ++ old.plan ∷ []

@@ -153,7 +153,7 @@ impl Desk {
         block_minutes(&pairs, &self.matrix, self.history.plan().links())
     }
 
-    /// The slots that the last kept edit changed in the plan, ascending, each with what stood before and after. `None`:
+    /// The slots that the last kept edit changed in the plan, ascending, each with what it had before and has after. `None`:
     /// nothing is kept.
     pub fn last_change(&self) -> Option<&[Changed]>
         ensures none { IsNone result ↔ (self.now.earlier ≡ []) }

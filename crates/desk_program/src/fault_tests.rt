@@ -106,7 +106,7 @@ fn edits(lines: &[Text]) -> usize {
 // A status, how many bytes of two files, how many lines of a journal, and how many bytes of a text.
 type Stood = (u8, usize, usize, usize, usize);
 
-// What stands after a run: its status, its two files, the journal, and the text that was put.
+// What a run leaves: its status, its two files, the journal, and the text that was put.
 fn stands(alloc: Global, run: Run, faults: Faults) -> Result<Stood, Memory> {
     let words = vec![in alloc; Text::of(alloc, run.command)?, Text::of(alloc, "feed")?]?;
     let mut shelf = MemoryShelf::open(
@@ -149,7 +149,7 @@ fn each_file_that_cannot_be_read_ends_a_run(rt: HostRuntime) -> Result<(), Fail>
 
 #[test]
 fn what_stands_up_to_the_call_that_fails(rt: HostRuntime) -> Result<(), Fail> {
-    // The write, the call of the keeper and the put that fail; what one put takes and what all; and what stands. A file whose
+    // The write, the call of the keeper and the put that fail; what one put takes and what all; and what is left. A file whose
     // write fails has its first half. A put is given all that is left: a sink that takes it at once sees one put, and no second
     // that could fail.
     let rows: [(Run, (u32, u32, u32), (usize, usize), Stood); 20] = [

@@ -63,7 +63,7 @@ fn prefix_in(value: &Value) -> Option<&str>
     }
 }
 
-// The strings of a list, each where it first stands; None where an item is no string.
+// The strings of a list, each where it first comes; None where an item is no string.
 fn names_from(alloc: Global, items: &[Value]) -> Result<Option<Names>, Memory>
     ensures { IfOk result (λ names. names ≡ spec.names_from [] (items_view items.now)) }
 {

@@ -87,7 +87,7 @@ timetable_of settings feed_trips =
     provided (nat_le (length places) MOST_PLACES) (fault.TooManyPlaces paper.StopTimes) (Ok (timetable_over settings places feed_trips))
 
 -- The base timetable: of `trips.txt` the selected trips, of `stop_times.txt` their stop times, and of these the timetable. What
--- stands first is judged first.
+-- comes first is judged first.
 unfoldable pub base_of : SettingsView → Found → Found → Result TimetableView FeedFault
 base_of settings trips_found stop_times_found = do
   selected ← trips_in settings trips_found

@@ -23,7 +23,7 @@ stop_times_of slot stop_times = filter (λ stop_time. stop_time.trip == slot) st
 abbrev pub sequences : List StopTimeView → List ℕ
 sequences stop_times = map (λ stop_time. stop_time.sequence) stop_times
 
--- whether a number stands twice
+-- whether a number comes twice
 abbrev pub has_repeat : List ℕ → Bool
 has_repeat [] = false
 has_repeat (number ∷ numbers) = list_any (λ other. other == number) numbers || has_repeat numbers
@@ -91,7 +91,7 @@ feed_trip_of settings name class stop_times =
     (provided (not (has_repeat (sequences stop_times))) (fault.DuplicateSequence name)
     (feed_trip_from settings name class (first_stop_time stop_times) (last_stop_time stop_times)))
 
--- the trips, and that of the next slot, whose class stands at that slot
+-- the trips, and that of the next slot, whose class is at that slot
 abbrev pub with_feed_trip : SettingsView → List Name → List StopTimeView → ℕ → List FeedTrip → Name → Result (List FeedTrip) FeedFault
 with_feed_trip settings classes stop_times slot before name =
     feed_trip_of settings name (slice_index_or classes slot []) (stop_times_of slot stop_times) >>= λ feed_trip. Ok (before ++ feed_trip ∷ [])

@@ -28,7 +28,7 @@ seen selection = record { names = selection.names; classes = selection.classes.i
 abbrev pub nothing_selected : Selected
 nothing_selected = record { names = []; classes = [] }
 
--- where the required columns stand
+-- where the required columns are
 unfoldable pub columns_in : List (List ℕ) → Result Columns FeedFault
 columns_in header = do
   service ← column_in paper.Trips column.ServiceId header

@@ -10,7 +10,7 @@
 //!
 //! `desk_feed` shows a use, in `src/feed.rt`.
 //!
-//! The contracts cite `Base`, the timetable of a feed. That stands on these:
+//! The contracts cite `Base`, the timetable of a feed. It uses these:
 //!
 //! - `Trips`: the selected trips and their classes
 //! - `StopTimes`: their records of `stop_times.txt`

@@ -24,7 +24,7 @@ same_stand (Some before) after = option_eq nat_eq before.next after.next && befo
 abbrev pub change_of : ℕ → Option Stand → Stand → List Changed
 change_of slot before after = if same_stand before after then [] else record { slot = slot; before = before; after = after } ∷ []
 
--- the same, by what stood before and a plan
+-- the same, by the stands before and a plan
 abbrev pub changed_at : List Stand → Plan → ℕ → List Changed
 changed_at was plan s = change_of s (slice_get was s) (stand_at plan s)
 

@@ -78,7 +78,7 @@ impl PlanHistory {
         })
     }
 
-    /// The plan as it stands.
+    /// The plan as it is now.
     pub fn plan(&self) -> &Plan
         ensures { result.now ≡ self.now.plan }
     {
@@ -244,7 +244,8 @@ impl PlanHistory {
         }
     }
 
-    /// The slots that the last kept edit changed, ascending, each with what stood before and after. `None`: nothing is kept.
+    /// The slots that the last kept edit changed, ascending, each with what it had before and has after. `None`: nothing is
+    /// kept.
     pub fn last_change(&self) -> Option<&[Changed]>
         ensures none { IsNone result ↔ (self.now.earlier ≡ []) }
         ensures changes { IfSome result (λ changes. (plan : PlanView) → last_item self.now.earlier ≡ Some plan → changes.now ≡ differences plan self.now.plan) }

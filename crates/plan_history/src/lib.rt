@@ -1,8 +1,8 @@
 //! A plan under edits of its timetable, with the plans before it and after it.
 //!
-//! A [`PlanHistory`] holds one plan. Each edit repairs it, and notes the slots whose next trip or prices changed, with what
-//! stood there before and after: an item. An undo writes what stood before over the plan, and a redo writes what stood after;
-//! no plan is kept whole. The last 256 edits can be undone.
+//! A [`PlanHistory`] holds one plan. Each edit repairs it, and notes the slots whose next trip or prices changed, with what was
+//! there before and after: an item. An undo writes what was before over the plan, and a redo writes what was after; no plan is
+//! kept whole. The last 256 edits can be undone.
 //!
 //! The contract that the crates above use:
 //!

@@ -2,7 +2,7 @@
 //!
 //! A [`Claimed`] is what `blocks.csv` and `prices.csv` claim, record by record, whoever wrote them. [`check`] judges it against
 //! a timetable and a matrix of least walks, and takes no memory. It answers yes with the vehicles and the empty minutes of the
-//! blocks, or the first [`Reason`] why not. No solver stands below it.
+//! blocks, or the first [`Reason`] why not. It uses no solver.
 //!
 //! `plan_commands` shows a use, in `src/check.rt`.
 //!

@@ -5,7 +5,7 @@
 //! its entering side. A trip that moves is taken and then added. Neither takes memory.
 //!
 //! The contract that the crates above use: a plan that was certified with the trip, or without it, is certified for the pairs
-//! as they are. Its links change along the two paths of a trip that is taken, or added, alone. No more than 2n^2 + 2n steps are
+//! now. Its links change along the two paths of a trip that is taken, or added, alone. No more than 2n^2 + 2n steps are
 //! counted. After each edit of a timetable its plan meets what is required ([`laws::edit_law`]).
 //!
 //! `plan_history` shows a use, in `src/history.rt`.

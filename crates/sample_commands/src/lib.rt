@@ -2,7 +2,7 @@
 //!
 //! [`run_sample`] is a whole run over any shelf, sink and keeper. It makes the feed of `feed_sample` in memory, and reads it as
 //! one of a folder. It schedules the timetable after its script from scratch, judges the two files of that plan as `check`
-//! does, and puts one line. Of what stands outside it asks for nothing, and it writes nothing.
+//! does, and puts one line. It asks the shelf and the keeper for nothing, and writes nothing.
 //!
 //! The contract that the crates above use: a run performs what `sample` asks (`sample_asked`). Where the files of the sample
 //! are accepted, the line has the three numbers of a certified plan of the timetable after the script. So they are the fewest

@@ -13,7 +13,7 @@ use indexmap::IndexMap;
 use std::alloc::Global;
 use std::marker::Model;
 
-/// Where the required columns of `calendar_dates.txt` stand.
+/// Where the required columns of `calendar_dates.txt` are.
 #[derive(Clone, Copy)]
 pub(crate) struct Columns {
     service: usize,

@@ -1,7 +1,7 @@
 //! What is written of a feed states the plan: read again, it states the blocks of the plan and no others, and they are least.
 //!
 //! [`laws::plan_law`] says so of the files of a feed in which all trips run and none is added. [`laws::script_law`] says when a
-//! script leaves it so. It stands on four laws:
+//! script leaves it so. It follows from four laws:
 //!
 //! - [`laws::moves_law`]: the written trips make the moves that were planned
 //! - [`laws::names_law`]: each is named after its block

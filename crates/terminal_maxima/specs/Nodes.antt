@@ -12,7 +12,7 @@ pub record IsTree {S : Type 0} (sums : S → ℕ → Type 0) (unit : S) (join : 
   pub leaf : (p : ℕ) → p < leaves → sums (node_of unit nodes (leaves + p)) 1
   pub inner : (i : ℕ) → 1 ≤ i → i < leaves → node_of unit nodes i ≡ join (node_of unit nodes (2 * i)) (node_of unit nodes (2 * i + 1))
 
--- in a tree of this depth the node is so high above the leaves, and these leaves stand under it
+-- in a tree of this depth the node is so high above the leaves, and these leaves are under it
 pub record IsSpan (depth height node first width : ℕ) : Type 0 where
   pub level : ℕ
   pub offset : ℕ

@@ -45,7 +45,7 @@ slot_at timetable s = slice_index_or timetable.slots s (record { name = []; trip
 abbrev pub with_trip : TimetableView → ℕ → Trip → TimetableView
 with_trip timetable s trip = record timetable { slots = slice_set timetable.slots s (record (slot_at timetable s) { trip = trip }) }
 
--- no name stands twice
+-- no name comes twice
 abbrev pub AreDistinct : List (List ℕ) → Type 0
 AreDistinct names = AllPairs (λ x y. x ≢ y) names
 

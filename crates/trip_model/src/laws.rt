@@ -55,8 +55,8 @@ pub fn before_law()
     ensures before { (links : List (Option ℕ)) (i j : ℕ) → AreApart links → next_of links i ≡ Some j → before_of links j ≡ Some i }
 {}
 
-/// In the order of departure each slot stands once whose trip runs, departures rise, and of one departure the lesser slot
-/// stands first.
+/// The order of departure has each slot once whose trip runs. Departures rise, and of one departure the lesser slot comes
+/// first.
 pub fn departure_order_law()
     ensures stands { (moves : List (Option Move))
         → StandsOnce (λ s. is_some (move_at moves s)) (by_departure moves) }

@@ -9,7 +9,7 @@
 //!
 //! The contract that the crates above use: a timetable is two lists and two numbers. Its names are distinct in each list, and
 //! every trip is valid. [`Timetable::places`] and [`Timetable::slots`] hand this fact on. Links are a list, and those along
-//! which departures rise make blocks in which each live slot stands once ([`laws::links_law`]).
+//! which departures rise make blocks in which each live slot is once ([`laws::links_law`]).
 //!
 //! `feed_read` shows a use, in `src/timetable.rt`.
 //!
