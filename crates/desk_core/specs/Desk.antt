@@ -88,7 +88,7 @@ pub record IsDone (number : ℕ) (edit : Edit) (old new : DeskView) : Type 0 whe
   pub links : AreRepaired edit old.script.timetable old.plan.next new.plan.next
   pub plans : ArePlansAfter edit old new
 
--- a fault is the refusal of an edit, or want of memory for one that takes memory
+-- a fault is the refusal of an edit, or lack of memory for one that takes memory
 abbrev pub IsRefused : EditFault → Edit → Result ScriptView EditFault → Type 0
 IsRefused fault.Memory edit due = TakesMemory edit
 IsRefused refused edit due = due ≡ Err refused

@@ -32,7 +32,7 @@ trip_text standing (line.Edit asked) (fault.Refused refused) = codes ", " ++ tri
 trip_text standing (line.Edit asked) (fault.HeldBy number) = codes ", " ++ last_trip asked.planner standing
 trip_text standing line refused = []
 
--- why a record is refused, as it is printed; of want of memory nothing is
+-- why a record is refused, as it is printed; of lack of memory nothing is
 abbrev pub planner_fault_text : PlannerFault → List ℕ
 planner_fault_text fault.NotAnEdit = fault_text_of edit_fault.NotAnEdit
 planner_fault_text (fault.Refused refused) = fault_text_of refused

@@ -7,7 +7,7 @@
 //! [`PlannerFault`] is why a record is refused.
 //!
 //! The contract that the crates above use: the timetable is the fold over the base of the edits that stand, in order. Each of
-//! them is accepted there. A step makes that of its definition, or gives its refusal and leaves all as it was; want of memory
+//! them is accepted there. A step makes that of its definition, or gives its refusal and leaves all as it was; lack of memory
 //! comes last. Whatever is taken back, the edits that stand fold without a refusal ([`laws::folding_law`]). [`laws::undo_law`]
 //! says what an undo takes out. Stepped over records, planners stay at the state of their machine ([`laws::machine_law`]).
 //!

@@ -62,7 +62,7 @@ impl<'a> SqliteKeeper<'a> {
         Ok(())
     }
 
-    // What a call answers to what the database answered. An error that says want of memory is answered as that. Every other one
+    // What a call answers to what the database answered. An error that says lack of memory is answered as that. Every other one
     // is counted.
     fn answer<T: Drop>(&mut self, answered: Result<T, Error>) -> Result<T, KeeperFault>
         ensures done { IfOk answered (λ value. result ≡ Ok value) }
