@@ -25,7 +25,7 @@ AreShifts timetable (s ∷ ss) = IsFirst timetable s.slot s.by × AreShifts (aft
 abbrev pub shift_line : TimetableView → Shift → List ℕ
 shift_line timetable shift = record_text (fields_of (edit.Shift (slot_at timetable shift.slot).name shift.by))
 
--- their lines, after those put before. Then how many there are, with the sum of the maxima after them all
+-- their lines. Then how many there are, with those put before, and the sum of the maxima after them all
 abbrev pub shifts_text : TimetableView → ℕ → List Shift → List ℕ
 shifts_text timetable before [] = total_line (codes "shifts ") before (unsigned_abs (deficit_sum timetable))
 shifts_text timetable before (s ∷ ss) = shift_line timetable s ++ shifts_text (after_shift timetable s) (before + 1) ss
