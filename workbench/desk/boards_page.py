@@ -98,7 +98,7 @@ def _named(town: Town) -> str:
 
 
 def _heading(title: str, level: int, sides: list[str]) -> str:
-    """The heading of a sheet: what it is, and at the other side of which day."""
+    """The heading of a sheet: what it is, and at the other side its day."""
     rows = "<br>".join(escaped(side) for side in sides if side)
     return f"<header><h{level}>{escaped(title)}</h{level}><p>{rows}</p></header>"
 

@@ -69,7 +69,7 @@ class Calendars:
 
 
 def read_calendars(folder: Path) -> Calendars:
-    """The calendars that stand in a folder, of which either or both may be missing."""
+    """The calendars of a folder. Either or both may be missing."""
     calendars = Calendars()
     if (folder / "calendar.txt").is_file():
         calendars.found = True

@@ -1,7 +1,7 @@
 """`desk compare`: two plans of one day side by side, and what a planner has to tell whom.
 
-The numbers of each are those that the program says of it. Blocks are compared by their trips, their times and their empty running,
-and not by their names, since a vehicle that is saved in the morning gives all later blocks another number.
+The numbers of each are those that the program says of it. Blocks are compared by their trips, their times and their empty
+running, and not by their names. A vehicle that is saved in the morning gives all later blocks another number.
 """
 from __future__ import annotations
 
@@ -207,5 +207,5 @@ def _extra_ends(town: Town) -> dict[str, tuple[str, str]]:
 
 
 def _side(side: Side) -> Found:
-    """What is said of a plan as a whole."""
+    """The lines on a plan as a whole."""
     return {"plan": side.title, "check": side.verdict, "blocks": len(side.blocks), "trips": len(side.block_of)}

@@ -35,7 +35,7 @@ def _same(found: Found) -> list[str]:
 
 
 def _drivers(found: Found) -> list[str]:
-    """What the drivers of each block have to be told."""
+    """What the drivers of each block have to know."""
     lines: list[str] = []
     for block in found["changed"]:
         lines.append(f" {_name(block['first'], block['second'])}")
@@ -54,7 +54,7 @@ def _drivers(found: Found) -> list[str]:
 
 
 def _depot(found: Found) -> list[str]:
-    """What the depot has to be told: vehicles that leave it at other times, are gone, or are new."""
+    """What the depot has to know: vehicles that leave it at other times, are gone, or are new."""
     lines = []
     for block in found["changed"]:
         for word, (old, new) in (("leaves the depot", block["leaves"]), ("ends its last trip", block["ends"])):
@@ -66,7 +66,7 @@ def _depot(found: Found) -> list[str]:
 
 
 def _passengers(found: Found) -> list[str]:
-    """What passengers have to be told: trips that do not run, run at another time, or are new."""
+    """What passengers have to know: trips that do not run, run at another time, or are new."""
     trips = found["trips"]
     lines = [f" cancelled: {_trip(trip)}" for trip in trips["cancelled"]]
     lines += [f" {trip['minutes']:+} min: {_trip(trip)}, was {trip['departed']}" for trip in trips["moved"]]

@@ -52,7 +52,7 @@ class Planners:
     held: dict[str, str]
 
     def holder(self, said: str) -> str:
-        """The record that holds an undo of which this is said; empty where none does."""
+        """The record that holds this undo; empty where none does."""
         found = re.search("held by record ([0-9]+)$", said)
         if found is None:
             return ""

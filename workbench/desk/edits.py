@@ -1,7 +1,8 @@
 """The writer of a script: one at a time, record by record, and whole.
 
-A lock file stands beside the scripts of a town. The system gives the lock back where its holder ends, however that comes about. A script is
-written under another name, synced, and renamed, so it is at any time the one before a record or the one after it.
+A lock file stands beside the scripts of a town. The system gives the lock back where its holder ends, however that comes
+about. A script is written under another name, synced, and renamed. So at any time it is the one before a record or the one
+after it.
 """
 from __future__ import annotations
 
@@ -25,7 +26,7 @@ LOCK = ".desk.lock"
 """The lock file of a town."""
 
 WHOLE, PART, LOST = ".whole-", ".part-", "before-keep-"
-"""What stands before the name of a script where a part replaces it for a while: of the whole, of the part, of a whole that is left."""
+"""The prefixes of a script's name where a part replaces it for a while: for the whole, for the part, for a whole that is left."""
 
 FORMS: dict[str, tuple[tuple[str, type], ...]] = {
     "shift": (("trip", str), ("shift", int)),
@@ -68,7 +69,7 @@ class Script:
 
 @contextmanager
 def writing(path: Path, wait: float = WAIT) -> Iterator[Script]:
-    """A script of a town, of which no other writer writes a script inside the block. What a killed writer has left is gone."""
+    """A script of a town. Inside the block no other writer writes a script of it. What a killed writer has left is gone."""
     with _locked(path.with_name(LOCK), wait):
         for name in (path.name, PART + path.name, WHOLE + path.name):
             for left in path.parent.glob(f".{name}.*"):
@@ -83,7 +84,7 @@ def beside(path: Path, kind: str) -> Path:
 
 
 def put_back(path: Path) -> None:
-    """Puts back a script of which a part stands in its place. Where somebody has changed the part, the whole stands beside it."""
+    """Puts back a script where a part is in its place. Where somebody has changed the part, the whole stands beside it."""
     part, whole = beside(path, PART), beside(path, WHOLE)
     if whole.is_file():
         stands = path.is_file() and part.is_file() and read_bytes(path) == read_bytes(part)

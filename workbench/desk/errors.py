@@ -1,4 +1,4 @@
-"""The errors that end a command. Each is told as one line, `desk: MESSAGE`."""
+"""The errors that end a command. Each is printed as one line, `desk: MESSAGE`."""
 import sys
 
 

@@ -1,7 +1,7 @@
 """Trips that `frequencies.txt` repeats, each repetition as a trip of its own.
 
 A trip T that starts every 30 minutes from 06:00 to before 07:00 becomes `T@06:00:00` and `T@06:30:00`, with its times moved
-so that it leaves its first stop then; T itself goes. The rules are those of the GTFS reference: a period ends before its
+so that it leaves its first stop then. T itself goes. The rules are those of the GTFS reference: a period ends before its
 `end_time`, times after midnight are 24:00:00 and more, and periods of one trip do not overlap.
 """
 from __future__ import annotations

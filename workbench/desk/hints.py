@@ -21,7 +21,7 @@ DONE = (0, 1)
 """The statuses of the program where it has done all but records that are refused."""
 
 USAGE, REFUSED, READ_FAULT, WRITE_FAULT, KEEPER_FAULT = 2, 3, 5, 6, 7
-"""The statuses of the program of which more is known than it says."""
+"""The statuses of the program with hints."""
 
 
 def hints_of(command: str, words: Sequence[str], status: int, text: str) -> list[str]:
@@ -39,7 +39,7 @@ def hints_of(command: str, words: Sequence[str], status: int, text: str) -> list
 
 
 def hints_before(command: str, words: Sequence[str]) -> list[str]:
-    """What is said once a run is done and cannot be found after it: what `keep` does twice, and what `kept` writes over."""
+    """Hints before a run that cannot be found after it: what `keep` does twice, and what `kept` writes over."""
     finds = {"keep": _kept_twice, "kept": _written_over}
     try:
         return finds[command](Town(words[0])) if command in finds and len(words) == 1 and Path(words[0]).is_dir() else []

@@ -82,7 +82,7 @@ def _wrong_number(word: str, has: int, wants: int) -> str:
 
 
 def _wrong_field(column: str, value: str) -> str | None:
-    """What is wrong with a field, of which this is the form; None where nothing is."""
+    """What is wrong with a field by this form; None where nothing is."""
     if column == "+5":
         return _wrong_shift(value)
     if ":" in column:

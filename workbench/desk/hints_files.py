@@ -28,7 +28,7 @@ SHEETS = (".xlsx", ".xls", ".ods", ".numbers")
 """The endings of spreadsheets, from which such a file may have been meant to be made."""
 
 NEAR = 0.87
-"""How alike two names must be for a file to be told of."""
+"""How alike two names must be for a hint on a file."""
 
 
 def like_names(folder: Path, name: str | None = None) -> dict[str, str]:

@@ -25,14 +25,14 @@ FILES = {"record": "edits.csv", "journal": "journal.db", "planner": "planner_edi
 
 LIMITS = {"too many trips": f"a timetable has {MOST_TRIPS} trips at the most, extra ones too.",
           "too many shows": "a script has 64 shows at the most."}
-"""What is said of a record that would be one too many."""
+"""The hint on a record that would be one too many."""
 
 MOST_HINTS = 20
-"""How many refused records are told of at the most."""
+"""How many refused records have a hint at the most."""
 
 
 class Refused(NamedTuple):
-    """A refused record: of which script, its number, its trip, and why."""
+    """A refused record: its script, its number, its trip, and why."""
 
     source: str
     number: int
@@ -47,7 +47,7 @@ def refused_in(text: str) -> list[Refused]:
 
 
 def script_hints(town: Town, text: str) -> list[str]:
-    """A line for each refused record of a text of which something is known."""
+    """A line for each refused record of a text, where something is known of it."""
     refused = refused_in(text)
     scripts = Scripts(town, refused[:MOST_HINTS])
     lines = [f"{FILES[record.source]} record {record.number}: {why}" for record in refused[:MOST_HINTS] if (why := scripts.why(record))]
@@ -101,7 +101,7 @@ class Scripts:
             if not 0 < record.number <= len(records):
                 return None
             fields = records[record.number - 1]
-            # A script that has changed since the program read it is another one, of which nothing is known.
+            # A script that has changed since the program read it is another one. Nothing is known of it.
             same = is_edit(edit_of(record.source, fields)) or record.why == "not an edit"
             return reason(record, fields) if same else None
         except DeskError:

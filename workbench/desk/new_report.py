@@ -15,7 +15,7 @@ TOLD = 4
 
 @dataclass
 class Report:
-    """What is told, collected on the way. Each item names its file first."""
+    """The lines of the report, collected on the way. Each item names its file first."""
 
     town: str
     title: str = ""

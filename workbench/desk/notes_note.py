@@ -16,7 +16,7 @@ from desk.town import DayTrip, Town
 
 
 class Note(NamedTuple):
-    """What the program accepts in silence: of which kind, in which file and record, what was found and what to do."""
+    """What the program accepts in silence: its kind, its file and record, what was found and what to do."""
 
     kind: str
     file: str

@@ -9,7 +9,7 @@ from desk.notes_deadheads import Way
 from desk.notes_note import Note, View, first_records, note_of
 
 SURE = 0.85
-"""How alike the name of a place on the way must be to a terminal, to be told of as a typing error."""
+"""How alike the name of a place on the way must be to a terminal for a note on a typing error."""
 
 
 def deadheads(view: View) -> Iterator[Note]:

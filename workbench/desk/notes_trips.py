@@ -9,7 +9,7 @@ from desk.notes_note import Note, View
 from desk.records import open_records
 
 PREFIXES = ("B", "V", "D", "W", "X", "Y", "Z", "BD", "VD", "NEW", "PLAN")
-"""Prefixes of block names, of which the first free one is told."""
+"""Prefixes of block names. The first free one is named."""
 
 
 def repeated(view: View) -> Iterator[Note]:

@@ -244,7 +244,7 @@ def _pull_in(town: Town) -> dict[str, int]:
 
 
 def _records_in_form(records: Records) -> Iterator[tuple[int, list[str]]]:
-    """The records of a file of the program, none of which has more fields than the header."""
+    """The records of a file of the program. None has more fields than the header."""
     for number, fields in records:
         if len(fields) > len(records.header):
             raise DeskError(f"{records.name} record {number}: too many fields")

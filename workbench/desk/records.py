@@ -80,7 +80,7 @@ def open_records(path: Path) -> Iterator[Records]:
 
 
 def records_of(name: str, text: str) -> Records:
-    """The records of a text, which are told under this name."""
+    """The records of a text. Errors in it have this name."""
     return Records(name, io.StringIO(text.removeprefix("\ufeff"), newline=""))
 
 

@@ -1,4 +1,4 @@
-"""The agency's stops: names, coordinates, and the stations of which they are a part."""
+"""The agency's stops: names, coordinates, and the stations that they are part of."""
 from __future__ import annotations
 
 import math

@@ -49,7 +49,7 @@ def _names(command: str, folder: Path) -> Iterator[tuple[str, str]]:
 
 
 def _column_names(path: Path, columns: tuple[str, ...]) -> Iterator[tuple[str, str]]:
-    """The names in these columns of a file, of which one need not be there."""
+    """The names in these columns of a file. One column need not be there."""
     with open_records(path) as records:
         places = [place for column in columns if (place := records.find(column)) is not None]
         for number, fields in records:

@@ -108,7 +108,8 @@ class Older:
                 self.braces.append((at, self.size))
 
     def error(self, message: str) -> TomlError:
-        """The error that the library has found in the older text. A table that is not closed is told of where it begins."""
+        """The error that the library has found in the older text. The error of a table that is not closed names where it
+        begins."""
         why, found = WHERE.sub("", message), WHERE.search(message)
         is_inside = found is not None and found[1] is not None
         at = self.place(int(found[1]), int(found[2])) if is_inside else self.size

@@ -84,7 +84,7 @@ class Handler(BaseHTTPRequestHandler):
         self._answer(self._get)
 
     def do_POST(self) -> None:
-        """Answers to what the session is told."""
+        """Answers to requests on the session."""
         self._answer(self._post)
 
     def _answer(self, found: Callable[[], tuple[str, bytes]]) -> None:

@@ -38,7 +38,7 @@ class FolderTest(unittest.TestCase):
         self.addCleanup(shutil.rmtree, self.room, ignore_errors=True)
 
     def desk(self, *words: str | Path) -> tuple[int, str, str]:
-        """Runs the workbench with these words: its status, what it puts, and its errors, none of which is a traceback."""
+        """Runs the workbench with these words: its status, what it puts, and its errors. None of these is a traceback."""
         out, errors = io.StringIO(), io.StringIO()
         with contextlib.redirect_stdout(out), contextlib.redirect_stderr(errors):
             status = cli.main([str(word) for word in words])

@@ -127,7 +127,7 @@ class KillTest(FolderTest):
         self.assertGreater(len(seen), 3, "the kills came at one moment only")
 
     def test_lock(self) -> None:
-        """A second writer waits, and is told who writes; after the first is killed it writes."""
+        """A second writer waits, and reads who writes; after the first is killed it writes."""
         path = self.room / "edits.csv"
 
         def hold() -> None:

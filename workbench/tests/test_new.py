@@ -380,7 +380,7 @@ class RandomBytes(NewTest):
     """Damaged feeds end in words, with a town or with none."""
 
     def tried(self, feed: Path, *words: str) -> bool:
-        """Whether a town is made of a feed, which it is exactly where no error is told."""
+        """Whether a town is made of a feed, which it is exactly where there is no error."""
         self.town = self.room / f"town {feed.name}"
         status, text, errors = self.desk("new", feed, self.town, *words)
         self.assertIn(status, (0, 1, 2))

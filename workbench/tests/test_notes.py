@@ -422,7 +422,7 @@ class TestScripts(NotesTest):
 
 
 class TestAnswers(NotesTest):
-    """How notes are told."""
+    """How notes are printed."""
 
     def test_the_text_and_the_status(self) -> None:
         town = write_feed(self.room / "town", silent_feed("a platform in the depot"))

@@ -1,4 +1,4 @@
-"""Notes and hints of a feed of 100 MB are told in seconds, with little memory."""
+"""Notes and hints of a feed of 100 MB come in seconds, with little memory."""
 from __future__ import annotations
 
 import os

@@ -144,7 +144,7 @@ class PageTest(FolderTest):
         self.assertEqual((status, "of another plan" in errors, day_in(out.read_text())["written"]), (1, True, "other"))
 
     def test_refused_feeds(self) -> None:
-        """A feed that the program refuses, and a folder without one, are told in its words and under the town's name."""
+        """A feed that the program refuses, and a folder without one, are named in its words and under the town's name."""
         folder = self.town("deadheads")
         (folder / "deadheads.csv").write_text("from,to,minutes\nA,A,5\n")
         self.assertEqual(self.desk("page", folder)[::2], (1, f"desk: {folder}: feed refused: deadheads.csv record 1: same terminal\n"))

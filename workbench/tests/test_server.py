@@ -24,7 +24,7 @@ TOKEN = "the-token-of-the-tests"
 
 
 class StandIn:
-    """A session that says what it was told."""
+    """A session that says what it was asked."""
 
     def __init__(self) -> None:
         self.told: list[Any] = []
@@ -144,7 +144,7 @@ class WebTest(FolderTest):
         self.assertEqual(self.session.told, [{"edit": "undo"}])
 
     def test_bodies(self) -> None:
-        """A body is JSON of an object, of a length that is told and is not too long."""
+        """A body is JSON of an object, with its length, which is not too long."""
         long = b'{"edit":"' + b"x" * MOST_BODY + b'"}'
         self.assertEqual(self.tell("edit", long), 413)
         self.assertEqual(self.tell("edit", b"{}", Content_Length="99999999999999999999"), 413)
@@ -165,7 +165,7 @@ class WebTest(FolderTest):
             self.assertEqual(self.ask(method, f"/{TOKEN}/day")[0], 501, method)
 
     def test_errors(self) -> None:
-        """Errors are told in words on one line, and names in JSON never end a script."""
+        """Errors are words on one line, and names in JSON never end a script."""
         self.assertEqual(json.loads(self.ask("GET", f"/{TOKEN}/state")[2]), {"error": "two\\nlines"})
         self.assertEqual(self.tell("suggest", b"{}"), 400)
         body = self.ask("GET", f"/{TOKEN}/day")[2]
@@ -223,7 +223,7 @@ class OpenTest(FolderTest):
             self.assertEqual((running.wait(30), running.stderr.read()), (0, ""))
 
     def test_refused_feed(self) -> None:
-        """A feed that the program refuses is told before a page is served."""
+        """A feed that the program refuses is an error before a page is served."""
         self.assertEqual(self.desk("open", self.room)[::2], (1, f"desk: {self.room}: feed refused: trips.txt: missing\n"))
 
 
@@ -295,7 +295,7 @@ class SessionTest(FolderTest):
         self.assertEqual((answer["done"], answer["said"], self.script()), (False, CHANGED, "cancel,U1\n"))
 
     def test_open_quote(self) -> None:
-        """A script behind which no record can be put is told, and stays."""
+        """A script behind which no record can be put is an error, and stays."""
         (self.town / "edits.csv").write_text('cancel,"U1\n')
         with self.assertRaisesRegex(DeskError, "quote"):
             self.session.day()

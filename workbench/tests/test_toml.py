@@ -41,7 +41,7 @@ REFUSED: list[tuple[str, int | None]] = [
     ("a = {\nb = 1,\nlayover = 5\nlate = 2\n", 1), ("a = [1,\n2\n", None), ("a = {b = 1,}\n[a]\n", 2),
     ("layover: 5", 1), ("a = {b = 1]", 1), ("a = \"{\n}\nb = 1", 1), ("a = {b = 'c}\n,d = 1,}", 1), ('a = {b = """c}\n,d = 1,}', 1),
 ]
-"""Texts that are not TOML 1.1, each with the line of which the error tells, None at the end of the text."""
+"""Texts that are not TOML 1.1, each with the line that the error names, None at the end of the text."""
 
 
 class TomlTest(FolderTest):

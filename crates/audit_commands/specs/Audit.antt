@@ -41,7 +41,7 @@ pub record IsFirstBad (trips : TableView) (chosen : List Bool) (r : ℕ) : Type 
   pub bad : ¬ IsUtf8 (block_field trips r)
   pub before : (k : ℕ) → k < r → slice_index_or chosen k false ≡ true → IsUtf8 (block_field trips k)
 
--- the refusal of its `block_id` is told
+-- the refusal of its `block_id` is put
 pub record IsRefusedName (trips : TableView) (chosen : List Bool) (outcome : OutcomeView) : Type 0 where
   pub record_before : ℕ
   pub first : IsFirstBad trips chosen record_before
@@ -51,9 +51,9 @@ pub record IsRefusedName (trips : TableView) (chosen : List Bool) (outcome : Out
 abbrev pub text_of_costs : Network → List (List ℕ) → List (List ℕ) → List ℕ
 text_of_costs network stated least = costs_text (length stated) (empty_minutes network stated) (length least) (empty_minutes network least)
 
--- What is put of stated blocks without a misfit, behind the lines of refused records: their cost, and that of the blocks of a
--- certified plan, which are least over all blockings. `least` is put exactly where the stated blocks are least; else by how many
--- vehicles they have more, or by how many empty minutes where they have as few.
+-- What is put of stated blocks without a misfit, behind the lines of refused records. It is their cost beside that of the
+-- blocks of a certified plan, which are least over all blockings. `least` is put exactly where the stated blocks are least.
+-- Else it is put how many vehicles they have more, or with as few vehicles how many empty minutes.
 pub record IsCosted (refused : List ℕ) (end : Ending) (timetable : TimetableView) (matrix : MatrixView) (stated : List NamedBlock) (outcome : OutcomeView) : Type 0 where
   pub plan : Plan
   pub least : List (List ℕ)
@@ -80,8 +80,8 @@ pub record IsAudited (said : Said) (trips : TableView) (outcome : OutcomeView) :
   pub no : outcome.ending ≡ ending.No → ¬ IsBlocking (network_of (standing said) matrix) (slots_by (stated_of said trips))
   pub blocking : outcome.ending ≢ ending.No → IsBlocking (network_of (standing said) matrix) (slots_by (stated_of said trips))
 
--- what is done of the trips: they are audited where the `block_id` of each selected record is text, and else the first that is
--- not is refused
+-- what is done of the trips: they are audited where the `block_id` of each selected record is text. Else the first that is not
+-- text is refused
 abbrev pub AuditsOf : Said → TableView → OutcomeView → Type 0
 AuditsOf said trips outcome =
     IsRefusedName trips (chosen_in said.settings trips) outcome ⊎ (AreNames trips (chosen_in said.settings trips) × IsAudited said trips outcome)

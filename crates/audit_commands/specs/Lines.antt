@@ -25,7 +25,7 @@ unfoldable pub misfits_text : TimetableView → List NamedBlock → List Misfit 
 misfits_text timetable stated misfits =
     flat_map (misfit_line timetable stated) misfits ++ (codes "no: " ++ decimal (length misfits) ++ codes " pairs do not fit" ++ 10 ∷ [])
 
--- the line of how stated blocks stand against least ones
+-- the line that compares stated blocks with least ones
 abbrev pub above_line : Above → List ℕ
 above_line Nothing = codes "least" ++ 10 ∷ []
 above_line (Vehicles more) = codes "above by " ++ (decimal more ++ (codes " vehicles" ++ 10 ∷ []))
@@ -35,7 +35,7 @@ above_line (Minutes more) = codes "above by " ++ (decimal more ++ (codes " minut
 abbrev pub cost_line : ℕ → ℕ → List ℕ
 cost_line vehicles minutes = codes "vehicles " ++ (decimal vehicles ++ (codes ", minutes " ++ (decimal minutes ++ 10 ∷ [])))
 
--- the cost of stated blocks, that of least ones, and how the first stand against the second
+-- the cost of stated blocks, that of least ones, and how the first compare with the second
 unfoldable pub costs_text : ℕ → ℕ → ℕ → ℕ → List ℕ
 costs_text vehicles minutes least_vehicles least_minutes =
     cost_line vehicles minutes ++ (codes "least " ++ (cost_line least_vehicles least_minutes ++ above_line (above_by vehicles minutes least_vehicles least_minutes)))

@@ -177,8 +177,9 @@ impl FeedCommand for AuditFeed {
     }
 }
 
-/// The command `audit`: whether vehicles can make the blocks that the feed states by `block_id`, with the pairs of trips that do not
-/// fit; and where they can, by how much these are above least blocks. It answers the status.
+/// The command `audit`: whether vehicles can make the blocks that the feed states by `block_id`. Where they cannot, it puts the
+/// pairs of trips that do not fit. Where they can, it puts by how much these blocks are above least ones. It answers the
+/// status.
 #[tactic(auto, unfolding(crate::specs::Audit::audit_asked))]
 pub fn run_audit<S: Shelf, O: Sink, K: Keeper, L: Ledger>(
     alloc: Global,

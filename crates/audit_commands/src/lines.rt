@@ -54,7 +54,7 @@ pub(crate) fn misfits_text(
     Ok(Text::wrap(text))
 }
 
-// The line of how stated blocks stand against least ones.
+// The line that compares stated blocks with least ones.
 fn above_line(alloc: Global, above: Above) -> Result<Text, Memory>
     ensures { IfOk result (λ text. text ≡ spec.above_line above) }
 {
@@ -72,7 +72,7 @@ fn cost_line(alloc: Global, vehicles: u32, minutes: u32) -> Result<Text, Memory>
     Ok(Text::wrap(format!(in alloc; "vehicles {vehicles}, minutes {minutes}\n")?))
 }
 
-/// The vehicles and the empty minutes of stated blocks, those of least ones, and how the first stand against the second.
+/// The vehicles and the empty minutes of stated blocks, those of least ones, and how the first compare with the second.
 #[tactic(auto, unfolding(crate::specs::Lines::costs_text))]
 pub(crate) fn costs_text(alloc: Global, cost: (u32, u32), least: (u32, u32)) -> Result<Text, Memory>
     ensures { IfOk result (λ text. text ≡ spec.costs_text cost.0 cost.1 least.0 least.1) }

@@ -1,4 +1,4 @@
--- How the cost of blocks stands against that of least ones.
+-- How the cost of blocks compares with that of least ones.
 use Rattle.std.specs.Prelude.{ℕ, ◌-◌, nat_lt, if◌then◌else◌}
 use Rattle.block_audit.specs.declared.cost.Above.{Above}
 use Rattle.block_audit.specs.declared.cost.Above.TheVariants.{Nothing, Vehicles, Minutes}

@@ -13,7 +13,7 @@ use Rattle.block_audit.specs.Above.{above_by}
 use Rattle.block_audit.specs.Misfits.{misfits_in}
 use Rattle.block_audit.specs.Stated.{NamedBlock, slots_by, stated_in}
 
--- each trip that runs stands in the stated blocks exactly once, and no other does
+-- each trip that runs is in the stated blocks exactly once, and no other is
 abbrev pub EachStands : Type 0
 EachStands =
     (trips : TableView) (timetable : TimetableView) (chosen : List Bool) (matrix : MatrixView)
@@ -42,7 +42,7 @@ AreLate =
     (trips : TableView) (timetable : TimetableView) (chosen : List Bool) (matrix : MatrixView)
     → All IsLate (misfits_in timetable matrix (stated_in trips timetable chosen))
 
--- where the trips of a stated block can be made one after the other in some order, that is the order in which they stand
+-- where the trips of a stated block can be made one after the other in some order, that is their order there
 abbrev pub StandInOrder : Type 0
 StandInOrder =
     (trips : TableView) (timetable : TimetableView) (chosen : List Bool) (matrix : MatrixView) (b : ℕ) (other : List ℕ)
@@ -52,12 +52,12 @@ StandInOrder =
     → IsBlock (network_of timetable matrix) other
     → other ≡ slice_index_or (slots_by (stated_in trips timetable chosen)) b []
 
--- how blocks stand against other ones
+-- how blocks compare with other ones
 abbrev pub standing : Network → List (List ℕ) → List (List ℕ) → Above
 standing network blocks least = above_by (length blocks) (empty_minutes network blocks) (length least) (empty_minutes network least)
 
--- what it says of blocks against least ones: nothing, exactly where they are least; else by how many vehicles they have more, or
--- by how many empty minutes where they have as few
+-- what it says of blocks against least ones: nothing, exactly where they are least. Else how many vehicles they have more, or
+-- with as few vehicles how many empty minutes
 abbrev pub Says : Network → List (List ℕ) → List (List ℕ) → Above → Type 0
 Says network blocks least Nothing = IsLeast network blocks
 Says network blocks least (Vehicles more) = (more ≢ 0) × (length blocks ≡ length least + more)

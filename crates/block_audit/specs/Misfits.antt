@@ -1,4 +1,4 @@
--- The pairs of neighbours of stated blocks of which the second trip does not fit after the first.
+-- The neighbours in stated blocks that do not fit: no vehicle can make the second trip after the first.
 use Rattle.std.specs.Prelude.{ℕ, ◌+◌, ◌-◌, List, [], ◌∷◌, ◌++◌, Option, None, Some, is_some, option_map, if◌then◌else◌}
 use Rattle.deadhead_matrix.specs.Matrix.{MatrixView, walk}
 use Rattle.deadhead_matrix.specs.Fitting.{network_of}
@@ -7,8 +7,8 @@ use Rattle.block_build.specs.Lines.{walk_between}
 use Rattle.block_audit.specs.declared.misfit.Misfit.{Misfit}
 use Rattle.block_audit.specs.Stated.{NamedBlock}
 
--- by how many minutes a vehicle that goes on from the first trip comes too late to the second, by its end, the least walk and
--- the departure; None where no way leads there
+-- by how many minutes a vehicle comes too late from the first trip to the second; None where no way leads there. The end of the
+-- first, the least walk and the departure of the second decide that
 abbrev pub short_by : TimetableView → MatrixView → ℕ → ℕ → Option ℕ
 short_by timetable matrix i j =
     option_map (λ minutes. (slot_at timetable i).trip.ends + minutes - (slot_at timetable j).trip.departs) (walk_between timetable (walk matrix) i j)
@@ -34,7 +34,7 @@ abbrev pub block_misfits : TimetableView → MatrixView → ℕ → List ℕ →
 block_misfits timetable matrix block [] = []
 block_misfits timetable matrix block (i ∷ js) = misfits_after timetable matrix block i js
 
--- the misfits of blocks, block by block, of which the first has that number
+-- the misfits of blocks, block by block; the first block has that number
 abbrev pub misfits_from : TimetableView → MatrixView → ℕ → List NamedBlock → List Misfit
 misfits_from timetable matrix number [] = []
 misfits_from timetable matrix number (block ∷ blocks) = block_misfits timetable matrix number block.slots ++ misfits_from timetable matrix (number + 1) blocks

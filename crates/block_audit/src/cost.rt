@@ -54,8 +54,8 @@ fn block_minutes(timetable: &Timetable, matrix: &Matrix, block: &[u16]) -> u32
     minutes + u32::from(matrix.pull_in(last.to))
 }
 
-/// The vehicles and the empty minutes of stated blocks that have no misfit, so that they are a blocking: the minutes are those out
-/// of the depot, of the walks between their trips, and home.
+/// The vehicles and the empty minutes of stated blocks that have no misfit, so that they are a blocking. The minutes are those
+/// out of the depot, of the walks between their trips, and home.
 pub fn stated_cost(timetable: &Timetable, matrix: &Matrix, stated: &Stated) -> (u32, u32)
     requires places { length timetable.now.places ≡ length matrix.now.walks }
     requires blocking { IsBlocking (network_of timetable.now matrix.now) (slots_by stated.now) }

@@ -4,8 +4,8 @@ ghost use Rattle.block_audit.specs.Laws as spec;
 use deadhead_matrix::laws::deadhead_law;
 use trip_model::laws::plain_law;
 
-/// Each trip that runs stands in the stated blocks once. They are a blocking exactly where there is no misfit; and of a misfit
-/// with a way between its trips a vehicle comes too late by more than no minutes.
+/// Each trip that runs is in the stated blocks once. They are a blocking exactly where there is no misfit. Where a way leads
+/// between the trips of a misfit, a vehicle comes too late by at least a minute.
 pub fn blocking_law()
     ensures stands { spec.EachStands }
     ensures blocking { spec.AreBlocking }
@@ -13,7 +13,7 @@ pub fn blocking_law()
     ensures late { spec.AreLate }
 {}
 
-/// Where the trips of a stated block can be made one after the other in some order, that is the order in which they stand.
+/// Where the trips of a stated block can be made one after the other in some order, that is their order there.
 pub fn order_law()
     ensures { spec.StandInOrder }
 {
@@ -21,8 +21,8 @@ pub fn order_law()
     deadhead_law();
 }
 
-/// Blocks are above least ones by nothing exactly where they are least; else by how many vehicles they have more, or by how many
-/// empty minutes where they have as few.
+/// Blocks are above least ones by nothing exactly where they are least. Else they are above by the vehicles that they have
+/// more, or with as few vehicles by the empty minutes.
 pub fn above_law()
     ensures says { spec.IsSaid }
     ensures nothing { spec.IsSaidOfLeast }

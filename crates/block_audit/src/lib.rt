@@ -1,19 +1,23 @@
 //! The blocks that a feed states by the `block_id` of its trips, and whether vehicles can make them.
 //!
-//! [`stated_blocks`] makes them of the table of `trips.txt` and a timetable. [`misfits`] lists the neighbours that do not fit,
-//! [`stated_cost`] counts vehicles and empty minutes where all fit, and [`above_by`] says by how much these are above the least.
+//! [`stated_blocks`] makes them of the table of `trips.txt` and a timetable. [`misfits`] lists the neighbours that do not fit.
+//! [`stated_cost`] counts vehicles and empty minutes where all fit, and [`above_by`] says by how much these are above the
+//! least.
 //!
-//! The contract that the crates above use: the stated blocks are a blocking of the timetable exactly where there is no misfit,
-//! and least exactly where they are above the least by nothing ([`laws`]).
+//! The contract that the crates above use: the stated blocks are a blocking of the timetable exactly where there is no misfit.
+//! They are least exactly where they are above the least by nothing ([`laws`]).
 //!
-//! ```text
-//! let stated = stated_blocks(alloc, &trips, &timetable, &chosen)?;
-//! let misfits = misfits(alloc, &timetable, &matrix, &stated)?;
-//! ```
+//! `audit_commands` shows a use, in `src/audit.rt`.
 //!
-//! The contracts cite `Stated` (the stated blocks), `Misfits` (the pairs that do not fit), `Above` and `Laws`; of `trip_model`
-//! `Blocking`, `Order` and `Timetable`; of `deadhead_matrix` the network of a timetable and a matrix (`Fitting`); and of
-//! `price_check` which trips run.
+//! The contracts cite:
+//!
+//! - `Stated`: the stated blocks
+//! - `Misfits`: the pairs that do not fit
+//! - `Above`: by how much blocks are above the least
+//! - `Laws`: the laws of these
+//! - of `trip_model` `Blocking`, `Order` and `Timetable`
+//! - of `deadhead_matrix` `Fitting`, the network of a timetable and a matrix
+//! - of `price_check` which trips run
 #![tactic(auto)]
 
 mod cost;

@@ -10,7 +10,7 @@ use desk_io::Memory;
 use std::alloc::Global;
 use trip_model::Timetable;
 
-/// Two neighbours of a stated block of which the second does not fit after the first.
+/// Two neighbours of a stated block that do not fit: no vehicle can make the second after the first.
 #[derive(Clone, Copy)]
 pub struct Misfit {
     /// The number of the block, counted from 0.
@@ -23,8 +23,8 @@ pub struct Misfit {
     pub short: Option<u32>,
 }
 
-// By how many minutes a vehicle comes too late from the one trip to the other, 0 where it comes in time; None where no way leads
-// there.
+// By how many minutes a vehicle comes too late from the one trip to the other. It is 0 where it comes in time, and None where
+// no way leads there.
 fn short_by(timetable: &Timetable, matrix: &Matrix, before: u16, after: u16) -> Option<u32>
     requires places { length timetable.now.places ≡ length matrix.now.walks }
     requires before { Runs timetable.now before }
@@ -82,8 +82,8 @@ fn push_block(
     Ok(())
 }
 
-/// The pairs of neighbours of stated blocks of which the second trip does not fit after the first, block by block and in the order
-/// of the trips. Each trip of the blocks has to run.
+/// The neighbours in stated blocks that do not fit, block by block and in the order of the trips. Each trip of the blocks has
+/// to run.
 pub fn misfits(
     alloc: Global,
     timetable: &Timetable,

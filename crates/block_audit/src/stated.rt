@@ -121,10 +121,10 @@ fn grouped(alloc: Global, names: &Names, order: &[u16]) -> Result<Stated, Memory
     Ok(Stated { blocks })
 }
 
-/// The blocks that a feed states: the trips that run and have one `block_id` that is not empty are one block, in order of
-/// departure and then of slot, and every other trip that runs is a block of its own with the empty name. They stand in the order
-/// of their first trips. The table has to be that of `trips.txt` from which the timetable was read, so that its n-th selected
-/// record is that of the n-th slot; `chosen` says of each record whether it is selected, and the `block_id` of each selected one
+/// The blocks that a feed states. The trips that run and have one `block_id` that is not empty are one block, in order of
+/// departure and then of slot. Every other trip that runs is a block of its own with the empty name. They are in the order of
+/// their first trips. The table has to be that of the `trips.txt` from which the timetable was read. So its n-th selected
+/// record is that of the n-th slot. `chosen` says of each record whether it is selected. The `block_id` of each selected one
 /// has to be text.
 pub fn stated_blocks(
     alloc: Global,

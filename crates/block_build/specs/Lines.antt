@@ -29,12 +29,12 @@ deadhead_text (Some minutes) = if minutes == 0 then [] else codes "dh " ++ decim
 abbrev pub walk_between : TimetableView → (ℕ → ℕ → Option ℕ) → ℕ → ℕ → Option ℕ
 walk_between timetable walk i j = walk (slot_at timetable i).trip.to (slot_at timetable j).trip.from
 
--- what stands between the n-th trip of a block and the one before it; nothing before the first
+-- what is printed between the n-th trip of a block and the one before it; nothing before the first
 abbrev pub joint : TimetableView → (ℕ → ℕ → Option ℕ) → List ℕ → ℕ → List ℕ
 joint timetable walk block zero = []
 joint timetable walk block (suc n) = codes "; " ++ deadhead_text (walk_between timetable walk (slice_index block n) (slice_index block (suc n)))
 
--- the trips of a block, each with what stands before it
+-- the trips of a block, each with what is printed before it
 unfoldable pub trips_text : TimetableView → (ℕ → ℕ → Option ℕ) → List ℕ → List ℕ
 trips_text timetable walk block =
     flat_map (λ n. joint timetable walk block n ++ trip_text (slot_at timetable (slice_index block n))) (range_with_len 0 (length block))

@@ -44,9 +44,9 @@ fn block_from(alloc: Global, links: &Links, first: u16) -> Result<Block, Memory>
     Ok(Block { slots })
 }
 
-/// The blocks that links make: each goes on along the links to the end. They stand by the departures of their first
-/// trips, and those of one departure by their slots. Each link has to lead to a trip that begins at or after the end of
-/// the one before.
+/// The blocks that links make: each goes on along the links to the end. They are ordered by the departures of their first
+/// trips, and those of one departure by their slots. Each link has to lead to a trip that begins at or after the end of the one
+/// before.
 pub fn blocks_of(alloc: Global, timetable: &Timetable, links: &Links) -> Result<Blocks, Memory>
     requires slots { length links.now ≡ length timetable.now.slots }
     requires links { AreLinks (timely_network (trip_moves timetable.now.slots)) links.now }

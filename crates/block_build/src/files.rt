@@ -64,9 +64,9 @@ fn push_block(
     Ok(())
 }
 
-/// The text of `blocks.csv`: for each trip, block by block, the name of its block, its own name and the empty minutes before
-/// it, which are those out of the depot for the first of a block and those from the trip before for every other. Where
-/// there is no way from the trip before it has none.
+/// The text of `blocks.csv`. For each trip, block by block, it has the name of its block, its own name and the empty minutes
+/// before it. For the first trip of a block these are the minutes out of the depot, for every other those from the trip before.
+/// Where there is no way from the trip before it has none.
 pub fn blocks_text(
     alloc: Global,
     timetable: &Timetable,

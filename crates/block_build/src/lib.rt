@@ -3,16 +3,13 @@
 //! [`blocks_of`] makes the blocks of links and [`empty_minutes`] counts the minutes that they run empty. [`block_lines`] and
 //! [`price_lines`] print, [`blocks_text`] and [`prices_text`] make the texts of `blocks.csv` and `prices.csv`.
 //!
-//! The contract that the crates above use: blocks are the chains of the links, in the order in which their first trips
-//! depart, and each live slot stands in them exactly once; a text is the definition of it, over all names.
+//! The contract that the crates above use: blocks are the chains of the links, in the order in which their first trips depart.
+//! Each live slot is in them exactly once. A text is its definition, over all names.
 //!
-//! ```text
-//! let blocks = blocks_of(alloc, &timetable, &links)?;
-//! let text = block_lines(alloc, &timetable, &matrix, &blocks, "B")?;
-//! ```
+//! `feed_commands` shows a use, in `src/fixed.rt`.
 //!
-//! The contracts cite `Lines` (the printed texts) and `Files` (the written ones); of `trip_model` `Blocking`, `Links`, `Order`,
-//! `Plain` and `Timetable`; and of `deadhead_matrix` `Fitting` and `Matrix`.
+//! The contracts cite `Lines` (the printed texts) and `Files` (the written ones). Of `trip_model` they cite `Blocking`,
+//! `Links`, `Order`, `Plain` and `Timetable`, and of `deadhead_matrix` `Fitting` and `Matrix`.
 #![tactic(auto)]
 
 mod blocks;

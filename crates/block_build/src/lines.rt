@@ -48,7 +48,7 @@ fn push_deadhead(text: &mut String, minutes: Option<u32>) -> Result<(), Memory>
     Ok(())
 }
 
-// What stands between the trips of two slots, of which the second follows on the first.
+// What is printed between the trips of two slots, where the second follows on the first.
 fn push_joint(
     text: &mut String,
     timetable: &Timetable,
@@ -68,7 +68,7 @@ fn push_joint(
     push_deadhead(text, matrix.minutes(from, to))
 }
 
-// The trips of a block, each but the first behind what stands before it.
+// The trips of a block, each but the first behind what is printed before it.
 fn push_trips(
     alloc: Global,
     text: &mut String,
@@ -139,9 +139,9 @@ fn push_block(
     Ok(())
 }
 
-/// The lines of blocks as they are printed: for each its name, which is the prefix and its number counted from 1, and its
-/// trips with the deadheads between them that take time, as do the ways out of the depot and home. Between trips between
-/// which there is no way it prints none.
+/// The lines of blocks as they are printed. Each has the name of its block, which is the prefix and its number counted from 1,
+/// and its trips. Pull-out, deadheads and pull-in are printed where they take time. Between trips between which there is no way
+/// it prints none.
 pub fn block_lines(
     alloc: Global,
     timetable: &Timetable,
@@ -192,8 +192,8 @@ fn push_price(
     Ok(())
 }
 
-/// The lines of prices as they are printed, one space before each: for each trip that runs, slot by slot, its name, the price
-/// of leaving it and that of entering it.
+/// The lines of prices as they are printed, one space before each. For each trip that runs, slot by slot, a line has its name,
+/// the price of leaving it and that of entering it.
 pub fn price_lines(
     alloc: Global,
     timetable: &Timetable,

@@ -25,13 +25,13 @@ StopTimesReadBack =
     → strip_bom (stop_times_written table timetable base) ≡ stop_times_written table timetable base
     → table_of (stop_times_written table timetable base) ≡ Ok (with_times table timetable base)
 
--- the block of that number, from 0, is the one in which a slot stands
+-- the block of that number, from 0, is the one that has a slot
 pub record IsBlockOf (blocks : List (List ℕ)) (s b : ℕ) : Type 0 where
   pub within : b < length blocks
   pub stands : is_in s (slice_index_or blocks b []) ≡ true
   pub alone : (k : ℕ) → k < length blocks → is_in s (slice_index_or blocks k []) ≡ true → k ≡ b
 
--- where a slot stands once in the blocks, there is one block in which it stands, and it is named as that one is printed
+-- where a slot is once in the blocks, one block has it, and it is named as that one is printed
 abbrev pub BlockIsNamed : Type 0
 BlockIsNamed =
     (blocks : List (List ℕ)) (s : ℕ) (prefix : List ℕ)

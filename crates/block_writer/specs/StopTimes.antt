@@ -32,7 +32,7 @@ moved_field offset field = moved_time offset field (seconds_of field)
 abbrev pub moved_row : ℤ → ℕ → ℕ → List (List ℕ) → List (List ℕ)
 moved_row offset arrival departure row = slice_set (slice_set row arrival (moved_field offset (field_at row arrival))) departure (moved_field offset (field_at row departure))
 
--- by how many minutes the rows of a slot are moved: of a trip that runs, in one of the first so many slots, by its offset
+-- by how many minutes the rows of a slot are moved: the offset of its trip, where that runs and has records
 abbrev pub offset_of : TimetableView → ℕ → Option ℕ → ℤ
 offset_of timetable base None = pos 0
 offset_of timetable base (Some s) = if nat_lt s base && (slot_at timetable s).trip.live then (slot_at timetable s).trip.offset else pos 0
@@ -59,13 +59,13 @@ stop_times_written table timetable base = table_text (with_times table timetable
 abbrev pub stop_time_columns : List Column
 stop_time_columns = column.TripId ∷ column.ArrivalTime ∷ column.DepartureTime ∷ column.StopId ∷ column.StopSequence ∷ []
 
--- where the columns of a stop time stand that may be moved, in a header of texts
+-- where the columns of a stop time are that may be moved, in a header of texts
 unfoldable pub columns_in : List (List ℕ) → Result Columns FeedFault
 columns_in header =
     texts_in paper.StopTimes stop_time_columns header 0 header
     >>= λ _. Ok (record { trip = place_of column.TripId header; arrival = place_of column.ArrivalTime header; departure = place_of column.DepartureTime header })
 
--- what is known before the records: the timetable, so many slots of which have records, and the header
+-- what is known before the records: the timetable, how many of its slots have records, and the header
 pub record Before : Type 0 where
   pub timetable : TimetableView
   pub base : ℕ

@@ -54,7 +54,7 @@ abbrev pub IsRefusedPaper : Paper → List Column → Result TableView FeedFault
 IsRefusedPaper paper columns (Ok table) refused = IsRefusedFor paper columns table refused
 IsRefusedPaper paper columns (Err due) refused = refused ≡ due
 
--- a paper is a table of texts, of which something is said
+-- a paper is a table of texts, and something holds of it
 abbrev pub IsTextPaper : (TableView → Type 0) → Result TableView FeedFault → Type 0
 IsTextPaper Says (Ok table) = AreTexts table × Says table
 IsTextPaper Says (Err due) = ⊥

@@ -13,11 +13,11 @@ use Rattle.block_writer.specs.Fields.{with_field, slot_in, table_text}
 abbrev pub is_in : ℕ → List ℕ → Bool
 is_in s block = list_any (λ x. x == s) block
 
--- the number, from 1, of the block in which a slot stands, the first if there are more
+-- the number, from 1, of the block that has a slot, the first if there are more
 abbrev pub number_in : List (List ℕ) → ℕ → Option ℕ
 number_in blocks s = position_from (is_in s) 1 blocks
 
--- the number that a slot has after a block of that number: the one that it had, or this one where it stands in the block
+-- the number of a slot after a block: the number of the block where the slot is in it, else the one that it had
 abbrev pub numbered : Option ℕ → Bool → ℕ → Option ℕ
 numbered None stands number = if stands then Some number else None
 numbered (Some before) stands number = Some before
@@ -31,7 +31,7 @@ abbrev pub name_of : List ℕ → Option ℕ → List ℕ
 name_of prefix None = []
 name_of prefix (Some number) = name_numbered prefix number
 
--- the block of a selected trip: the name of that in which its slot stands; empty where it does not run
+-- the block of a selected trip: the name of the one that has its slot; empty where it does not run
 abbrev pub block_of : TimetableView → List (Option ℕ) → List ℕ → Option ℕ → List ℕ
 block_of timetable numbers prefix None = []
 block_of timetable numbers prefix (Some s) = if (slot_at timetable s).trip.live then name_of prefix (slice_index_or numbers s None) else []

@@ -11,7 +11,7 @@ pub fn stop_times_law()
     ensures { spec.StopTimesReadBack }
 {}
 
-/// Where a slot stands once in the blocks, its record has the name of the block in which it stands.
+/// Where a slot is once in the blocks, its record has the name of its block.
 pub fn block_law()
     ensures { spec.BlockIsNamed }
 {}

@@ -4,18 +4,18 @@
 //! [`trips_text`] makes that of `trips_blocks.txt` of the table of `trips.txt`, which [`read_texts`] reads. All fields of both
 //! files must be UTF-8, and the first that is not is refused. [`text_of`] is for those who read such fields.
 //!
-//! The contract that the crates above use: a text has the records that were read, in their order, with nothing else than
-//! `block_id` of selected trips and the times of shifted ones replaced; it reads back as that table.
+//! The contract that the crates above use: a text has the records that were read, in their order. Nothing is replaced but the
+//! `block_id` of selected trips and the times of shifted ones. The text reads back as that table.
 //!
-//! ```text
-//! let trips = read_texts(alloc, Paper::Trips, &columns, &trips)?;
-//! let stop_times = stop_times_text(alloc, &stop_times, &timetable, base)?;
-//! let trips = trips_text(alloc, &trips, &timetable, &chosen, &blocks, "B")?;
-//! ```
+//! `written_feed` shows a use, in `src/write.rt`.
 //!
-//! The contracts cite `Texts` (tables of texts, and why a paper is refused), `Fields` (fields of a record),
-//! `Trips` and `StopTimes` (the tables that are written, and their texts), and the laws `Laws`; and of `gtfs_tables` `Table`,
-//! `Fold` and `Writing`.
+//! The contracts cite:
+//!
+//! - `Texts`: tables of texts, and why a paper is refused
+//! - `Fields`: fields of a record
+//! - `Trips`, `StopTimes`: the tables that are written, and their texts
+//! - `Laws`: the laws of these
+//! - of `gtfs_tables` `Table`, `Fold` and `Writing`
 #![tactic(auto)]
 
 mod fields;

@@ -148,7 +148,7 @@ fn push_by(
     push_moved(alloc, records, row, arrival, departure, offset)
 }
 
-/// Where the columns of a stop time stand that is written again.
+/// Where the columns of a stop time are that is written again.
 #[derive(Clone, Copy)]
 pub(crate) struct Columns {
     trip: usize,
@@ -254,10 +254,10 @@ impl<'a> RecordReader for StopTimes<'a> {
     }
 }
 
-/// The text of `stop_times_blocks.txt`, made in one pass over `stop_times.txt` that keeps no record: its records in their
-/// order, each with as many fields as the header. In the records of a trip that runs and is shifted, in one of the first
-/// `base` slots, the times of arrival and departure are moved by its offset, and not below midnight; a field without a time
-/// stays as it is. All other fields are as they were. All fields must be UTF-8, and the first that is not is refused.
+/// The text of `stop_times_blocks.txt`, made in one pass over `stop_times.txt` that keeps no record. It has the records in
+/// their order, each with as many fields as the header. Times of arrival and departure are moved where a trip in one of the
+/// first `base` slots runs and is shifted. They are moved by its offset, and not below midnight. A field without a time stays
+/// as it is. All other fields are as they were. All fields must be UTF-8, and the first that is not is refused.
 pub fn stop_times_text(
     alloc: Global,
     found: &Found,

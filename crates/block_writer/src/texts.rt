@@ -71,8 +71,8 @@ fn column_at(columns: &[Column], header: &Row, place: usize) -> Column
     Column::Other
 }
 
-/// The fields of a record of that number, the header being record 0, all of which must be UTF-8. The header tells in which of
-/// these columns the first stands that is not.
+/// The fields of the record of that number. All must be UTF-8. The header is record 0. The header tells in which of these
+/// columns the first stands that is not.
 pub(crate) fn texts_of<'a>(
     alloc: Global,
     paper: Paper,
@@ -97,7 +97,8 @@ pub(crate) fn texts_of<'a>(
     Ok(fields)
 }
 
-// The first field of a table that is not UTF-8: the number of its record, 0 for the header, and that of its column, from 0.
+// The first field of a table that is not UTF-8. It has the number of its record, 0 for the header, and that of its column, from
+// 0.
 fn first_not_utf8(table: &Table) -> Option<(u32, usize)>
     ensures some { IfSome result (λ bad. IsFirstBad table.now bad.0 bad.1) }
     ensures none { IfNone result (AreTexts table.now) }

@@ -120,10 +120,10 @@ fn push_trip(
     push_with(alloc, records, row, block, text_of(row.field(block)))
 }
 
-/// The text of `trips_blocks.txt`: the records of `trips.txt` in their order, each with as many fields as the header.
-/// `chosen` says of each whether it is selected. In the column `block_id`, the first of that name or a new one at the end,
-/// a selected record has the name of the block in which its trip's slot stands, or nothing where its trip does not run. Any
-/// other record has there what it had, and all other fields are as they were.
+/// The text of `trips_blocks.txt`: the records of `trips.txt` in their order, each with as many fields as the header. `chosen`
+/// says of each whether it is selected. The column `block_id` is the first of that name, or a new one at the end. There a
+/// selected record has the name of the block of its trip's slot, or nothing where its trip does not run. Any other record has
+/// there what it had, and all other fields are as they were.
 pub fn trips_text(
     alloc: Global,
     trips: &Table,

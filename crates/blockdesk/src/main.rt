@@ -1,5 +1,5 @@
-//! The program `blockdesk`: it hands the words after its name, the folder, standard output, the journal and a count of steps to
-//! `run` of `desk_program`, and ends with its status.
+//! The program `blockdesk`. It calls `run` of `desk_program` with the words after its name, the folder, standard output, the
+//! journal and a count of steps. It ends with the status of `run`.
 #![tactic(auto)]
 
 mod start;

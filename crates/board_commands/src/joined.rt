@@ -95,8 +95,8 @@ impl FeedCommand for WriteBoards {
     }
 }
 
-/// The command `joined`: the deficits with the deadheads of least blocks put in, whose maxima add up to the number of the blocks,
-/// and the running board of each vehicle in `boards.csv`. It answers the status.
+/// The command `joined`: the deficits with the deadheads of least blocks put in. Their maxima add up to the number of blocks.
+/// `boards.csv` has the running board of each vehicle. It answers the status.
 #[tactic(auto, unfolding(crate::specs::Joined::joined_asked))]
 pub fn run_joined<S: Shelf, O: Sink, K: Keeper, L: Ledger>(
     alloc: Global,

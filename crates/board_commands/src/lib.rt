@@ -1,17 +1,19 @@
 //! The command that shows the deficits with the deadheads of blocks put in, and writes the running boards: `joined`.
 //!
 //! [`run_joined`] is a whole run over any shelf, sink and keeper, of a `FeedCommand` of `desk_feed`. It takes the plan after
-//! the script, and puts the deficits of all that the vehicles do, trips and deadheads, beside those of the trips alone.
+//! the script. It puts the deficits of trips and deadheads together beside those of the trips alone.
 //!
 //! The contract that the crates above use: a run performs what `joined` asks (`joined_asked`). The maxima of the joined deficits add
 //! up to the number of the blocks, which are least over all blockings.
 //!
-//! ```text
-//! let status = run_joined(alloc, shelf, out, keeper, steps);
-//! ```
+//! `run` of `desk_program` calls it.
 //!
-//! The contracts cite `Joined` (what the command asks and does), of `joined_deficits` `Joined`, `Boards` and `Lines`, of `desk_run`
-//! `Performs`, of `feed_desk` `Drawn` and `Plans`, and of `desk_feed` `Feed`, `Judging` and `Schedule`.
+//! The contracts cite:
+//!
+//! - `Joined`: what the command asks and does
+//! - of `joined_deficits` `Joined`, `Boards` and `Lines`
+//! - of `feed_desk` `Drawn` and `Plans`
+//! - of `desk_run` `Performs`; of `desk_feed` `Feed`, `Judging` and `Schedule`
 #![tactic(auto)]
 
 mod joined;

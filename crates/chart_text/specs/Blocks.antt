@@ -18,7 +18,7 @@ is_running timetable column slot = let trip = (slot_at timetable slot).trip in h
 abbrev pub links : List ℕ → List (ℕ × ℕ)
 links block = zip block (drop 1 block)
 
--- in some minute of the column a vehicle runs empty along a link: its first trip has ended, and the minutes of the walk to the second have not passed
+-- in some minute of the column a vehicle runs empty along a link: its first trip has ended, the walk to the second has not
 abbrev pub is_walking : TimetableView → (ℕ → ℕ → Option ℕ) → ℕ → ℕ × ℕ → Bool
 is_walking timetable walk column link =
     let ends = (slot_at timetable link.0).trip.ends in has_minute column ends (ends + unwrap_or (walk_between timetable walk link.0 link.1) 0)

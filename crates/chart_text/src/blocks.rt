@@ -127,11 +127,11 @@ pub fn push_block(
     Ok(())
 }
 
-/// The chart of blocks. Each has a line: one character for each ten minutes from the first departure to the last end of
-/// the trips that run, a space and its name, which is the prefix and its number counted from 1. The character is `#`
-/// where one of its trips runs in one of these minutes, from its departure until it ends; else `~` where its vehicle
-/// runs empty, from the end of a trip for the minutes of the least walk to the start of the next; else `.`. Where no
-/// trip runs there are no characters. The form of the chart is this project's own.
+/// The chart of blocks. Each has a line: one character for each ten minutes, a space and its name. The minutes go from the
+/// first departure to the last end of the trips that run. The name is the prefix and its number counted from 1. The character
+/// is `#` where one of its trips runs in one of these minutes, from its departure until it ends. Else it is `~` where its
+/// vehicle runs empty: from the end of a trip for the minutes of the least walk to the next. Else it is `.`. Where no trip runs
+/// there are no characters. The form of the chart is this project's own.
 pub fn block_chart(
     alloc: Global,
     timetable: &Timetable,

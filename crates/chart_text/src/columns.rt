@@ -7,7 +7,7 @@ use desk_io::Memory;
 use std::alloc::Global;
 use trip_model::Timetable;
 
-/// How many minutes a column of a chart stands for.
+/// How many minutes a column of a chart has.
 pub const COLUMN_MINUTES: u16 = 10;
 
 /// The last column that a chart may have. It begins at 105:00, when all trips have ended.
@@ -33,7 +33,7 @@ fn first_and_last(timetable: &Timetable) -> (u16, u16)
     (first, last)
 }
 
-/// The numbers of the columns of the trips that run, in order. Column c stands for the minutes 10 c to 10 c + 9.
+/// The numbers of the columns of the trips that run, in order. Column c has the minutes 10 c to 10 c + 9.
 pub fn column_list(alloc: Global, timetable: &Timetable) -> Result<Vec<u16>, Memory>
     ensures columns { IfOk result (λ columns. columns.items ≡ columns_of (live_moves timetable.now.slots)) }
     ensures in_day { IfOk result (λ columns. All IsColumn columns.items) }

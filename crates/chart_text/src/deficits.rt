@@ -96,11 +96,11 @@ fn push_place(
     Ok(())
 }
 
-/// The chart of the deficits of all places. The first line is `chart from HH:MM` with the first minute of the first
-/// column. Then each place has a line: one character for each ten minutes from the first departure to the last end of
-/// the trips that run, a space and the place's name. The character is the greatest deficit in these minutes, in
-/// vehicles, as a digit, `+` above 9 and `-` below 0. Where no trip runs, the chart is the one line `no trips`. The
-/// deficits are those of the deficit function method, and the form of the chart is this project's own.
+/// The chart of the deficits of all places. The first line is `chart from HH:MM` with the first minute of the first column.
+/// Then each place has a line: one character for each ten minutes, a space and the place's name. The minutes go from the first
+/// departure to the last end of the trips that run. The character is the greatest deficit in these minutes, in vehicles, as a
+/// digit, `+` above 9 and `-` below 0. Where no trip runs, the chart is the one line `no trips`. The deficits are those of the
+/// deficit function method, and the form of the chart is this project's own.
 pub fn deficit_chart(
     alloc: Global,
     timetable: &Timetable,

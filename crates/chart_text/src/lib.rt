@@ -1,17 +1,13 @@
 //! The charts of a timetable: one line for each place or block, and one character for each ten minutes.
 //!
-//! A column stands for ten minutes. The columns go from that of the first departure to that of the last end of the
-//! trips that run. [`deficit_chart`] draws in each column the greatest deficit of each place, and [`block_chart`]
-//! whether the vehicle of each block makes a trip, runs empty or stands.
+//! A column is ten minutes. The columns go from that of the first departure to that of the last end of the trips that run.
+//! [`deficit_chart`] draws in each column the greatest deficit of each place. [`block_chart`] draws whether the vehicle of each
+//! block makes a trip, runs empty or waits.
 //!
-//! The contract that the crate above uses: what is drawn is, byte for byte, the chart of the timetable and of the
-//! values of the deficits, or of the blocks. Where deficits hold a list of moves, it is the chart of the deficits of
-//! that list.
+//! The contract that the crate above uses: byte for byte the chart of the timetable and the deficits, or of the blocks, is
+//! drawn. Where deficits hold a list of moves, it is the chart of the deficits of that list.
 //!
-//! ```text
-//! let deficits = deficit_chart(alloc, &timetable, &deficits)?;
-//! let blocks = block_chart(alloc, &timetable, &matrix, &blocks, "B")?;
-//! ```
+//! `plan_commands` shows a use, in `src/chart.rt`.
 //!
 //! The contracts cite `Columns` (which columns there are, and their minutes), `Deficits` (the characters and lines of
 //! places) and `Blocks` (those of blocks).

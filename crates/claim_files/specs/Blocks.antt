@@ -16,7 +16,7 @@ use Rattle.claim_files.specs.declared.blocks.Columns.{Columns}
 use Rattle.claim_files.specs.declared.blocks.TheConstants.{MOST_SHOWN}
 use Rattle.claim_files.specs.Running.{running}
 
--- where the required columns stand
+-- where the required columns are
 unfoldable pub columns_in : List (List ℕ) → Result Columns FeedFault
 columns_in header = do
   block ← column_in paper.Blocks column.BlockId header
@@ -36,8 +36,8 @@ trip_in columns number fields = do
   deadhead ← number_in paper.Blocks number column.Deadhead 6 MOST_SHOWN minutes
   Ok (block, trip, deadhead)
 
--- the number of the block of a record after so many blocks, by where its name stands among theirs: the last block goes on, and
--- any other name must be new
+-- the number of the block of a record after so many blocks, by where its name is among theirs. The last block goes on, and any
+-- other name must be new
 abbrev pub numbered : ℕ → ℕ → Option ℕ → Result ℕ FeedFault
 numbered number blocks None = Ok blocks
 numbered number blocks (Some block) = provided (block + 1 == blocks) (fault.DuplicateRow paper.Blocks number) (Ok block)
@@ -55,7 +55,7 @@ pub record BlocksRead : Type 0 where
 abbrev pub block_row_of : TimetableView → ℕ → Name → ℕ → BlockRow
 block_row_of timetable block trip deadhead = record { block = block; trip = trip; slot = running timetable trip; deadhead = deadhead }
 
--- the rows with that of one record, of which there are at most 4,096
+-- the rows with that of one record, at most 4,096 in all
 unfoldable pub with_trip : TimetableView → Columns → ℕ → BlocksRead → List (List ℕ) → Result BlocksRead FeedFault
 with_trip timetable columns number before fields = do
   _ ← provided (nat_lt (length before.rows) MOST_SLOTS) (fault.TooManyTrips number) nothing

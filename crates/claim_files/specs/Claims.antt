@@ -41,7 +41,7 @@ claimed_by (Ok blocks) (Ok prices) = Ok (record { blocks = blocks; prices = pric
 abbrev pub claimed_of : TimetableView → Found → Found → Result ClaimedView ClaimFault
 claimed_of timetable blocks prices = claimed_by (rows_of timetable blocks) (prices_of timetable prices)
 
--- a fault is the one that was due, or want of memory, which is never due
+-- a fault is the one that was due, or lack of memory, which is never due
 abbrev pub FailsFor : ClaimFault → Result ClaimedView ClaimFault → Type 0
 FailsFor claim.Memory due = ⊤
 FailsFor fault due = due ≡ Err fault

@@ -12,7 +12,7 @@ use Rattle.trip_model.specs.Timetable.{TimetableView, slot_at}
 use Rattle.claim_files.specs.declared.fault.ClaimFault.{ClaimFault}
 use Rattle.claim_files.specs.declared.fault.ClaimFault.TheVariants as claim
 
--- what is printed of a claim that cannot be read; of want of memory nothing is
+-- what is printed of a claim that cannot be read; of lack of memory nothing is
 abbrev pub claim_text_of : ClaimFault → List ℕ
 claim_text_of (claim.Missing paper) = file_name_of paper ++ codes ": missing"
 claim_text_of (claim.TooLong paper) = file_name_of paper ++ codes ": too long"

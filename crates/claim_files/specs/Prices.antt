@@ -14,7 +14,7 @@ use Rattle.trip_model.specs.Timetable.{TimetableView}
 use Rattle.claim_files.specs.declared.prices.Columns.{Columns}
 use Rattle.claim_files.specs.Running.{running}
 
--- where the required columns stand
+-- where the required columns are
 unfoldable pub columns_in : List (List ℕ) → Result Columns FeedFault
 columns_in header = do
   trip ← column_in paper.Prices column.TripId header
@@ -39,7 +39,7 @@ prices_in columns number fields = do
 abbrev pub price_row_of : TimetableView → List ℕ → ℕ → ℕ → PriceRow
 price_row_of timetable trip leave enter = record { trip = trip; slot = running timetable trip; leave = leave; enter = enter }
 
--- the rows with that of one record, of which there are at most 4,096
+-- the rows with that of one record, at most 4,096 in all
 unfoldable pub with_prices : TimetableView → Columns → ℕ → List PriceRow → List (List ℕ) → Result (List PriceRow) FeedFault
 with_prices timetable columns number before fields = do
   _ ← provided (nat_lt (length before) MOST_SLOTS) (fault.TooManyTrips number) nothing

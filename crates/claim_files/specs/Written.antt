@@ -62,8 +62,8 @@ pub record IsName (name : List ℕ) : Type 0 where
   pub text : IsUtf8 name
   pub filled : 0 < length name
 
--- Blocks and prices that can be written: names and prefix are text, no block is empty, its trips run, they are at most 4,096
--- in all, the empty minutes have at most six digits, and the prices at most twelve.
+-- Blocks and prices that can be written. Names and prefix are text. No block is empty, and its trips run; they are at most
+-- 4,096 in all. Empty minutes have at most six digits, and prices at most twelve.
 pub record CanBeWritten (timetable : TimetableView) (matrix : MatrixView) (prefix : List ℕ) (blocks : List (List ℕ)) (leave enter : List ℕ) : Type 0 where
   pub begun : IsUtf8 prefix
   pub names : All (λ slot. IsName slot.name) timetable.slots
@@ -74,8 +74,8 @@ pub record CanBeWritten (timetable : TimetableView) (matrix : MatrixView) (prefi
   pub left : All (λ price. price ≤ MOST_PRICE) leave
   pub entered : All (λ price. price ≤ MOST_PRICE) enter
 
--- The blocks of a certified plan: those along its links, by the departures of their first trips; its timetable and its matrix
--- are valid, and names and prefix are text.
+-- The blocks of a certified plan are those along its links, by the departures of their first trips. Its timetable and its
+-- matrix are valid, and names and prefix are text.
 pub record AreOfPlan (timetable : TimetableView) (matrix : MatrixView) (prefix : List ℕ) (plan : Plan) (blocks : List (List ℕ)) : Type 0 where
   pub valid : IsTimetable timetable
   pub pulls : All IsPull matrix.pulls

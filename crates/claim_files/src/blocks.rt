@@ -18,7 +18,7 @@ use trip_model::{MOST_SLOTS, Timetable};
 /// The most empty minutes that a record may show, of 6 digits.
 pub const MOST_SHOWN: u32 = 999_999;
 
-/// Where the required columns of `blocks.csv` stand.
+/// Where the required columns of `blocks.csv` are.
 #[derive(Clone, Copy)]
 pub(crate) struct Columns {
     block: usize,

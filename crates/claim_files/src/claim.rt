@@ -12,8 +12,8 @@ use price_check::Claimed;
 use std::alloc::Global;
 use trip_model::Timetable;
 
-/// What `blocks.csv` and `prices.csv` claim of a timetable, record by record: blocks are numbered from 0, and a trip is known
-/// by its name where it runs. `blocks.csv` is judged before `prices.csv`.
+/// What `blocks.csv` and `prices.csv` claim of a timetable, record by record. Blocks are numbered from 0, and a trip that runs
+/// is found by its name. `blocks.csv` is judged before `prices.csv`.
 pub fn read_claimed(
     alloc: Global,
     timetable: &Timetable,

@@ -3,7 +3,7 @@ ghost use Rattle.claim_files.specs.Claims as spec;
 
 use gtfs_tables::{FeedFault, Paper};
 
-/// Why two files are no claim. Records are counted from 1 after the header; 0 stands for the header.
+/// Why two files are no claim. Records are counted from 1 after the header; 0 is the header.
 #[derive(Clone, Copy)]
 pub enum ClaimFault {
     /// The file is not there.

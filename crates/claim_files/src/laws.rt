@@ -28,7 +28,7 @@ pub fn told_law()
         → verdict_of timetable matrix claimed ≡ No reason → IsTold timetable claimed reason }
 {}
 
-/// Blocks and prices that are written read back: a row for each trip, with its name, its slot and the empty minutes before it
+/// Blocks and prices that are written read back. Each trip has a row with its name, its slot, and the empty minutes before it
 /// or its prices. Names and prefix may have any bytes of text, commas, quotes and line ends too.
 pub fn read_back_law()
     ensures { (timetable : TimetableView) (matrix : MatrixView) (prefix : List ℕ) (blocks : List (List ℕ)) (leave enter : List ℕ)
@@ -36,7 +36,7 @@ pub fn read_back_law()
         → written timetable matrix prefix blocks leave enter ≡ Ok (written_claim timetable matrix blocks leave enter) }
 {}
 
-/// Of a certified plan what is written is a certificate, and is accepted: it reads back, and the verdict on it is yes, with the
+/// Of a certified plan what is written is a certificate, and is accepted. It reads back, and the verdict on it is yes, with the
 /// vehicles and the empty minutes of its blocks.
 pub fn accepted_law()
     ensures certificate { (timetable : TimetableView) (matrix : MatrixView) (prefix : List ℕ) (plan : Plan) (blocks : List (List ℕ))

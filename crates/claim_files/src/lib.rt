@@ -3,20 +3,23 @@
 //! [`read_claimed`] reads what was found of the two files as a claim, which `price_check::check` judges. [`claim_line`] is
 //! the line of a claim that cannot be read ([`ClaimFault`]), and [`reason_line`] that of a reason against one that can.
 //!
-//! The contract that the crates above use: a claim has one row for each record, with its values and the slot of its trip; or
-//! the fault is the first that is due, of `blocks.csv` before `prices.csv`. What is written of blocks and prices reads back
+//! The contract that the crates above use: a claim has one row for each record, with its values and the slot of its trip. Or
+//! the fault is the first that is due, in `blocks.csv` before `prices.csv`. What is written of blocks and prices reads back
 //! ([`laws::read_back_law`]), and of a certified plan it is accepted ([`laws::accepted_law`]).
 //!
-//! ```text
-//! match read_claimed(alloc, &timetable, &blocks, &prices) {
-//!     Ok(claimed) => check(&timetable, &matrix, &claimed),
-//!     Err(fault) => claim_line(alloc, &fault)?,
-//! }
-//! ```
+//! `plan_commands` shows a use, in `src/check.rt`.
 //!
-//! The contracts cite `Claims` (what the two files claim, or why nothing), with `Blocks` and `Prices` (the records of each)
-//! and `Running` (the slots that names speak of), and `Lines` (the printed lines); the laws besides `Written` (the claim of
-//! written blocks and prices, and when they can be written), of `block_build` `Files`, and of `price_check` the verdict.
+//! The contracts cite:
+//!
+//! - `Claims`: what the two files claim, or why nothing
+//! - `Blocks`, `Prices`: the records of each
+//! - `Running`: the slot of a name
+//! - `Lines`: the printed lines
+//!
+//! The laws also cite:
+//!
+//! - `Written`: the claim of written blocks and prices, and when they can be written
+//! - of `block_build` `Files`, and of `price_check` the verdict
 #![tactic(auto)]
 
 mod blocks;

@@ -14,7 +14,7 @@ use price_check::{MOST_PRICE, PriceRow};
 use std::alloc::Global;
 use trip_model::{MOST_SLOTS, Timetable};
 
-/// Where the required columns of `prices.csv` stand.
+/// Where the required columns of `prices.csv` are.
 #[derive(Clone, Copy)]
 pub(crate) struct Columns {
     trip: usize,

@@ -1,4 +1,4 @@
--- The changes of a place as the leaves of a tree, each of which sums one change.
+-- The changes of a place as the leaves of a tree. Each leaf sums one change.
 use Rattle.std.specs.Prelude.{List, map, ℤ}
 use Rattle.terminal_maxima.specs.declared.max_prefix.MaxPrefix.{MaxPrefix}
 

@@ -120,8 +120,8 @@ impl Deficits {
         self.rows[usize::from(place)].max()
     }
 
-    /// The first minute, not before this one, at which the value of a place is its greatest value, or `None` where it
-    /// is below that from this minute on.
+    /// The first minute, not before this one, at which the value of a place is its greatest. `None` where the value is below
+    /// that from this minute on.
     pub fn first_max_from(&self, place: u16, minute: u16) -> Option<u16>
         requires place { place < length self.now }
         requires minute { minute ≤ LAST_MINUTE }
@@ -142,8 +142,8 @@ impl Deficits {
         total
     }
 
-    /// The minutes at which the value of a place differs from that of the minute before, which is 0 before minute 0,
-    /// each with its new value.
+    /// The minutes at which the value of a place differs from that of the minute before, each with its new value. Before minute
+    /// 0 the value is 0.
     pub fn step_list(&self, place: u16) -> Result<Vec<(u16, i32)>, Memory>
         requires { place < length self.now }
         ensures { IfOk result (λ list. list.items ≡ steps (value self.now place)) }

@@ -8,8 +8,8 @@ ghost use Rattle.deficit_steps.specs.Changes.{IsDeficits, change_at, value};
 ghost use Rattle.deficit_steps.specs.Holds.{Holds};
 ghost use Rattle.deficit_steps.specs.Lines.{deficit_text};
 
-/// Where a list of moves is held, the value of each place at each minute is the deficit of that list, and so is the sum
-/// of the maxima. No maximum is below 0, and no change is greater than the number of the moves. A place that a held move
+/// Where a list of moves is held, the value of each place at each minute is the deficit of that list. The sum of the maxima is
+/// that of the list too. No maximum is below 0, and no change is greater than the number of the moves. A place that a held move
 /// leaves in minute 0 has a change of at least 1 there.
 pub fn held_law()
     ensures deficit { (deficits : List (List ℤ)) (moves : List Move) (place minute : ℕ) → IsDeficits deficits

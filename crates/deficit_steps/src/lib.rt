@@ -1,26 +1,32 @@
-//! The deficits of all places, kept as one change for each place and minute: for each place a tree of `terminal_maxima`,
-//! whose leaves sum these changes.
+//! The deficits of all places, kept as one change for each place and minute. Each place has a tree of `terminal_maxima`, whose
+//! leaves sum these changes.
 //!
 //! [`Deficits`] holds moves: [`Deficits::add`] counts a departure where a move leaves and an arrival where it arrives, and
-//! [`Deficits::take`] counts them no more.
-//! The value of a place at a minute is the sum of its changes so far; `max` answers its greatest value and the first
-//! minute that has it, `first_max_from` the first such minute from some minute on, `total` the sum of the greatest values
-//! of all places, and `step_list` the minutes at which the value changes.
+//! [`Deficits::take`] counts them no more. The value of a place at a minute is the sum of its changes so far.
+//!
+//! - `max` answers its greatest value and the first minute that has it.
+//! - `first_max_from` answers the first such minute from some minute on.
+//! - `total` answers the sum of the greatest values of all places.
+//! - `step_list` answers the minutes at which the value changes.
+//!
 //! [`deficits_of`] holds the trips of a timetable that run, [`fixed_of`] is the sum of their greatest values, and
 //! [`deficit_lines`] prints them.
 //!
-//! The contract that the crate above uses: deficits are seen as the list of the changes of each place, 8,192 for each.
-//! Where they hold a list of moves, the value of each place at each minute is the deficit of that list
-//! ([`laws::held_law`]), a move that is added is held besides, and one that is taken away no more.
+//! The contract that the crate above uses: deficits are seen as the list of the changes of each place, 8,192 for each. Where
+//! they hold a list of moves, the value of each place at each minute is the deficit of that list ([`laws::held_law`]). A move
+//! that is added is held from then on, and one that is taken away no more.
 //!
-//! ```text
-//! let deficits = deficits_of(alloc, &timetable, &mut steps)?;
-//! let (vehicles, minute) = deficits.max(0);
-//! ```
+//! `feed_commands` shows a use, in `src/deficits.rt`.
 //!
-//! The contracts cite `Changes` (values, and what a move changes that is added or taken away), `Holds` (when a list of
-//! moves is held), `NextMaximum` (the first minute from some minute on that has the greatest value) and `Lines` (the
-//! printed text), and of `trip_model` `Deficit`, `Maximum`, `Fleet` and `Steps`. `Leaves` is the view of a place alone.
+//! The contracts cite:
+//!
+//! - `Changes`: values, and what a move changes that is added or taken away
+//! - `Holds`: when a list of moves is held
+//! - `NextMaximum`: the first minute, from some minute on, that has the greatest value
+//! - `Lines`: the printed text
+//! - of `trip_model` `Deficit`, `Maximum`, `Fleet` and `Steps`
+//!
+//! `Leaves` is the view of a place alone.
 #![tactic(auto)]
 
 mod deficits;

@@ -43,8 +43,8 @@ fn push_place(
     push_steps(alloc, text, &steps)
 }
 
-/// The deficits of all places as they are printed: for each place `NAME max D at HH:MM` and a line for each of its
-/// steps, and last the sum of the maxima.
+/// The deficits of all places as they are printed. Each place has `NAME max D at HH:MM` and a line for each of its steps. Last
+/// comes the sum of the maxima.
 pub fn deficit_lines(
     alloc: Global,
     timetable: &Timetable,

@@ -28,8 +28,8 @@ plan_files timetable matrix prefix plan =
     ∷ record { name = file_name_of paper.Prices; bytes = prices_text timetable plan.leave plan.enter }
     ∷ []
 
--- What is written and put of such plans: the files of the last one; of each record what is put of it by the plan after it; and
--- last the numbers after all records.
+-- What is written and put of such plans. The files are those of the last one. Of each record it is put what the plan after it
+-- says, and last come the numbers after all records.
 abbrev pub plans_outcome : TimetableView → List Line → MatrixView → List ℕ → (ℕ → Plan) → OutcomeView
 plans_outcome base lines matrix prefix plans = record {
   writes = plan_files (standing_after base lines) matrix prefix (plans (length lines));
@@ -46,7 +46,7 @@ pub record IsPlanned (base : TimetableView) (lines : List Line) (matrix : Matrix
   pub begun : IsUtf8 prefix
   pub done : outcome ≡ plans_outcome base lines matrix prefix plans
 
--- what is written of the last of these plans is a claim on which the verdict is yes, with the vehicles and the minutes of its blocks
+-- what is written of the last plan is a claim on which the verdict is yes, with the vehicles and the minutes of its blocks
 abbrev pub IsLastAccepted : TimetableView → MatrixView → List ℕ → Plan → Type 0
 IsLastAccepted timetable matrix prefix plan = IsAccepted timetable matrix prefix (blocks_in timetable plan) plan.leave plan.enter
 

@@ -103,9 +103,9 @@ impl FeedCommand for WriteBlocks {
     }
 }
 
-/// The command `blocks`: after each record of the script the fewest vehicles without deadheads, the fewest with them and their
-/// fewest empty minutes; and after all of them the blocks that reach these in `blocks.csv`, and the dual prices that prove it
-/// in `prices.csv`. It answers the status.
+/// The command `blocks`. After each record of the script it puts the fewest vehicles without deadheads, the fewest with them,
+/// and their fewest empty minutes. After all records `blocks.csv` has the blocks that reach these, and `prices.csv` the dual
+/// prices that prove it. It answers the status.
 #[tactic(auto, unfolding(crate::specs::Blocks::blocks_asked))]
 pub fn run_blocks<S: Shelf, O: Sink, K: Keeper, L: Ledger>(
     alloc: Global,

@@ -4,16 +4,17 @@
 //! `follow_script` of `feed_desk`, and puts what becomes of each record.
 //!
 //! The contract that the crates above use: a run performs what `blocks` asks (`blocks_asked`). Of an accepted feed there is one
-//! plan for each moment of the script, as `feed_desk` says. The text and the two files are the functions of these plans that the
-//! formats write out, and the two files are a claim on which the verdict is yes.
+//! plan for each moment of the script, as `feed_desk` says. The text and the two files are functions of these plans. The two
+//! files are a claim on which the verdict is yes.
 //!
-//! ```text
-//! let status = run_blocks(alloc, shelf, out, keeper, steps);
-//! ```
+//! `run` of `desk_program` calls it.
 //!
-//! The contracts cite `Blocks` (what the command asks and does) and `Answers` (what is put of each record), of `feed_desk`
-//! `Plans` and `Answers`, of `claim_files` `Written`, of `desk_run` `Performs`, and of `desk_feed` `Feed`, `Judging` and
-//! `Schedule`.
+//! The contracts cite:
+//!
+//! - `Blocks`: what the command asks and does
+//! - `Answers`: what is put of each record
+//! - of `feed_desk` `Plans` and `Answers`; of `claim_files` `Written`
+//! - of `desk_run` `Performs`; of `desk_feed` `Feed`, `Judging` and `Schedule`
 #![tactic(auto)]
 
 mod answers;

@@ -15,8 +15,8 @@ use Rattle.trip_model.specs.Deficit.{live_moves}
 use Rattle.trip_model.specs.Timetable.{TimetableView, number_of, slot_names}
 use Rattle.undo_log.specs.Log.{latest_items}
 
--- a desk: the script, the matrix, the plan, of each edit that can be undone the plan before it, and of each that can be
--- redone the plan after it; the last of each list is the newest
+-- a desk: the script, the matrix and the plan. Then the plan before each edit that can be undone, and the plan after each that
+-- can be redone, the newest last
 pub record DeskView : Type 0 where
   pub script : ScriptView
   pub matrix : MatrixView
@@ -32,8 +32,8 @@ desk_seen script matrix history = record { script = script; matrix = matrix; pla
 abbrev pub ArePlansFor : MatrixView → List TimetableView → List Plan → Type 0
 ArePlansFor matrix timetables plans = AllZip (λ (timetable : TimetableView) (plan : Plan). IsPlanFor timetable matrix plan) timetables plans
 
--- script, deficits and plans in lockstep: the matrix has the places of the timetable, the plan is one for both, and so is each
--- that can be undone or redone for its timetable; and the deficits hold the moves of the trips that run, and no others
+-- script, deficits and plans in lockstep. The matrix has the places of the timetable, and the plan is one for both. So is each
+-- plan that can be undone or redone, for its timetable. The deficits hold the moves of the trips that run, and no others
 pub record IsDesk (desk : DeskView) (deficits : List (List ℤ)) : Type 0 where
   pub places : length desk.script.timetable.places ≡ length desk.matrix.walks
   pub plan : IsPlanFor desk.script.timetable desk.matrix desk.plan
@@ -42,8 +42,8 @@ pub record IsDesk (desk : DeskView) (deficits : List (List ℤ)) : Type 0 where
   pub held : Holds deficits (live_moves desk.script.timetable.slots)
   pub rows : length deficits ≡ length desk.script.timetable.places
 
--- along which paths an edit of a trip changes the links of a plan for a timetable: those of a trip that is taken, added, or
--- taken and added, in the slot of its name, or in a new last one. A show changes none.
+-- along which paths an edit changes the links of a plan: those of a trip that is taken, added, or taken and added. Its slot is
+-- that of its name, or a new last one. A show changes none.
 abbrev pub AreRepaired : Edit → TimetableView → List (Option ℕ) → List (Option ℕ) → Type 0
 AreRepaired (Shift trip by) timetable old new = IfSome (number_of (slot_names timetable) trip) (λ s. IsReplaced old new s)
 AreRepaired (Cancel trip) timetable old new = IfSome (number_of (slot_names timetable) trip) (λ s. IsTaken old new s)
@@ -53,17 +53,17 @@ AreRepaired Undo timetable old new = ⊤
 AreRepaired Redo timetable old new = ⊤
 AreRepaired Show timetable old new = new ≡ old
 
--- the plan that stood is the last that can be undone, of 256 at most, and none can be redone
+-- the plan before is the last that can be undone, of 256 at most, and none can be redone
 pub record IsKept (old new : DeskView) : Type 0 where
   pub earlier : new.earlier ≡ latest_items (old.earlier ++ old.plan ∷ [])
   pub later : new.later ≡ []
 
--- the plan is the last that could be undone, prices included, and the one that stood is the last that can be redone
+-- the plan is the last that could be undone, prices included, and the one before is the last that can be redone
 pub record IsUndone (old new : DeskView) : Type 0 where
   pub earlier : old.earlier ≡ new.earlier ++ new.plan ∷ []
   pub later : new.later ≡ old.later ++ old.plan ∷ []
 
--- the plan is the last that could be redone, prices included, and the one that stood is the last that can be undone
+-- the plan is the last that could be redone, prices included, and the one before is the last that can be undone
 pub record IsRedone (old new : DeskView) : Type 0 where
   pub later : old.later ≡ new.later ++ new.plan ∷ []
   pub earlier : new.earlier ≡ old.earlier ++ old.plan ∷ []
@@ -88,7 +88,7 @@ pub record IsDone (number : ℕ) (edit : Edit) (old new : DeskView) : Type 0 whe
   pub links : AreRepaired edit old.script.timetable old.plan.next new.plan.next
   pub plans : ArePlansAfter edit old new
 
--- a fault is the refusal of an edit, or want of memory for one that takes memory
+-- a fault is the refusal of an edit, or lack of memory for one that takes memory
 abbrev pub IsRefused : EditFault → Edit → Result ScriptView EditFault → Type 0
 IsRefused fault.Memory edit due = TakesMemory edit
 IsRefused refused edit due = due ≡ Err refused

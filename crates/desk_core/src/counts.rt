@@ -62,7 +62,7 @@ fn home_of(pairs: &Pairs<'_>, matrix: &Matrix, slot: u16) -> u32
     u32::from(matrix.pull_in(made.to))
 }
 
-// The empty minutes between two trips of which the second can follow on the first.
+// The empty minutes between two trips, where the second can follow on the first.
 fn between(pairs: &Pairs<'_>, matrix: &Matrix, before: u16, after: u16) -> u32
     requires matrix { matrix.now ≡ pairs.now.matrix }
     requires before { before < length pairs.now.moves }
@@ -113,8 +113,8 @@ fn out_ahead(pairs: &Pairs<'_>, matrix: &Matrix, links: &Links, slot: u16) -> u3
     }
 }
 
-/// The empty minutes of the blocks that the links of a plan make: those out to each trip and after it, without those out to
-/// trips that follow on another.
+/// The empty minutes of the blocks that the links of a plan make. They are those out to each trip and after it, without those
+/// out to trips that follow on another.
 pub(crate) fn block_minutes(pairs: &Pairs<'_>, matrix: &Matrix, links: &Links) -> u32
     requires matrix { matrix.now ≡ pairs.now.matrix }
     requires slots { length links.now ≡ length pairs.now.moves }

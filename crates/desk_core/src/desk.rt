@@ -153,7 +153,7 @@ impl Desk {
         block_minutes(&pairs, &self.matrix, self.history.plan().links())
     }
 
-    /// The slots that the last kept edit changed in the plan, ascending, each with what stood before and after. `None`:
+    /// The slots that the last kept edit changed in the plan, ascending, each with what it had before and has after. `None`:
     /// nothing is kept.
     pub fn last_change(&self) -> Option<&[Changed]>
         ensures none { IsNone result ↔ (self.now.earlier ≡ []) }
@@ -242,8 +242,8 @@ impl Desk {
     }
 
     /// Does the edit of a record of that number, or refuses it and changes nothing. It takes its memory first. With n slots
-    /// afterwards, at most 4n^2 + 4n + 56 steps for an edit of a trip, 56 for an undo and a redo, and none for a show and for
-    /// an edit that is refused.
+    /// afterwards an edit of a trip takes at most 4n^2 + 4n + 56 steps, and an undo or a redo 56. A show and a refused edit
+    /// take none.
     pub fn apply<L: Ledger>(
         &mut self,
         number: u32,

@@ -11,7 +11,8 @@ use plan_history::PlanHistory;
 use std::sync::ledger::Ledger;
 use trip_model::Timetable;
 
-/// Repairs a plan after an edit of the trip in a slot: the trip is taken out of it, added to it, or both, one after the other.
+/// Repairs a plan after an edit of the trip in a slot. The trip is taken out of it, added to it, or first taken out and then
+/// added.
 pub(crate) fn repair<L: Ledger>(
     history: &mut PlanHistory,
     timetable: &Timetable,

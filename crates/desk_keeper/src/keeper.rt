@@ -36,11 +36,11 @@ pub trait Keeper {
     /// The journal, where it tells that, and how many calls have failed.
     ghost state: { Self → KeeperState };
 
-    /// The lines of the journal, of which there may be at most `limit`. The journal stays as it is.
+    /// The lines of the journal, at most `limit`. The journal stays as it is.
     fn load(&mut self, alloc: Global, limit: u32) -> Result<Lines, KeeperFault>
         // No more lines than were asked for, of every keeper.
         ensures bound { IfOk result (λ lines. length lines ≤ limit) }
-        // Where the journal is told, the answer is exactly the journal, or that it has too many lines.
+        // Where the keeper tells its journal, the answer is exactly that, or that it has too many lines.
         ensures found { Tells (state self.old).journal limit result }
         // A fault is counted, and every other answer leaves the keeper as it was.
         ensures state { Loads result (state self.old) (state self.new) };

@@ -6,8 +6,8 @@ use std::marker::Brand;
 use std::sync::ledger::Blank;
 use std::test::Fail;
 
-// Two trips, of which the second can follow the first with a deadhead of 31 minutes once it is shifted by one minute, which its
-// tolerance allows once.
+// Two trips. Shifted by one minute, the second can follow the first with a deadhead of 31 minutes. Its tolerance allows that
+// shift once.
 const FEED: [(&str, &str); 5] = [
     ("trips.txt", "route_id,service_id,trip_id\nR,W,U1\nR,W,U2\n"),
     (
@@ -64,8 +64,8 @@ const DEFICITS: Run = Run {
     ..KEEP
 };
 
-// The read, the write, the call of the keeper and the put of a run that fails, counted from 1, and none where it is 0; how many
-// bytes of a text one put takes at the most, and how many all of them.
+// Which read, write, call of the keeper and put of a run fails, counted from 1; 0 where none does. Then how many bytes of a
+// text one put takes at the most, and how many all of them.
 #[derive(Clone, Copy)]
 struct Faults {
     read: u32,
@@ -106,7 +106,7 @@ fn edits(lines: &[Text]) -> usize {
 // A status, how many bytes of two files, how many lines of a journal, and how many bytes of a text.
 type Stood = (u8, usize, usize, usize, usize);
 
-// What stands after a run: its status, its two files, the journal, and the text that was put.
+// What a run leaves: its status, its two files, the journal, and the text that was put.
 fn stands(alloc: Global, run: Run, faults: Faults) -> Result<Stood, Memory> {
     let words = vec![in alloc; Text::of(alloc, run.command)?, Text::of(alloc, "feed")?]?;
     let mut shelf = MemoryShelf::open(
@@ -149,9 +149,9 @@ fn each_file_that_cannot_be_read_ends_a_run(rt: HostRuntime) -> Result<(), Fail>
 
 #[test]
 fn what_stands_up_to_the_call_that_fails(rt: HostRuntime) -> Result<(), Fail> {
-    // The write, the call of the keeper and the put that fail; what one put takes and what all; and what stands. A file of which
-    // the write fails has its first half. A put is given all that is left: a sink that takes it at once sees one put, and no
-    // second that could fail.
+    // The write, the call of the keeper and the put that fail; what one put takes and what all; and what is left. A file whose
+    // write fails has its first half. A put is given all that is left: a sink that takes it at once sees one put, and no second
+    // that could fail.
     let rows: [(Run, (u32, u32, u32), (usize, usize), Stood); 20] = [
         (BLOCKS, (0, 0, 0), (16, 200), (1, 43, 41, 0, 124)),
         (BLOCKS, (1, 0, 0), (16, 200), (6, 21, 0, 0, 0)),

@@ -48,7 +48,7 @@ impl Shelf for NotedReads {
     }
 }
 
-// The status of a command, with a keeper of which each call fails.
+// The status of a command, with a keeper whose calls all fail.
 fn ran(alloc: Global, command: &str, shelf: &mut NotedReads) -> Result<u8, Memory> {
     let words = vec![in alloc; Text::of(alloc, command)?, Text::of(alloc, "feed")?]?;
     let mut out = MemorySink::open(alloc, 64, Vec::new(alloc), 64)?;

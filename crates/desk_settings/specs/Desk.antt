@@ -1,4 +1,4 @@
--- What `desk.toml` says. The members of its table stand in the byte order of their keys.
+-- What `desk.toml` says. The members of its table are in the byte order of their keys.
 use Rattle.std.specs.Prelude.{◌≡◌, ◌⊎◌, ℕ, ◌==◌, ◌&&◌, Bool, true, false, not, ⊤, ◌++◌, ℤ, pos, List, [], ◌∷◌, length, nat_le, Option, Some, None, is_some, option_map, option_and_then, Result, Ok, codes, if◌then◌else◌}
 use Rattle.std.specs.Cmp.Lexicographic.{slice_cmp}
 use Rattle.std.specs.Option.{ok_or}
@@ -36,7 +36,7 @@ short_text text = if nat_le (length text) MOST_PREFIX then Some text else None
 abbrev pub prefix_in : Data → Option (List ℕ)
 prefix_in value = option_and_then short_text (as_str value)
 
--- the strings of a list, each where it first stands, after the names before them
+-- the strings of a list, each where it first comes, after the names before them
 abbrev pub names_from : List Name → Items → Option (List Name)
 names_from before no_items = Some before
 names_from before (item value rest) = option_and_then (λ name. names_from (with_name before name) rest) (as_str value)

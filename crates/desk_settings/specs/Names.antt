@@ -12,11 +12,11 @@ is_among name names = list_any (bytes_eq name) names
 abbrev pub with_name : List Name → Name → List Name
 with_name names name = if is_among name names then names else names ++ name ∷ []
 
--- these names, each where it first stands
+-- these names, each where it first comes
 abbrev pub each_once : List Name → List Name
 each_once names = fold with_name [] names
 
--- those of the names that are among others, each where it first stands
+-- those of the names that are among others, each where it first comes
 abbrev pub if_among : List Name → List Name → Name → List Name
 if_among others kept name = if is_among name others then with_name kept name else kept
 

@@ -10,9 +10,9 @@ use Rattle.desk_settings.specs.Terminals.{terminals_of}
 use Rattle.desk_settings.specs.Tolerances.{tolerances_of}
 use Rattle.desk_settings.specs.declared.desk.Desk.{Desk}
 
--- the services that are selected, None where all are; the date of which the services that run are selected, where there is
--- one; the classes of routes; minutes of layover, and those of places; minutes of tolerance; what the names of blocks begin
--- with; the terminals of stops; the tolerances of trips, early before late
+-- the services that are selected, None where all are; the date whose services are selected, if there is one; the classes of
+-- routes. Then the minutes of layover, and those of places; the minutes of tolerance; the prefix of block names. Last the
+-- terminals of stops, and the tolerances of trips, early before late
 pub record SettingsView : Type 0 where
   pub services : Option (List (List ℕ))
   pub date : Option ℕ

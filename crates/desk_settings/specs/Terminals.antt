@@ -9,7 +9,7 @@ use Rattle.gtfs_tables.specs.Reading.{◌>>=◌, column_in, field_at, text_in, f
 use Rattle.gtfs_tables.specs.Entries.{Name, Entries, with_record}
 use Rattle.desk_settings.specs.declared.terminals.Columns.{Columns}
 
--- where the required columns stand
+-- where the required columns are
 unfoldable pub columns_in : List (List ℕ) → Result Columns FeedFault
 columns_in header = do
   stop ← column_in paper.Terminals column.StopId header

@@ -10,7 +10,7 @@ use Rattle.gtfs_tables.specs.Entries.{Name, Entries, with_record}
 use Rattle.trip_model.specs.declared.limits.TheConstants.{MOST_TOLERANCE}
 use Rattle.desk_settings.specs.declared.tolerances.Columns.{Columns}
 
--- where the required columns stand
+-- where the required columns are
 unfoldable pub columns_in : List (List ℕ) → Result Columns FeedFault
 columns_in header = do
   trip ← column_in paper.Tolerances column.TripId header

@@ -26,7 +26,7 @@ pub const MOST_CLASS: usize = 16;
 pub(crate) struct Desk {
     /// The services whose trips are selected; None where all are.
     pub(crate) services: Option<Names>,
-    /// The date of which the services that run are selected, where there is one.
+    /// The date whose services are selected, if there is one.
     pub(crate) date: Option<Date>,
     /// The classes of routes; vehicles are of none where there is no entry.
     pub(crate) classes: Entries<Class>,
@@ -63,7 +63,7 @@ fn prefix_in(value: &Value) -> Option<&str>
     }
 }
 
-// The strings of a list, each where it first stands; None where an item is no string.
+// The strings of a list, each where it first comes; None where an item is no string.
 fn names_from(alloc: Global, items: &[Value]) -> Result<Option<Names>, Memory>
     ensures { IfOk result (λ names. names ≡ spec.names_from [] (items_view items.now)) }
 {

@@ -1,5 +1,5 @@
-//! The settings of a desk: which services are selected, or on which date they run; classes of vehicles, layovers, tolerances,
-//! the prefix of block names, and the terminals of stops.
+//! The settings of a desk. They say which services are selected, or on which date they run. They also have classes of vehicles,
+//! layovers, tolerances, the prefix of block names, and the terminals of stops.
 //!
 //! [`Settings::read`] makes them of three files, each as it was found: `desk.toml`, `terminals.csv`, `tolerances.csv`. A
 //! file that is not there has no entries. Look-ups by name take time that hardly grows with the number of entries.
@@ -9,22 +9,20 @@
 //!
 //! [`Names`] are names without repeats, each with its number.
 //!
-//! The contract that the crates above use: the settings are a function of the three files, `settings_of`, or its first
-//! refusal; each call answers by the definition of its name, and layovers are at most 240 minutes, tolerances at most 60.
-//! The keys of `desk.toml` are judged in byte order, since those of a document ascend (`laws`).
+//! The contract that the crates above use: the settings are a function of the three files, `settings_of`, or its first refusal.
+//! Each call answers by the definition of its name. Layovers are at most 240 minutes, and tolerances at most 60. The keys of
+//! `desk.toml` are judged in byte order, since those of a document ascend (`laws`).
 //!
-//! ```text
-//! let settings = Settings::read(alloc, &settings, &terminals, &tolerances)?;
-//! if settings.chosen(service) {
-//!     let place = settings.terminal(stop);
-//!     let minutes = settings.layover(place);
-//!     let (early, late) = settings.tolerance(trip);
-//! }
-//! ```
+//! `desk_feed` shows a use, in `src/feed.rt`.
 //!
-//! The contracts cite `Settings` (what the settings are seen as, and what they answer), `Desk` (the table of `desk.toml`,
-//! key after key), `Terminals` and `Tolerances` (the two tables, record after record), `Names` (names without repeats),
-//! `Selected` (which records of `trips.txt` are selected), and `Entries` of `gtfs_tables`.
+//! The contracts cite:
+//!
+//! - `Settings`: what the settings are seen as, and what they answer
+//! - `Desk`: the table of `desk.toml`, key after key
+//! - `Terminals`, `Tolerances`: the two tables, record after record
+//! - `Names`: names without repeats
+//! - `Selected`: which records of `trips.txt` are selected
+//! - of `gtfs_tables` `Entries`
 #![tactic(auto)]
 
 mod class;

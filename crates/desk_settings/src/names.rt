@@ -7,7 +7,7 @@ use indexmap::IndexSet;
 use std::alloc::Global;
 use std::marker::Model;
 
-/// Names, each once, in the order in which they first stand; one is found without going over the others.
+/// Names, each once, in the order in which they first come; one is found without going over the others.
 pub struct Names {
     set: IndexSet<String>,
 }
@@ -77,7 +77,7 @@ impl Names {
         Ok(())
     }
 
-    /// These names, each where it first stands.
+    /// These names, each where it first comes.
     pub(crate) fn of(alloc: Global, texts: &[Text]) -> Result<Names, Memory>
         ensures { IfOk result (λ names. names ≡ each_once texts.now) }
     {

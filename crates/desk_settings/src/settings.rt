@@ -20,11 +20,17 @@ use gtfs_tables::{Entries, FeedFault};
 use std::alloc::Global;
 use std::marker::Model;
 
-/// The settings of a desk, seen as a record: the services that are selected, each once, or None where all are; the date of
-/// which the services that run are to be selected, where there is one; the classes of routes; the minutes of layover, with a
-/// list of places that have their own; the minutes of tolerance early and late; what the names of blocks begin with; and the
-/// lists of stops with their terminals and of trips with their tolerances. Entries for places, stops and trips that no feed
-/// names are kept.
+/// The settings of a desk, seen as a record:
+///
+/// - the services that are selected, each once, or None where all are
+/// - the date whose services are to be selected, if there is one
+/// - the classes of routes
+/// - the minutes of layover, with a list of places that have their own
+/// - the minutes of tolerance, early and late
+/// - the prefix of block names
+/// the list of stops with their terminals, and that of trips with their tolerances
+///
+/// Entries for places, stops and trips that no feed names are kept.
 pub struct Settings {
     desk: Desk,
     terminals: Entries<Text>,
@@ -89,8 +95,8 @@ impl Settings {
         })
     }
 
-    /// Whether the trips of a service are selected: those of all services are where `desk.toml` has no key
-    /// `services`, and none where its list is empty.
+    /// Whether the trips of a service are selected. Those of all services are where `desk.toml` has no key `services`. None are
+    /// where its list is empty.
     pub fn chosen(&self, service: &str) -> bool
         ensures { result ≡ spec.is_chosen self.now service.now }
     {
@@ -100,7 +106,7 @@ impl Settings {
         }
     }
 
-    /// The date of which the services that run are to be selected, as the number YYYYMMDD; None where `desk.toml` has none.
+    /// The date whose services are to be selected, as the number YYYYMMDD. None where `desk.toml` has no date.
     pub fn date(&self) -> Option<u32>
         ensures value { result ≡ self.now.date }
         ensures valid { IfSome result IsDateNumber }

@@ -10,7 +10,7 @@ use gtfs_tables::{
 };
 use std::alloc::Global;
 
-/// Where the required columns of `terminals.csv` stand.
+/// Where the required columns of `terminals.csv` are.
 #[derive(Clone, Copy)]
 pub(crate) struct Columns {
     stop: usize,

@@ -12,7 +12,7 @@ use gtfs_tables::{
 use std::alloc::Global;
 use trip_model::MOST_TOLERANCE;
 
-/// Where the required columns of `tolerances.csv` stand.
+/// Where the required columns of `tolerances.csv` are.
 #[derive(Clone, Copy)]
 pub(crate) struct Columns {
     trip: usize,

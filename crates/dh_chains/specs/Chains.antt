@@ -9,8 +9,7 @@ use Rattle.deficit_steps.specs.NextMaximum.{IsNextMaximum, NoNextMaximum}
 use Rattle.dh_chains.specs.declared.chain.Chain.{Chain}
 use Rattle.dh_chains.specs.declared.chain.Deadhead.{Deadhead}
 
--- what chains are looked for in: so many places, the deficit of each at each minute, and the minutes of a least walk from
--- each to each
+-- what chains are looked for in: the number of places, the deficit of each at each minute, and the least walks between them
 pub record Places : Type 0 where
   pub count : ℕ
   pub deficit : ℕ → ℕ → ℤ
@@ -24,8 +23,8 @@ places_with d matrix = record { count = length matrix.walks; deficit = d; walk =
 abbrev pub places_of : List (List ℤ) → MatrixView → Places
 places_of deficits matrix = places_with (value deficits) matrix
 
--- a vehicle runs empty from one of the places along a least walk, and leaves not before minute 0; the walk takes time, as
--- each does but that of a place to itself
+-- a vehicle runs empty from one of the places along a least walk, and leaves not before minute 0. The walk takes time, as each
+-- does but that of a place to itself
 pub record IsDeadhead (places : Places) (m : Deadhead) : Type 0 where
   pub from : m.from < places.count
   pub minutes : ℕ
@@ -47,8 +46,8 @@ left ms = map (λ (m : Deadhead). m.from) ms
 abbrev pub route : Deadhead → List Deadhead → List ℕ
 route first rest = first.to ∷ left (first ∷ rest)
 
--- one to three deadheads between distinct places, of which the first arrives at a place with a maximum of at least 1, at the
--- first minute of that maximum
+-- one to three deadheads between distinct places. The first arrives at a place with a maximum of at least 1, at the first
+-- minute of that maximum
 pub record IsUnitChain (places : Places) (first : Deadhead) (rest : List Deadhead) : Type 0 where
   pub few : length rest ≤ 2
   pub deadheads : All (IsDeadhead places) (first ∷ rest)

@@ -29,11 +29,11 @@ pub record IsOnward (places : Places) (most : ℕ) (m : Deadhead) : Type 0 where
 abbrev pub IsPassed : ℕ → ℕ → Deadhead → Type 0
 IsPassed from to m = (m.from < from) ⊎ ((m.from ≡ from) × (m.to < to))
 
--- of these, none with which a chain goes on to its end arrives before the minute that stands for the place where it arrives
+-- of these, none with which a chain goes on to its end arrives before the minute of the place where it arrives
 abbrev pub PassedArriveFrom : Places → ℕ → List ℕ → ℕ → ℕ → Type 0
 PassedArriveFrom places most minutes from to = (m : Deadhead) → IsPassed from to m → IsOnward places most m → slice_index minutes m.to ≤ m.arrives
 
--- none with which a chain goes on to its end arrives before the minute that stands for the place where it arrives
+-- none with which a chain goes on to its end arrives before the minute of the place where it arrives
 abbrev pub ArriveFrom : Places → ℕ → List ℕ → Type 0
 ArriveFrom places most minutes = (m : Deadhead) → IsOnward places most m → slice_index minutes m.to ≤ m.arrives
 

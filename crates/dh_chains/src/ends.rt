@@ -13,8 +13,8 @@ use trip_model::{MINUTES, MOST_PLACES};
 
 const PLACES: usize = MOST_PLACES as usize;
 
-/// For each place, as far as there are minutes, one from which on a deadhead has to leave it if its chain is to end: the
-/// first deadhead of a chain, and the second. Behind an earlier one no further one need be looked for.
+/// For each place, a minute from which on a deadhead has to leave it if its chain is to end. One list is for the first deadhead
+/// of a chain, and one for the second. Behind an earlier one no further one need be looked for.
 #[derive(Drop)]
 pub(crate) struct Earliest {
     pub(crate) first: [u16; PLACES],
@@ -72,8 +72,8 @@ fn arrives_from(matrix: &Matrix, from: u16, to: u16, leaves: u16) -> u16
     }
 }
 
-// Lowers the minutes of places, so that no deadhead from one place arrives before the minute of the place where it arrives,
-// where none leaves before a minute with which a chain goes on to its end.
+// Lowers the minutes of places for the deadheads from one place. None of these with which a chain ends leaves before a minute.
+// Afterwards none of them arrives before the minute of the place where it arrives.
 fn lower_from(minutes: &mut [u16], matrix: &Matrix, from: u16, leaves: u16)
     requires { from < length matrix.now.walks }
     ensures { (d : ℕ → ℕ → ℤ) (most : ℕ) → EndsFrom (places_with d matrix.now) most from leaves

@@ -9,9 +9,9 @@ ghost use Rattle.deficit_steps.specs.Holds.{Holds};
 ghost use Rattle.dh_chains.specs.declared.chain.Deadhead.{Deadhead};
 ghost use Rattle.dh_chains.specs.Chains.{IsFirstChain, IsUnitChain, NoChain, Places, moves_of, places_of, places_with, with_deadheads};
 
-/// With the deadheads of a chain as moves besides, the sum of the maxima is smaller by exactly one, whether the deficits are
-/// those of moves or any others. Where moves are held, the chains of what is kept are those of the moves, the first is the
-/// first of these, and where there is none, there is none of these.
+/// With the deadheads of a chain as further moves, the sum of the maxima is smaller by exactly one. That holds for the deficits
+/// of moves and for any others. Where deficits hold moves, their chains are those of the moves, and the first is the first of
+/// these. Where they have none, the moves have none.
 pub fn chain_law()
     ensures falls { (places : Places) (first : Deadhead) (rest : List Deadhead) → IsUnitChain places first rest
         → (sum_of_maxima (with_deadheads places.deficit (first ∷ rest)) places.count +ℤ pos 1)

@@ -1,26 +1,28 @@
 //! Chains of deadheads with which fewer vehicles suffice.
 //!
 //! A deadhead is a vehicle that runs empty from one place to another, along a least walk. [`next_chain`] answers the first
-//! chain of one to three of them after which the sum of the maxima of the deficits is smaller by one: the first deadhead
-//! arrives where a vehicle is wanting, at the first minute of the maximum; each further one arrives where the one before it
-//! left, when that place is next at its maximum; and the chain ends where it is not any more. [`add_chain`] adds its deadheads
-//! to the deficits as moves, and [`chain_line`] prints it.
+//! chain of one to three of them. With a chain the sum of the maxima of the deficits is smaller by one:
 //!
-//! The contract that the crate above uses: the chain is the first, by the place where its first deadhead arrives, then by
-//! those that the deadheads leave one after the other; where none is answered, there is none; and with its deadheads added,
-//! the sum of the maxima is smaller by exactly one ([`laws::chain_law`]).
+//! - The first deadhead arrives at a place where a vehicle is missing, at the first minute of its maximum.
+//! - Each further one arrives where the one before it left, when that place is next at its maximum.
+//! The chain ends where that place is not at its maximum any more.
 //!
-//! ```text
-//! while let Some(chain) = next_chain(&deficits, &matrix) {
-//!     add_chain(&mut deficits, &chain, &mut steps);
-//!     count += 1;
-//!     let line = chain_line(alloc, &timetable, count, &chain, deficits.total())?;
-//! }
-//! ```
+//! [`add_chain`] adds the deadheads of a chain to the deficits as moves, and [`chain_line`] prints it.
 //!
-//! The contracts cite `Chains` (which chains there are, and which is the first) and `Lines` (the printed line), of
-//! `deficit_steps` `Changes`, `Holds` and `NextMaximum`, of `deadhead_matrix` `Matrix`, and of `trip_model` `Deficit` and
-//! `Maximum`. `Search` and `Ends` have the terms of the search for proofs alone.
+//! The contract that the crate above uses: the chain is the first. Chains are ordered by the place where the first deadhead
+//! arrives, then by those that the deadheads leave, one after the other. Where none is answered, there is none. With the
+//! deadheads added, the sum of the maxima is smaller by exactly one ([`laws::chain_law`]).
+//!
+//! `lowering_commands` shows a use, in `src/chains.rt`.
+//!
+//! The contracts cite:
+//!
+//! - `Chains`: which chains there are, and which is the first
+//! - `Lines`: the printed line
+//! - of `deficit_steps` `Changes`, `Holds` and `NextMaximum`
+//! - of `deadhead_matrix` `Matrix`; of `trip_model` `Deficit` and `Maximum`
+//!
+//! `Search` and `Ends` have the terms of the search for proofs alone.
 #![tactic(auto)]
 
 mod add;

@@ -178,9 +178,9 @@ fn chain_to(deficits: &Deficits, matrix: &Matrix, earliest: &Earliest, target: u
     None
 }
 
-/// The first chain of deadheads with which the sum of the maxima of the deficits is smaller by one: the first by the place
-/// where its first deadhead arrives, then by the place that this one leaves, then by those that the second and the third
-/// leave. None where there is none.
+/// The first chain of deadheads with which the sum of the maxima of the deficits is smaller by one. Chains are ordered by the
+/// place where the first deadhead arrives. Then come the places that the first, the second and the third leave. None where
+/// there is none.
 ///
 /// A look-up, which takes no memory.
 pub fn next_chain(deficits: &Deficits, matrix: &Matrix) -> Option<Chain>

@@ -35,8 +35,8 @@ impl TextCommand for ShowDeficits {
     }
 }
 
-/// The command `deficits`: the deficit function of each place, its maximum and its first minute, and the sum of the
-/// maxima, which is the fewest vehicles without deadheads. It answers the status.
+/// The command `deficits`: the deficit function of each place, with its maximum and the first minute of that. The sum of the
+/// maxima is the fewest vehicles without deadheads. It answers the status.
 #[tactic(auto, unfolding(crate::specs::Deficits::deficits_asked))]
 pub fn run_deficits<S: Shelf, O: Sink, K: Keeper, L: Ledger>(
     alloc: Global,

@@ -5,9 +5,7 @@
 //!
 //! The contract that the crates above use: a run performs what its command asks (`deficits_asked`, `fixed_asked`).
 //!
-//! ```text
-//! let status = run_deficits(alloc, shelf, out, keeper, steps);
-//! ```
+//! `run` of `desk_program` calls them.
 //!
 //! The contracts cite `Deficits` and `Fixed` (what each command asks and shows), of `desk_run` `Performs`, and of `desk_feed`
 //! `Feed` and `Showing`.

@@ -17,8 +17,8 @@ use Rattle.feed_read.specs.declared.feed_trip.FeedTrip.{FeedTrip}
 use Rattle.feed_read.specs.Trips.{trips_in}
 use Rattle.feed_read.specs.FeedTrips.{feed_trips_in}
 
--- the place of a terminal for vehicles of a class, with the layover of the terminal: a post where vehicles are of classes, else
--- the terminal
+-- the place of a terminal for vehicles of a class: a post where vehicles are of classes, else the terminal. It has the layover
+-- of the terminal
 abbrev pub place_of : SettingsView → Name → Name → Place
 place_of settings terminal class =
     if is_classed settings then post_place terminal class (layover_at settings terminal) else terminal_place terminal (layover_at settings terminal)
@@ -87,7 +87,7 @@ timetable_of settings feed_trips =
     provided (nat_le (length places) MOST_PLACES) (fault.TooManyPlaces paper.StopTimes) (Ok (timetable_over settings places feed_trips))
 
 -- The base timetable: of `trips.txt` the selected trips, of `stop_times.txt` their stop times, and of these the timetable. What
--- stands first is judged first.
+-- comes first is judged first.
 unfoldable pub base_of : SettingsView → Found → Found → Result TimetableView FeedFault
 base_of settings trips_found stop_times_found = do
   selected ← trips_in settings trips_found

@@ -23,7 +23,7 @@ stop_times_of slot stop_times = filter (λ stop_time. stop_time.trip == slot) st
 abbrev pub sequences : List StopTimeView → List ℕ
 sequences stop_times = map (λ stop_time. stop_time.sequence) stop_times
 
--- whether a number stands twice
+-- whether a number comes twice
 abbrev pub has_repeat : List ℕ → Bool
 has_repeat [] = false
 has_repeat (number ∷ numbers) = list_any (λ other. other == number) numbers || has_repeat numbers
@@ -46,12 +46,12 @@ first_stop_time stop_times = fold sooner None stop_times
 abbrev pub last_stop_time : List StopTimeView → Option StopTimeView
 last_stop_time stop_times = fold later None stop_times
 
--- one of the stop times, of which none has a lesser number
+-- one of the stop times; none has a lesser number
 pub record IsFirst (stop_times : List StopTimeView) (stop_time : StopTimeView) : Type 0 where
   pub one : Contains stop_times stop_time
   pub least : All (λ other. stop_time.sequence ≤ other.sequence) stop_times
 
--- one of the stop times, of which none has a greater number
+-- one of the stop times; none has a greater number
 pub record IsLast (stop_times : List StopTimeView) (stop_time : StopTimeView) : Type 0 where
   pub one : Contains stop_times stop_time
   pub greatest : All (λ other. other.sequence ≤ stop_time.sequence) stop_times
@@ -83,14 +83,15 @@ abbrev pub feed_trip_from : SettingsView → Name → Name → Option StopTimeVi
 feed_trip_from settings name class (Some first) (Some last) = feed_trip_between settings name class first last
 feed_trip_from settings name class _ _ = Err (fault.TooFewStops name)
 
--- the trip of that name and class with these stop times: at least two, no two of one number, with a time at both ends, and forward
+-- the trip of that name and class with these stop times. They are at least two, no two have one number, both ends have a time,
+-- and the trip is forward
 unfoldable pub feed_trip_of : SettingsView → Name → Name → List StopTimeView → Result FeedTrip FeedFault
 feed_trip_of settings name class stop_times =
     provided (nat_le 2 (length stop_times)) (fault.TooFewStops name)
     (provided (not (has_repeat (sequences stop_times))) (fault.DuplicateSequence name)
     (feed_trip_from settings name class (first_stop_time stop_times) (last_stop_time stop_times)))
 
--- the trips, and that of the next slot, whose class stands at that slot
+-- the trips, and that of the next slot, whose class is at that slot
 abbrev pub with_feed_trip : SettingsView → List Name → List StopTimeView → ℕ → List FeedTrip → Name → Result (List FeedTrip) FeedFault
 with_feed_trip settings classes stop_times slot before name =
     feed_trip_of settings name (slice_index_or classes slot []) (stop_times_of slot stop_times) >>= λ feed_trip. Ok (before ++ feed_trip ∷ [])
@@ -103,8 +104,7 @@ feed_trips_of settings selected stop_times = each_record (with_feed_trip setting
 abbrev pub feed_trips_in : SettingsView → Selected → Found → Result (List FeedTrip) FeedFault
 feed_trips_in settings selected found = stop_times_for selected.names found >>= feed_trips_of settings selected
 
--- a trip ends after it departs, both stand on the service day, it may be moved by at most an hour each way, and its class has
--- no `/`
+-- a trip ends after it departs, both on the service day. It may be moved by at most an hour each way, and its class has no `/`
 pub record IsFeedTrip (feed_trip : FeedTrip) : Type 0 where
   pub forward : feed_trip.departs < feed_trip.ends
   pub departs : feed_trip.departs ≤ LAST_DEPARTURE

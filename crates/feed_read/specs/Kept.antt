@@ -13,8 +13,8 @@ use Rattle.feed_read.specs.declared.trip_ends.TripEnds.{TripEnds}
 use Rattle.feed_read.specs.FeedTrips.{sooner, later, first_stop_time, last_stop_time, has_repeat, sequences, stop_times_of}
 use Rattle.feed_read.specs.StopTimes.{StopTimeView, stop_time_in}
 
--- what is kept of the stop times of one trip: the numbers along it, each once, whether one stood twice, and the first and the
--- last stop time by these numbers
+-- what is kept of the stop times of one trip: the numbers along it, each once, and whether one came twice. Also the first and
+-- the last stop time by these numbers
 pub record Kept : Type 0 where
   pub sequences : List ℕ
   pub repeated : Bool
@@ -34,7 +34,8 @@ with_kept kept stop_time = record {
   last = later kept.last stop_time;
 }
 
--- what is kept of each trip, with the stop time of a record of the trip of that slot; of a record of no selected trip nothing
+-- what is kept of each trip, with the stop time of a record for the trip in that slot. Of a record of no selected trip nothing
+-- is kept
 abbrev pub with_kept_of : Columns → ℕ → List Kept → List (List ℕ) → Option ℕ → Result (List Kept) FeedFault
 with_kept_of columns number before fields None = Ok before
 with_kept_of columns number before fields (Some trip) =
@@ -64,8 +65,8 @@ pub record AreTripEnds (stop_times : List StopTimeView) (kept : Kept) : Type 0 w
 abbrev pub AreKept : List StopTimeView → List Kept → Type 0
 AreKept stop_times kept = (slot : ℕ) (own : Kept) → slice_get kept slot ≡ Some own → AreTripEnds (stop_times_of slot stop_times) own
 
--- A call keeps, in what a view sees, what there is to keep of the stop times that their definition reads; or it gives the
--- refusal of that definition, or it found no memory.
+-- A call keeps what there is to keep of the stop times that their definition reads. Or it gives the refusal of that definition,
+-- or it found no memory.
 abbrev pub Keeps : {X : Type 0} → (X → List TripEnds) → Result X FeedFault → Result (List StopTimeView) FeedFault → Type 0
 Keeps view (Ok x) (Ok stop_times) = AreKept stop_times (map trip_ends_seen (view x))
 Keeps view (Ok x) (Err refused) = ⊥

@@ -23,7 +23,7 @@ pub record StopTimeView : Type 0 where
 abbrev pub seen : StopTime → StopTimeView
 seen stop_time = record { trip = stop_time.trip; stop = stop_time.stop.now; arrival = stop_time.arrival; departure = stop_time.departure; sequence = stop_time.sequence }
 
--- where the required columns stand
+-- where the required columns are
 unfoldable pub columns_in : List (List ℕ) → Result Columns FeedFault
 columns_in header = do
   trip ← column_in paper.StopTimes column.TripId header

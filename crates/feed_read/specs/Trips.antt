@@ -28,7 +28,7 @@ seen selection = record { names = selection.names; classes = selection.classes.i
 abbrev pub nothing_selected : Selected
 nothing_selected = record { names = []; classes = [] }
 
--- where the required columns stand
+-- where the required columns are
 unfoldable pub columns_in : List (List ℕ) → Result Columns FeedFault
 columns_in header = do
   service ← column_in paper.Trips column.ServiceId header
@@ -49,8 +49,8 @@ chosen_in settings columns number fields = do
   name ← text_in paper.Trips number column.TripId (field_at fields columns.trip)
   Ok (if is_chosen settings service then Some name else None)
 
--- the selected trips, and that of a selected record with its class: its name is not empty, of no selected record before, and
--- at most the 4,096th
+-- the selected trips, and that of a selected record with its class. Its name is not empty and no selected record before has it,
+-- and it is at most the 4,096th
 unfoldable pub with_selected : ℕ → Selected → Name → Name → Result Selected FeedFault
 with_selected number before name class = do
   _ ← filled_in paper.Trips number column.TripId name

@@ -35,14 +35,14 @@ fn feed_trips_in(
     feed_trips_of(alloc, settings, selection, &trip_ends)
 }
 
-/// The base timetable of a feed: the trips of the chosen services, in the order of `trips.txt`, all live and as published;
-/// or the first refusal in the order of judging. A trip departs in the minute of its first departure and ends in that of its
-/// last arrival, rounded up, plus the layover of its last terminal. Places are numbered as the trips meet them, slot by slot,
-/// from before to.
+/// The base timetable of a feed: the trips of the chosen services, in the order of `trips.txt`, all live and as published. Or
+/// the first refusal in the order of judging. A trip departs in the minute of its first departure. It ends in that of its last
+/// arrival, rounded up, plus the layover of its last terminal. Places are numbered as the trips meet them, slot by slot, from
+/// before to.
 ///
-/// Where the settings give routes classes, the feed is classed: a trip is of the class of its route, which is empty where the
-/// route has none, and runs between posts, each a terminal with that class and named TERMINAL/CLASS. Then `trips.txt` must
-/// have the column `route_id`. Elsewhere places are terminals.
+/// Where the settings give routes classes, the feed is classed. A trip is of the class of its route, which is empty where the
+/// route has none. It runs between posts, each a terminal with that class, named TERMINAL/CLASS. Then `trips.txt` must have the
+/// column `route_id`. Elsewhere places are terminals.
 ///
 /// Each file has at most [`gtfs_tables::MOST_BYTES`] bytes.
 #[tactic(auto, unfolding(crate::specs::Base::base_of))]

@@ -15,8 +15,8 @@ use desk_settings::Settings;
 use gtfs_tables::{FeedFault, minute_down, minute_up};
 use std::alloc::Global;
 
-/// A trip as the feed has it: its name, the class of its vehicles, the terminals between which it runs, its minutes of the
-/// service day with the layover at its end, and by how many minutes it may be moved.
+/// A trip as the feed has it: its name, the class of its vehicles, and its two terminals. Then its minutes of the service day,
+/// with the layover at its end, and by how many minutes it may be moved.
 #[derive(Drop)]
 pub(crate) struct FeedTrip {
     pub(crate) name: Text,

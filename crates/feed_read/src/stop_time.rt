@@ -5,8 +5,8 @@ ghost use Rattle.gtfs_tables.specs.declared.times.TheConstants.{LAST_SECOND};
 use desk_io::{Memory, Text};
 use std::alloc::Global;
 
-/// A record of a selected trip: the slot of the trip, the stop, its times in seconds of the service day, and its number
-/// along the trip.
+/// A record of a selected trip: the slot of the trip, the stop, its times in seconds of the service day, and its
+/// `stop_sequence`.
 #[derive(Clone, Copy)]
 pub(crate) struct StopTime<'a> {
     pub(crate) trip: usize,

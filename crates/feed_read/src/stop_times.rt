@@ -15,7 +15,7 @@ use gtfs_tables::{
 };
 use std::alloc::Global;
 
-/// Where the required columns of `stop_times.txt` stand.
+/// Where the required columns of `stop_times.txt` are.
 #[derive(Clone, Copy)]
 pub(crate) struct Columns {
     pub(crate) trip: usize,

@@ -8,8 +8,8 @@ use desk_io::{Memory, Text};
 use indexmap::IndexSet;
 use std::alloc::Global;
 
-/// What is kept of the stop times of one trip: their numbers along the trip, each once, whether one stood twice, and the first
-/// and the last stop time by these numbers.
+/// What is kept of the stop times of one trip: their numbers along the trip, each once, and whether one came twice. Also the
+/// first and the last stop time by these numbers.
 #[derive(Drop)]
 pub(crate) struct TripEnds {
     pub(crate) sequences: IndexSet<u64>,

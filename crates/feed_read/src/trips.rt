@@ -13,7 +13,7 @@ use gtfs_tables::{
 use std::alloc::Global;
 use trip_model::MOST_SLOTS;
 
-/// Where the required columns of `trips.txt` stand.
+/// Where the required columns of `trips.txt` are.
 #[derive(Clone, Copy)]
 pub(crate) struct Columns {
     service: usize,

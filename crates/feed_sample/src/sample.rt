@@ -13,7 +13,7 @@ use std::alloc::Global;
 /// The most trips that a sample has: as many as a timetable may have.
 pub const MOST_SAMPLE: u32 = 4096;
 
-// Lays a file of the feed, in place of one that stood there.
+// Lays a file of the feed, in place of one that was there.
 fn lay(alloc: Global, shelf: &mut MemoryShelf, paper: Paper, text: &str) -> Result<(), Memory>
     ensures files { OnOk result (files_of shelf.new ≡ insert (files_of shelf.old) (file_name_of paper) text.now) }
     ensures reads { reads_of shelf.new ≡ reads_of shelf.old }

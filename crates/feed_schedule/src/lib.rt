@@ -4,10 +4,7 @@
 //!
 //! The contract that the crates above use: the plan is certified, and its blocks are least over all blockings.
 //!
-//! ```text
-//! let schedule = schedule_of(alloc, timetable, &matrix, steps)?;
-//! let lines = block_lines(alloc, timetable, &matrix, &schedule.blocks, prefix)?;
-//! ```
+//! `planner_commands` shows a use, in `src/planners.rt`.
 //!
 //! The contracts cite `Schedule` of `desk_feed`.
 #![tactic(auto)]

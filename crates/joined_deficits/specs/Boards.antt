@@ -23,8 +23,7 @@ abbrev pub trip_of : TimetableView → Option ℕ → List ℕ
 trip_of timetable None = []
 trip_of timetable (Some s) = (slot_at timetable s).name
 
--- the record of a leg: the name of the block, what the vehicle does, the name of the trip, and where and when it leaves and
--- arrives
+-- the record of a leg: the names of block and trip, what the vehicle does, and where and when it leaves and arrives
 abbrev pub board_record : TimetableView → List ℕ → Leg → List (List ℕ)
 board_record timetable name leg =
     name ∷ kind_of leg.slot ∷ trip_of timetable leg.slot ∷ (place_at timetable leg.way.from).name ∷ minute_digits leg.way.leaves

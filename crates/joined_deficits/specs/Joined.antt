@@ -12,7 +12,7 @@ use Rattle.joined_deficits.specs.declared.legs.Leg.{Leg}
 abbrev pub trip_leg : TimetableView → ℕ → Leg
 trip_leg timetable s = record { slot = Some s; way = move_of (slot_at timetable s).trip }
 
--- A vehicle that runs empty for so many minutes from the end of one move to the start of another, from when the first one
+-- A vehicle that runs empty for so many minutes from the end of one move to the start of another. It leaves when the first
 -- ends. It makes no move where it needs no minute, nor where there is no way.
 abbrev pub empty_move : Move → Move → Option ℕ → Option Move
 empty_move a b None = None

@@ -8,8 +8,8 @@ use Rattle.trip_model.specs.Maximum.{first_maximum, sum_of_maxima}
 use Rattle.trip_model.specs.Steps.{steps}
 use Rattle.deficit_steps.specs.Lines.{step_line}
 
--- the lines of a place: its name with the maximum, the first minute that has it and the maximum without the deadheads, and
--- then its steps
+-- the lines of a place: its name with the maximum, the first minute of that, and the maximum without the deadheads; then its
+-- steps
 unfoldable pub joined_place : List ℕ → (ℕ → ℤ) → (ℕ → ℤ) → List ℕ
 joined_place name joined before =
     name ++ codes " max " ++ signed_decimal (first_maximum joined).0 ++ codes " at " ++ minute_digits (first_maximum joined).1

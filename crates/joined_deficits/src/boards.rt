@@ -116,9 +116,9 @@ fn push_board(
     Ok(())
 }
 
-/// The text of `boards.csv`: for each joined move, block by block, the name of its block, `trip` or `dh`, the name of the
-/// trip, which is empty for a deadhead, and the place and the minute at which the vehicle leaves and arrives. A block is
-/// named by the prefix and its number counted from 1.
+/// The text of `boards.csv`, a record for each joined move, block by block. It has the name of its block, `trip` or `dh`, and
+/// the name of the trip, which is empty for a deadhead. Then come the place and the minute at which the vehicle leaves and
+/// arrives. A block is named by the prefix and its number counted from 1.
 pub fn boards_text(
     alloc: Global,
     timetable: &Timetable,

@@ -27,9 +27,9 @@ fn push_ways(moves: &mut Vec<Move>, legs: &[Leg]) -> Result<(), Memory>
     Ok(())
 }
 
-/// The joined moves of blocks: block by block and trip by trip, before a trip that follows on another the deadhead between
-/// them, where that takes time, and then the move of the trip itself. A deadhead leaves when the trip before it ends, with
-/// its layover, and arrives the minutes of the least walk later.
+/// The joined moves of blocks, block by block and trip by trip. Before a trip that follows on another comes the deadhead
+/// between them, where that takes time. Then comes the move of the trip itself. A deadhead leaves when the trip before it ends,
+/// with its layover, and arrives the minutes of the least walk later.
 pub fn joined_moves(
     alloc: Global,
     timetable: &Timetable,

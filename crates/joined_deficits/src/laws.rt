@@ -21,10 +21,10 @@ ghost use Rattle.joined_deficits.specs.Lines.{joined_text};
 use deficit_steps::laws::held_law;
 use fixed_fleet::laws::plain_blocks_law;
 
-/// The theorem of joined moves. The matrix has the least walks of entries that take time, between the places of the
-/// timetable. Each block with its deadheads is a block without deadheads of the joined moves, so the sum of their maxima is at
-/// most the number of blocks; and of the fewest blocks it is their number, as blocks without deadheads of the joined moves
-/// are blocks of the trips once the deadheads are dropped.
+/// The theorem of joined moves. The matrix has the least walks of entries that take time, between the places of the timetable.
+/// Each block with its deadheads is a block without deadheads of the joined moves. So the sum of their maxima is at most the
+/// number of blocks. Of the fewest blocks it is their number. For blocks without deadheads of the joined moves are blocks of
+/// the trips, once the deadheads are dropped.
 pub fn joined_law()
     ensures most { (timetable : TimetableView) (matrix : MatrixView) (blocks : List (List ℕ)) → IsTimetable timetable
         → AreLeastWalks matrix → length matrix.walks ≡ length timetable.places → TakeTime matrix.entries

@@ -4,18 +4,18 @@
 //! [`joined_deficits`] holds such moves, [`joined_lines`] prints the deficits beside those without deadheads, and
 //! [`boards_text`] makes the text of `boards.csv`, the running board of each block.
 //!
-//! The contract that the crates above use: of least blocks, the sum of the maxima of the joined moves is the number of the
+//! The contract that the crates above use: where blocks are least, the maxima of their joined moves add up to the number of
 //! blocks ([`laws::joined_law`]). So with the deadheads of least blocks put in, every vehicle is seen in the deficits.
 //!
-//! ```text
-//! let moves = joined_moves(alloc, &timetable, &matrix, &blocks)?;
-//! let joined = joined_deficits(alloc, timetable.places(), &moves, &mut steps)?;
-//! let text = joined_lines(alloc, &timetable, &joined, &before, blocks.len())?;
-//! ```
+//! `board_commands` shows a use, in `src/joined.rt`.
 //!
-//! The contracts cite `Joined` (the joined moves), `Boards` (the written text) and `Lines` (the printed one); of `trip_model`
-//! `Blocking`, `Deficit`, `Maximum`, `Plain` and `Timetable`; of `deadhead_matrix` `Fitting` and `Matrix`; and of
-//! `deficit_steps` `Holds`.
+//! The contracts cite:
+//!
+//! - `Joined`: the joined moves
+//! - `Boards`: the written text
+//! - `Lines`: the printed text
+//! - of `trip_model` `Blocking`, `Deficit`, `Maximum`, `Plain` and `Timetable`
+//! - of `deadhead_matrix` `Fitting` and `Matrix`; of `deficit_steps` `Holds`
 #![tactic(auto)]
 
 mod boards;

@@ -48,9 +48,9 @@ fn push_place(
     push_steps(alloc, text, &steps)
 }
 
-/// The deficits of joined moves as they are printed beside those of the trips alone: for each place
-/// `NAME max D at HH:MM, was E`, where E is the maximum without the deadheads, and a line for each of its steps, and last
-/// `sum S, blocks N` with the sum of the maxima and the number of the blocks.
+/// The deficits of joined moves as they are printed beside those of the trips alone. Each place has `NAME max D at HH:MM, was
+/// E` and a line for each of its steps. E is the maximum without the deadheads. Last comes `sum S, blocks N` with the sum of
+/// the maxima and the number of blocks.
 pub fn joined_lines(
     alloc: Global,
     timetable: &Timetable,

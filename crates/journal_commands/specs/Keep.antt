@@ -29,8 +29,8 @@ module _ (base : TimetableView) (journal lines : List Line) where
   abbrev journal_records : List Numbered
   journal_records = all_records 0 journal
 
-  -- what is put of both: how many records the journal had, those of its records that are refused, and the answer to each
-  -- record of the script
+  -- what is put of both: how many records the journal had, which of them are refused, and the answer to each record of the
+  -- script
   abbrev pub answers : List ℕ
   answers = records_line (codes "journal ") (length journal)
       ++ (answers_to base [] source.Journal 0 journal (length journal)
@@ -44,8 +44,8 @@ module _ (base : TimetableView) (journal lines : List Line) where
   abbrev pub some_refused : Bool
   some_refused = some_to base [] source.Journal 0 journal (length journal) || some_to base journal_records source.Edits (length journal) lines (length lines)
 
--- what is done: the lines are appended, and the answers are put, and then how many records the journal has; or it would have
--- more than it may have, and that is put
+-- what is done: the lines are appended. The answers are put, and then how many records the journal has. Or it would have more
+-- than it may have, and that is put
 abbrev pub appending : List ℕ → Journal → Ending → Result (List Line) FeedFault → OutcomeView
 appending text kept end (Ok lines) = record { writes = []; lines = Some kept; text = text ++ records_line (codes "kept ") (length lines); ending = end }
 appending text kept end (Err refused) = refusing refused

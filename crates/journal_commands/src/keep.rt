@@ -133,8 +133,8 @@ impl FeedCommand for KeepEdits {
     }
 }
 
-/// The command `keep`: the records of the journal and then those of the script through the edit machine, and the accepted
-/// records of the script, but for shows, appended to the journal. It answers the status.
+/// The command `keep`. The edit machine takes the records of the journal and then those of the script. The accepted records of
+/// the script, but for shows, are appended to the journal. It answers the status.
 #[tactic(auto, unfolding(crate::specs::Keep::keep_asked))]
 pub fn run_keep<S: Shelf, O: Sink, K: Keeper, L: Ledger>(
     alloc: Global,

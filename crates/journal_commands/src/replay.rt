@@ -15,7 +15,7 @@ pub(crate) enum Source {
     Edits,
 }
 
-/// A script that is taken through records, which are numbered on from `before`: what is put of them, what is kept of them, and
+/// A script that is taken through records, numbered on from `before`. It has what is put of them, what is kept of them, and
 /// whether one was refused.
 #[derive(Drop)]
 pub(crate) struct Replay {

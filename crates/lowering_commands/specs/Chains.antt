@@ -32,7 +32,7 @@ abbrev pub AreChains : MatrixView → List Move → List Chain → Type 0
 AreChains matrix moves [] = NoChain (places_with (deficit moves) matrix)
 AreChains matrix moves (c ∷ cs) = IsPutIn matrix moves c × AreChains matrix (with_chain moves c) cs
 
--- their lines, of which so many were put before, each with the sum of the maxima with it; and then how many there are
+-- their lines, numbered on from those put before, each with the sum of the maxima with that chain. Then how many there are
 abbrev pub chains_text : TimetableView → List Move → ℕ → List Chain → List ℕ
 chains_text timetable moves before [] = total_line (codes "chains ") before (fleet_of (length timetable.places) moves)
 chains_text timetable moves before (c ∷ cs) =

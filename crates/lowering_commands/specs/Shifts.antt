@@ -16,7 +16,7 @@ use Rattle.lowering_commands.specs.Fleet.{total_line}
 abbrev pub after_shift : TimetableView → Shift → TimetableView
 after_shift timetable shift = with_shift timetable shift.slot shift.by
 
--- shifts, each of which is the first one after those before it; and after all of them there is none
+-- shifts. Each is the first one after those before it, and after all of them there is none
 abbrev pub AreShifts : TimetableView → List Shift → Type 0
 AreShifts timetable [] = (slot : ℕ) (by : ℤ) → ¬ IsLowering timetable slot by
 AreShifts timetable (s ∷ ss) = IsFirst timetable s.slot s.by × AreShifts (after_shift timetable s) ss
@@ -25,7 +25,7 @@ AreShifts timetable (s ∷ ss) = IsFirst timetable s.slot s.by × AreShifts (aft
 abbrev pub shift_line : TimetableView → Shift → List ℕ
 shift_line timetable shift = record_text (fields_of (edit.Shift (slot_at timetable shift.slot).name shift.by))
 
--- their lines, of which so many were put before, and then how many there are, with the sum of the maxima after them all
+-- their lines. Then how many there are, with those put before, and the sum of the maxima after them all
 abbrev pub shifts_text : TimetableView → ℕ → List Shift → List ℕ
 shifts_text timetable before [] = total_line (codes "shifts ") before (unsigned_abs (deficit_sum timetable))
 shifts_text timetable before (s ∷ ss) = shift_line timetable s ++ shifts_text (after_shift timetable s) (before + 1) ss

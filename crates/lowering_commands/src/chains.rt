@@ -116,8 +116,8 @@ impl TextCommand for ShowChains {
     }
 }
 
-/// The command `chains`: the first chain of deadheads with which one vehicle less suffices is put in as moves, and then the next,
-/// until there is none. It answers the status.
+/// The command `chains`. The first chain of deadheads with which one vehicle less suffices is put in as moves. Then the next
+/// one is, until there is none. It answers the status.
 #[tactic(auto, unfolding(crate::specs::Chains::chains_asked))]
 pub fn run_chains<S: Shelf, O: Sink, K: Keeper, L: Ledger>(
     alloc: Global,

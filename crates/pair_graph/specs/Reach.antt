@@ -17,8 +17,7 @@ abbrev pub saved_until : Option Reach → ℕ → Option ℕ
 saved_until None minute = None
 saved_until (Some reach) minute = if nat_le minute reach.minute then Some reach.saved else None
 
--- what the pairs of each slot with one share: its move, and a vehicle's weight with the minutes out of the depot to where it
--- begins
+-- what the pairs of each slot with one share: its move, and a vehicle's weight with the pull-out to where it begins
 pub record IsColumn (pairs : PairsView) (slot : ℕ) (after : Move) (saved : ℕ) : Type 0 where
   pub made : move_at pairs.moves slot ≡ Some after
   pub begins : after.from < length pairs.matrix.walks

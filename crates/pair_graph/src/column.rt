@@ -32,8 +32,8 @@ impl<'a> Model for Column<'a> {
 }
 
 impl<'a> Column<'a> {
-    /// What it saves to make the trip of the column's slot next after any one that ends at a place, and until when that must
-    /// end; None where it cannot be made. One step.
+    /// What it saves to make the trip of the column's slot next after any trip that ends at a place. And until when that trip
+    /// must end. None where it cannot be made. One step.
     pub fn reach<L: Ledger>(&self, place: u16, steps: &mut Steps<L>) -> Option<Reach>
         requires { place < length self.now.pairs.matrix.walks }
         ensures reach { (i : ℕ) (m : Move) → move_at self.now.pairs.moves i ≡ Some m → m.to ≡ place

@@ -1,25 +1,19 @@
 //! Which trip one vehicle can make next after which, and what making it saves.
 //!
-//! [`Pairs`] only borrows a timetable and a matrix of least walks. [`Pairs::weight`] answers for two slots whether the
-//! second trip can follow on the first, by a few look-ups and without memory. [`Pairs::without`] takes one slot as not
-//! live. [`Pairs::row`] and [`Pairs::column`] are for a caller that looks at many pairs of one slot: at one place a vehicle
-//! gains as much by each trip in time, so one look is enough for all that begin there, or that end there. [`Pairs::move_at`]
-//! is for one that lays out what it needs of the trips.
+//! [`Pairs`] only borrows a timetable and a matrix of least walks. [`Pairs::weight`] answers for two slots whether the second
+//! trip can follow on the first, by a few look-ups and without memory. [`Pairs::without`] takes one slot as not live.
+//! [`Pairs::row`] and [`Pairs::column`] are for a caller that looks at many pairs of one slot. At one place a vehicle gains as
+//! much by each trip that is in time. So one look is enough for all trips that begin there, or that end there.
+//! [`Pairs::move_at`] is for one that lays out what it needs of the trips.
 //!
-//! The contract that the crates above use: a weight exactly where the pair fits, and then it is the weight of the network
-//! of deadheads; that network is one of one day, in which departures rise, as [`Pairs::slots`] says, so the laws of
-//! `deadhead_matrix` hold of plans over these pairs.
+//! The contract that the crates above use: a pair has a weight exactly where it fits, that of the network of deadheads. That
+//! network is one of one day, in which departures rise, as [`Pairs::slots`] says. So the laws of `deadhead_matrix` hold of
+//! plans over these pairs.
 //!
-//! ```text
-//! let pairs = Pairs::of(&timetable, &matrix);
-//! let saved = pairs.weight(0, 1, &mut steps);
-//! if let Some(row) = pairs.row(0) {
-//!     let reach = row.reach(2, &mut steps);
-//! }
-//! ```
+//! `feed_schedule` shows a use, in `src/schedule.rt`.
 //!
-//! The contracts cite `Pairs` (what the pairs are seen as), `Reach` (what a vehicle saves by the trips at one place), of
-//! `deadhead_matrix` `Fitting` and `Prices`, and of `trip_model` `Plain` and `Network`.
+//! The contracts cite `Pairs` (what the pairs are seen as) and `Reach` (what a vehicle saves by the trips at one place). Of
+//! `deadhead_matrix` they cite `Fitting` and `Prices`, and of `trip_model` `Plain` and `Network`.
 #![tactic(auto)]
 
 mod column;

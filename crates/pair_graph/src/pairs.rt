@@ -120,8 +120,8 @@ impl<'a> Pairs<'a> {
         })
     }
 
-    /// What it saves to make the trip of `j` next after that of `i`, where one vehicle can: 67,108,864 for a vehicle and the
-    /// minutes home after `i` and out to `j`, less those of the least walk between them. One step.
+    /// What it saves to make the trip of `j` next after that of `i`, where one vehicle can. It is 67,108,864 for a vehicle,
+    /// plus the minutes home after `i` and out to `j`, less those of the least walk between them. One step.
     pub fn weight<L: Ledger>(&self, i: u16, j: u16, steps: &mut Steps<L>) -> Option<u64>
         requires i { i < length self.now.moves }
         requires j { j < length self.now.moves }

@@ -1,5 +1,5 @@
-/// What a vehicle saves by any trip at a place, if that is in time for it: by one that begins there from this minute on, or, of
-/// a column, by one that ends there until this minute.
+/// What a vehicle saves by any trip at a place that is in time. Of a row such a trip begins there from this minute on. Of a
+/// column it ends there until this minute.
 #[derive(Clone, Copy)]
 pub struct Reach {
     pub minute: u16,

@@ -50,8 +50,8 @@ impl<'a> Row<'a> {
         let out = pairs.matrix.pull_out(after.from);
         Some(self.saved + u64::from(out) - u64::from(minutes))
     }
-    /// What it saves to make any trip that begins at a place next after that of the row's slot, and from when on that must
-    /// leave; None where none can be made. One step.
+    /// What it saves to make any trip that begins at a place next after that of the row's slot. And from when on that trip must
+    /// leave. None where none can be made. One step.
     pub fn reach<L: Ledger>(&self, place: u16, steps: &mut Steps<L>) -> Option<Reach>
         requires { place < length self.now.pairs.matrix.walks }
         ensures reach { (j : ℕ) (m : Move) → move_at self.now.pairs.moves j ≡ Some m → m.from ≡ place

@@ -20,7 +20,7 @@ abbrev pub chart_text : TimetableView → MatrixView → List ℕ → List (List
 chart_text timetable matrix prefix blocks =
     deficit_chart_text timetable (deficit (live_moves timetable.slots)) ++ block_chart_text timetable (walk matrix) prefix blocks
 
--- the charts of the deficits and of the blocks of the plan after the script of a feed are put behind the lines of refused records
+-- the charts of deficits and blocks of the plan after the script are put behind the lines of refused records
 pub record IsChart (said : Said) (outcome : OutcomeView) : Type 0 where
   pub matrix : MatrixView
   pub matrix_is : IsMatrixFor said matrix

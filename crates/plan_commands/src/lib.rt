@@ -6,12 +6,13 @@
 //!
 //! The contract that the crates above use: a run performs what its command asks (`chart_asked`, `check_asked`).
 //!
-//! ```text
-//! let status = run_check(alloc, shelf, out, keeper, steps);
-//! ```
+//! `run` of `desk_program` calls them.
 //!
-//! The contracts cite `Chart` and `Check` (what each command asks and does), of `feed_desk` `Drawn` and `Plans`, of `desk_run`
-//! `Performs`, and of `desk_feed` `Feed`, `Judging`, `Edited` and `Schedule`.
+//! The contracts cite:
+//!
+//! - `Chart`, `Check`: what each command asks and does
+//! - of `feed_desk` `Drawn` and `Plans`
+//! - of `desk_run` `Performs`; of `desk_feed` `Feed`, `Judging`, `Edited` and `Schedule`
 #![tactic(auto)]
 
 mod chart;

@@ -3,8 +3,8 @@ use Rattle.std.specs.Prelude.{ℕ, List, Option}
 use Rattle.deadhead_matrix.specs.Paths.{IsTaken, IsAdded}
 use Rattle.deadhead_matrix.specs.Prices.{Plan}
 
--- The plan; of each kept edit the plan before it, and of each undone edit the plan after it, the last of which stands next to
--- the plan; and for how many changes of the next edit there is memory.
+-- The plan, the plan before each kept edit, and the plan after each undone one. The last of each list is next to the plan.
+-- `room` says for how many changes of the next edit there is memory.
 pub record HistoryView : Type 0 where
   pub plan : Plan
   pub earlier : List Plan

@@ -15,7 +15,7 @@ abbrev pub with_stand : Plan → ℕ → Option Stand → Plan
 with_stand plan slot None = plan
 with_stand plan slot (Some stand) = with_entry plan slot stand.next stand.leave stand.enter
 
--- what stood for a slot before, and after
+-- the stand of a slot before, and after
 abbrev pub stood_before : Changed → Option Stand
 stood_before changed = changed.before
 
@@ -61,8 +61,8 @@ LeadsBack plan item = IsItem (undone_by plan item) plan item
 abbrev pub LeadsForth : Plan → Item → Type 0
 LeadsForth plan item = IsItem plan (redone_by plan item) item
 
--- The plan to which steps along all items lead, the last item first; the plan of each item, from the farthest to the nearest;
--- and that each step may be taken.
+-- Steps along all items, the last item first. The plan to which they lead. The plan of each item, from the farthest to the
+-- nearest. Each step may be taken.
 abbrev pub led : (Plan → Item → Plan) → Plan → List Item → Plan
 led step plan [] = plan
 led step plan (item ∷ items) = step (led step plan items) item
@@ -81,7 +81,7 @@ pub record AreItemsOf (plan : Plan) (log : LogView Item) : Type 0 where
   pub back : AreAlong undone_by LeadsBack plan log.kept
   pub forth : AreAlong redone_by LeadsForth plan log.undone
 
--- one more item is kept, by what stood before its edit and the plan after it
+-- one more item is kept, by the stands before its edit and the plan after it
 pub record IsNoted (old new : LogView Item) (was : List Stand) (plan : Plan) : Type 0 where
   pub item : Item
   pub before : item.before ≡ length was

@@ -24,7 +24,7 @@ same_stand (Some before) after = option_eq nat_eq before.next after.next && befo
 abbrev pub change_of : ℕ → Option Stand → Stand → List Changed
 change_of slot before after = if same_stand before after then [] else record { slot = slot; before = before; after = after } ∷ []
 
--- the same, by what stood before and a plan
+-- the same, by the stands before and a plan
 abbrev pub changed_at : List Stand → Plan → ℕ → List Changed
 changed_at was plan s = change_of s (slice_get was s) (stand_at plan s)
 
@@ -32,7 +32,7 @@ changed_at was plan s = change_of s (slice_get was s) (stand_at plan s)
 abbrev pub changes_upto : List Stand → Plan → ℕ → List Changed
 changes_upto was plan slots = flat_map (changed_at was plan) (range_with_len 0 slots)
 
--- The slots of the newer plan that the older one lacks, or for which it has another next trip or another price: each with
--- what stood before and after, ascending.
+-- The slots of the newer plan that the older one lacks, or for which it has another next trip or price. Each has what the plans
+-- say of it, before and after. Slots ascend.
 abbrev pub differences : Plan → Plan → List Changed
 differences old new = changes_upto (stands old) new (length new.next)

@@ -78,7 +78,7 @@ impl PlanHistory {
         })
     }
 
-    /// The plan as it stands.
+    /// The plan as it is now.
     pub fn plan(&self) -> &Plan
         ensures { result.now ≡ self.now.plan }
     {
@@ -184,8 +184,8 @@ impl PlanHistory {
     }
 
     /// Repairs the plan after the trip of a slot became another one, and keeps that as one edit. The plan was certified for the
-    /// pairs with the trip that was there; `without` are the pairs without either, and `pairs` those with the one that is there
-    /// now, for which the plan is then certified. At most 4n^2 + 4n steps for n slots.
+    /// pairs with the trip that was there. `without` are the pairs without either trip. `pairs` are those with the trip that is
+    /// there now, and the plan is then certified for them. At most 4n^2 + 4n steps for n slots.
     pub fn replace<L: Ledger>(
         &mut self,
         without: &Pairs<'_>,
@@ -244,7 +244,8 @@ impl PlanHistory {
         }
     }
 
-    /// The slots that the last kept edit changed, ascending, each with what stood before and after. `None`: nothing is kept.
+    /// The slots that the last kept edit changed, ascending, each with what it had before and has after. `None`: nothing is
+    /// kept.
     pub fn last_change(&self) -> Option<&[Changed]>
         ensures none { IsNone result ↔ (self.now.earlier ≡ []) }
         ensures changes { IfSome result (λ changes. (plan : PlanView) → last_item self.now.earlier ≡ Some plan → changes.now ≡ differences plan self.now.plan) }

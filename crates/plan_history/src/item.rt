@@ -15,7 +15,7 @@ pub(crate) struct Item {
     pub changes: Vec<Changed>,
 }
 
-/// What stood for a slot; None where the slot is new.
+/// The stand that a slot had; None where the slot is new.
 fn stood(was: &[Stand], slot: u16) -> Option<Stand>
     ensures { result ≡ slice_get was.now slot }
 {
@@ -38,8 +38,8 @@ fn note(changes: &mut Vec<Changed>, slot: u16, before: Option<Stand>, after: Sta
     }
 }
 
-/// The item of an edit, by what stood before it and the plan after it. The list has the memory for as many changes as the
-/// plan has slots.
+/// The item of an edit, by the stands before it and the plan after it. The list has the memory for as many changes as the plan
+/// has slots.
 #[tactic(auto, using(crate::proofs::WriteLemmas::changes_more))]
 pub(crate) fn item_of(was: &[Stand], plan: &Plan, mut changes: Vec<Changed>) -> Item
     requires few { length was.now ≤ MOST_SLOTS }
@@ -72,7 +72,7 @@ fn write(solver: &mut Solver, slot: u16, stand: Option<Stand>)
     }
 }
 
-/// Writes what stood before over a plan.
+/// Writes the stands before an edit over a plan.
 fn write_before(solver: &mut Solver, changes: &[Changed])
     requires { All (λ changed. HasRoomFor (length solver.old.next) changed.slot (stood_before changed)) changes.now }
     ensures { solver.new ≡ written stood_before solver.old changes.now }
@@ -82,7 +82,7 @@ fn write_before(solver: &mut Solver, changes: &[Changed])
     }
 }
 
-/// Writes what stood after over a plan.
+/// Writes the stands after an edit over a plan.
 fn write_after(solver: &mut Solver, changes: &[Changed])
     requires { All (λ changed. HasRoomFor (length solver.old.next) changed.slot (stood_after changed)) changes.now }
     ensures { solver.new ≡ written stood_after solver.old changes.now }
@@ -92,7 +92,7 @@ fn write_after(solver: &mut Solver, changes: &[Changed])
     }
 }
 
-/// Leads a plan back to the one before an edit: what stood before is written over it, and it is cut.
+/// Leads a plan back to the one before an edit: the stands before are written over it, and it is cut.
 pub(crate) fn lead_back(solver: &mut Solver, item: &Item)
     requires { LeadsBack solver.old item.now }
     ensures { solver.new ≡ undone_by solver.old item.now }
@@ -101,7 +101,7 @@ pub(crate) fn lead_back(solver: &mut Solver, item: &Item)
     solver.set_slots(item.before);
 }
 
-/// Leads a plan forth to the one after an edit: it is extended, and what stood after is written over it.
+/// Leads a plan forth to the one after an edit: it is extended, and the stands after are written over it.
 pub(crate) fn lead_forth(solver: &mut Solver, item: &Item)
     requires { LeadsForth solver.old item.now }
     ensures { solver.new ≡ redone_by solver.old item.now }

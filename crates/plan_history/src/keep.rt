@@ -9,7 +9,7 @@ use std::alloc::Global;
 use std::mem;
 use undo_log::Log;
 
-/// Keeps an edit, by what stood before it and the plan after it, in the memory that was taken for it. What was undone can no
+/// Keeps an edit, by the stands before it and the plan after it, in the memory that was taken for it. What was undone can no
 /// longer be redone, and where 256 edits are kept the oldest is forgotten.
 pub(crate) fn keep(
     alloc: Global,

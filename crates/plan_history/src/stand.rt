@@ -12,7 +12,7 @@ pub struct Stand {
     pub enter: u64,
 }
 
-/// A slot whose stand an edit changed: what stood before, None where the slot is new, and what stands after.
+/// A slot whose stand an edit changed: its stand before, None where the slot is new, and its stand after.
 #[derive(Clone, Copy, Drop)]
 pub struct Changed {
     pub slot: u16,

@@ -25,13 +25,14 @@ trip_in standing (Some place) = trip_at standing place
 abbrev pub last_trip : List ℕ → List Standing → List ℕ
 last_trip planner standing = trip_in standing (last_place planner standing)
 
--- the trip of a refusal, as it is printed: the one that the edit names, or that of the record that is held; the others have none
+-- the trip of a refusal, as it is printed: the one that the edit names, or that of the record that is held. Other refusals have
+-- none
 abbrev pub trip_text : List Standing → PlannerLine → PlannerFault → List ℕ
 trip_text standing (line.Edit asked) (fault.Refused refused) = codes ", " ++ trip_of asked.edit
 trip_text standing (line.Edit asked) (fault.HeldBy number) = codes ", " ++ last_trip asked.planner standing
 trip_text standing line refused = []
 
--- why a record is refused, as it is printed; of want of memory nothing is
+-- why a record is refused, as it is printed; of lack of memory nothing is
 abbrev pub planner_fault_text : PlannerFault → List ℕ
 planner_fault_text fault.NotAnEdit = fault_text_of edit_fault.NotAnEdit
 planner_fault_text (fault.Refused refused) = fault_text_of refused

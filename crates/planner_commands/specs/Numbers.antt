@@ -11,8 +11,8 @@ use Rattle.deadhead_matrix.specs.Prices.{Plan}
 use Rattle.desk_feed.specs.Numbers.{numbers_line}
 use Rattle.desk_feed.specs.Schedule.{IsScheduled}
 
--- They are those of a timetable: of the blocks of a plan, which are least over all blockings, and of blocks without deadheads, of
--- which no others are fewer; these are as many as the sum of the maxima of the deficits.
+-- They are those of a timetable. The blocks of a plan are least over all blockings. Blocks without deadheads are fewest among
+-- such blocks, and as many as the sum of the maxima of the deficits.
 pub record IsNumbered (timetable : TimetableView) (matrix : MatrixView) (numbers : List ℕ) : Type 0 where
   pub plan : Plan
   pub blocks : List (List ℕ)

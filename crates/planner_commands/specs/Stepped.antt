@@ -26,7 +26,7 @@ pub record AreAnswers (base : TimetableView) (lines : List PlannerLine) (n : ℕ
   pub text : string_bytes answers.text ≡ answers_to base lines n
   pub some : answers.some ≡ some_refused base lines n
 
--- a refusal is no want of memory
+-- a refusal is no lack of memory
 abbrev pub IsTold : PlannerFault → Type 0
 IsTold fault.Memory = ⊥
 IsTold (fault.Refused refused) = refused ≢ edit_fault.Memory

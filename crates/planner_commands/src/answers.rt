@@ -108,7 +108,7 @@ fn step_planners(
     };
     match planners.step(number, asked) {
         Ok(()) => Ok(None),
-        // No timetable refuses an edit for want of memory.
+        // No timetable refuses an edit for lack of memory.
         Err(PlannerFault::Memory | PlannerFault::Refused(EditFault::Memory)) => Err(Memory),
         Err(refused) => Ok(Some(refused)),
     }

@@ -169,8 +169,8 @@ impl FeedCommand for FollowPlanners {
     }
 }
 
-/// The command `planners`: what becomes of each record of `planner_edits.csv` over the timetable after the script, the records that
-/// stand, and the numbers of the timetable with their edits. It answers the status.
+/// The command `planners`: what becomes of each record of `planner_edits.csv` over the timetable after the script. Then the
+/// records that stand, and the numbers of the timetable with their edits. It answers the status.
 #[tactic(auto, unfolding(crate::specs::Planners::planners_asked))]
 pub fn run_planners<S: Shelf, O: Sink, K: Keeper, L: Ledger>(
     alloc: Global,

@@ -30,7 +30,7 @@ line_by (Some planner) edit = line_with planner edit
 abbrev pub planner_line_of : List (List ℕ) → PlannerLine
 planner_line_of row = line_by (name_in (field_at row 0)) (edit_of (drop 1 row))
 
--- the lines of the records of a file, of which there may be so many
+-- the lines of the records of a file, at most so many
 abbrev pub planner_script_of : List ℕ → Result (List PlannerLine) FeedFault
 planner_script_of bytes = provided (nat_le (length (records bytes)) MOST_PLANNER_EDITS) (TooManyRecords PlannerEdits) (Ok (map planner_line_of (records bytes)))
 

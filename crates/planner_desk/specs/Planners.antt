@@ -42,7 +42,7 @@ standing_after base standing r = standing_by base standing r r.asked.edit
 abbrev pub asked_record : ℕ → PlannerEdit → Standing
 asked_record number asked = record { number = number; asked = asked }
 
--- a fault is the refusal that was due, or want of memory for a step that would have been done
+-- a fault is the refusal that was due, or lack of memory for a step that would have been done
 abbrev pub IsRefusal : PlannerFault → Result (List Standing) PlannerFault → Type 0
 IsRefusal fault.Memory due = IsOk due
 IsRefusal refused due = due ≡ Err refused

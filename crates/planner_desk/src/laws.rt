@@ -32,8 +32,8 @@ pub fn machine_law()
         → planners_machine base (records ++ no_edit_record number ∷ []) ≡ planners_machine base records }
 {}
 
-/// Whatever planners ask for, the edits that stand fold over the base without a refusal: an undo takes out one edit, and
-/// those after it are each accepted without it.
+/// Whatever planners ask for, the edits that stand fold over the base without a refusal. An undo takes out one edit, and each
+/// of those after it is accepted without it.
 pub fn folding_law()
     // the records that stand after an accepted one fold, where those before it did
     ensures step { spec.StaysFolding }

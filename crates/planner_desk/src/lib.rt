@@ -3,32 +3,23 @@
 //! [`read_planner_script`] reads the records of a file, each a planner's name and then an edit, as [`PlannerLine`]s.
 //! [`Planners`] are a base timetable and the records that stand: [`Planners::step`] does what a planner asks for, or refuses it
 //! and changes nothing. An edit of a trip stands after those before it. An undo takes out the planner's own last record that
-//! stands, and it alone, so later ones of other planners stay; where one of these names the same trip, it holds the record.
+//! stands, and it alone. So later ones of other planners stay. Where one of these names the same trip, it holds the record.
 //! [`PlannerFault`] is why a record is refused.
 //!
-//! The contract that the crates above use: the timetable is the fold of the edits that stand, in order, over the base, and each
-//! of them is accepted there. A step makes that of its definition, or gives its refusal and leaves all as it was; want of memory
-//! comes last. Whatever is taken back, the edits that stand fold without a refusal ([`laws::folding_law`]), what an undo takes
-//! out is said by [`laws::undo_law`], and stepped over records planners stay at the state of their machine
-//! ([`laws::machine_law`]).
+//! The contract that the crates above use: the timetable is the fold over the base of the edits that stand, in order. Each of
+//! them is accepted there. A step makes that of its definition, or gives its refusal and leaves all as it was; lack of memory
+//! comes last. Whatever is taken back, the edits that stand fold without a refusal ([`laws::folding_law`]). [`laws::undo_law`]
+//! says what an undo takes out. Stepped over records, planners stay at the state of their machine ([`laws::machine_law`]).
 //!
-//! ```text
-//! let mut planners = Planners::open(alloc, timetable)?;
-//! for line in read_planner_script(alloc, bytes)? {
-//!     number += 1;
-//!     if let PlannerLine::Edit(asked) = line {
-//!         match planners.step(number, &asked) {
-//!             Ok(()) => ..,
-//!             Err(PlannerFault::HeldBy(later)) => ..,
-//!             Err(fault) => ..,
-//!         }
-//!     }
-//! }
-//! ```
+//! `planner_commands` shows a use, in `src/planners.rt` and `src/answers.rt`.
 //!
-//! The contracts cite `Standing` (the timetable of records that stand, and what an undo takes out), `Planners` (what planners are
-//! seen as, and a step), `Machine` (the machine over the records of a script), `Forms` (the forms of records, and the lines of a
-//! script), and the laws `Laws`.
+//! The contracts cite:
+//!
+//! - `Standing`: the timetable of records that stand, and what an undo takes out
+//! - `Planners`: what planners are seen as, and a step
+//! - `Machine`: the machine over the records of a script
+//! - `Forms`: the forms of records, and the lines of a script
+//! - `Laws`: the laws of these
 #![tactic(auto)]
 
 mod edit;

@@ -15,7 +15,7 @@ use std::alloc::Global;
 use std::marker::Model;
 use trip_model::Timetable;
 
-/// A timetable under the edits of several planners, of which each can take back the last of its own.
+/// A timetable under the edits of several planners. Each can take back the last of its own.
 pub struct Planners {
     alloc: Global,
     base: Timetable,
@@ -83,7 +83,7 @@ fn do_edit(script: &mut Script, edit: &Edit) -> Result<(), Memory>
     }
 }
 
-// Does the edits of records in order, each of which is accepted.
+// Does the edits of records in order. Each of them is accepted.
 fn do_all(script: &mut Script, standing: &[Standing]) -> Result<(), Memory>
     requires trips { All IsOfTrip standing.now }
     requires folds { Folds script.old.timetable standing.now }

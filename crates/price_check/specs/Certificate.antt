@@ -46,8 +46,8 @@ plan_of slots claimed = record {
 abbrev pub AreShown : Network → List BlockRow → Type 0
 AreShown network rows = (at s : ℕ) → at < length rows → (block_row rows at).slot ≡ Some s → (block_row rows at).deadhead ≡ minutes_before network (slot_before rows at) s
 
--- A certificate: the records of each file name each live slot once and nothing else; the blocks are a blocking; the records
--- show the empty minutes before their trips; and the links of the blocks with the prices are certified.
+-- A certificate. The records of each file name each live slot once and nothing else. The blocks are a blocking, and the records
+-- show the empty minutes before their trips. The links of the blocks with the prices are certified.
 pub record IsCertificate (network : Network) (slots : ℕ) (claimed : ClaimedView) : Type 0 where
   pub blocks : NameOnce network.live (block_slots claimed.blocks)
   pub prices : NameOnce network.live (price_slots claimed.prices)

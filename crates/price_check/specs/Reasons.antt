@@ -57,7 +57,7 @@ fit network _ _ = true
 abbrev pub unfit : Network → List BlockRow → ℕ → Option Reason
 unfit network rows at = then_some (not (fit network (slot_before rows at) (block_row rows at).slot)) (NotFit (at + 1))
 
--- the empty minutes before the trip of j: those out of the depot to it, or those to it from the trip before in its block
+-- the empty minutes before the trip of j: those out of the depot, or those from the trip before it in its block
 abbrev pub minutes_before : Network → Option ℕ → ℕ → ℕ
 minutes_before network None j = network.out j
 minutes_before network (Some i) j = unwrap_or (network.empty i j) 0
@@ -79,7 +79,7 @@ lower i j prices weighs = option_and_then (λ w. then_some (nat_lt prices w) (Pr
 abbrev pub low_from : Network → ℕ → ℕ → PriceRow → Option Reason
 low_from network i leave row = option_and_then (λ j. lower i j (leave + row.enter) (weight network i j)) row.slot
 
--- the first record of which that is so
+-- the first record for which that is so
 abbrev pub first_low_from : Network → List PriceRow → ℕ → ℕ → Option Reason
 first_low_from network rows i leave = first_at (λ b. low_from network i leave (price_row rows b)) (length rows)
 

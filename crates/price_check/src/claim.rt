@@ -6,8 +6,8 @@ use std::marker::Model;
 /// The greatest price that a record may have, of 12 digits.
 pub const MOST_PRICE: u64 = 999_999_999_999;
 
-/// A record of `blocks.csv`: a trip of a block. Blocks are numbered from 0 in the order of the file; `slot` is the slot of
-/// the trip of that name, if one runs, and `deadhead` the empty minutes that are shown before it.
+/// A record of `blocks.csv`: a trip of a block. Blocks are numbered from 0 in the order of the file. `slot` is the slot of the
+/// trip of that name, if one runs. `deadhead` is the empty minutes that are shown before it.
 #[derive(Drop)]
 pub struct BlockRow {
     pub block: u32,

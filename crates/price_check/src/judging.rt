@@ -70,8 +70,8 @@ fn judge(timetable: &Timetable, matrix: &Matrix, claimed: &Claimed) -> Result<()
     all_proved(timetable, matrix, blocks, prices)
 }
 
-/// Judges a claim: yes, with the vehicles and the empty minutes of its blocks, exactly where none of the seven reasons holds,
-/// and else no, with the first that holds. Every two records of `prices.csv` are looked at once. It takes no memory.
+/// Judges a claim. It is yes, with the vehicles and the empty minutes of its blocks, exactly where none of the seven reasons
+/// holds. Else it is no, with the first that holds. Every two records of `prices.csv` are looked at once. It takes no memory.
 pub fn check(timetable: &Timetable, matrix: &Matrix, claimed: &Claimed) -> Verdict
     requires places { length timetable.now.places ≡ length matrix.now.walks }
     requires blocks { AreBlockRows timetable.now claimed.now.blocks }

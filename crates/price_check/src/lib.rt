@@ -1,21 +1,22 @@
 //! The checker of a certificate: whether blocks and prices that were written prove that these blocks are least.
 //!
-//! A [`Claimed`] is what stands in `blocks.csv` and `prices.csv`, record by record, by whoever wrote it. [`check`] judges it
-//! against a timetable and a matrix of least walks, and takes no memory: it answers yes with the vehicles and the empty
-//! minutes of the blocks, or the first [`Reason`] why not. No solver stands below it.
+//! A [`Claimed`] is what `blocks.csv` and `prices.csv` claim, record by record, whoever wrote them. [`check`] judges it against
+//! a timetable and a matrix of least walks, and takes no memory. It answers yes with the vehicles and the empty minutes of the
+//! blocks, or the first [`Reason`] why not. It uses no solver.
 //!
-//! ```text
-//! let claimed = Claimed::of(blocks, prices);
-//! if let Verdict::Yes { vehicles, minutes } = check(&timetable, &matrix, &claimed) { .. }
-//! ```
+//! `plan_commands` shows a use, in `src/check.rt`.
 //!
 //! The contract that the crates above use: the verdict is its definition; no reason holds exactly against a certificate
 //! ([`laws::certificate_law`]), whose blocks are least ([`laws::least_law`]).
 //!
-//! The contracts cite `Claim` (the records, and the blocks that they make) and `Reasons` (the seven reasons, and the first of
-//! them), the laws besides `Certificate` (the plan that a claim gives, and what it proves); of `trip_model` and
-//! `deadhead_matrix` the networks, blocks, weights and certified plans. `Onward` has the terms of the ways on from a trip for
-//! proofs alone.
+//! The contracts cite:
+//!
+//! - `Claim`: the records, and the blocks that they make
+//! - `Reasons`: the seven reasons, and the first of them that holds
+//! - of `trip_model` and `deadhead_matrix` the networks, blocks, weights and certified plans
+//!
+//! The laws also cite `Certificate`, the plan that a claim gives, and what it proves. `Onward` has the terms of the ways on
+//! from a trip, for proofs alone.
 #![tactic(auto)]
 
 mod blocks;

@@ -12,8 +12,8 @@ use crate::verdict::Reason;
 use deadhead_matrix::Matrix;
 use trip_model::Timetable;
 
-// The price of leaving the trip from which the ways lead on, and that of entering the trip of a record, reach the weight of
-// the pair, where it fits.
+// Where the pair fits, two prices reach its weight. They are that of leaving the trip from which the ways lead on, and that of
+// entering the trip of a record.
 fn reach(onward: &Onward, leave: u64, row: &PriceRow) -> Result<(), Reason>
     requires leave { leave ≤ MOST_PRICE }
     requires slot { NamesLive onward.now.timetable row.now.slot }
@@ -30,7 +30,7 @@ fn reach(onward: &Onward, leave: u64, row: &PriceRow) -> Result<(), Reason>
     Ok(())
 }
 
-// So it is with the trips of all records, or the first of which it is not so.
+// So it is with the trips of all records; or the first with which it is not.
 fn all_reach(onward: &Onward, rows: &[PriceRow], leave: u64) -> Result<(), Reason>
     requires leave { leave ≤ MOST_PRICE }
     requires rows { ArePriceRows onward.now.timetable rows.now }
@@ -43,7 +43,7 @@ fn all_reach(onward: &Onward, rows: &[PriceRow], leave: u64) -> Result<(), Reaso
     Ok(())
 }
 
-// The prices reach the weights of all pairs that the trip of a record is the first of, or the first that they do not reach.
+// The prices reach the weights of all pairs whose first trip is that of a record; or the first weight that they do not reach.
 fn reach_from(
     timetable: &Timetable,
     matrix: &Matrix,

@@ -14,8 +14,8 @@ pub enum Reason {
     NotFit(u32),
     /// A record of `blocks.csv`, the minutes that it shows, and the empty minutes before its trip.
     MinutesDiffer(u32, u32, u32),
-    /// The second trip fits after the first, and the price of leaving the one and that of entering the other do not reach the
-    /// weight of the pair.
+    /// The second trip fits after the first. The prices of leaving the one and of entering the other do not reach the weight of
+    /// the pair.
     PriceLow(u16, u16),
     /// All prices together, and the weights of the links together, which differ.
     SumsDiffer(u64, u64),

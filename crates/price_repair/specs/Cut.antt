@@ -1,4 +1,4 @@
--- A plan out of which a trip is cut.
+-- A plan with a trip cut out.
 use Rattle.std.specs.Prelude.{ℕ, slice_set}
 use Rattle.deadhead_matrix.specs.Paths.{cut_at}
 use Rattle.deadhead_matrix.specs.Prices.{Plan}

@@ -10,9 +10,9 @@ use pair_graph::Pairs;
 use price_assign::Solver;
 use std::sync::ledger::Ledger;
 
-/// Repairs a plan after a trip was added in a slot: it was certified for the pairs without that trip, and is then certified
-/// for those with it, which are given. Where the slot is the last one, the plan may lack it before. At most 2n^2 + 2n steps
-/// for n slots, and no memory.
+/// Repairs a plan after a trip was added in a slot. It was certified for the pairs without that trip, and is then certified for
+/// the given pairs, which have it. Where the slot is the last one, the plan may lack it before. At most 2n^2 + 2n steps for n
+/// slots, and no memory.
 pub fn after_add<L: Ledger>(solver: &mut Solver, pairs: &Pairs<'_>, slot: u16, steps: &mut Steps<L>)
     requires slots { length (with_slot solver.old.next slot) ≡ length pairs.now.moves }
     requires certified { IsCertifiedWithout pairs.now slot solver.old }

@@ -8,8 +8,8 @@ ghost use Rattle.price_repair.specs.Without.{IsCertifiedWith, IsCertifiedWithout
 ghost use Rattle.trip_model.specs.declared.trip.Trip.{Trip};
 ghost use Rattle.trip_model.specs.Timetable.{Slot, TimetableView, slot_at, with_trip, IsTimetable};
 
-/// After an edit of a timetable its plan meets what a repair asks of it. A plan for the timetable before is one with the
-/// trip that is left out, and one with a trip that was cancelled; without a trip that was restored, and without one that was
+/// After an edit of a timetable its plan meets what a repair asks of it. A plan for the timetable before is one with the trip
+/// that is left out, and with a trip that was cancelled. It is one without a trip that was restored, and without one that was
 /// appended. And a plan for the timetable without a trip is one without another trip in its slot.
 pub fn edit_law()
     ensures left_out { (timetable : TimetableView) (matrix : MatrixView) (plan : Plan) (s : ℕ) → IsTimetable timetable

@@ -13,8 +13,8 @@ use price_assign::Solver;
 use std::sync::ledger::Ledger;
 use trip_model::Links;
 
-/// Repairs a plan after the trip of a slot was taken: it was certified for the pairs with that trip, and is then certified
-/// for those without it, which are given. At most 2n^2 + 2n steps for n slots, and no memory.
+/// Repairs a plan after the trip of a slot was taken. It was certified for the pairs with that trip, and is then certified for
+/// the given pairs, which lack it. At most 2n^2 + 2n steps for n slots, and no memory.
 pub fn after_take<L: Ledger>(
     solver: &mut Solver,
     pairs: &Pairs<'_>,
@@ -39,7 +39,7 @@ pub fn after_take<L: Ledger>(
     add_entering(solver, pairs, next, steps);
 }
 
-/// The slot of the trip of which that of a slot is the next; None where it is the next of none.
+/// The slot of the trip before that of a slot; None where there is no trip before it.
 fn trip_before(links: &Links, slot: u16) -> Option<u16>
     ensures { result ≡ before_of links.now slot }
 {

@@ -12,9 +12,9 @@ use Rattle.block_writer.specs.Trips.{trips_written}
 use Rattle.round_trip.specs.Follows.{AreForward, Follows}
 use Rattle.round_trip.specs.Written.{AreEarly, AreWritable, as_written}
 
--- The two files that are written of a timetable which follows that of a feed read as the timetable of the feed with its trips
--- at the minutes at which they stand, unless a file begins with a byte-order mark or a time is moved to 100:00:00 or later. So
--- it is whichever trips are said to be selected, and whatever the blocks are and are called.
+-- The two files are written of a timetable which follows that of a feed. They read as the timetable of the feed, with its trips
+-- at their minutes in the one that follows. It is required that neither file begins with a byte-order mark and no time is moved
+-- to 100:00:00 or later. So it is whichever records are selected, and whatever the blocks and their names are.
 abbrev pub WrittenFeedReadsBack : Type 0
 WrittenFeedReadsBack =
     (settings : SettingsView) (trips_bytes stop_times_bytes : List ℕ) (trips stop_times : TableView) (base standing : TimetableView) (chosen : List Bool) (blocks : List (List ℕ)) (prefix : List ℕ)

@@ -1,8 +1,8 @@
 //! The laws of a feed that is written and read again.
 ghost use Rattle.round_trip.specs.Laws as spec;
 
-/// The two files that are written of a timetable which follows that of a feed read as the timetable of the feed, with its
-/// trips at the minutes at which they stand.
+/// The two files are written of a timetable which follows that of a feed. They read as the timetable of the feed, with its
+/// trips at their minutes in the one that follows.
 pub fn written_law()
     ensures { spec.WrittenFeedReadsBack }
 {}

@@ -23,8 +23,8 @@ unfoldable pub summary_line : ℕ → ℕ → ℕ → ℕ → List ℕ
 summary_line trips fixed vehicles minutes =
     codes "sample " ++ (decimal trips ++ (codes ": fixed " ++ (decimal fixed ++ (codes ", vehicles " ++ (decimal vehicles ++ (codes ", minutes " ++ (decimal minutes ++ (codes ", check yes" ++ 10 ∷ []))))))))
 
--- The three numbers of a timetable: the sum of the maxima of its deficits, and the vehicles and the empty minutes of a plan that is
--- certified, so that its blocks are least over all blockings. `check` says yes to its two files.
+-- The three numbers of a timetable: the sum of the maxima of its deficits, and the vehicles and the empty minutes of a plan.
+-- The plan is certified, so its blocks are least over all blockings. `check` says yes to its two files.
 pub record HasSummary (timetable : TimetableView) (matrix : MatrixView) (prefix : List ℕ) (fixed vehicles minutes : ℕ) : Type 0 where
   pub plan : Plan
   pub blocks : List (List ℕ)

@@ -1,21 +1,23 @@
 //! The command that needs no data: `sample`.
 //!
-//! [`run_sample`] is a whole run over any shelf, sink and keeper. It makes the feed of `feed_sample` in memory, reads it
-//! as one of a folder, schedules the timetable after its script from scratch as `chart` does, judges the two files of that
-//! plan as `check` does, and puts one line. Of what stands outside it asks for nothing, and it writes nothing.
+//! [`run_sample`] is a whole run over any shelf, sink and keeper. It makes the feed of `feed_sample` in memory, and reads it as
+//! one of a folder. It schedules the timetable after its script from scratch, judges the two files of that plan as `check`
+//! does, and puts one line. It asks the shelf and the keeper for nothing, and writes nothing.
 //!
-//! The contract that the crates above use: a run performs what `sample` asks (`sample_asked`). Where the files of the sample are
-//! accepted, the line has the three numbers of a certified plan of the timetable after the script, so the fewest vehicles and
-//! then the fewest empty minutes over all blockings, and the two files of that plan are a claim on which `check` says yes. Where
-//! they are not, the line is that of their first refusal.
+//! The contract that the crates above use: a run performs what `sample` asks (`sample_asked`). Where the files of the sample
+//! are accepted, the line has the three numbers of a certified plan of the timetable after the script. So they are the fewest
+//! vehicles and then the fewest empty minutes, over all blockings. The two files of that plan are a claim on which `check` says
+//! yes. Where they are not, the line is that of their first refusal.
 //!
-//! ```text
-//! let status = run_sample(alloc, 600, shelf, out, keeper, steps);
-//! ```
+//! `run` of `desk_program` calls it.
 //!
-//! The contracts cite `Sample` (what the command asks, and the line); of `feed_sample` `Sample`, of `desk_run` `Performs`,
-//! of `desk_feed` `Feed`, `Judging` and `Schedule`, and of `claim_files` `Written`. `Summed` has terms of the functions
-//! inside.
+//! The contracts cite:
+//!
+//! - `Sample`: what the command asks, and the line
+//! - of `feed_sample` `Sample`; of `claim_files` `Written`
+//! - of `desk_run` `Performs`; of `desk_feed` `Feed`, `Judging` and `Schedule`
+//!
+//! `Summed` has terms of the functions inside.
 #![tactic(auto)]
 
 mod sample;

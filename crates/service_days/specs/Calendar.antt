@@ -13,7 +13,7 @@ use Rattle.service_days.specs.declared.calendar.Schedule.{Schedule}
 use Rattle.service_days.specs.declared.calendar.Texts.{Texts}
 use Rattle.service_days.specs.Dates.{weekday_of, date_in}
 
--- where the required columns stand
+-- where the required columns are
 unfoldable pub columns_in : List (List ℕ) → Result Columns FeedFault
 columns_in header = do
   service ← column_in paper.Calendar column.ServiceId header

@@ -19,7 +19,7 @@ use Rattle.service_days.specs.Dates.{date_in}
 abbrev pub ServiceDate : Type 0
 ServiceDate = Name × ℕ
 
--- where the required columns stand
+-- where the required columns are
 unfoldable pub columns_in : List (List ℕ) → Result Columns FeedFault
 columns_in header = do
   service ← column_in paper.CalendarDates column.ServiceId header

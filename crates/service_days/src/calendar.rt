@@ -14,7 +14,7 @@ use gtfs_tables::{
 use std::alloc::Global;
 use std::marker::Model;
 
-/// Where the required columns of `calendar.txt` stand.
+/// Where the required columns of `calendar.txt` are.
 #[derive(Clone, Copy)]
 pub(crate) struct Columns {
     service: usize,

@@ -13,7 +13,7 @@ use indexmap::IndexMap;
 use std::alloc::Global;
 use std::marker::Model;
 
-/// Where the required columns of `calendar_dates.txt` stand.
+/// Where the required columns of `calendar_dates.txt` are.
 #[derive(Clone, Copy)]
 pub(crate) struct Columns {
     service: usize,
@@ -21,7 +21,7 @@ pub(crate) struct Columns {
     exception: usize,
 }
 
-/// What is said of a service on one date, whatever its schedule.
+/// What `calendar_dates.txt` has of a service on one date, whatever its schedule.
 #[derive(Clone, Copy)]
 pub(crate) enum Exception {
     /// It runs.

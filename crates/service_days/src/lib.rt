@@ -3,18 +3,18 @@
 //! [`read_date`] makes a date of a text. [`running`] gives the services that run on a date, of the two files, each as it
 //! was found; one of them may be missing.
 //!
-//! The contract that the crates above use: a date is eight digits of a day that the calendar of `jiff` has; the answer is
-//! exactly the services that run on the date, each once, in byte order, or the first refusal of the two files.
+//! The contract that the crates above use: a date is eight digits of a day that the calendar of `jiff` has. The answer is
+//! exactly the services that run on the date, each once, in byte order; or the first refusal of the two files.
 //!
-//! ```text
-//! if let Some(date) = read_date(word) {
-//!     let services = running(alloc, date, &calendar, &calendar_dates)?;
-//! }
-//! ```
+//! `desk_feed` shows a use, in `src/feed.rt`.
 //!
-//! The contracts cite `Dates` (dates and their weekdays), `Calendar` (the schedules, record after record),
-//! `CalendarDates` (the exceptions, record after record) and `Services` (the services that run). That a number is told to be
-//! a date exactly where `jiff` has its day, and that the services are exactly those that run, are laws (`Laws`).
+//! The contracts cite:
+//!
+//! - `Dates`: dates and their weekdays
+//! - `Calendar`: the schedules, record after record
+//! - `CalendarDates`: the exceptions, record after record
+//! - `Services`: the services that run
+//! - `Laws`: a number is taken for a date exactly where `jiff` has its day; the services are exactly those that run
 #![tactic(auto)]
 
 mod calendar;

@@ -136,9 +136,9 @@ impl Services {
     }
 }
 
-/// The services that run on a date, which is an answer of [`crate::read_date`]: exactly these, each once, in byte order; or the
-/// first refusal, of `calendar.txt` and then of `calendar_dates.txt`. A file that is not there has no records, but where neither
-/// is there `calendar.txt` is missing.
+/// The services that run on a date, which is an answer of [`crate::read_date`]. The answer is exactly these, each once, in byte
+/// order; or the first refusal, of `calendar.txt` and then of `calendar_dates.txt`. A file that is not there has no records,
+/// but where neither is there `calendar.txt` is missing.
 pub fn running(
     alloc: Global,
     date: u32,

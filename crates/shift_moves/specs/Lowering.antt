@@ -4,8 +4,7 @@ use Rattle.trip_model.specs.Fleet.{deficit_sum, with_shift}
 use Rattle.trip_model.specs.Timetable.{TimetableView, slot_at}
 use Rattle.trip_model.specs.Trip.{MayShift}
 
--- the trip in a slot runs, may be moved by so many minutes, of which there are some, and with it so moved the sum of the
--- maxima is smaller
+-- the trip in a slot runs and may be moved by so many minutes, at least one. With it so moved the sum of the maxima is smaller
 pub record IsLowering (timetable : TimetableView) (slot : ℕ) (by : ℤ) : Type 0 where
   pub in_timetable : slot < length timetable.slots
   pub live : (slot_at timetable slot).trip.live ≡ true

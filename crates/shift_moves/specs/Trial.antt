@@ -10,7 +10,7 @@ use Rattle.trip_model.specs.Timetable.{Slot, TimetableView}
 use Rattle.trip_model.specs.Trip.{MayShift}
 use Rattle.shift_moves.specs.Lowering.{IsBefore, IsLowering}
 
--- the moves of the trips that run in two lists of slots, of which one move stands in the stead of another
+-- the moves of the trips that run in two lists of slots, with one move in the place of another
 pub record AreSwapped (m n : Move) (old new : List Slot) : Type 0 where
   pub front : List Move
   pub back : List Move
@@ -29,8 +29,8 @@ pub record HoldsAmong (deficits : List (List ℤ)) (m : Move) : Type 0 where
 abbrev pub maxima_at : (ℕ → ℕ → ℤ) → ℕ → ℕ → ℤ
 maxima_at d from to = (first_maximum (d from)).0 +ℤ (first_maximum (d to)).0
 
--- the trip may be moved by up to so many minutes earlier, by up to so many later, and by no more; together these are at
--- most as many as two tolerances have, since it stands within its own
+-- the trip may be moved by up to so many minutes earlier, by up to so many later, and by no more. Together these are at most as
+-- many as two tolerances have, since the trip is within its own
 pub record IsRoom (trip : Trip) (earlier later : ℕ) : Type 0 where
   pub may_earlier : (size : ℕ) → size ≤ earlier → MayShift trip (neg_ℤ (pos size))
   pub may_later : (size : ℕ) → size ≤ later → MayShift trip (pos size)

@@ -3,18 +3,13 @@
 //! [`next_shift`] answers the first shift of one trip by some minutes with which the sum of the maxima of the deficits is
 //! smaller. It tries each shift on the deficits of the trips that run, and leaves them as they were.
 //!
-//! The contract that the crate above uses: the shift is the first that lowers the sum, by slot, then by the size of the
-//! number of minutes, earlier before later; and where none is answered, there is none.
+//! The contract that the crate above uses: the shift is the first that lowers the sum. Shifts are ordered by slot, then by the
+//! number of minutes, and of one number earlier before later. Where none is answered, there is none.
 //!
-//! ```text
-//! let mut deficits = deficits_of(alloc, &timetable, &mut steps)?;
-//! if let Some(shift) = next_shift(&timetable, &mut deficits, &mut steps) {
-//!     timetable.shift(shift.slot, shift.by);
-//! }
-//! ```
+//! `lowering_commands` shows a use, in `src/shifts.rt`.
 //!
-//! The contracts cite `Lowering` (which shifts lower the sum, and which is the first), of `trip_model` `Timetable`, `Trip`,
-//! `Deficit` and `Maximum`, and of `deficit_steps` `Holds`. `Trial` has terms of the functions inside.
+//! The contracts cite `Lowering` (which shifts lower the sum, and which is the first). Of `trip_model` they cite `Timetable`,
+//! `Trip`, `Deficit` and `Maximum`, and of `deficit_steps` `Holds`. `Trial` has terms of the functions inside.
 #![tactic(auto)]
 
 mod search;

@@ -122,12 +122,12 @@ fn shift_of_slot<L: Ledger>(
     None
 }
 
-/// The first shift of a trip that runs, within its tolerances and not to before midnight, with which the sum of the maxima
-/// of the deficits is smaller: the first by slot, then by the size of the number of minutes, earlier before later. None
-/// where there is none.
+/// The first shift of a trip that runs with which the sum of the maxima of the deficits is smaller. It is within the trip's
+/// tolerances and not to before midnight. Shifts are ordered by slot, then by the number of minutes, and of one number earlier
+/// before later. None where there is none.
 ///
-/// Each shift is tried on the deficits and taken back, so that they are in the end what they were: four changes of at most
-/// 28 steps, for each number of minutes within two tolerances. It takes no memory.
+/// Each shift is tried on the deficits and taken back, so that they are in the end what they were. That is four changes of at
+/// most 28 steps, for each number of minutes within two tolerances. It takes no memory.
 pub fn next_shift<L: Ledger>(
     timetable: &Timetable,
     deficits: &mut Deficits,

@@ -16,7 +16,7 @@ use desk_io::Steps;
 use std::sync::ledger::Ledger;
 use trip_model::{Move, Timetable};
 
-// The move of the trip of a slot, which runs, as it stands and moved by so many minutes.
+// The move of the trip of a slot, which runs, as it is and moved by so many minutes.
 fn moves_of(timetable: &Timetable, slot: u16, by: i16) -> (Move, Move)
     requires slot { slot < length timetable.now.slots }
     requires live { (slot_at timetable.now slot).trip.live ≡ true }

@@ -13,7 +13,7 @@ use Rattle.sqlite_keeper.specs.declared.sqlite_keeper.SqliteKeeper.{SqliteKeeper
 abbrev pub keeper_state_of : SqliteKeeper → KeeperState
 keeper_state_of keeper = record { journal = None; faults = keeper.faults }
 
--- why a call does nothing at an error of the database: it found no memory for a statement or for what a statement did, or the call failed
+-- why a call does nothing at an error of the database: a statement, or what it did, found no memory; or the call failed
 abbrev pub refusal_of : Error → KeeperFault
 refusal_of (SqliteFailure code.OutOfMemory) = fault.Memory
 refusal_of (SqlInputError compile.OutOfMemory) = fault.Memory

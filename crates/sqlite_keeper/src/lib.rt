@@ -5,16 +5,13 @@
 //! is not there. Other programs then find it locked, until a call fails or the keeper is dropped. Each append is one
 //! transaction.
 //!
-//! ```text
-//! let mut keeper = SqliteKeeper::over(&rt, Text::of(rt.alloc(), "feed")?);
-//! let journal = keeper.load(rt.alloc(), 65_536)?;
-//! ```
+//! `blockdesk` shows a use, in `src/start.rt`.
 //!
-//! It tells nothing of its journal. So the contract that the crates above use is that of every `Keeper`: a load answers
-//! at most as many lines as were asked for, and `Failed` comes only where the count of faults rose.
+//! It tells nothing of its journal. So the contract that the crates above use is that of every `Keeper`. A load answers no more
+//! lines than the limit of the call. `Failed` comes only where the count of faults rose.
 //!
-//! The contracts cite `SqliteKeeper` (what it is seen as, and what it answers to an error of the database), and of
-//! `desk_keeper` `Keeper` (what loads and appends do to a keeper).
+//! The contracts cite `SqliteKeeper` (what it is seen as, and what it answers to an error of the database). Of `desk_keeper`
+//! they cite `Keeper` (what loads and appends do to a keeper).
 #![tactic(auto)]
 
 mod database;

@@ -62,8 +62,8 @@ impl<'a> SqliteKeeper<'a> {
         Ok(())
     }
 
-    // What a call answers to what the database answered. An error that says want of memory is told as that; every
-    // other one is counted.
+    // What a call answers to what the database answered. An error that says lack of memory is answered as that. Every other one
+    // is counted.
     fn answer<T: Drop>(&mut self, answered: Result<T, Error>) -> Result<T, KeeperFault>
         ensures done { IfOk answered (λ value. result ≡ Ok value) }
         ensures refused { IfErr answered (λ error. result ≡ Err (refusal_of error)) }
@@ -82,7 +82,7 @@ impl<'a> SqliteKeeper<'a> {
         }
     }
 
-    // What a load answers to the lines that the database gave, of which there may be one too many.
+    // What a load answers to the lines that the database gave. There may be one line too many.
     fn answer_load(
         &mut self,
         found: Result<Vec<Text>, Error>,

@@ -44,8 +44,8 @@ NamesAreStated =
     → NameSlots trips chosen timetable
     → stated_names (with_blocks trips timetable chosen blocks prefix) chosen ≡ names_by_slot prefix blocks (length timetable.slots)
 
--- The plan's blocks are a blocking of the timetable that stands, along links from slot to slot; then the blocks that the
--- written table states are these blocks, in their order and each with its trips in their order.
+-- Let the plan's blocks be a blocking of the timetable that stands, along links from slot to slot. Then the written table
+-- states these blocks, in their order and each with its trips in their order.
 abbrev pub BlocksAreStated : Type 0
 BlocksAreStated =
     (trips : TableView) (base standing : TimetableView) (chosen : List Bool) (matrix : MatrixView) (next : List (Option ℕ)) (prefix : List ℕ)
@@ -79,8 +79,8 @@ FeedNamesSlots =
     → base_of settings (File trips_bytes) stop_times ≡ Ok base
     → NameSlots trips (chosen_in settings trips) base
 
--- Of a feed in which no trip is cancelled and to which none is added, the two texts that are written of a plan whose blocks
--- are least, read again with the same settings, state this plan.
+-- Let no trip of a feed be cancelled and none added, and let the blocks of a plan be least. The two texts that are written of
+-- it, read again with the same settings, state this plan.
 abbrev pub WrittenFeedStatesPlan : Type 0
 WrittenFeedStatesPlan =
     (settings : SettingsView) (trips_bytes stop_times_bytes : List ℕ) (trips stop_times : TableView) (base standing : TimetableView) (matrix : MatrixView) (next : List (Option ℕ)) (prefix : List ℕ)

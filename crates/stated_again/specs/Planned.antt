@@ -33,7 +33,7 @@ trip_field trips r = field_at (slice_index_or trips.rows r []) (place_of column.
 abbrev pub NameSlots : TableView → List Bool → TimetableView → Type 0
 NameSlots trips chosen timetable = map (trip_field trips) (selected trips chosen) ≡ slot_names timetable
 
--- for each of so many slots the name of the block in which it stands
+-- for each of so many slots the name of its block
 abbrev pub names_by_slot : List ℕ → List (List ℕ) → ℕ → List (List ℕ)
 names_by_slot prefix blocks slots = map (λ s. name_of prefix (number_in blocks s)) (range_with_len 0 slots)
 

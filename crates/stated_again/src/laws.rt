@@ -4,8 +4,8 @@ ghost use Rattle.stated_again.specs.Laws as spec;
 use deadhead_matrix::laws::deadhead_law;
 use trip_model::laws::plain_law;
 
-/// Where no trip is cancelled and there are no extras, the trips of the feed that is written make the moves that were planned,
-/// so blocks are least of the one where they are of the other.
+/// Where no trip is cancelled and there are no extras, the trips of the written feed make the moves that were planned. So
+/// blocks are least of the one where they are of the other.
 pub fn moves_law()
     ensures same { spec.SameMoves }
     ensures least { spec.LeastAgain }
@@ -16,8 +16,8 @@ pub fn names_law()
     ensures { spec.NamesAreStated }
 {}
 
-/// So the blocks that it states are those of the plan, in their order and each with its trips in theirs; and where those are
-/// least, it states the plan.
+/// So the blocks that it states are those of the plan, in their order and each with its trips in theirs. Where those are least,
+/// it states the plan.
 pub fn blocks_law()
     ensures blocks { spec.BlocksAreStated }
     ensures least { spec.LeastAreStated }

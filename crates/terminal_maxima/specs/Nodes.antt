@@ -1,5 +1,5 @@
--- How a tree is kept in one list of nodes. Node 1 is the root, below node i stand 2 i and 2 i + 1, and the leaf of
--- place p is the node that stands p after the first leaf.
+-- How a tree is kept in one list of nodes. Node 1 is the root. Below node i are 2 i and 2 i + 1. The leaf of place p is p nodes
+-- after the first leaf.
 use Rattle.std.specs.Prelude.{◌≡◌, ℕ, ◌+◌, ◌*◌, ◌^◌, ◌<◌, ◌≤◌, List, length, slice_index_or}
 
 -- the node of this number
@@ -12,7 +12,7 @@ pub record IsTree {S : Type 0} (sums : S → ℕ → Type 0) (unit : S) (join : 
   pub leaf : (p : ℕ) → p < leaves → sums (node_of unit nodes (leaves + p)) 1
   pub inner : (i : ℕ) → 1 ≤ i → i < leaves → node_of unit nodes i ≡ join (node_of unit nodes (2 * i)) (node_of unit nodes (2 * i + 1))
 
--- in a tree of this depth the node is so high above the leaves, and these leaves stand under it
+-- in a tree of this depth the node is so high above the leaves, and these leaves are under it
 pub record IsSpan (depth height node first width : ℕ) : Type 0 where
   pub level : ℕ
   pub offset : ℕ

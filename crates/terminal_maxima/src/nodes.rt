@@ -7,7 +7,7 @@ use desk_io::Steps;
 use std::alloc::{AllocError, Global};
 use std::sync::ledger::Ledger;
 
-// How many joins stand above each leaf.
+// How many joins are above each leaf.
 pub(crate) const DEPTH: usize = 13;
 
 // The nodes of a tree whose leaves are all units. Node 0 is not used.

@@ -50,8 +50,8 @@ fn adding(sum: i32) -> MaxPrefix
     }
 }
 
-// A tree of sums with 5 at place 7, -3 at place 4096 and 4 at place 8191: what is the greatest prefix sum, and which places
-// are the first to reach 5, 6 and 7, the last of these from place 8.
+// A tree of sums with 5 at place 7, -3 at place 4096 and 4 at place 8191. It asks for the greatest prefix sum, and for the
+// first places to reach 5, 6 and 7, the last of these from place 8.
 fn found<L: Ledger>(
     alloc: Global,
     steps: &mut Steps<L>,
@@ -69,7 +69,8 @@ fn found<L: Ledger>(
     Ok((tree.greatest_prefix(), first))
 }
 
-// The greatest of the leaves of a tree with 7 at place 0 and 9 at place 8191, and that after the 9 was replaced by 1.
+// The greatest of the leaves of a tree with 7 at place 0 and 9 at place 8191. Then that of the tree with 1 in the place of the
+// 9.
 fn greatest<L: Ledger>(alloc: Global, steps: &mut Steps<L>) -> Result<(u16, u16), Memory> {
     let mut tree: Tree<u16> = Tree::open(alloc)?;
     tree.set(0, 7, steps);

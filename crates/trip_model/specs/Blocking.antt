@@ -3,11 +3,11 @@ use Rattle.std.specs.Prelude.{◌≡◌, ℕ, ◌+◌, ◌≤◌, ◌==◌, Bool
 use Rattle.std.specs.List.{flat_map, AllByRecursion}
 use Rattle.trip_model.specs.Network.{Network, Fits}
 
--- how often a slot stands in a list
+-- how often a slot is in a list
 abbrev pub times : ℕ → List ℕ → ℕ
 times s slots = count_by (λ x. x == s) slots
 
--- each live slot stands exactly once in the list, and no other slot stands there
+-- each live slot is in the list exactly once, and no other slot is there
 pub record StandsOnce (live : ℕ → Bool) (slots : List ℕ) : Type 0 where
   pub once : (s : ℕ) → times s slots ≡ cond (live s) 1 0
 
@@ -25,7 +25,7 @@ IsBlock network (i ∷ js) = Follow network i js
 abbrev pub slots_in : List (List ℕ) → List ℕ
 slots_in blocks = flat_map (λ block. block) blocks
 
--- blocks in which each live slot stands exactly once, and no other slot stands
+-- blocks that have each live slot exactly once, and no other slot
 pub record IsBlocking (network : Network) (blocks : List (List ℕ)) : Type 0 where
   pub stands : StandsOnce network.live (slots_in blocks)
   pub each : AllByRecursion (IsBlock network) blocks

@@ -26,7 +26,7 @@ abbrev pub leads_to : ℕ → Option ℕ → Bool
 leads_to s None = false
 leads_to s (Some j) = j == s
 
--- the trip before that of s, of which it is the next; the first such slot
+-- the trip before that of s: the first slot whose next trip is that of s
 abbrev pub before_of : List (Option ℕ) → ℕ → Option ℕ
 before_of links s = position (leads_to s) links
 

@@ -2,8 +2,8 @@
 use Rattle.std.specs.Prelude.{◌≡◌, ℕ, ◌<◌, ◌≤◌, Bool, true, Option, IsSome}
 use Rattle.trip_model.specs.declared.limits.TheConstants.{LAST_MINUTE}
 
--- Trips by the numbers of their slots. `empty i j` is how many minutes a vehicle runs empty from the trip of i to that of
--- j, where it can make j next; `out` and `home` are the empty minutes before the first trip of a block and after its last.
+-- Trips by the numbers of their slots. `empty i j` is how many minutes a vehicle runs empty from trip i to trip j, where it can
+-- make j next. `out` and `home` are the empty minutes before the first trip of a block and after its last.
 pub record Network : Type 0 where
   pub live : ℕ → Bool
   pub empty : ℕ → ℕ → Option ℕ

@@ -27,7 +27,7 @@ abbrev pub RiseBy : (ℕ → ℕ) → List ℕ → Type 0
 RiseBy key [] = ⊤
 RiseBy key (x ∷ xs) = AllByRecursion (λ y. key x ≤ key y) xs × RiseBy key xs
 
--- of two slots with one key the lesser stands first
+-- of two slots with one key the lesser comes first
 abbrev pub TiesRise : (ℕ → ℕ) → List ℕ → Type 0
 TiesRise key [] = ⊤
 TiesRise key (x ∷ xs) = AllByRecursion (λ y. key x ≡ key y → x < y) xs × TiesRise key xs

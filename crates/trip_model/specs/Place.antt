@@ -3,8 +3,7 @@ use Rattle.std.specs.Prelude.{◌≡◌, ℕ, ◌≤◌, ◌==◌, Bool, true, f
 use Rattle.std.specs.List.{list_any}
 use Rattle.trip_model.specs.declared.limits.TheConstants.{MOST_LAYOVER}
 
--- a place with its terminal, the class of the vehicles that use it, and the minutes of layover that a trip has at its end
--- there
+-- a place with its terminal, the class of the vehicles that use it, and the minutes of layover of a trip that ends there
 pub record Place : Type 0 where
   pub name : List ℕ
   pub terminal : List ℕ
@@ -27,7 +26,7 @@ has_slash text = list_any (λ b. b == slash) text
 abbrev pub post_place : List ℕ → List ℕ → ℕ → Place
 post_place terminal class layover = record { name = terminal ++ slash ∷ class; terminal = terminal; class = class; layover = layover }
 
--- where vehicles are of classes a place is a post, of which the class has no `/`; elsewhere it is a terminal
+-- where vehicles are of classes a place is a post, whose class has no `/`; elsewhere it is a terminal
 abbrev pub IsPostOrTerminal : Bool → Place → Type 0
 IsPostOrTerminal true p = (p ≡ post_place p.terminal p.class p.layover) × (has_slash p.class ≡ false)
 IsPostOrTerminal false p = p ≡ terminal_place p.name p.layover

@@ -16,7 +16,7 @@ move_at moves s = slice_index_or moves s None
 abbrev pub made : List (Option Move) → List Move
 made moves = filter_map (λ m. m) moves
 
--- a vehicle that makes the first move stands, as the second begins, where that begins
+-- a vehicle that makes the first move waits, as the second begins, where that begins
 abbrev pub meets : Option Move → Option Move → Bool
 meets (Some a) (Some b) = (a.to == b.from) && nat_le a.arrives b.leaves
 meets _ _ = false

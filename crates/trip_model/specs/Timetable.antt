@@ -45,12 +45,12 @@ slot_at timetable s = slice_index_or timetable.slots s (record { name = []; trip
 abbrev pub with_trip : TimetableView → ℕ → Trip → TimetableView
 with_trip timetable s trip = record timetable { slots = slice_set timetable.slots s (record (slot_at timetable s) { trip = trip }) }
 
--- no name stands twice
+-- no name comes twice
 abbrev pub AreDistinct : List (List ℕ) → Type 0
 AreDistinct names = AllPairs (λ x y. x ≢ y) names
 
--- at most 512 places, which are posts where it is classed, at most 4,096 slots with valid trips, default tolerances of at
--- most an hour, and names distinct in each list
+-- at most 512 places, which are posts where it is classed, and at most 4,096 slots with valid trips. Default tolerances are at
+-- most an hour, and names are distinct in each list
 pub record IsTimetable (timetable : TimetableView) : Type 0 where
   pub place_names : AreDistinct (place_names timetable)
   pub slot_names : AreDistinct (slot_names timetable)

@@ -17,8 +17,8 @@ published_departure trip = pos trip.departs -ℤ trip.offset
 abbrev pub published_end : Trip → ℤ
 published_end trip = pos trip.ends -ℤ trip.offset
 
--- a trip between two of the places, which are of one class; it ends after it departs, is moved within its tolerances of at
--- most an hour, and is published to depart by 99:59 and to end by 104:00
+-- a trip between two of the places, which are of one class. It ends after it departs, and is moved within its tolerances of at
+-- most an hour. It is published to depart by 99:59 and to end by 104:00
 pub record IsValidTrip (places : List Place) (trip : Trip) : Type 0 where
   pub from : trip.from < length places
   pub to : trip.to < length places

@@ -37,8 +37,8 @@ pub fn deficit_maximum_law()
         → pos 0 ≤ℤ (first_maximum (deficit moves place)).0 }
 {}
 
-/// Links along which departures rise make blocks in which each live slot stands once and neighbours fit, whatever the
-/// order of their first trips; and there are as many trips as blocks and links.
+/// Links along which departures rise make blocks in which each live slot is once and neighbours fit, whatever the order of
+/// their first trips. There are as many trips as blocks and links.
 pub fn links_law()
     ensures blocking { (network : Network) (departs : ℕ → ℕ) (links : List (Option ℕ)) (order : List ℕ)
         → AreDepartures network departs → AreLinks network links → StandsOnce network.live order
@@ -49,14 +49,14 @@ pub fn links_law()
         → length (blocks_along links order) + link_count links ≡ length order }
 {}
 
-/// The trip before another is one of which that is the next. Where no trip is the next of two, it is the only one.
+/// The trip before another has that one as its next. Where no trip is the next of two, it is the only one.
 pub fn before_law()
     ensures next { (links : List (Option ℕ)) (i j : ℕ) → before_of links j ≡ Some i → next_of links i ≡ Some j }
     ensures before { (links : List (Option ℕ)) (i j : ℕ) → AreApart links → next_of links i ≡ Some j → before_of links j ≡ Some i }
 {}
 
-/// In the order of departure each slot stands once whose trip runs, departures rise, and of one departure the lesser slot
-/// stands first.
+/// The order of departure has each slot once whose trip runs. Departures rise, and of one departure the lesser slot comes
+/// first.
 pub fn departure_order_law()
     ensures stands { (moves : List (Option Move))
         → StandsOnce (λ s. is_some (move_at moves s)) (by_departure moves) }

@@ -1,26 +1,33 @@
-//! The timetable of one service day: places, trip slots, the deficit functions of moves between places, and blocks, the
-//! trips that one vehicle makes one after the other.
+//! The timetable of one service day: places, trip slots, the deficit functions of moves between places, and blocks. A block is
+//! the trips that one vehicle makes one after the other.
 //!
-//! A [`Timetable`] is a list of places and a list of slots with one trip each; places and slots are numbered from 0
-//! in the order in which they were pushed, and found by name. Its places are terminals, or, where vehicles are of classes
-//! ([`Timetable::open_classed`]), posts, each a terminal with a class. A [`Move`] is what a deficit counts of a trip: where
-//! a vehicle leaves and arrives, and in which minutes. [`Links`] say for each slot which trip its vehicle makes next, and
+//! A [`Timetable`] is a list of places and a list of slots with one trip each. Places and slots are numbered from 0 in the
+//! order in which they were pushed, and found by name. Its places are terminals, or, where vehicles are of classes
+//! ([`Timetable::open_classed`]), posts, each a terminal with a class. A [`Move`] is what a deficit counts of a trip: where a
+//! vehicle leaves and arrives, and in which minutes. [`Links`] say for each slot which trip its vehicle makes next, and
 //! [`by_departure`] answers the slots in order of departure. Its limits are constants, as [`MOST_SLOTS`].
 //!
-//! The contract that the crates above use: a timetable is two lists and two numbers, its names are distinct in each
-//! list, and every trip is valid. [`Timetable::places`] and [`Timetable::slots`] hand this fact on. Links are a list, and
-//! those along which departures rise make blocks in which each live slot stands once ([`laws::links_law`]).
+//! The contract that the crates above use: a timetable is two lists and two numbers. Its names are distinct in each list, and
+//! every trip is valid. [`Timetable::places`] and [`Timetable::slots`] hand this fact on. Links are a list, and those along
+//! which departures rise make blocks in which each live slot is once ([`laws::links_law`]).
 //!
-//! ```text
-//! let mut timetable = Timetable::open(alloc, 0, 0);
-//! let terminal = timetable.push_place("A", 5)?;
-//! ```
+//! `feed_read` shows a use, in `src/timetable.rt`.
 //!
-//! The contracts cite `Place` (terminals and posts), `Trip` (valid trips, the move of a trip), `Timetable` (what a
-//! timetable is seen as), `Deficit` (departures less arrivals), `Maximum` (the greatest value of a function of the minute,
-//! and its first minute), `Steps` (the minutes at which such a function changes), `Network` (which trips one vehicle can
-//! make one after the other), `Blocking` (blocks, and when they are least), `Plain` (vehicles that never run empty),
-//! `Links` (the blocks that links make) and `Order` (slots by departure). The laws of these are the contracts of [`laws`].
+//! The contracts cite:
+//!
+//! - `Place`: terminals and posts
+//! - `Trip`: valid trips, the move of a trip
+//! - `Timetable`: what a timetable is seen as
+//! - `Deficit`: departures less arrivals
+//! - `Maximum`: the greatest value of a function of the minute, and its first minute
+//! - `Steps`: the minutes at which such a function changes
+//! - `Network`: which trips one vehicle can make one after the other
+//! - `Blocking`: blocks, and when they are least
+//! - `Plain`: vehicles that never run empty
+//! - `Links`: the blocks that links make
+//! - `Order`: slots by departure
+//!
+//! The laws of these are the contracts of [`laws`].
 #![tactic(auto)]
 
 pub mod laws;

@@ -30,7 +30,7 @@ impl Model for Links {
 }
 
 impl Links {
-    /// Links of so many slots, none of which has a next trip. It takes the memory for as many slots as there may be.
+    /// Links of so many slots without a next trip. It takes the memory for as many slots as there may be.
     pub fn open(alloc: Global, slots: u16) -> Result<Links, Memory>
         requires { slots ≤ MOST_SLOTS }
         ensures { IfOk result (λ links. links ≡ replicate slots None) }

@@ -1,6 +1,6 @@
 ghost use Rattle.std.specs.Prelude.{◌≡◌, List};
 
-/// A trip between two places, in minutes of the service day as they stand now.
+/// A trip between two places, in minutes of the service day as they are now.
 #[derive(Clone, Copy)]
 pub struct Trip {
     /// The place at which it starts.
@@ -11,7 +11,7 @@ pub struct Trip {
     pub departs: u16,
     /// The minute of the last arrival, rounded up, with the layover of the end place.
     pub ends: u16,
-    /// By how many minutes `departs` and `ends` stand after the published ones.
+    /// By how many minutes `departs` and `ends` are after the published ones.
     pub offset: i8,
     /// By how many minutes the trip may be moved before its published times, at most 60.
     pub early: u8,

@@ -28,8 +28,8 @@ use Rattle.audit_commands.specs.Lines.{cost_line}
 abbrev pub other_papers : List Paper
 other_papers = paper.Settings ∷ paper.Terminals ∷ paper.Tolerances ∷ paper.Calendar ∷ paper.CalendarDates ∷ paper.Deadheads ∷ paper.Depot ∷ []
 
--- The written feed is laid: what was written stands under the names of the trips and of the stop times, there is no script, and
--- every other paper stands as it did.
+-- The written feed is laid. What was written has the names of the trips and of the stop times. There is no script, and every
+-- other paper is as it was.
 pub record IsLaid (written laid : Files) : Type 0 where
   pub trips : get laid (file_name_of paper.Trips) ≡ get written trips_name
   pub stop_times : get laid (file_name_of paper.StopTimes) ≡ get written stop_times_name
@@ -65,16 +65,16 @@ pub record FindsLeast (before after : SinkState) (status : ℕ) : Type 0 where
   pub done : status ≡ DONE
   pub put : after ≡ put_bytes (least_text vehicles minutes) before
 
--- Where the first run has written all, also where it refused edits, the written feed is laid and can be audited, and the second
--- came to its end, it is so.
+-- It is so where three things hold. The first run has written all, perhaps with refused edits. The written feed is laid and can
+-- be audited. The second run came to its end.
 abbrev pub FindsWrittenLeast : Option Files → Option Files → Option Files → SinkState → SinkState → ℕ → ℕ → Type 0
 FindsWrittenLeast files written laid before after first second =
     first ≤ EDITS_REFUSED → second ≤ NO
     → IfSome files (λ files. IfSome written (λ written. IfSome laid (λ laid. IsLaid written laid → CanBeAudited files written → FindsLeast before after second)))
 
--- The first run is one of `write`, which leaves this shelf, and the second one of `audit` over another, which begins with sink
--- and keeper as the first has left them: each of the two is all that the command promises when it runs alone. And the second
--- finds least what the first has written.
+-- The first run is one of `write`, which leaves this shelf. The second is one of `audit` over another shelf, with sink and
+-- keeper as the first has left them. Each of the two is all that the command promises when it runs alone. And the second finds
+-- least what the first has written.
 pub record WritesAndAudits (before : World) (written laid : ShelfState) (after : World) (first second old new : ℕ) : Type 0 where
   pub sink : SinkState
   pub keeper : KeeperState

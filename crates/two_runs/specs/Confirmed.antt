@@ -35,8 +35,8 @@ pub record IsConfirmed (before left later after : World) (second : ℕ) : Type 0
   pub planned : left.sink ≡ put_bytes (answers ++ numbers_line fixed vehicles minutes) before.sink
   pub checked : after.sink ≡ put_bytes (refused ++ yes_line vehicles minutes) later.sink
 
--- It is so where `blocks` did all or refused edits, the check came to its end, both shelves tell their files, and neither of the
--- two files is too long.
+-- It is so where three things hold. `blocks` did all, perhaps with refused edits, and the check came to its end. Both shelves
+-- tell their files. Neither of the two files is too long.
 abbrev pub Confirms : World → World → World → World → ℕ → ℕ → Type 0
 Confirms before left later after first second =
     first ≤ EDITS_REFUSED → second ≤ NO → (files found : Files) → left.shelf.files ≡ Some files → later.shelf.files ≡ Some found → StandAgain files found

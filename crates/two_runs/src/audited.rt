@@ -10,10 +10,10 @@ use std::sync::ledger::Ledger;
 use trip_model::laws::plain_law;
 use written_feed::run_write;
 
-/// `write`, and then `audit` over another shelf. It finds the written blocks least where the written feed is laid on that and can
-/// be audited: the script neither adds nor cancels a trip nor moves a time to 100:00:00 or later, and neither file is too long or
-/// begins with a byte-order mark. That is said where both runs come to their end and both shelves tell their files. It answers
-/// both statuses.
+/// `write`, and then `audit` over another shelf. It finds the written blocks least where the written feed is laid on that shelf
+/// and can be audited. It can where the script adds no trip, cancels none, and moves no time to 100:00:00 or later. Also
+/// neither file may be too long or begin with a byte-order mark. That holds where both runs come to their end and both shelves
+/// tell their files. It answers both statuses.
 pub fn run_write_and_audit<S: Shelf, A: Shelf, O: Sink, K: Keeper, L: Ledger>(
     alloc: Global,
     shelf: &mut S,

@@ -5,13 +5,8 @@
 //! [`run_write_and_audit`] is `write`, and then `audit` over a shelf on which the written feed is laid, which finds the written
 //! blocks least.
 //!
-//! ```text
-//! let (first, second) = run_blocks_and_check(alloc, shelf, out, keeper, steps);
-//! let (first, second) = run_write_and_audit(alloc, shelf, laid, out, keeper, steps);
-//! ```
-//!
-//! The contracts cite `Confirmed` and `Audited`; of `desk_commands` `Blocks`, of `plan_commands` `Check`, of `written_feed`
-//! `Write`, and of `audit_commands` `Audit`.
+//! The contracts cite `Confirmed` and `Audited`. They also cite `Blocks` of `desk_commands`, `Check` of `plan_commands`,
+//! `Write` of `written_feed`, and `Audit` of `audit_commands`.
 #![tactic(auto)]
 
 mod audited;

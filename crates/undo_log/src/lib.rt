@@ -4,20 +4,17 @@
 //! takes the last kept item off and puts what redoes it onto the undone ones, and a redo goes the other way. A push
 //! forgets all that was undone, and where 256 are kept it hands back the oldest.
 //!
-//! ```text
-//! let mut log = Log::open(alloc)?;
-//! let _forgotten = log.push(change);
-//! if let Some(change) = log.take_back() {
-//!     log.put_undone(change);
-//! }
-//! ```
+//! `plan_history` shows a use, in `src/history.rt`.
 //!
-//! The one contract of the layer: each call says what both lists are afterwards and which item it handed back.
-//! [`Log::open`] takes all the memory that a log ever needs, items are moved, and an item that a push forgets from the
-//! undone ones is dropped.
+//! The one contract of the layer: each call says what both lists are afterwards and which item it handed back. [`Log::open`]
+//! takes all the memory that a log ever needs. Items are moved. An item that a push forgets from the undone ones is dropped.
 //!
-//! The contracts cite `Log`: the two lists (`LogView`), their limit (`UNDO_DEPTH`, `IsWithinDepth`, `HasRoom`), what a
-//! push keeps (`latest_items`) and the item that an undo would take (`last_item`).
+//! The contracts cite `Log`:
+//!
+//! - the two lists, `LogView`
+//! - their limit, `UNDO_DEPTH`, `IsWithinDepth` and `HasRoom`
+//! - what a push keeps, `latest_items`
+//! - the item that an undo would take, `last_item`
 #![tactic(auto)]
 
 mod log;

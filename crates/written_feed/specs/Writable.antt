@@ -14,8 +14,8 @@ use Rattle.written_feed.specs.Write.{IsRefusal, files_of, trip_columns, written_
 use Rattle.written_feed.specs.declared.write.Writable.{Writable}
 use Rattle.written_feed.specs.declared.write.Writable.TheVariants.{Texts, Refused}
 
--- two papers may be written where both are tables of texts, the second as the text for a timetable, of which so many slots have
--- records; else the first refusal is told
+-- two papers may be written where both are tables of texts. The second is the text for a timetable whose first so many slots
+-- have records. Else the first refusal is put
 abbrev pub IsWritable : SettingsView → TimetableView → ℕ → Result TableView FeedFault → Result TableView FeedFault → Writable → Type 0
 IsWritable settings timetable base trips stop_times (Texts table text) =
     IsTextPaper (λ first. first ≡ table) trips × IsTextPaper (λ second. text ≡ stop_times_written second timetable base) stop_times

@@ -82,7 +82,7 @@ pub record AreReadAs (said : Said) (trips_bytes stop_times_bytes : List ℕ) (tr
   pub read : base_of said.settings (File trips_bytes) (File stop_times_bytes) ≡ Ok base
   pub slots : base.slots ≡ said.base.slots
 
--- The two written files, read again in the place of these, say the same timetable, with each trip that runs at its minutes after
+-- The two written files, read again in the place of these, have the same timetable. Each trip that runs is at its minutes after
 -- the script. Neither file may begin with a byte-order mark, and no time may be moved to 100:00:00 or later.
 abbrev pub AreReadAgain : Said → TableView → TableView → List (List ℕ) → Type 0
 AreReadAgain said trips stop_times blocks =
@@ -92,8 +92,8 @@ AreReadAgain said trips stop_times blocks =
     → strip_bom (stop_times_of said stop_times) ≡ stop_times_of said stop_times
     → base_of said.settings (File (trips_of said trips blocks)) (File (stop_times_of said stop_times)) ≡ Ok (as_written base (standing said))
 
--- The files are those of the blocks of the plan after the script, and their names begin with a text; they are read again as the
--- feed; and the lines of refused records are put, and then that the files were written.
+-- The files are those of the blocks of the plan after the script, and their names begin with a text. They are read again as the
+-- feed. The lines of refused records are put, and then that the files were written.
 pub record IsWritten (said : Said) (trips stop_times : TableView) (outcome : OutcomeView) : Type 0 where
   pub matrix : MatrixView
   pub matrix_is : IsMatrixFor said matrix
@@ -104,14 +104,14 @@ pub record IsWritten (said : Said) (trips stop_times : TableView) (outcome : Out
   pub again : AreReadAgain said trips stop_times blocks
   pub done : outcome ≡ record { writes = feed_files said trips stop_times blocks; lines = None; text = refused_of said ++ written_line; ending = ending_of said }
 
--- the refusal of a paper is told
+-- the refusal of a paper is put
 pub record IsRefusal (paper : Paper) (columns : List Column) (read : Result TableView FeedFault) (outcome : OutcomeView) : Type 0 where
   pub refused : FeedFault
   pub for : IsRefusedPaper paper columns read refused
   pub done : outcome ≡ refusing refused
 
--- what is done of two papers: the feed is written where both are tables of texts, and else the first refusal is told, that of
--- the trips before that of the stop times
+-- what is done of two papers: the feed is written where both are tables of texts. Else the first refusal is put, that of the
+-- trips before that of the stop times
 abbrev pub WritesBy : Said → Result TableView FeedFault → Result TableView FeedFault → OutcomeView → Type 0
 WritesBy said trips stop_times outcome =
     IsRefusal paper.Trips (trip_columns said.settings) trips outcome

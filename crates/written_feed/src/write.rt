@@ -25,7 +25,7 @@ use std::alloc::Global;
 use std::sync::ledger::Ledger;
 use trip_model::Timetable;
 
-// What is written again of a feed, the table of its trips and the text of its stop times; or what is done where one of the two
+// What is written again of a feed: the table of its trips and the text of its stop times. Or what is done where one of the two
 // papers is refused.
 #[derive(Drop)]
 enum Writable {
@@ -33,7 +33,7 @@ enum Writable {
     Refused(Outcome),
 }
 
-// What is written again of the two papers, for a timetable of which so many slots have records.
+// What is written again of the two papers, for a timetable and the number of its slots that have records.
 fn writable_of(
     alloc: Global,
     settings: &Settings,

@@ -1,4 +1,4 @@
-/** The day as one looks at it: zoom and pan, the bar with the focus, and what is told of it. */
+/** The day as one looks at it: zoom and pan, the bar with the focus, and what is shown of it. */
 
 import { byId } from "./elements.js";
 import { tell } from "./day.js";
@@ -86,7 +86,7 @@ export class Chart {
     return group ? this.vehicles.day.blocks[group.dataset.row].bars[group.dataset.at] : null;
   }
 
-  /** Tells what a bar is, beside its element, where nothing else is told there. */
+  /** Says what a bar is, beside its element, where nothing else is shown there. */
   told(bar, element) {
     if (this.quiet) {
       return;

@@ -1,4 +1,4 @@
-/** What stands around the day: its name, the numbers and the verdict above it, and below it of which run they are. */
+/** What is around the day: its name, the numbers and the verdict above it, and below it the run that gave them. */
 
 import { byId, html } from "./elements.js";
 import { count, grouped, signed } from "./times.js";
@@ -35,7 +35,7 @@ export function showHead(view, before) {
   byId("run").textContent = runWords(view);
 }
 
-/** Of which run the day is, and what a planner should know beside it. */
+/** The run that gave the day, and what a planner should know beside it. */
 function runWords({ made, verdict, script, planners, written }) {
   const words = [
     `blocks and check of ${made}: check says ${verdict.text}`,

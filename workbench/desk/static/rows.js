@@ -1,4 +1,4 @@
-/** Rows over the hours of the day, of which only those in view are drawn. The hours and the names stay while the rows scroll. */
+/** Rows over the hours of the day. Only those in view are drawn. The hours and the names stay while the rows scroll. */
 
 import { html, svg } from "./elements.js";
 import { drawHours } from "./scale.js";

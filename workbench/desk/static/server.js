@@ -5,7 +5,7 @@ export function ask(name) {
   return answerTo(name, { method: "GET" });
 }
 
-/** What the server answers when it is told something under a name. */
+/** What the server answers to a request under a name. */
 export function tellServer(name, body) {
   return answerTo(name, { method: "POST", headers: { "Content-Type": "application/json" }, body: JSON.stringify(body) });
 }
