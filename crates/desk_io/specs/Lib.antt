@@ -1,6 +1,7 @@
 pub mod Calls
 pub mod Faults
 pub mod FolderShelf
+pub mod History
 pub mod MemoryShelf
 pub mod MemorySink
 pub mod OutSink

@@ -1,6 +1,7 @@
 -- What a sink in memory has taken, and which of its puts fail.
 use Rattle.std.specs.Prelude.{ℕ, min, Bool, ◌==◌, ◌||◌, List, length, Some}
 use Rattle.desk_io.specs.Calls.{CallCount, fails_next}
+use Rattle.desk_io.specs.History.{Call}
 use Rattle.desk_io.specs.Sink.{SinkState}
 use Rattle.desk_io.specs.declared.memory_sink.MemorySink.{MemorySink}
 
@@ -18,6 +19,9 @@ room_of sink = sink.room
 
 abbrev pub sink_state_of : MemorySink → SinkState
 sink_state_of sink = record { written = Some sink.taken.items; faults = sink.puts.faults }
+
+abbrev pub sink_history_of : MemorySink → List Call
+sink_history_of sink = sink.history.calls
 
 -- a put takes the least of the chunk, the piece and the room
 abbrev pub taken_by_put : MemorySink → List ℕ → ℕ

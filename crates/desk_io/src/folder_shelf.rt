@@ -1,35 +1,38 @@
 ghost use Rattle.std.specs.Prelude.{◌≡◌, ◌≢◌, IfOk, IfSome, Some};
 ghost use Rattle.desk_io.specs.Shelf.{FitsIn, found_as};
 
-use crate::{Bytes, Found, Shelf, ShelfFault, Text};
+use crate::{Bytes, Found, History, Request, Shelf, ShelfFault, Text};
 use std::alloc::Global;
 use std::io::{ErrorKind, Read, Write};
 use std::path::Path;
 use std::rt::Files;
 use std::{fs, io};
 
-/// A real folder. It tells nothing of its files, and counts its faults.
+/// A real folder. It tells nothing of its files, counts its faults, and tells which calls came.
 #[derive(Drop)]
 pub struct FolderShelf<'a, R: Files> {
     rt: &'a R,
     folder: Text,
     read_faults: u64,
     write_faults: u64,
+    history: History,
 }
 
 impl<'a, R: Files> FolderShelf<'a, R> {
-    ghost use Rattle.std.specs.Prelude.{◌≡◌, None};
-    ghost use Rattle.desk_io.specs.FolderShelf.{folder_state_of};
+    ghost use Rattle.std.specs.Prelude.{◌≡◌, [], None};
+    ghost use Rattle.desk_io.specs.FolderShelf.{folder_history_of, folder_state_of};
 
-    /// The folder at this path. It is not looked at before the first call, and no fault was counted.
+    /// The folder at this path. It is not looked at before the first call. No fault was counted, and no call came.
     pub fn over(rt: &'a R, folder: Text) -> FolderShelf<'a, R>
-        ensures { folder_state_of result ≡ record { files = None; read_faults = 0; write_faults = 0 } }
+        ensures state { folder_state_of result ≡ record { files = None; read_faults = 0; write_faults = 0 } }
+        ensures history { folder_history_of result ≡ [] }
     {
         FolderShelf {
             rt,
             folder,
             read_faults: 0,
             write_faults: 0,
+            history: History::new(),
         }
     }
 }
@@ -55,12 +58,13 @@ impl<'a, R: Files> FolderShelf<'a, R> {
     ghost use Rattle.std.specs.Prelude.{◌≡◌, ◌≢◌, [], None, IfOk, IfErr, OnOk, OnErr, IsOk};
     ghost use Rattle.std.specs.IoError.{error_kind};
     ghost use Rattle.desk_io.specs.Shelf.{ReadFailed, Reads, WriteFailed};
-    ghost use Rattle.desk_io.specs.FolderShelf.{folder_state_of};
+    ghost use Rattle.desk_io.specs.FolderShelf.{folder_history_of, folder_state_of};
 
     // Counts a fault of a read.
     fn read_fault(&mut self) -> ShelfFault
         ensures failed { result ≡ ShelfFault.Failed }
         ensures state { ReadFailed (folder_state_of self.old) (folder_state_of self.new) }
+        ensures history { folder_history_of self.new ≡ folder_history_of self.old }
     {
         self.read_faults = self.read_faults.saturating_add(1);
         ShelfFault::Failed
@@ -70,6 +74,7 @@ impl<'a, R: Files> FolderShelf<'a, R> {
     // want of memory is told as such; every other refusal of the system is counted.
     fn answer_open<I>(&mut self, opened: io::Result<I>) -> Result<Option<I>, ShelfFault>
         ensures state { Reads result (folder_state_of self.old) (folder_state_of self.new) }
+        ensures history { folder_history_of self.new ≡ folder_history_of self.old }
         ensures opened { IfOk opened (λ file. result ≡ Ok (Some file)) }
         ensures missing { IfErr opened (λ error. error_kind error ≡ ErrorKind.NotFound → result ≡ Ok None) }
         ensures memory { IfErr opened (λ error. error_kind error ≡ ErrorKind.OutOfMemory → result ≡ Err ShelfFault.Memory) }
@@ -89,6 +94,7 @@ impl<'a, R: Files> FolderShelf<'a, R> {
     // missing: every refusal but want of memory is counted.
     fn answer_read(&mut self, read: io::Result<Found>) -> Result<Found, ShelfFault>
         ensures state { Reads result (folder_state_of self.old) (folder_state_of self.new) }
+        ensures history { folder_history_of self.new ≡ folder_history_of self.old }
         ensures found { IfOk read (λ found. result ≡ Ok found) }
         ensures only { IfOk result (λ found. read ≡ Ok found) }
         ensures memory { IfErr read (λ error. error_kind error ≡ ErrorKind.OutOfMemory → result ≡ Err ShelfFault.Memory) }
@@ -104,6 +110,7 @@ impl<'a, R: Files> FolderShelf<'a, R> {
     // What a write answers to what the system answered when it was to open the file for writing. Until then the file is as
     // it was, so want of memory is told as such; every other refusal is counted.
     fn answer_create<W>(&mut self, created: io::Result<W>) -> Result<W, ShelfFault>
+        ensures history { folder_history_of self.new ≡ folder_history_of self.old }
         ensures opened { IfOk created (λ file. (result ≡ Ok file) × (folder_state_of self.new ≡ folder_state_of self.old)) }
         ensures memory { IfErr created (λ error. error_kind error ≡ ErrorKind.OutOfMemory → (result ≡ Err ShelfFault.Memory) × (folder_state_of self.new ≡ folder_state_of self.old)) }
         ensures failed { IfErr created (λ error. error_kind error ≢ ErrorKind.OutOfMemory → (result ≡ Err ShelfFault.Failed) × WriteFailed [] (folder_state_of self.old) (folder_state_of self.new)) }
@@ -121,6 +128,7 @@ impl<'a, R: Files> FolderShelf<'a, R> {
     // What a write answers to what the system answered when the file, which it had emptied, was written: every refusal is
     // counted, also want of memory.
     fn answer_write(&mut self, written: &io::Result<()>) -> Result<(), ShelfFault>
+        ensures history { folder_history_of self.new ≡ folder_history_of self.old }
         ensures done { OnOk written.now ((IsOk result) × (folder_state_of self.new ≡ folder_state_of self.old)) }
         ensures failed { OnErr written.now ((result ≡ Err ShelfFault.Failed) × WriteFailed [] (folder_state_of self.old) (folder_state_of self.new)) }
     {
@@ -133,11 +141,14 @@ impl<'a, R: Files> FolderShelf<'a, R> {
 }
 
 impl<'a, R: Files> Shelf for FolderShelf<'a, R> {
-    ghost use Rattle.desk_io.specs.FolderShelf.{folder_state_of};
+    ghost use Rattle.desk_io.specs.FolderShelf.{folder_history_of, folder_state_of};
 
     ghost state = { folder_state_of };
 
+    ghost history = { folder_history_of };
+
     fn read(&mut self, alloc: Global, name: &str, limit: u64) -> Result<Found, ShelfFault> {
+        self.history = self.history.then(&Request::Read(name));
         let Ok(path) = Path::new(self.folder.as_str()).join(alloc, name) else {
             return Err(ShelfFault::Memory);
         };
@@ -148,6 +159,7 @@ impl<'a, R: Files> Shelf for FolderShelf<'a, R> {
     }
 
     fn write(&mut self, alloc: Global, name: &str, bytes: &[u8]) -> Result<(), ShelfFault> {
+        self.history = self.history.then(&Request::Write(name, bytes));
         let Ok(path) = Path::new(self.folder.as_str()).join(alloc, name) else {
             return Err(ShelfFault::Memory);
         };

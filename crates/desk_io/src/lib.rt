@@ -22,10 +22,12 @@
 
 mod calls;
 mod folder_shelf;
+mod history;
 mod memory;
 mod memory_shelf;
 mod memory_sink;
 mod out_sink;
+mod request;
 mod shelf;
 mod sink;
 mod steps;
@@ -33,10 +35,12 @@ mod text;
 
 pub use calls::Calls;
 pub use folder_shelf::FolderShelf;
+pub use history::History;
 pub use memory::Memory;
 pub use memory_shelf::MemoryShelf;
 pub use memory_sink::MemorySink;
 pub use out_sink::OutSink;
+pub use request::Request;
 pub use shelf::{Found, Shelf, ShelfFault};
 pub use sink::{Sink, SinkFault, put_all};
 pub use steps::Steps;

@@ -1,10 +1,10 @@
-ghost use Rattle.std.specs.Prelude.{◌≡◌, ◌↔◌, not, true, IfOk, OnOk, OnErr, IsErrOf, Some, Err, option_map};
+ghost use Rattle.std.specs.Prelude.{◌≡◌, ◌↔◌, [], not, true, IfOk, OnOk, OnErr, IsErrOf, Some, Err, option_map};
 ghost use Rattle.std.specs.FinMap.{empty, get};
 ghost use Rattle.desk_io.specs.Shelf.{FitsIn, Tells, Reads, Writes, with_file};
 ghost use Rattle.desk_io.specs.Calls.{calls_at_first, after_call, after_fault, fails_next};
 
 use crate::calls::Calls;
-use crate::{Bytes, Found, Memory, Shelf, ShelfFault, Text};
+use crate::{Bytes, Found, History, Memory, Request, Shelf, ShelfFault, Text};
 use std::alloc::Global;
 use std::collections::VecDeque;
 
@@ -15,21 +15,24 @@ pub struct MemoryShelf {
     log: VecDeque<(Text, Bytes)>,
     reads: Calls,
     writes: Calls,
+    history: History,
 }
 
 impl MemoryShelf {
-    ghost use Rattle.desk_io.specs.MemoryShelf.{files_of, reads_of, writes_of, shelf_state_of};
+    ghost use Rattle.desk_io.specs.MemoryShelf.{files_of, reads_of, writes_of, shelf_history_of, shelf_state_of};
 
     /// An empty shelf. The lists name the reads and the writes, each counted from 1, that fail.
     pub fn open(alloc: Global, read_fails: Vec<u32>, write_fails: Vec<u32>) -> MemoryShelf
         ensures files { files_of result ≡ empty }
         ensures reads { reads_of result ≡ calls_at_first read_fails.items }
         ensures writes { writes_of result ≡ calls_at_first write_fails.items }
+        ensures history { shelf_history_of result ≡ [] }
     {
         MemoryShelf {
             log: VecDeque::new(alloc),
             reads: Calls::new(read_fails),
             writes: Calls::new(write_fails),
+            history: History::new(),
         }
     }
 
@@ -39,6 +42,7 @@ impl MemoryShelf {
         ensures err { OnErr result (shelf_state_of self.new ≡ shelf_state_of self.old) }
         ensures reads { reads_of self.new ≡ reads_of self.old }
         ensures writes { writes_of self.new ≡ writes_of self.old }
+        ensures history { shelf_history_of self.new ≡ shelf_history_of self.old }
     {
         let name = Text::of(alloc, name)?;
         let bytes = Bytes::of(alloc, bytes)?;
@@ -60,18 +64,22 @@ impl MemoryShelf {
 }
 
 impl Shelf for MemoryShelf {
-    ghost use Rattle.std.specs.Prelude.{◌≡◌, ◌↔◌, true, false, IfOk, OnOk, Err};
+    ghost use Rattle.std.specs.Prelude.{◌≡◌, ◌↔◌, [], ◌∷◌, ◌++◌, true, false, IfOk, OnOk, Err};
     ghost use Rattle.std.specs.FinMap.{insert};
+    ghost use Rattle.desk_io.specs.History.{Read, Write};
     ghost use Rattle.desk_io.specs.Shelf.{FitsIn, Tells, Reads, Writes, with_file};
     ghost use Rattle.desk_io.specs.Calls.{after_call, after_fault, fails_next};
-    ghost use Rattle.desk_io.specs.MemoryShelf.{files_of, reads_of, writes_of, shelf_state_of, first_half};
+    ghost use Rattle.desk_io.specs.MemoryShelf.{files_of, reads_of, writes_of, shelf_history_of, shelf_state_of, first_half};
 
     ghost state = { shelf_state_of };
+
+    ghost history = { shelf_history_of };
 
     fn read(&mut self, alloc: Global, name: &str, limit: u64) -> Result<Found, ShelfFault>
         ensures bound { IfOk result (FitsIn limit) }
         ensures found { IfOk result (Tells (shelf_state_of self.old).files name.now limit) }
         ensures state { Reads result (shelf_state_of self.old) (shelf_state_of self.new) }
+        ensures noted { shelf_history_of self.new ≡ shelf_history_of self.old ++ Read name.now ∷ [] }
         // It fails exactly at the listed calls.
         ensures fails { (result ≡ Err ShelfFault.Failed) ↔ (fails_next (reads_of self.old) ≡ true) }
         ensures counted { (reads_of self.new).made ≡ (after_call (reads_of self.old)).made }
@@ -79,6 +87,7 @@ impl Shelf for MemoryShelf {
         ensures once { result ≡ Err ShelfFault.Failed → reads_of self.new ≡ after_fault (after_call (reads_of self.old)) }
         ensures writes { writes_of self.new ≡ writes_of self.old }
     {
+        self.history = self.history.then(&Request::Read(name));
         if self.reads.enter() {
             self.reads.fault();
             return Err(ShelfFault::Failed);
@@ -94,6 +103,7 @@ impl Shelf for MemoryShelf {
 
     fn write(&mut self, alloc: Global, name: &str, bytes: &[u8]) -> Result<(), ShelfFault>
         ensures writes { Writes name.now bytes.now result (shelf_state_of self.old) (shelf_state_of self.new) }
+        ensures noted { shelf_history_of self.new ≡ shelf_history_of self.old ++ Write name.now bytes.now ∷ [] }
         // It fails at the listed calls alone, and at no other.
         ensures fails { result ≡ Err ShelfFault.Failed → fails_next (writes_of self.old) ≡ true }
         ensures succeeds { OnOk result (fails_next (writes_of self.old) ≡ false) }
@@ -104,6 +114,7 @@ impl Shelf for MemoryShelf {
         ensures once { result ≡ Err ShelfFault.Failed → writes_of self.new ≡ after_fault (after_call (writes_of self.old)) }
         ensures reads { reads_of self.new ≡ reads_of self.old }
     {
+        self.history = self.history.then(&Request::Write(name, bytes));
         let fails = self.writes.enter();
         let kept = if fails {
             &bytes[..bytes.len() / 2]

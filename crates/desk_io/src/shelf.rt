@@ -1,4 +1,5 @@
-ghost use Rattle.std.specs.Prelude.{◌≡◌, IfOk};
+ghost use Rattle.std.specs.Prelude.{◌≡◌, List, [], ◌∷◌, ◌++◌, IfOk};
+ghost use Rattle.desk_io.specs.History.{Call, Read, Write};
 ghost use Rattle.desk_io.specs.Shelf.{ShelfState, Tells, FitsIn, Reads, Writes};
 
 use crate::{Bytes, Memory};
@@ -43,6 +44,9 @@ pub trait Shelf {
     /// What it holds, where it tells that, and how many reads and writes have failed.
     ghost state: { Self → ShelfState };
 
+    /// The calls that came to it, in their order.
+    ghost history: { Self → List Call };
+
     /// Reads a file of at most `limit` bytes. The files stay as they are.
     fn read(&mut self, alloc: Global, name: &str, limit: u64) -> Result<Found, ShelfFault>
         // No file is longer than was asked for, on every shelf.
@@ -50,9 +54,12 @@ pub trait Shelf {
         // Where the files are told, the answer is exactly what stands under the name.
         ensures found { IfOk result (Tells (state self.old).files name.now limit) }
         // A fault is counted, and every other answer leaves the shelf as it was.
-        ensures state { Reads result (state self.old) (state self.new) };
+        ensures state { Reads result (state self.old) (state self.new) }
+        // The call is noted, whatever is answered.
+        ensures noted { history self.new ≡ history self.old ++ Read name.now ∷ [] };
 
     /// Writes a file whole, in the place of one of that name.
     fn write(&mut self, alloc: Global, name: &str, bytes: &[u8]) -> Result<(), ShelfFault>
-        ensures { Writes name.now bytes.now result (state self.old) (state self.new) };
+        ensures writes { Writes name.now bytes.now result (state self.old) (state self.new) }
+        ensures noted { history self.new ≡ history self.old ++ Write name.now bytes.now ∷ [] };
 }

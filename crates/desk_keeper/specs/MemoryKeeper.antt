@@ -1,6 +1,7 @@
 -- What a keeper in memory holds, and which of its calls fail.
-use Rattle.std.specs.Prelude.{Some}
+use Rattle.std.specs.Prelude.{List, Some}
 use Rattle.desk_io.specs.Calls.{CallCount}
+use Rattle.desk_io.specs.History.{Call}
 use Rattle.desk_keeper.specs.Keeper.{Journal, KeeperState}
 use Rattle.desk_keeper.specs.declared.memory_keeper.MemoryKeeper.{MemoryKeeper}
 
@@ -13,3 +14,6 @@ calls_of keeper = keeper.calls
 
 abbrev pub keeper_state_of : MemoryKeeper → KeeperState
 keeper_state_of keeper = record { journal = Some (journal_of keeper); faults = keeper.calls.faults }
+
+abbrev pub keeper_history_of : MemoryKeeper → List Call
+keeper_history_of keeper = keeper.history.calls

@@ -1,4 +1,5 @@
-ghost use Rattle.std.specs.Prelude.{◌≡◌, ◌≢◌, ◌≤◌, length, IfOk, Err};
+ghost use Rattle.std.specs.Prelude.{◌≡◌, ◌≢◌, ◌≤◌, List, [], ◌∷◌, ◌++◌, length, IfOk, Err};
+ghost use Rattle.desk_io.specs.History.{Append, Call, Load};
 ghost use Rattle.desk_keeper.specs.Keeper.{KeeperState, Tells, Loads, Appends};
 
 use crate::Lines;
@@ -36,6 +37,9 @@ pub trait Keeper {
     /// The journal, where it tells that, and how many calls have failed.
     ghost state: { Self → KeeperState };
 
+    /// The calls that came to it, in their order.
+    ghost history: { Self → List Call };
+
     /// The lines of the journal, at most `limit`. The journal stays as it is.
     fn load(&mut self, alloc: Global, limit: u32) -> Result<Lines, KeeperFault>
         // No more lines than were asked for, of every keeper.
@@ -43,11 +47,14 @@ pub trait Keeper {
         // Where the keeper tells its journal, the answer is exactly that, or that it has too many lines.
         ensures found { Tells (state self.old).journal limit result }
         // A fault is counted, and every other answer leaves the keeper as it was.
-        ensures state { Loads result (state self.old) (state self.new) };
+        ensures state { Loads result (state self.old) (state self.new) }
+        // The call is noted, whatever is answered.
+        ensures noted { history self.new ≡ history self.old ++ Load ∷ [] };
 
     /// Appends all lines in their order, or none of them.
     fn append_all(&mut self, alloc: Global, lines: &[Text]) -> Result<(), KeeperFault>
         ensures appends { Appends lines.now result (state self.old) (state self.new) }
         // No number of lines is too great.
-        ensures fits { result ≢ Err KeeperFault.TooLong };
+        ensures fits { result ≢ Err KeeperFault.TooLong }
+        ensures noted { history self.new ≡ history self.old ++ Append lines.now ∷ [] };
 }

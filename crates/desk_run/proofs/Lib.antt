@@ -1,2 +1,4 @@
 pub mod Carried
 pub mod EachStatus
+pub mod InOrder
+pub mod OneByOne

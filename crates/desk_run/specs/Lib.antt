@@ -1,7 +1,9 @@
 pub mod Becomes
 pub mod Causes
 pub mod Commands
+pub mod Order
 pub mod Outcome
+pub mod Outside
 pub mod Performs
 pub mod Reading
 pub mod Runs

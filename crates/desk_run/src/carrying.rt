@@ -1,5 +1,10 @@
+ghost use Rattle.std.specs.Prelude.{◌≡◌, [], ◌∷◌, ◌++◌};
+ghost use Rattle.desk_io.specs.History as history;
+ghost use Rattle.desk_io.specs.History.{Come};
 ghost use Rattle.desk_io.specs.Shelf.{Writes};
 ghost use Rattle.desk_run.specs.Becomes.{AppendsSome, Becomes, WritesAll};
+ghost use Rattle.desk_run.specs.Order.{CallsToCarry, append_of, writes_of};
+ghost use Rattle.desk_run.specs.Outside.{histories};
 ghost use Rattle.desk_run.specs.World.{world};
 
 use crate::fault::RunFault;
@@ -10,14 +15,16 @@ use std::alloc::Global;
 
 // Writes one file.
 fn write_one<S: Shelf>(alloc: Global, shelf: &mut S, writing: &Writing) -> Result<(), ShelfFault>
-    ensures { Writes writing.now.name writing.now.bytes result (S.state shelf.old) (S.state shelf.new) }
+    ensures writes { Writes writing.now.name writing.now.bytes result (S.state shelf.old) (S.state shelf.new) }
+    ensures noted { S.history shelf.new ≡ S.history shelf.old ++ history.Write writing.now.name writing.now.bytes ∷ [] }
 {
     shelf.write(alloc, writing.name.as_str(), writing.bytes.as_slice())
 }
 
 // Writes the files in their order, up to the first that is refused.
 fn write_all<S: Shelf>(alloc: Global, shelf: &mut S, writes: &[Writing]) -> Result<(), RunFault>
-    ensures { WritesAll writes.now result (S.state shelf.old) (S.state shelf.new) }
+    ensures writes { WritesAll writes.now result (S.state shelf.old) (S.state shelf.new) }
+    ensures come { Come (writes_of writes.now) result (S.history shelf.old) (S.history shelf.new) }
 {
     for writing in writes {
         match write_one(alloc, shelf, writing) {
@@ -31,7 +38,8 @@ fn write_all<S: Shelf>(alloc: Global, shelf: &mut S, writes: &[Writing]) -> Resu
 
 // Appends the lines, where there are any to append.
 fn append<K: Keeper>(alloc: Global, keeper: &mut K, lines: &Option<Lines>) -> Result<(), RunFault>
-    ensures { AppendsSome lines.now result (K.state keeper.old) (K.state keeper.new) }
+    ensures appends { AppendsSome lines.now result (K.state keeper.old) (K.state keeper.new) }
+    ensures come { Come (append_of lines.now) result (K.history keeper.old) (K.history keeper.new) }
 {
     let Some(lines) = lines else {
         return Ok(());
@@ -53,8 +61,10 @@ pub fn carry_out<S: Shelf, O: Sink, K: Keeper>(
     out: &mut O,
     keeper: &mut K,
 ) -> Result<u8, RunFault>
-    ensures { let at = world S.state O.state K.state in
+    ensures becomes { let at = world S.state O.state K.state in
         Becomes outcome.now result (at shelf.old out.old keeper.old) (at shelf.new out.new keeper.new) }
+    ensures calls { let at = histories S.history O.history K.history in
+        CallsToCarry outcome.now result (at shelf.old out.old keeper.old) (at shelf.new out.new keeper.new) }
 {
     write_all(alloc, shelf, &outcome.writes)?;
     append(alloc, keeper, &outcome.lines)?;

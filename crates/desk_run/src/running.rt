@@ -1,6 +1,7 @@
+ghost use Rattle.desk_run.specs.Order.{IsInOrder, status_by};
+ghost use Rattle.desk_run.specs.Outside.{outside};
 ghost use Rattle.desk_run.specs.Performs.{Performs};
 ghost use Rattle.desk_run.specs.Runs.{Attempts, Follows, RunsAs};
-ghost use Rattle.desk_run.specs.World.{world};
 
 use crate::carrying::carry_out;
 use crate::command::Command;
@@ -21,8 +22,9 @@ fn attempt<C: Command, S: Shelf, O: Sink, K: Keeper, L: Ledger>(
     keeper: &mut K,
     steps: &mut Steps<L>,
 ) -> Result<u8, RunFault>
-    ensures { let at = world S.state O.state K.state in let before = at shelf.old out.old keeper.old in
-        Follows (C.asked command.now) before (λ found. Attempts (C.asked command.now) found result before (at shelf.new out.new keeper.new)) steps.old steps.new }
+    ensures { let at = outside S.state S.history O.state O.history K.state K.history in let before = at shelf.old out.old keeper.old in let after = at shelf.new out.new keeper.new in
+        Follows (C.asked command.now) before.world
+        (λ found. Attempts (C.asked command.now) found result before.world after.world × IsInOrder (C.asked command.now) found before.world (status_by result) before.calls after.calls) steps.old steps.new }
 {
     let pages = read_papers(alloc, shelf, command.papers())?;
     let journal = load(alloc, keeper, command.keeps())?;
@@ -40,8 +42,9 @@ fn answered<C: Command, S: Shelf, O: Sink, K: Keeper, L: Ledger>(
     keeper: &mut K,
     steps: &mut Steps<L>,
 ) -> u8
-    ensures { let at = world S.state O.state K.state in let before = at shelf.old out.old keeper.old in
-        Follows (C.asked command.now) before (λ found. RunsAs (C.asked command.now) found before (at shelf.new out.new keeper.new) result) steps.old steps.new }
+    ensures { let at = outside S.state S.history O.state O.history K.state K.history in let before = at shelf.old out.old keeper.old in let after = at shelf.new out.new keeper.new in
+        Follows (C.asked command.now) before.world
+        (λ found. RunsAs (C.asked command.now) found before.world after.world result × IsInOrder (C.asked command.now) found before.world result before.calls after.calls) steps.old steps.new }
 {
     match attempt(command, alloc, shelf, out, keeper, steps) {
         Ok(status) => status,
@@ -61,7 +64,7 @@ pub fn perform<C: Command, S: Shelf, O: Sink, K: Keeper, L: Ledger>(
     keeper: &mut K,
     steps: &mut Steps<L>,
 ) -> u8
-    ensures { let at = world S.state O.state K.state in
+    ensures { let at = outside S.state S.history O.state O.history K.state K.history in
         Performs (C.asked command.now) (at shelf.old out.old keeper.old) (at shelf.new out.new keeper.new) result steps.old steps.new }
 {
     answered(command, alloc, shelf, out, keeper, steps)

@@ -1,5 +1,6 @@
 -- What a keeper over a database is seen as, and what it answers to an error of the database.
-use Rattle.std.specs.Prelude.{None}
+use Rattle.std.specs.Prelude.{List, None}
+use Rattle.desk_io.specs.History.{Call}
 use Rattle.desk_keeper.specs.Keeper.{KeeperState}
 use Rattle.desk_keeper.specs.declared.keeper.KeeperFault.{KeeperFault}
 use Rattle.desk_keeper.specs.declared.keeper.KeeperFault.TheVariants as fault
@@ -9,9 +10,12 @@ use Rattle.sqlite.specs.declared.error.ErrorCode.TheVariants as code
 use Rattle.sqlite_resolve.specs.declared.error.CompileError.TheVariants as compile
 use Rattle.sqlite_keeper.specs.declared.sqlite_keeper.SqliteKeeper.{SqliteKeeper}
 
--- it tells nothing of its journal, and counts its faults
+-- it tells nothing of its journal, counts its faults, and tells which calls came
 abbrev pub keeper_state_of : SqliteKeeper → KeeperState
 keeper_state_of keeper = record { journal = None; faults = keeper.faults }
+
+abbrev pub keeper_history_of : SqliteKeeper → List Call
+keeper_history_of keeper = keeper.history.calls
 
 -- why a call does nothing at an error of the database: a statement, or what it did, found no memory; or the call failed
 abbrev pub refusal_of : Error → KeeperFault

@@ -1,13 +1,14 @@
 ghost use Rattle.std.specs.Prelude.{◌≡◌, ◌+◌, length, nat_le, if◌then◌else◌, pos, Ok, Err};
 
 use crate::database::Database;
-use desk_io::Text;
+use desk_io::{History, Request, Text};
 use desk_keeper::{Keeper, KeeperFault, Lines};
 use sqlite::{Error, ErrorCode};
 use sqlite_resolve::CompileError;
 use std::alloc::Global;
 
-/// A keeper over the file `journal.db` in a folder. It tells nothing of its journal, and counts its faults.
+/// A keeper over the file `journal.db` in a folder. It tells nothing of its journal, counts its faults, and
+/// tells which calls came.
 #[derive(Drop)]
 pub struct SqliteKeeper<'a> {
     rt: &'a HostRuntime,
@@ -15,28 +16,32 @@ pub struct SqliteKeeper<'a> {
     // None before the first call, and after a call that failed.
     database: Option<Database>,
     faults: u64,
+    history: History,
 }
 
 impl<'a> SqliteKeeper<'a> {
-    ghost use Rattle.std.specs.Prelude.{◌≡◌, length, nat_le, if◌then◌else◌, None, Ok, Err, IfOk, IfErr};
+    ghost use Rattle.std.specs.Prelude.{◌≡◌, [], length, nat_le, if◌then◌else◌, None, Ok, Err, IfOk, IfErr};
     ghost use Rattle.desk_keeper.specs.Keeper.{Loads};
-    ghost use Rattle.sqlite_keeper.specs.SqliteKeeper.{keeper_state_of, refusal_of};
+    ghost use Rattle.sqlite_keeper.specs.SqliteKeeper.{keeper_history_of, keeper_state_of, refusal_of};
 
-    /// The journal in this folder. The file is not opened before the first call, and no fault was counted.
+    /// The journal in this folder. The file is not opened before the first call. No fault was counted, and no call came.
     pub fn over(rt: &'a HostRuntime, folder: Text) -> SqliteKeeper<'a>
-        ensures { keeper_state_of result ≡ record { journal = None; faults = 0 } }
+        ensures state { keeper_state_of result ≡ record { journal = None; faults = 0 } }
+        ensures history { keeper_history_of result ≡ [] }
     {
         SqliteKeeper {
             rt,
             folder,
             database: None,
             faults: 0,
+            history: History::new(),
         }
     }
 
     // The database, opened where it is not open yet. It is put back once a call has succeeded.
     fn open(&mut self) -> Result<Database, Error>
-        ensures { keeper_state_of self.new ≡ keeper_state_of self.old }
+        ensures state { keeper_state_of self.new ≡ keeper_state_of self.old }
+        ensures history { keeper_history_of self.new ≡ keeper_history_of self.old }
     {
         match self.database.take() {
             Some(database) => Ok(database),
@@ -45,7 +50,8 @@ impl<'a> SqliteKeeper<'a> {
     }
 
     fn first_lines(&mut self, alloc: Global, most: i64) -> Result<Vec<Text>, Error>
-        ensures { keeper_state_of self.new ≡ keeper_state_of self.old }
+        ensures state { keeper_state_of self.new ≡ keeper_state_of self.old }
+        ensures history { keeper_history_of self.new ≡ keeper_history_of self.old }
     {
         let mut database = self.open()?;
         let lines = database.first_lines(alloc, most)?;
@@ -54,7 +60,8 @@ impl<'a> SqliteKeeper<'a> {
     }
 
     fn append(&mut self, lines: &[Text]) -> Result<(), Error>
-        ensures { keeper_state_of self.new ≡ keeper_state_of self.old }
+        ensures state { keeper_state_of self.new ≡ keeper_state_of self.old }
+        ensures history { keeper_history_of self.new ≡ keeper_history_of self.old }
     {
         let mut database = self.open()?;
         database.append(lines)?;
@@ -68,6 +75,7 @@ impl<'a> SqliteKeeper<'a> {
         ensures done { IfOk answered (λ value. result ≡ Ok value) }
         ensures refused { IfErr answered (λ error. result ≡ Err (refusal_of error)) }
         ensures state { Loads result (keeper_state_of self.old) (keeper_state_of self.new) }
+        ensures history { keeper_history_of self.new ≡ keeper_history_of self.old }
     {
         match answered {
             Ok(value) => Ok(value),
@@ -91,6 +99,7 @@ impl<'a> SqliteKeeper<'a> {
         ensures found { IfOk found (λ lines. result ≡ (if nat_le (length lines.items) limit then Ok lines.items else Err KeeperFault.TooLong)) }
         ensures refused { IfErr found (λ error. result ≡ Err (refusal_of error)) }
         ensures state { Loads result (keeper_state_of self.old) (keeper_state_of self.new) }
+        ensures history { keeper_history_of self.new ≡ keeper_history_of self.old }
     {
         within(self.answer(found)?, limit)
     }
@@ -114,16 +123,20 @@ fn asked(limit: u32) -> i64
 }
 
 impl<'a> Keeper for SqliteKeeper<'a> {
-    ghost use Rattle.sqlite_keeper.specs.SqliteKeeper.{keeper_state_of};
+    ghost use Rattle.sqlite_keeper.specs.SqliteKeeper.{keeper_history_of, keeper_state_of};
 
     ghost state = { keeper_state_of };
 
+    ghost history = { keeper_history_of };
+
     fn load(&mut self, alloc: Global, limit: u32) -> Result<Lines, KeeperFault> {
+        self.history = self.history.then(&Request::Load);
         let found = self.first_lines(alloc, asked(limit));
         self.answer_load(found, limit)
     }
 
     fn append_all(&mut self, _: Global, lines: &[Text]) -> Result<(), KeeperFault> {
+        self.history = self.history.then(&Request::Append(lines));
         let appended = self.append(lines);
         self.answer(appended)
     }

@@ -1,4 +1,5 @@
-use Rattle.std.proofs.Common.{◌≡◌, take}
+use Rattle.std.proofs.Common.{◌≡◌, ◌++◌, take}
+use Rattle.desk_run.specs.Order.{reads_of}
 use Rattle.desk_run.specs.Reading.{AreRead}
 use Rattle.desk_run.proofs.reading.read_papers.Given as goal
 
@@ -6,4 +7,5 @@ abbrev pub invariant-loop-paper : goal.invariant-loop-paper
 invariant-loop-paper g l = record {
   read : AreRead (g.S.Shelf.state l.fn.shelf).files (take l.paper-index l.papers) l.pages.items;
   shelf : g.S.Shelf.state l.shelf ≡ g.S.Shelf.state l.fn.shelf;
+  noted : g.S.Shelf.history l.shelf ≡ g.S.Shelf.history l.fn.shelf ++ reads_of (take l.paper-index l.papers);
 }

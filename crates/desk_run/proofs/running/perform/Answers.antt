@@ -5,8 +5,9 @@ pub returns : goal.returns
 returns g c = record {
   found = c.answered.ensures.found;
   told = c.answered.ensures.told;
-  run = c.answered.ensures.does;
-  cause = has_cause _ _ _ _ _ c.answered.ensures.does;
-  complete = is_complete _ _ _ _ _ c.answered.ensures.does;
+  run = c.answered.ensures.does.0;
+  order = c.answered.ensures.does.1;
+  cause = has_cause _ _ _ _ _ c.answered.ensures.does.0;
+  complete = is_complete _ _ _ _ _ c.answered.ensures.does.0;
   counted = c.answered.ensures.counted;
 }

@@ -1,0 +1,217 @@
+-- The calls of a run, in their order, from the calls of its parts.
+use Rattle.std.proofs.Common.{◌≡◌, inl, inr, ℕ, ◌<◌, ◌≤◌, Bool, true, false, List, [], ◌∷◌, ◌++◌, length, drop, Option, None, Some, Result, Ok, Err, refl, sym, ap, subst, ◌∙◌, append_assoc, arith}
+use Rattle.std.proofs.lemmas.List.{append-nil, drop_all}
+use Rattle.std.proofs.lemmas.List.Sums.{fold-append}
+use Rattle.desk_io.specs.History.{Call, Read, Write, Put, Load, Append, ComeFirst}
+use Rattle.desk_io.specs.Sink.{ArePuts, PutsCome}
+use Rattle.desk_keeper.specs.Keeper.{Journal}
+use Rattle.gtfs_tables.specs.declared.paper.Paper.{Paper}
+use Rattle.desk_run.specs.Becomes.{Becomes}
+use Rattle.desk_run.specs.Commands.{Asked, Chosen}
+use Rattle.desk_run.specs.Order.{CallsToCarry, CarriesInOrder, IsInOrder, MakesFirst, append_of, carrying, load_of, reading, reads_of, status_by, with_call, with_calls, writes_of}
+use Rattle.desk_run.specs.Outcome.{OutcomeView}
+use Rattle.desk_run.specs.Outside.{Histories}
+use Rattle.desk_run.specs.Reading.{ReadView}
+use Rattle.desk_run.specs.World.{World}
+use Rattle.desk_run.specs.declared.fault.RunFault.{RunFault}
+use Rattle.desk_run.specs.declared.fault.RunFault.TheVariants as run_fault
+use Rattle.desk_run.specs.declared.outcome.Writing.{Writing}
+use Rattle.desk_run.specs.declared.status.TheConstants.{NO}
+
+-- a fact of each of some calls
+abbrev Each : (Call → Type 0) → List Call → Type 0
+Each P [] = Unit {0}
+Each P (call ∷ calls) = P call × Each P calls
+
+each_first : (P : Call → Type 0) (made left : List Call) → Each P (made ++ left) → Each P made
+each_first P [] left each = tt
+each_first P (call ∷ made) left (here, each) = (here, each_first P made left each)
+
+-- a call is one for the shelf, for the sink, or for the keeper
+abbrev ForShelf : Call → Type 0
+ForShelf call = (h : Histories) → with_call h call ≡ record h { shelf = h.shelf ++ call ∷ [] }
+
+abbrev ForSink : Call → Type 0
+ForSink call = (h : Histories) → with_call h call ≡ record h { sink = h.sink ++ call ∷ [] }
+
+abbrev ForKeeper : Call → Type 0
+ForKeeper call = (h : Histories) → with_call h call ≡ record h { keeper = h.keeper ++ call ∷ [] }
+
+on_shelf : (h : Histories) (calls : List Call) → Each ForShelf calls → with_calls h calls ≡ record h { shelf = h.shelf ++ calls }
+on_shelf h [] each = ap (λ calls. record h { shelf = calls }) (sym (append-nil h.shelf))
+on_shelf h (call ∷ calls) (here, each) =
+    ap (λ now. with_calls now calls) (here h) ∙ on_shelf (record h { shelf = h.shelf ++ call ∷ [] }) calls each
+    ∙ ap (λ calls. record h { shelf = calls }) (append_assoc h.shelf (call ∷ []) calls)
+
+on_sink : (h : Histories) (calls : List Call) → Each ForSink calls → with_calls h calls ≡ record h { sink = h.sink ++ calls }
+on_sink h [] each = ap (λ calls. record h { sink = calls }) (sym (append-nil h.sink))
+on_sink h (call ∷ calls) (here, each) =
+    ap (λ now. with_calls now calls) (here h) ∙ on_sink (record h { sink = h.sink ++ call ∷ [] }) calls each
+    ∙ ap (λ calls. record h { sink = calls }) (append_assoc h.sink (call ∷ []) calls)
+
+on_keeper : (h : Histories) (calls : List Call) → Each ForKeeper calls → with_calls h calls ≡ record h { keeper = h.keeper ++ calls }
+on_keeper h [] each = ap (λ calls. record h { keeper = calls }) (sym (append-nil h.keeper))
+on_keeper h (call ∷ calls) (here, each) =
+    ap (λ now. with_calls now calls) (here h) ∙ on_keeper (record h { keeper = h.keeper ++ call ∷ [] }) calls each
+    ∙ ap (λ calls. record h { keeper = calls }) (append_assoc h.keeper (call ∷ []) calls)
+
+each_read : (papers : List Paper) → Each ForShelf (reads_of papers)
+each_read [] = tt
+each_read (paper ∷ papers) = (λ h. refl, each_read papers)
+
+each_load : (keeps : Bool) → Each ForKeeper (load_of keeps)
+each_load false = tt
+each_load true = (λ h. refl, tt)
+
+each_write : (writes : List Writing) → Each ForShelf (writes_of writes)
+each_write [] = tt
+each_write (writing ∷ writes) = (λ h. refl, each_write writes)
+
+each_append : (lines : Option Journal) → Each ForKeeper (append_of lines)
+each_append None = tt
+each_append (Some lines) = (λ h. refl, tt)
+
+each_put : (text left : List ℕ) (calls : List Call) → ArePuts text left calls → Each ForSink calls
+each_put text left [] are = tt
+each_put text left (call ∷ calls) (is, count, some, are) = (subst ForSink (sym is) (λ h. refl), each_put (drop count text) left calls are)
+
+-- puts of a text that none came of
+pub record SomePuts (text : List ℕ) : Type 0 where
+  pub puts : List Call
+  pub are : ArePuts text [] puts
+
+some_puts : (text : List ℕ) → SomePuts text
+some_puts [] = record { puts = []; are = refl }
+some_puts (byte ∷ bytes) = record {
+  puts = Put (byte ∷ bytes) ∷ [];
+  are = (refl, length (byte ∷ bytes), omega arith, sym (drop_all (length (byte ∷ bytes)) (byte ∷ bytes) (omega arith)));
+}
+
+-- all of some calls came
+all_first : (calls before after : List Call) → after ≡ before ++ calls → ComeFirst calls before after
+all_first calls before after came = record { made = calls; left = []; order = sym (append-nil calls); came = came }
+
+-- the first ones of some calls, before others that were not made
+module _ (h : Histories) (calls rest : List Call) where
+  first_on_shelf : (now : List Call) → Each ForShelf calls → ComeFirst calls h.shelf now → MakesFirst (calls ++ rest) h (record h { shelf = now })
+  first_on_shelf now each come = record {
+    made = come.made;
+    left = come.left ++ rest;
+    order = ap (λ calls. calls ++ rest) come.order ∙ append_assoc come.made come.left rest;
+    noted = ap (λ calls. record h { shelf = calls }) come.came ∙ sym (on_shelf h come.made (each_first ForShelf come.made come.left (subst (Each ForShelf) come.order each)));
+  }
+
+  first_on_keeper : (now : List Call) → Each ForKeeper calls → ComeFirst calls h.keeper now → MakesFirst (calls ++ rest) h (record h { keeper = now })
+  first_on_keeper now each come = record {
+    made = come.made;
+    left = come.left ++ rest;
+    order = ap (λ calls. calls ++ rest) come.order ∙ append_assoc come.made come.left rest;
+    noted = ap (λ calls. record h { keeper = calls }) come.came ∙ sym (on_keeper h come.made (each_first ForKeeper come.made come.left (subst (Each ForKeeper) come.order each)));
+  }
+
+first_on_sink : (h : Histories) (calls now : List Call) → Each ForSink calls → ComeFirst calls h.sink now → MakesFirst calls h (record h { sink = now })
+first_on_sink h calls now each come = record {
+  made = come.made;
+  left = come.left;
+  order = come.order;
+  noted = ap (λ calls. record h { sink = calls }) come.came ∙ sym (on_sink h come.made (each_first ForSink come.made come.left (subst (Each ForSink) come.order each)));
+}
+
+-- some calls, and then the first ones of others
+then_first : (h mid after : Histories) (calls others : List Call) → mid ≡ with_calls h calls → MakesFirst others mid after → MakesFirst (calls ++ others) h after
+then_first h mid after calls others all first = record {
+  made = calls ++ first.made;
+  left = first.left;
+  order = ap (λ others. calls ++ others) first.order ∙ sym (append_assoc calls first.made first.left);
+  noted = first.noted ∙ ap (λ mid. with_calls mid first.made) all ∙ sym (fold-append with_call h calls first.made);
+}
+
+-- where an outcome was carried out in part, and where it was carried out whole
+module _ (outcome : OutcomeView) (h : Histories) where
+  pub ends_at_file : {T E : Type 0} (fault : E) (shelf : List Call) → ComeFirst (writes_of outcome.writes) h.shelf shelf → CallsToCarry {T = T} outcome (Err fault) h (record h { shelf = shelf })
+  ends_at_file fault shelf come =
+      let text = some_puts outcome.text in
+      record { puts = text.puts; are = text.are; first = first_on_shelf h (writes_of outcome.writes) (append_of outcome.lines ++ text.puts) shelf (each_write outcome.writes) come; whole = tt }
+
+  module _ (shelf : List Call) (written : shelf ≡ h.shelf ++ writes_of outcome.writes) where
+    abbrev mid : Histories
+    mid = record h { shelf = shelf }
+
+    all_written : mid ≡ with_calls h (writes_of outcome.writes)
+    all_written = ap (λ calls. record h { shelf = calls }) written ∙ sym (on_shelf h (writes_of outcome.writes) (each_write outcome.writes))
+
+    pub ends_at_lines : {T E : Type 0} (fault : E) (keeper : List Call) → ComeFirst (append_of outcome.lines) h.keeper keeper → CallsToCarry {T = T} outcome (Err fault) h (record h { shelf = shelf; keeper = keeper })
+    ends_at_lines fault keeper come =
+        let text = some_puts outcome.text in
+        record {
+          puts = text.puts;
+          are = text.are;
+          first = then_first h mid (record h { shelf = shelf; keeper = keeper }) (writes_of outcome.writes) (append_of outcome.lines ++ text.puts) all_written
+              (first_on_keeper mid (append_of outcome.lines) text.puts keeper (each_append outcome.lines) come);
+          whole = tt;
+        }
+
+    to_text : (keeper sink : List Call) (puts : List Call) → keeper ≡ h.keeper ++ append_of outcome.lines → ArePuts outcome.text [] puts → ComeFirst puts h.sink sink
+        → MakesFirst (carrying outcome puts) h (record { shelf = shelf; sink = sink; keeper = keeper })
+    to_text keeper sink puts appended are come =
+        let kept : Histories = record h { shelf = shelf; keeper = keeper } in
+        then_first h mid (record { shelf = shelf; sink = sink; keeper = keeper }) (writes_of outcome.writes) (append_of outcome.lines ++ puts) all_written
+        (then_first mid kept (record { shelf = shelf; sink = sink; keeper = keeper }) (append_of outcome.lines) puts
+        (ap (λ calls. record mid { keeper = calls }) appended ∙ sym (on_keeper mid (append_of outcome.lines) (each_append outcome.lines)))
+        (first_on_sink kept puts sink (each_put outcome.text [] puts are) come))
+
+    module _ (keeper sink : List Call) (appended : keeper ≡ h.keeper ++ append_of outcome.lines) where
+      pub ends_at_text : {T U E F : Type 0} (fault : F) (other : E) → PutsCome {T = U} outcome.text (Err other) h.sink sink → CallsToCarry {T = T} outcome (Err fault) h (record { shelf = shelf; sink = sink; keeper = keeper })
+      ends_at_text fault other put = record { puts = put.puts; are = put.are; first = to_text keeper sink put.puts appended put.are put.come; whole = tt }
+
+      pub ends_whole : {T U E F : Type 0} (status : T) (answer : U) → PutsCome {E = E} outcome.text (Ok answer) h.sink sink → CallsToCarry {E = F} outcome (Ok status) h (record { shelf = shelf; sink = sink; keeper = keeper })
+      unfolding to_text then_first first_on_sink all_first
+      ends_whole status answer put = record { puts = put.puts; are = put.are; first = to_text keeper sink put.puts appended put.are (all_first put.puts h.sink sink put.come); whole = refl }
+
+-- where not all was read, and where all was
+module _ (asked : Asked) (h : Histories) (papers : List Paper) (keeps : Bool) (papers_are : papers ≡ asked.papers) (keeps_are : keeps ≡ asked.keeps) (shelf : List Call) where
+  pub ends_at_paper : ComeFirst (reads_of papers) h.shelf shelf → MakesFirst (reading asked) h (record h { shelf = shelf })
+  ends_at_paper come =
+      subst (λ papers. MakesFirst (reads_of papers ++ load_of asked.keeps) h (record h { shelf = shelf })) papers_are
+      (first_on_shelf h (reads_of papers) (load_of asked.keeps) shelf (each_read papers) come)
+
+  module _ (read : shelf ≡ h.shelf ++ reads_of papers) (keeper : List Call) where
+    abbrev papers_read : Histories
+    papers_read = record h { shelf = shelf }
+
+    abbrev loaded : Histories
+    loaded = record h { shelf = shelf; keeper = keeper }
+
+    to_load : ComeFirst (load_of keeps) h.keeper keeper → MakesFirst (reads_of papers ++ (load_of keeps ++ [])) h loaded
+    to_load come =
+        then_first h papers_read loaded (reads_of papers) (load_of keeps ++ [])
+        (ap (λ calls. record h { shelf = calls }) read ∙ sym (on_shelf h (reads_of papers) (each_read papers)))
+        (first_on_keeper papers_read (load_of keeps) [] keeper (each_load keeps) come)
+
+    as_asked : reads_of papers ++ (load_of keeps ++ []) ≡ reading asked
+    as_asked = ap (λ calls. reads_of papers ++ calls) (append-nil (load_of keeps)) ∙ (λ i. reads_of (papers_are i) ++ load_of (keeps_are i))
+
+    pub ends_at_load : ComeFirst (load_of keeps) h.keeper keeper → MakesFirst (reading asked) h loaded
+    ends_at_load come = subst (λ calls. MakesFirst calls h loaded) as_asked (to_load come)
+
+    pub loaded_first : keeper ≡ h.keeper ++ load_of keeps → MakesFirst (reading asked) h loaded
+    loaded_first came = ends_at_load (all_first (load_of keeps) h.keeper keeper came)
+
+    pub all_read : keeper ≡ h.keeper ++ load_of keeps → loaded ≡ with_calls h (reading asked)
+    unfolding to_load then_first first_on_keeper all_first
+    all_read came = (to_load (all_first (load_of keeps) h.keeper keeper came)).noted ∙ ap (with_calls h) (ap (λ calls. reads_of papers ++ calls) (sym (append-nil (load_of keeps))) ∙ as_asked)
+
+pub fails_above : (fault : RunFault) → NO < status_by (Err fault)
+fails_above run_fault.Read = omega arith
+fails_above run_fault.Write = omega arith
+fails_above run_fault.Keeper = omega arith
+fails_above run_fault.Memory = omega arith
+
+-- a run that gave an outcome
+pub carried_in_order : (asked : Asked) (found : Option ReadView) (world left right : World) (result : Result ℕ RunFault) (chosen : Chosen asked found world) (h read after : Histories) → read ≡ with_calls h (reading asked)
+    → CallsToCarry chosen.outcome result read after → Becomes chosen.outcome result left right → IsInOrder asked found world (status_by result) h after
+unfolding then_first
+carried_in_order asked found world left right (Ok status) chosen h read after is carries becomes =
+    inr (record { chosen = chosen; puts = carries.puts; are = carries.are; first = then_first h read after (reading asked) (carrying chosen.outcome carries.puts) is carries.first; whole = λ low. (carries.whole, becomes.0) })
+carried_in_order asked found world left right (Err fault) chosen h read after is carries becomes =
+    inr (record { chosen = chosen; puts = carries.puts; are = carries.are; first = then_first h read after (reading asked) (carrying chosen.outcome carries.puts) is carries.first; whole = λ low. absurd (omega (arith, low, fails_above fault)) })

@@ -1,0 +1,89 @@
+-- In which order a run calls the shelf, the sink and the keeper.
+use Rattle.std.specs.Prelude.{◌≡◌, ◌⊎◌, ℕ, ◌<◌, ◌≤◌, Bool, true, false, List, [], ◌∷◌, ◌++◌, fold, map, IfOk, Option, None, Some, Result, Ok, Err}
+use Rattle.desk_io.specs.History.{Call, Read, Write, Put, Load, Append}
+use Rattle.desk_io.specs.Sink.{ArePuts}
+use Rattle.desk_keeper.specs.Keeper.{Journal}
+use Rattle.gtfs_tables.specs.Papers.{file_name_of}
+use Rattle.gtfs_tables.specs.declared.paper.Paper.{Paper}
+use Rattle.desk_run.specs.Commands.{Asked, Chosen}
+use Rattle.desk_run.specs.Outcome.{OutcomeView, status_of}
+use Rattle.desk_run.specs.Outside.{Histories}
+use Rattle.desk_run.specs.Reading.{ReadView}
+use Rattle.desk_run.specs.World.{World}
+use Rattle.desk_run.specs.declared.fault.RunFault.{RunFault}
+use Rattle.desk_run.specs.declared.fault.RunFault.TheVariants as run_fault
+use Rattle.desk_run.specs.declared.outcome.Writing.{Writing}
+use Rattle.desk_run.specs.declared.status.TheConstants.{NO, READ_FAULT, WRITE_FAULT, KEEPER_FAULT, NO_MEMORY}
+
+-- the histories after one more call, which came to the shelf, the sink or the keeper
+abbrev pub with_call : Histories → Call → Histories
+with_call histories (Read name) = record histories { shelf = histories.shelf ++ Read name ∷ [] }
+with_call histories (Write name bytes) = record histories { shelf = histories.shelf ++ Write name bytes ∷ [] }
+with_call histories (Put piece) = record histories { sink = histories.sink ++ Put piece ∷ [] }
+with_call histories Load = record histories { keeper = histories.keeper ++ Load ∷ [] }
+with_call histories (Append lines) = record histories { keeper = histories.keeper ++ Append lines ∷ [] }
+
+-- the histories after these calls, one after the other
+abbrev pub with_calls : Histories → List Call → Histories
+with_calls histories calls = fold with_call histories calls
+
+-- the first ones of these calls were made, and no others
+pub record MakesFirst (calls : List Call) (before after : Histories) : Type 0 where
+  pub made : List Call
+  pub left : List Call
+  pub order : calls ≡ made ++ left
+  pub noted : after ≡ with_calls before made
+
+-- a read of each paper
+abbrev pub reads_of : List Paper → List Call
+reads_of papers = map (λ paper. Read (file_name_of paper)) papers
+
+-- a load of the journal, where it is asked for
+abbrev pub load_of : Bool → List Call
+load_of false = []
+load_of true = Load ∷ []
+
+-- the calls that read: each paper once, in their order, and then the journal
+abbrev pub reading : Asked → List Call
+reading asked = reads_of asked.papers ++ load_of asked.keeps
+
+-- a write of each file
+abbrev pub writes_of : List Writing → List Call
+writes_of writes = map (λ (writing : Writing). Write writing.name writing.bytes) writes
+
+-- an append of the lines, where there are any to append
+abbrev pub append_of : Option Journal → List Call
+append_of None = []
+append_of (Some lines) = Append lines ∷ []
+
+-- the calls that carry an outcome out: its files in their order, its lines, and then its text by these puts
+abbrev pub carrying : OutcomeView → List Call → List Call
+carrying outcome puts = writes_of outcome.writes ++ (append_of outcome.lines ++ puts)
+
+-- the calls that read and then carry one outcome of that out: all of them where the run comes to its end, else the first ones
+pub record CarriesInOrder (asked : Asked) (found : Option ReadView) (world : World) (status : ℕ) (before after : Histories) : Type 0 where
+  pub chosen : Chosen asked found world
+  pub puts : List Call
+  pub are : ArePuts chosen.outcome.text [] puts
+  pub first : MakesFirst (reading asked ++ carrying chosen.outcome puts) before after
+  pub whole : status ≤ NO → (first.left ≡ []) × (status ≡ status_of chosen.outcome.ending)
+
+-- the calls of a run, in their order; where it has no outcome, it does not come to its end, and makes no call but those that read
+abbrev pub IsInOrder : Asked → Option ReadView → World → ℕ → Histories → Histories → Type 0
+IsInOrder asked found world status before after =
+    ((NO < status) × MakesFirst (reading asked) before after) ⊎ CarriesInOrder asked found world status before after
+
+-- the status of a run, by what it answers or why it did not come to its end
+abbrev pub status_by : Result ℕ RunFault → ℕ
+status_by (Ok status) = status
+status_by (Err run_fault.Read) = READ_FAULT
+status_by (Err run_fault.Write) = WRITE_FAULT
+status_by (Err run_fault.Keeper) = KEEPER_FAULT
+status_by (Err run_fault.Memory) = NO_MEMORY
+
+-- what was carried out of an outcome: all its calls were made, or where the answer is a fault the first ones
+pub record CallsToCarry {T E : Type 0} (outcome : OutcomeView) (result : Result T E) (before after : Histories) : Type 0 where
+  pub puts : List Call
+  pub are : ArePuts outcome.text [] puts
+  pub first : MakesFirst (carrying outcome puts) before after
+  pub whole : IfOk result (λ x. first.left ≡ [])
