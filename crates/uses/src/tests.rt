@@ -1,0 +1,169 @@
+ghost use Rattle.std.specs.Prelude.{◌≡◌, ◌<◌, IfOk, IfSome};
+ghost use Rattle.desk_feed.specs.Feed.{HasPapers};
+
+use desk_core::Desk;
+use desk_feed::{FEED_PAPERS, Feed, Judged, judge_feed, matrix_of};
+use desk_io::{Memory, MemoryShelf, Steps};
+use desk_run::Read;
+use feed_desk::{Drawn, draw_after};
+use pair_graph::Pairs;
+use std::alloc::Global;
+use std::marker::Brand;
+use std::sync::ledger::{Blank, Ledger};
+use std::test::Fail;
+
+// Three trips. The second can follow the first where a deadhead leads from B to C in half an hour.
+const FEED: [(&str, &str); 2] = [
+    (
+        "trips.txt",
+        "route_id,service_id,trip_id\nR,W,U1\nR,W,U2\nR,W,H\n",
+    ),
+    (
+        "stop_times.txt",
+        "trip_id,arrival_time,departure_time,stop_id,stop_sequence\nU1,06:00:00,06:00:00,A,1\nU1,06:30:00,06:30:00,B,2\nU2,07:00:00,07:00:00,C,1\nU2,07:30:00,07:30:00,A,2\nH,06:00:00,06:00:00,D,1\nH,06:30:00,06:30:00,E,2\n",
+    ),
+];
+
+// The feed with these deadheads and these edits, as far as it was read.
+fn read(alloc: Global, deadheads: &str, edits: &str) -> Result<Option<Read>, Memory>
+    ensures { IfOk result (λ read. IfSome read (λ read. HasPapers read.pages)) }
+{
+    let mut shelf = MemoryShelf::open(alloc, Vec::new(alloc), Vec::new(alloc));
+    for (name, text) in FEED {
+        shelf.lay(alloc, name, text.as_bytes())?;
+    }
+    shelf.lay(alloc, "deadheads.csv", deadheads.as_bytes())?;
+    shelf.lay(alloc, "edits.csv", edits.as_bytes())?;
+    match Read::of_papers(alloc, &mut shelf, &FEED_PAPERS) {
+        Ok(read) => Ok(Some(read)),
+        Err(_) => Ok(None),
+    }
+}
+
+// The desk after the edits of what was read, where no file is refused.
+fn followed<L: Ledger>(
+    alloc: Global,
+    read: &Read,
+    steps: &mut Steps<L>,
+) -> Result<Option<Drawn>, Memory>
+    requires { HasPapers read.now.pages }
+{
+    let Judged::Accepted(feed) = judge_feed(alloc, read)? else {
+        return Ok(None);
+    };
+    let Feed {
+        settings: _,
+        timetable,
+        deadheads,
+        pulls,
+        lines,
+    } = feed;
+    let matrix = matrix_of(alloc, &timetable, &deadheads, pulls)?;
+    Ok(Some(draw_after(alloc, timetable, &lines, matrix, steps)?))
+}
+
+// The minutes of a least walk between two places by their names, or none where there is no walk or no such place.
+fn minutes(desk: &Desk, from: &str, to: &str) -> Option<u32> {
+    let timetable = desk.timetable();
+    let from = timetable.find_place(from)?;
+    let to = timetable.find_place(to)?;
+    desk.matrix().minutes(from, to)
+}
+
+// What it saves to make the second trip after the first, in the ledger that the blank becomes.
+fn weight<L: Ledger>(desk: &Desk, steps: &mut Steps<L>) -> Option<u64> {
+    let pairs = Pairs::of(desk.timetable(), desk.matrix());
+    if pairs.slots() < 2 {
+        return None;
+    }
+    pairs.weight(0, 1, steps)
+}
+
+// What the walks from B to C, from C to B and from X to X take, and what it saves to make the second trip after the first.
+type Answers = (Option<u32>, Option<u32>, Option<u32>, Option<u64>);
+
+fn answers<L: Ledger>(
+    alloc: Global,
+    deadheads: &str,
+    blank: Blank,
+) -> Result<Option<Answers>, Memory>
+    requires name { blank.name ≡ L.name }
+    requires parts { blank.parts ≡ L.parts }
+    requires shared { 0 < blank.parts }
+{
+    let mut steps = Steps::<L>::open(blank);
+    let Some(read) = read(alloc, deadheads, "")? else {
+        return Ok(None);
+    };
+    let Some(drawn) = followed(alloc, &read, &mut steps)? else {
+        return Ok(None);
+    };
+    let desk = &drawn.desk;
+    let walks = (
+        minutes(desk, "B", "C"),
+        minutes(desk, "C", "B"),
+        minutes(desk, "X", "X"),
+    );
+    Ok(Some((walks.0, walks.1, walks.2, weight(desk, &mut steps))))
+}
+
+#[test]
+fn walks_and_weights_between_three_terminals(rt: HostRuntime) -> Result<(), Fail> {
+    let alloc = rt.alloc();
+    let rows: [(&str, Answers); 4] = [
+        (
+            "B,X,5\nX,C,10\n",
+            (Some(15), None, Some(0), Some(67_108_849)),
+        ),
+        (
+            "B,X,5\nB,C,20\n",
+            (Some(20), None, Some(0), Some(67_108_844)),
+        ),
+        (
+            "B,X,5\nB,C,30\n",
+            (Some(30), None, Some(0), Some(67_108_834)),
+        ),
+        ("B,X,5\nB,C,31\n", (Some(31), None, Some(0), None)),
+    ];
+    for (records, expected) in rows {
+        let deadheads = format!(in alloc; "from,to,minutes\n{records}")?;
+        let found = answers::<Brand>(alloc, deadheads.as_str(), Blank::new(1))?;
+        assert!(rt; found == Some(expected));
+    }
+    Ok(())
+}
+
+// How many slots the last kept edit changed in the plan, where an edit is kept.
+fn changed<L: Ledger>(
+    alloc: Global,
+    edits: &str,
+    blank: Blank,
+) -> Result<Option<Option<usize>>, Memory>
+    requires name { blank.name ≡ L.name }
+    requires parts { blank.parts ≡ L.parts }
+    requires shared { 0 < blank.parts }
+{
+    let mut steps = Steps::<L>::open(blank);
+    let Some(read) = read(alloc, "from,to,minutes\nB,C,30\n", edits)? else {
+        return Ok(None);
+    };
+    let Some(drawn) = followed(alloc, &read, &mut steps)? else {
+        return Ok(None);
+    };
+    match drawn.desk.last_change() {
+        Some(changes) => Ok(Some(Some(changes.len()))),
+        None => Ok(Some(None)),
+    }
+}
+
+#[test]
+fn what_the_last_kept_edit_changed(rt: HostRuntime) -> Result<(), Fail> {
+    let alloc = rt.alloc();
+    // No other trip is linked with H, so that nothing of the plan changes but which trips run.
+    let rows = [("cancel,H\n", Some(0)), ("cancel,H\nundo\n", None)];
+    for (edits, expected) in rows {
+        let found = changed::<Brand>(alloc, edits, Blank::new(1))?;
+        assert!(rt; found == Some(expected));
+    }
+    Ok(())
+}
