@@ -1,7 +1,7 @@
 //! A tree over the 8,192 minutes of a service day that answers maxima of prefix sums.
 //!
 //! A [`Tree`] holds one [`Summary`] for each minute, its leaf, and keeps the summary of all of them. One leaf is
-//! replaced by writing at most 14 nodes. A [`MaxPrefix`] sums the steps of a deficit function and knows the greatest
+//! replaced by writing 14 nodes, one of each level. A [`MaxPrefix`] sums the steps of a deficit function and knows the greatest
 //! of its prefix sums, and a tree of these finds the first minute that reaches a value by descending.
 //!
 //! The contract that the crates above use: a tree is its list of 8,192 leaves. `set` changes one of them, `whole` is
