@@ -14,7 +14,7 @@
 //! let pairs = Pairs::of(&timetable, &matrix);
 //! let saved = pairs.weight(0, 1, &mut steps);
 //! if let Some(row) = pairs.row(0) {
-//!     let reach = row.reach(2, &mut steps);
+//!     let reach = row.reach(2);
 //! }
 //! ```
 //!
