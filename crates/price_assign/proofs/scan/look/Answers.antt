@@ -9,6 +9,28 @@ use Rattle.price_assign.proofs.LookLemmas.{AreApproached-none, AreLooked-group}
 use Rattle.price_assign.proofs.GroupLemmas.{AreNear-look, AreReached-look}
 use Rattle.price_assign.proofs.scan.look.Goals as goal
 
+pub returns-clause-visited : goal.returns-clause-visited
+returns-clause-visited g c =
+    let line : LineView = c.args.line.now in
+    let group : Group = group_at line.side.groups c.args.group in
+    let end : c.group-to.result.to ≡ group.to = ap (λ (x : Group). x.to) c.group-to.ensures.group ∙ ap (λ (l : LineView). (group_at l.side.groups c.args.group).to) c.line.view_is in
+    let fit = c.in-Some.ensures.some in
+    let a = c.approach-near.ensures.approached in
+    record {
+      first = c.in-Some.fit.from;
+      upto = c.cut-upto.result;
+      after = fit.after;
+      within = omega (arith, c.cut-upto.ensures.within, end);
+      fits = λ j from lt none. none-some c.in-Some.fit.weight (sym none ∙ fit.fits j from (omega (arith, lt, c.cut-upto.ensures.within, end)));
+      others = λ j out. ⊎_elim
+          (λ (nearer : at c.approach-near.new.dist j < at c.args.dist.now j).
+          let b = a.between j nearer in
+          absurd (⊎_elim (λ before. omega (arith, before, b.0)) (λ past. omega (arith, past, b.1)) out))
+          (λ (far : at c.args.dist.now j ≤ at c.approach-near.new.dist j). omega (arith, far, a.nearer j))
+          (cases_lt (at c.approach-near.new.dist j) (at c.args.dist.now j));
+      steps = omega (arith, c.approach-near.ensures.counted, c.if-fit-upto.false);
+    }
+
 pub approach-near-requires-clause-low : goal.approach-near-requires-clause-low
 approach-near-requires-clause-low g c = λ j from lt.
     let end : c.group-to.result.to ≡ (group_at c.args.line.now.side.groups c.args.group).to = ap (λ (x : Group). x.to) c.group-to.ensures.group ∙ ap (λ (l : LineView). (group_at l.side.groups c.args.group).to) c.line.view_is in
@@ -73,25 +95,3 @@ returns-clause-reached g c =
     (λ cheaper. omega (arith, cheaper.1, c.approach-near.ensures.approached.covered j (omega (arith, past, cheaper.2)) (omega (arith, before, end, c.cut-upto.ensures.cheaper cheaper.0)) undone))
     c.renewed.ensures.reached)
     c.requires.reached
-
-pub returns-clause-visited : goal.returns-clause-visited
-returns-clause-visited g c =
-    let line : LineView = c.args.line.now in
-    let group : Group = group_at line.side.groups c.args.group in
-    let end : c.group-to.result.to ≡ group.to = ap (λ (x : Group). x.to) c.group-to.ensures.group ∙ ap (λ (l : LineView). (group_at l.side.groups c.args.group).to) c.line.view_is in
-    let fit = c.in-Some.ensures.some in
-    let a = c.approach-near.ensures.approached in
-    record {
-      first = c.in-Some.fit.from;
-      upto = c.cut-upto.result;
-      after = fit.after;
-      within = omega (arith, c.cut-upto.ensures.within, end);
-      fits = λ j from lt none. none-some c.in-Some.fit.weight (sym none ∙ fit.fits j from (omega (arith, lt, c.cut-upto.ensures.within, end)));
-      others = λ j out. ⊎_elim
-          (λ (nearer : at c.approach-near.new.dist j < at c.args.dist.now j).
-          let b = a.between j nearer in
-          absurd (⊎_elim (λ before. omega (arith, before, b.0)) (λ past. omega (arith, past, b.1)) out))
-          (λ (far : at c.args.dist.now j ≤ at c.approach-near.new.dist j). omega (arith, far, a.nearer j))
-          (cases_lt (at c.approach-near.new.dist j) (at c.args.dist.now j));
-      steps = omega (arith, c.approach-near.ensures.counted, c.if-fit-upto.false);
-    }
