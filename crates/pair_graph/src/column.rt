@@ -1,4 +1,4 @@
-ghost use Rattle.std.specs.Prelude.{◌≡◌, ℕ, ◌+◌, ◌<◌, length, Some};
+ghost use Rattle.std.specs.Prelude.{◌≡◌, ℕ, ◌<◌, length, Some};
 ghost use Rattle.deadhead_matrix.specs.Prices.{weight};
 ghost use Rattle.pair_graph.specs.Pairs.{pairs_network};
 ghost use Rattle.pair_graph.specs.Reach.{saved_until};
@@ -6,9 +6,7 @@ ghost use Rattle.trip_model.specs.Plain.{move_at};
 ghost use Rattle.trip_model.specs.declared.trip.Move.{Move};
 
 use crate::{Pairs, Reach};
-use desk_io::Steps;
 use std::marker::Model;
-use std::sync::ledger::Ledger;
 use trip_model::Move;
 
 /// The pairs of each slot with one, whose trip runs: what they share is fetched once.
@@ -33,14 +31,12 @@ impl<'a> Model for Column<'a> {
 
 impl<'a> Column<'a> {
     /// What it saves to make the trip of the column's slot next after any trip that ends at a place. And until when that trip
-    /// must end. None where it cannot be made. One step.
-    pub fn reach<L: Ledger>(&self, place: u16, steps: &mut Steps<L>) -> Option<Reach>
+    /// must end. None where it cannot be made. The caller counts the pairs that it then reads.
+    pub fn reach(&self, place: u16) -> Option<Reach>
         requires { place < length self.now.pairs.matrix.walks }
-        ensures reach { (i : ℕ) (m : Move) → move_at self.now.pairs.moves i ≡ Some m → m.to ≡ place
+        ensures { (i : ℕ) (m : Move) → move_at self.now.pairs.moves i ≡ Some m → m.to ≡ place
             → weight (pairs_network self.now.pairs) i self.now.slot ≡ saved_until result m.arrives }
-        ensures counted { steps.new ≡ steps.old + 1 }
     {
-        steps.tick();
         let pairs = self.pairs;
         let matrix = pairs.matrix;
         let minutes = matrix.minutes(place, self.after.from)?;

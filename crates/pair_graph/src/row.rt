@@ -50,15 +50,14 @@ impl<'a> Row<'a> {
         let out = pairs.matrix.pull_out(after.from);
         Some(self.saved + u64::from(out) - u64::from(minutes))
     }
+
     /// What it saves to make any trip that begins at a place next after that of the row's slot. And from when on that trip must
-    /// leave. None where none can be made. One step.
-    pub fn reach<L: Ledger>(&self, place: u16, steps: &mut Steps<L>) -> Option<Reach>
+    /// leave. None where none can be made. The caller counts the pairs that it then reads.
+    pub fn reach(&self, place: u16) -> Option<Reach>
         requires { place < length self.now.pairs.matrix.walks }
-        ensures reach { (j : ℕ) (m : Move) → move_at self.now.pairs.moves j ≡ Some m → m.from ≡ place
+        ensures { (j : ℕ) (m : Move) → move_at self.now.pairs.moves j ≡ Some m → m.from ≡ place
             → weight (pairs_network self.now.pairs) self.now.slot j ≡ saved_from result m.leaves }
-        ensures counted { steps.new ≡ steps.old + 1 }
     {
-        steps.tick();
         let pairs = self.pairs;
         // Its clause says that moves are of one day.
         let _slots = pairs.slots();

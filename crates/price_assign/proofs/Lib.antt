@@ -12,3 +12,4 @@ pub mod RightLemmas
 pub mod ShiftLemmas
 pub mod SideLemmas
 pub mod TreeLemmas
+pub mod VisitLemmas

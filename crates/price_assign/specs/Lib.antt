@@ -9,3 +9,4 @@ pub mod Renamed
 pub mod Search
 pub mod Side
 pub mod Turned
+pub mod Visits

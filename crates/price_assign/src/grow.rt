@@ -1,8 +1,10 @@
-ghost use Rattle.std.specs.Prelude.{◌≡◌, ℕ, ◌+◌, ◌*◌, ◌<◌, ◌≤◌, ◌⊎◌, List, length, slice_set, Option, None, Some};
+ghost use Rattle.std.specs.Prelude.{◌≡◌, ℕ, ◌+◌, ◌*◌, ◌<◌, ◌≤◌, ◌⊎◌, List, length, slice_set, replicate, Option, None, Some};
 ghost use Rattle.trip_model.specs.declared.limits.TheConstants.{MOST_SLOTS};
+ghost use Rattle.price_assign.specs.declared.limits.TheConstants.{FAR};
 ghost use Rattle.price_assign.specs.Groups.{AreNear, AreReached};
 ghost use Rattle.price_assign.specs.Search.{at, problem, tree_of, IsGiven, IsTree, IsNext, IsGrown};
 ghost use Rattle.price_assign.specs.Side.{side_slots, place_weight};
+ghost use Rattle.price_assign.specs.Visits.{AreVisited, RowsVisit, VisitsOnce};
 
 use crate::limits::{FAR, GREATEST_PRICE};
 use crate::scan::{Seen, UNSEEN, look_from, nearest};
@@ -52,6 +54,7 @@ pub(crate) fn begin<L: Ledger>(
         → IsGiven (problem (place_weight side.now) (side_slots side.now) a before leave.new enter.now)
         → IsTree (problem (place_weight side.now) (side_slots side.now) a before leave.new enter.now)
         (tree_of dist.new parent.new done.new rows.new far.new 1 0) }
+    ensures visited { AreVisited (place_weight side.now a) side.now.groups side.now.count (replicate (side_slots side.now) FAR) dist.new steps.old steps.new }
     ensures counted { steps.new ≤ steps.old + side_slots side.now }
 {
     // Its clause says how the columns stand in groups.
@@ -122,6 +125,7 @@ fn visit<L: Ledger>(
     ensures reached { AreReached side.now.count side.now.groups enter.now done.new dist.new seen.new }
     ensures rows { rows.new ≡ slice_set rows.old place row }
     ensures far { far.new ≡ slice_set far.old place (at dist.old column) }
+    ensures visited { AreVisited (place_weight side.now row) side.now.groups side.now.count dist.old dist.new steps.old steps.new }
     ensures counted { steps.new ≤ steps.old + side_slots side.now }
 {
     let distance = dist[column as usize];
@@ -188,6 +192,8 @@ pub(crate) fn grow<L: Ledger>(
         (tree_of dist.old parent.old done.old rows.old far.old 1 0) }
     ensures grown { IsGrown (problem (place_weight side.now) (side_slots side.now) (at rows.old 0) before.now leave.now enter.now)
         dist.new parent.new done.new rows.new far.new result }
+    ensures visited { (first : List ℕ) (was : ℕ) → RowsVisit (place_weight side.now) side.now.groups side.now.count rows.old 1 first dist.old was steps.old
+        → VisitsOnce (place_weight side.now) side.now.groups side.now.count rows.new first dist.new was steps.new }
     ensures counted { steps.new ≤ steps.old + side_slots side.now * side_slots side.now }
 {
     let mut size = 1;

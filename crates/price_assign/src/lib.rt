@@ -15,8 +15,8 @@
 //! ```
 //!
 //! The contracts cite `Plans` (plans with other slots, or another entry), and of `deadhead_matrix` `Prices` and `Paths`.
-//! `Side`, `Order`, `Groups`, `Renamed`, `Assignment`, `Search`, `Relinking`, `Inverse`, `Turned` and `Lists` have the terms of the
-//! search for proofs alone.
+//! `Side`, `Order`, `Groups`, `Renamed`, `Assignment`, `Search`, `Relinking`, `Inverse`, `Turned`, `Visits` and `Lists` have the terms of
+//! the search for proofs alone.
 #![tactic(auto)]
 
 mod groups;

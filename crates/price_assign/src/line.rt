@@ -1,4 +1,4 @@
-ghost use Rattle.std.specs.Prelude.{◌≡◌, ℕ, ◌+◌, ◌<◌, ◌≤◌, Some, length, slice_index_or, IfNone, IfSome};
+ghost use Rattle.std.specs.Prelude.{◌≡◌, ℕ, ◌<◌, ◌≤◌, Some, length, slice_index_or, IfNone, IfSome};
 ghost use Rattle.pair_graph.specs.Reach.{saved_from};
 ghost use Rattle.price_assign.specs.Groups.{group_at};
 ghost use Rattle.price_assign.specs.Side.{side_slots, line_weight, IsFit, FitsNone};
@@ -6,10 +6,8 @@ ghost use Rattle.price_assign.specs.Order.{no_column};
 
 use crate::order::columns_before;
 use crate::side::Side;
-use desk_io::Steps;
 use pair_graph::{Column, Reach, Row};
 use std::marker::Model;
-use std::sync::ledger::Ledger;
 use trip_model::LAST_MINUTE;
 
 /// One row of a side with each column: what its pairs share, where its trip runs.
@@ -41,41 +39,39 @@ impl<'a> Model for Line<'a> {
 
 impl<'a> Line<'a> {
     // What the row weighs with each column at a post that it is in time for, and the minute from which on such a column may need
-    // it. One step.
-    fn reach<L: Ledger>(&self, post: u16, steps: &mut Steps<L>) -> Option<Reach>
+    // it.
+    fn reach(&self, post: u16) -> Option<Reach>
         requires { post < length self.now.side.pairs.matrix.walks }
-        ensures reach { (k : ℕ) → k < side_slots self.now.side → (slice_index_or self.now.side.columns k (no_column (side_slots self.now.side))).post ≡ Some post
+        ensures { (k : ℕ) → k < side_slots self.now.side → (slice_index_or self.now.side.columns k (no_column (side_slots self.now.side))).post ≡ Some post
             → line_weight self.now k ≡ saved_from result (slice_index_or self.now.side.columns k (no_column (side_slots self.now.side))).minute }
-        ensures counted { steps.new ≤ steps.old + 1 }
     {
         let side = self.side;
         // Its clauses say that moves are of one day.
         let _slots = side.pairs.slots();
         if let Some(row) = &self.leaving {
-            return row.reach(post, steps);
+            return row.reach(post);
         }
         let Some(column) = &self.entering else {
             return None;
         };
-        let reach = column.reach(post, steps)?;
+        let reach = column.reach(post)?;
         Some(Reach {
             minute: LAST_MINUTE.saturating_sub(reach.minute),
             saved: reach.saved,
         })
     }
 
-    /// The columns of a group that the row fits, if it can fit any. One step.
-    pub(crate) fn fit<L: Ledger>(&self, group: usize, steps: &mut Steps<L>) -> Option<Fit>
+    /// The columns of a group that the row fits, if it can fit any.
+    pub(crate) fn fit(&self, group: usize) -> Option<Fit>
         requires { group < self.now.side.count }
         ensures some { IfSome result (IsFit self.now (group_at self.now.side.groups group)) }
         ensures none { IfNone result (FitsNone self.now (group_at self.now.side.groups group)) }
-        ensures counted { steps.new ≤ steps.old + 1 }
     {
         let side = self.side;
         // Its clauses say that moves are of one day.
         let _slots = side.pairs.slots();
         let group = side.group(group);
-        let reach = self.reach(group.post?, steps)?;
+        let reach = self.reach(group.post?)?;
         let columns = &side.columns[group.from as usize..group.to as usize];
         let early = columns_before(columns, reach.minute);
         if early == columns.len() {

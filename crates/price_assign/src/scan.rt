@@ -1,8 +1,9 @@
-ghost use Rattle.std.specs.Prelude.{◌≡◌, ℕ, ◌+◌, ◌*◌, ◌<◌, ◌≤◌, ◌⊎◌, false, List, length, Some, IfSome, IfNone};
+ghost use Rattle.std.specs.Prelude.{◌≡◌, ℕ, ◌+◌, ◌-◌, ◌*◌, ◌<◌, ◌≤◌, ◌⊎◌, false, List, length, Some, IfSome, IfNone};
 ghost use Rattle.trip_model.specs.declared.limits.TheConstants.{MOST_SLOTS};
 ghost use Rattle.price_assign.specs.Groups.{group_at, AreApproached, AreNear, AreReached, IsNearer};
 ghost use Rattle.price_assign.specs.Search.{at, is_done, AreLooked, IsNearest};
 ghost use Rattle.price_assign.specs.Side.{side_slots, line_weight};
+ghost use Rattle.price_assign.specs.Visits.{AreVisited, IsVisited};
 
 use crate::limits::{FAR, GREATEST_PRICE};
 use crate::line::Line;
@@ -26,9 +27,9 @@ pub(crate) const UNSEEN: Seen = Seen {
     from: u16::MAX,
 };
 
-// Approaches the columns between two places at a cost, from a place of the tree. It answers how far the nearest is that came
-// nearer by this.
-fn approach(
+// Approaches the columns between two places at a cost, from a place of the tree: each is visited once, which is a step. It
+// answers how far the nearest is that came nearer by this.
+fn approach<L: Ledger>(
     first: u16,
     upto: u16,
     from: u16,
@@ -37,6 +38,7 @@ fn approach(
     done: &[bool],
     dist: &mut [u64],
     parent: &mut [u16],
+    visits: &mut Steps<L>,
 ) -> u64
     requires enter { length enter.now ≡ length dist.old }
     requires done { length done.now ≡ length dist.old }
@@ -46,10 +48,12 @@ fn approach(
     requires cost { cost ≤ 3 * GREATEST_PRICE }
     requires low { (j : ℕ) → first ≤ j → j < upto → at enter.now j ≤ GREATEST_PRICE }
     requires enough { (j : ℕ) → first ≤ j → j < upto → GREATEST_PRICE ≤ cost + at enter.now j }
-    ensures { AreApproached first upto from cost enter.now done.now dist.old parent.old dist.new parent.new result }
+    ensures approached { AreApproached first upto from cost enter.now done.now dist.old parent.old dist.new parent.new result }
+    ensures counted { visits.new ≡ visits.old + (upto - first) }
 {
     let mut near = FAR;
     for column in first..upto {
+        visits.tick();
         let place = column as usize;
         let along = cost + enter[place] - GREATEST_PRICE;
         if along < dist[place] && !done[place] {
@@ -86,7 +90,7 @@ fn renewed(was: Seen, near: u64, cost: u64, from: u16) -> Seen
 }
 
 // Looks at a group of columns from a place of the tree, which is so far with the price of its row. Those that were reached at
-// no more from another place are not looked at again.
+// no more from another place are not visited again. Where none is visited, the look is a step.
 fn look<L: Ledger>(
     line: &Line<'_>,
     group: usize,
@@ -115,20 +119,22 @@ fn look<L: Ledger>(
         → AreLooked (line_weight line.now) (group_at line.now.side.groups group).to from start enter.now done.now dist0 parent0 dist.new parent.new }
     ensures near { AreNear line.now.side.count line.now.side.groups done.now dist.new seen.new }
     ensures reached { AreReached line.now.side.count line.now.side.groups enter.now done.now dist.new seen.new }
-    ensures counted { steps.new ≤ steps.old + 1 }
+    ensures visited { IsVisited (line_weight line.now) (group_at line.now.side.groups group) dist.old dist.new steps.old steps.new }
 {
     let side = line.side;
     let to = side.group(group).to;
-    let Some(fit) = line.fit(group, steps) else {
+    let Some(fit) = line.fit(group) else {
+        steps.tick();
         return;
     };
     let was = seen[group];
     let cost = start + GREATEST_PRICE - fit.weight;
     let upto = cut(was, cost, to);
     if fit.from >= upto {
+        steps.tick();
         return;
     }
-    let near = approach(fit.from, upto, from, cost, enter, done, dist, parent);
+    let near = approach(fit.from, upto, from, cost, enter, done, dist, parent, steps);
     seen[group] = renewed(was, near, cost, fit.from);
 }
 
@@ -157,6 +163,7 @@ pub(crate) fn look_from<L: Ledger>(
     ensures looked { AreLooked (line_weight line.now) (length dist.old) from start enter.now done.now dist.old parent.old dist.new parent.new }
     ensures near { AreNear line.now.side.count line.now.side.groups done.now dist.new seen.new }
     ensures reached { AreReached line.now.side.count line.now.side.groups enter.now done.now dist.new seen.new }
+    ensures visited { AreVisited (line_weight line.now) line.now.side.groups line.now.side.count dist.old dist.new steps.old steps.new }
     ensures counted { steps.new ≤ steps.old + length dist.old }
 {
     let side = line.side;

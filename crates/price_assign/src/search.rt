@@ -7,6 +7,7 @@ ghost use Rattle.price_assign.specs.Turned.{MayBeginTurned, IsFoundTurned};
 ghost use Rattle.price_assign.specs.Lists.{AreLists};
 ghost use Rattle.price_assign.specs.Side.{side_slots, side_weight, place_weight};
 ghost use Rattle.price_assign.specs.Order.{slot_at, IsRenaming};
+ghost use Rattle.price_assign.specs.Visits.{SearchesOnce};
 
 use crate::grow::{begin, grow};
 use crate::invert::invert;
@@ -56,6 +57,7 @@ fn search<L: Ledger>(
         → IsMatched (place_weight side.now) out None b next.new leave.new enter.new }
     ensures covers { (out : ℕ → Bool) (b : Option ℕ) → MayBegin (place_weight side.now) (side_slots side.now) out a b next.old leave.old enter.old
         → Covers (place_weight side.now) out None leave.new enter.new }
+    ensures visited { SearchesOnce side.now steps.old steps.new }
     ensures counted { steps.new ≤ steps.old + side_slots side.now * side_slots side.now + side_slots side.now }
 {
     invert(next, before);
@@ -116,6 +118,7 @@ fn search_within<L: Ledger>(
         → IsMatched (side_weight side.now) out None b next.new leave.new enter.new }
     ensures covers { (out : ℕ → Bool) (b : Option ℕ) → MayBegin (side_weight side.now) (side_slots side.now) out a b next.old leave.old enter.old
         → Covers (side_weight side.now) out None leave.new enter.new }
+    ensures visited { SearchesOnce side.now steps.old steps.new }
     ensures counted { steps.new ≤ steps.old + side_slots side.now * side_slots side.now + side_slots side.now }
 {
     let slots = side.slots() as usize;
@@ -165,6 +168,7 @@ fn search_with<L: Ledger>(
         → IsMatched (side_weight side.now) out None b next.new leave.new enter.new }
     ensures covers { (out : ℕ → Bool) (b : Option ℕ) → MayBegin (side_weight side.now) (side_slots side.now) out a b next.old leave.old enter.old
         → Covers (side_weight side.now) out None leave.new enter.new }
+    ensures visited { SearchesOnce side.now steps.old steps.new }
     ensures counted { steps.new ≤ steps.old + side_slots side.now * side_slots side.now + side_slots side.now }
 {
     search_within(
@@ -213,6 +217,7 @@ pub(crate) fn search_links<L: Ledger>(
         → IsMatched (side_weight side.now) out None b links.new leave.new.items enter.new.items }
     ensures covers { (out : ℕ → Bool) (b : Option ℕ) → MayBegin (side_weight side.now) (side_slots side.now) out a b links.old leave.old.items enter.old.items
         → Covers (side_weight side.now) out None leave.new.items enter.new.items }
+    ensures visited { SearchesOnce side.now steps.old steps.new }
     ensures counted { steps.new ≤ steps.old + side_slots side.now * side_slots side.now + side_slots side.now }
 {
     let slots = side.slots() as usize;
@@ -250,6 +255,7 @@ pub(crate) fn search_befores<L: Ledger>(
     ensures lists { AreLists lists.new }
     ensures found { (a : Option ℕ) → MayBeginTurned (side_weight side.now) (side_slots side.now) b a links.old leave.old.items enter.old.items
         → IsFoundTurned (side_weight side.now) b a links.old links.new leave.new.items enter.new.items }
+    ensures visited { SearchesOnce side.now steps.old steps.new }
     ensures counted { steps.new ≤ steps.old + side_slots side.now * side_slots side.now + side_slots side.now }
 {
     let slots = side.slots() as usize;

@@ -1,14 +1,19 @@
 //! A tree over the 8,192 minutes of a service day that answers maxima of prefix sums.
 //!
 //! A [`Tree`] holds one [`Summary`] for each minute, its leaf, and keeps the summary of all of them. One leaf is replaced by
-//! writing at most 14 nodes. A [`MaxPrefix`] sums the steps of a deficit function and knows the greatest of its prefix sums. A
-//! tree of these goes down to find the first minute that reaches a value.
+//! writing 14 nodes, one of each level. A [`MaxPrefix`] sums the steps of a deficit function and knows the greatest of its
+//! prefix sums. A tree of these goes down to find the first minute that reaches a value.
 //!
 //! The contract that the crates above use: a tree is its list of 8,192 leaves. `set` changes one of them, and `whole` is the
 //! fold of all. `greatest_prefix` is the greatest of 0 and all prefix sums. `first_reaching` and `first_from` give the first
 //! place whose prefix sum reaches a value.
 //!
-//! `src/tests.rt` shows a use.
+//! ```text
+//! let mut tree = Tree::open(alloc)?;
+//! tree.set(480, MaxPrefix { sum: 1, high: 1 }, &mut steps);
+//! let most = tree.greatest_prefix();
+//! let first = tree.first_reaching(most);
+//! ```
 //!
 //! The contracts cite:
 //!

@@ -1,4 +1,4 @@
-ghost use Rattle.std.specs.Prelude.{◌≡◌, ◌+◌, ◌<◌, ◌≤◌, length, fold, IfOk, Some, All, slice_get, slice_set};
+ghost use Rattle.std.specs.Prelude.{◌≡◌, ◌+◌, ◌<◌, length, fold, IfOk, Some, All, slice_get, slice_set};
 
 use crate::nodes::{replace_leaf, unit_nodes};
 use crate::summary::{LEAVES, Summary};
@@ -42,12 +42,12 @@ impl<S: Summary> Tree<S> {
         Ok(Tree { nodes })
     }
 
-    /// Replaces the leaf of a place. A step is one node that is written.
+    /// Replaces the leaf of a place. A step is one node that is written, and the tree has 14 levels.
     pub fn set<L: Ledger>(&mut self, place: u16, leaf: S, steps: &mut Steps<L>)
         requires in_range { place < LEAVES }
         requires lawful { S.sums leaf 1 }
         ensures replaced { self.new ≡ slice_set self.old place leaf }
-        ensures cost { steps.new ≤ steps.old + 14 }
+        ensures cost { steps.new ≡ steps.old + 14 }
     {
         replace_leaf(&mut self.nodes, usize::from(place), leaf, steps);
     }

@@ -1,7 +1,9 @@
-use Rattle.std.proofs.Common.{◌≤◌, ◌+◌, refl, arith}
+use Rattle.std.proofs.Common.{◌≤◌, ◌+◌, refl, sym, subst, arith}
 use Rattle.std.proofs.Math.Nat.{mul-le-mul_left}
 use Rattle.price_assign.specs.Search.{at, problem, Problem, Tree, tree_of, IsNext}
 use Rattle.price_assign.specs.Side.{side_slots, place_weight}
+use Rattle.price_assign.specs.Visits.{RowsVisit}
+use Rattle.price_assign.proofs.VisitLemmas.{RowsVisit-more}
 use Rattle.price_assign.proofs.TreeLemmas.{tree-room, IsBest-more}
 use Rattle.price_assign.proofs.grow.grow.Goals as goal
 
@@ -31,6 +33,10 @@ loop-column-preserved g c =
           c.sooner-best.ensures.one c.sooner-best.ensures.best c.sooner-best.ensures.other;
       near = c.visit.ensures.near;
       reached = c.visit.ensures.reached;
+      visited = λ first was begun.
+          subst (λ rows. RowsVisit (place_weight side) side.groups side.count rows (loop.size + 1) first c.visit.new.dist was c.visit.new.steps) (sym c.visit.ensures.rows)
+          (RowsVisit-more (place_weight side) side.groups side.count loop.rows loop.size c.in-Some-before.row first loop.dist c.visit.new.dist was loop.steps c.visit.new.steps (omega (arith, room, c.requires.rows))
+          (loop.invariant.visited first was begun) c.visit.ensures.visited);
       counted = omega (arith, loop.invariant.counted, c.visit.ensures.counted);
     }
 

@@ -1,7 +1,8 @@
-use Rattle.std.proofs.Common.{ℕ, ◌+◌, ◌*◌, ◌-◌, ◌≤◌}
+use Rattle.std.proofs.Common.{ℕ, ◌+◌, ◌*◌, ◌-◌, ◌≤◌, List}
 use Rattle.price_assign.specs.Groups.{AreNear, AreReached}
 use Rattle.price_assign.specs.Search.{at, problem, tree_of, IsTree, IsBest}
 use Rattle.price_assign.specs.Side.{side_slots, place_weight}
+use Rattle.price_assign.specs.Visits.{RowsVisit}
 use Rattle.price_assign.proofs.grow.grow.Given as goal
 
 abbrev pub invariant-loop-column : goal.invariant-loop-column
@@ -11,6 +12,8 @@ invariant-loop-column g l = record {
   best : IsBest (problem (place_weight l.side) (side_slots l.side) (at l.initial.rows 0) l.before l.leave l.enter) (tree_of l.dist l.parent l.done l.rows l.far l.size reach) l.best;
   near : AreNear l.side.count l.side.groups l.done l.dist l.seen;
   reached : AreReached l.side.count l.side.groups l.enter l.done l.dist l.seen;
+  visited : (first : List ℕ) (was : ℕ) → RowsVisit (place_weight l.side) l.side.groups l.side.count l.initial.rows 1 first l.initial.dist was l.initial.steps
+      → RowsVisit (place_weight l.side) l.side.groups l.side.count l.rows l.size first l.dist was l.steps;
   counted : l.steps + side_slots l.side ≤ l.initial.steps + side_slots l.side * l.size;
 }
 

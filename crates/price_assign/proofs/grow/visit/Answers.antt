@@ -1,8 +1,13 @@
 use Rattle.std.proofs.Common.{◌+◌, true, set, subst}
 use Rattle.price_assign.specs.Search.{at, problem, tree_of, AreLooked}
 use Rattle.price_assign.specs.Side.{LineView, line_weight, side_slots, place_weight}
+use Rattle.price_assign.specs.Visits.{AreVisited}
 use Rattle.price_assign.proofs.TreeLemmas.{IsTree-visit}
 use Rattle.price_assign.proofs.grow.visit.Goals as goal
+
+pub returns-clause-visited : goal.returns-clause-visited
+returns-clause-visited g c =
+    subst (λ (line : LineView). AreVisited (line_weight line) line.side.groups line.side.count c.args.dist.now c.look_from.new.dist c.args.steps.now c.look_from.new.steps) c.line-line.ensures c.look_from.ensures.visited
 
 pub returns-clause-tree : goal.returns-clause-tree
 returns-clause-tree g c = λ a reach before given tree next.

@@ -1,7 +1,7 @@
-use Rattle.std.proofs.Common.{◌+◌, ◌≤◌}
 use Rattle.price_assign.specs.Groups.{begins, AreNear, AreReached}
 use Rattle.price_assign.specs.Search.{AreLooked}
 use Rattle.price_assign.specs.Side.{side_slots, line_weight}
+use Rattle.price_assign.specs.Visits.{AreVisited}
 use Rattle.price_assign.proofs.scan.look_from.Given as goal
 
 abbrev pub invariant-loop-group : goal.invariant-loop-group
@@ -9,5 +9,5 @@ invariant-loop-group g l = record {
   looked : AreLooked (line_weight l.line) (begins (side_slots l.line.side) l.line.side.count l.line.side.groups l.group) l.from l.start l.enter l.done l.initial.dist l.initial.parent l.dist l.parent;
   near : AreNear l.line.side.count l.line.side.groups l.done l.dist l.seen;
   reached : AreReached l.line.side.count l.line.side.groups l.enter l.done l.dist l.seen;
-  counted : l.steps ≤ l.initial.steps + l.group;
+  visited : AreVisited (line_weight l.line) l.line.side.groups l.group l.initial.dist l.dist l.initial.steps l.steps;
 }

@@ -1,4 +1,4 @@
-use Rattle.std.proofs.Common.{◌≡◌, ℕ, ◌<◌, ◌≤◌, Option, Some, Bool, refl, sym, subst, ⊎_elim, arith}
+use Rattle.std.proofs.Common.{◌≡◌, ℕ, ◌<◌, ◌≤◌, replicate, Option, Some, Bool, refl, sym, subst, ⊎_elim, arith}
 use Rattle.std.proofs.lemmas.Bool.{cases_lt}
 use Rattle.std.proofs.lemmas.List.{get_or_past}
 use Rattle.price_assign.specs.Assignment.{MayBegin}
@@ -6,6 +6,7 @@ use Rattle.price_assign.specs.Relinking.{IsShifted, IsPassing}
 use Rattle.price_assign.specs.Search.{at, Problem, problem, IsTree, Tree, tree_of}
 use Rattle.price_assign.specs.Side.{side_slots, place_weight}
 use Rattle.price_assign.proofs.ShiftLemmas.{AreNextTrips-matched, enter-low, given-at, IsOver, IsOver-grown, enough, gain-low, covers-over, LeadsBack-over, IsTightBack-over, IsPassing-over, free-over}
+use Rattle.price_assign.proofs.VisitLemmas.{RowsVisit-first}
 use Rattle.price_assign.proofs.search.search.Given.{Over}
 use Rattle.price_assign.proofs.search.search.Goals as goal
 
@@ -133,3 +134,13 @@ returns-clause-covers g c = λ out b begins.
     let p : Problem = (problem (place_weight c.args.side.now) (side_slots c.args.side.now) (at c.begin.new.rows 0) c.invert.new.before c.begin.new.leave c.args.enter.now) in
     let s : Tree = (tree_of c.grow-end.new.dist c.grow-end.new.parent c.grow-end.new.done c.grow-end.new.rows c.grow-end.new.far c.grow-end.ensures.grown.size c.grow-end.ensures.grown.reach) in
     covers-over p s c.grow-end.result out b c.args.next.now c.shift.new.leave c.shift.new.enter (over-end g c out b begins) (shifted g c)
+
+pub returns-clause-visited : goal.returns-clause-visited
+returns-clause-visited g c =
+    let side = c.args.side.now in
+    let n = side_slots side in (
+      c.grow-end.new.rows,
+      c.grow-end.new.dist,
+      c.grow-end.ensures.visited (replicate n 67111745) c.args.steps.now
+          (RowsVisit-first (place_weight side) side.groups side.count c.begin.new.rows c.args.a (replicate n 67111745) c.begin.new.dist c.args.steps.now c.begin.new.steps c.begin.ensures.rows c.begin.ensures.visited),
+    )
