@@ -23,7 +23,7 @@ use Rattle.desk_run.specs.declared.status.Ending.{Ending}
 use Rattle.desk_run.specs.declared.status.Ending.TheVariants as ending
 use Rattle.desk_feed.specs.declared.script.Edited.{Edited}
 use Rattle.desk_feed.specs.Edited.{IsEdited}
-use Rattle.desk_feed.specs.Feed.{Said, standing}
+use Rattle.desk_feed.specs.Feed.{FeedView, standing}
 use Rattle.desk_feed.specs.Judging.{IsGivenOf, ending_of, refused_of}
 use Rattle.desk_feed.specs.Schedule.{IsMatrixFor}
 use Rattle.desk_feed.specs.Script.{some_refused}
@@ -37,7 +37,7 @@ refused-names : (trips : TableView) (chosen : List Bool) (outcome : OutcomeView)
 refused-names trips chosen outcome is names = is.first.bad (names is.record_before is.first.within is.first.selected)
 
 -- what is done where nothing is judged
-refused-by : (said : Said) (trips : Result TableView FeedFault) (outcome : OutcomeView) → IsAuditable said.settings trips (Refused outcome)
+refused-by : (said : FeedView) (trips : Result TableView FeedFault) (outcome : OutcomeView) → IsAuditable said.settings trips (Refused outcome)
     → AuditsBy said trips outcome × EndsBy said trips outcome.ending × (outcome.lines ≡ None)
 refused-by said (Err refused) outcome is = (is, ap (λ (o : OutcomeView). o.ending) is, ap (λ (o : OutcomeView). o.lines) is)
 refused-by said (Ok trips) outcome is = (
@@ -49,7 +49,7 @@ refused-by said (Ok trips) outcome is = (
   ap (λ (o : OutcomeView). o.lines) is.done,
 )
 
-pub refused-given : (read : ReadView) (said : Said) (outcome : OutcomeView) → IsAuditable said.settings (trips_in read) (Refused outcome) → IsGivenOf audit_does read said outcome
+pub refused-given : (read : ReadView) (said : FeedView) (outcome : OutcomeView) → IsAuditable said.settings (trips_in read) (Refused outcome) → IsGivenOf audit_does read said outcome
 refused-given read said outcome is =
     let does = refused-by said (trips_in read) outcome is in
     record { gives = does.0; ends = does.1; unkept = λ _. does.2 }
@@ -92,7 +92,7 @@ none-by : (misfits : List Misfit) (end : Ending) → ending_by misfits end ≢ e
 none-by [] end not = refl
 none-by (misfit ∷ misfits) end not = absurd (not refl)
 
-module _ (said : Said) (trips : TableView) where
+module _ (said : FeedView) (trips : TableView) where
   abbrev here : List NamedBlock
   here = stated_of said trips
 
@@ -130,7 +130,7 @@ module _ (said : Said) (trips : TableView) where
       )
 
 -- what is put of the timetable after the script
-module _ (said : Said) (matrix : MatrixView) (edited : Edited) (table : TableView) (chosen : Vec Bool Global) where
+module _ (said : FeedView) (matrix : MatrixView) (edited : Edited) (table : TableView) (chosen : Vec Bool Global) where
   audited-read : IsMatrixFor said matrix → IsEdited said.base said.lines edited → AreMoves (length edited.script.timetable.places) (trip_moves edited.script.timetable.slots)
       → edited.script.timetable.places ≡ said.base.places → (read : Result TableView FeedFault) → IsAuditable said.settings read (Trips table chosen) → (outcome : OutcomeView) → Judges edited matrix table chosen.items outcome
       → AuditsBy said read outcome × EndsBy said read outcome.ending × (outcome.lines ≡ None)

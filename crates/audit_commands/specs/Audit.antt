@@ -25,7 +25,7 @@ use Rattle.desk_run.specs.Reading.{ReadView, found_of}
 use Rattle.desk_run.specs.declared.status.Ending.{Ending}
 use Rattle.desk_run.specs.declared.status.Ending.TheVariants as ending
 use Rattle.desk_feed.specs.Edited.{refusing_first}
-use Rattle.desk_feed.specs.Feed.{Said, standing}
+use Rattle.desk_feed.specs.Feed.{FeedView, standing}
 use Rattle.desk_feed.specs.Judging.{FeedAsked, ending_of, of_feed, refused_of, refusing}
 use Rattle.desk_feed.specs.Schedule.{IsMatrixFor, IsScheduled, most_steps}
 use Rattle.audit_commands.specs.Lines.{costs_text, misfits_text}
@@ -69,11 +69,11 @@ IsJudged refused end timetable matrix stated (misfit ∷ misfits) outcome =
     outcome ≡ refusing_first refused (misfits_text timetable stated (misfit ∷ misfits)) ending.No
 
 -- the blocks that a feed states of the timetable after its script
-abbrev pub stated_of : Said → TableView → List NamedBlock
+abbrev pub stated_of : FeedView → TableView → List NamedBlock
 stated_of said trips = stated_in trips (standing said) (chosen_in said.settings trips)
 
 -- The stated blocks are judged, by a matrix of the feed. The run ends as no exactly where they are not a blocking.
-pub record IsAudited (said : Said) (trips : TableView) (outcome : OutcomeView) : Type 0 where
+pub record IsAudited (said : FeedView) (trips : TableView) (outcome : OutcomeView) : Type 0 where
   pub matrix : MatrixView
   pub matrix_is : IsMatrixFor said matrix
   pub judged : IsJudged (refused_of said) (ending_of said) (standing said) matrix (stated_of said trips) (misfits_in (standing said) matrix (stated_of said trips)) outcome
@@ -82,15 +82,15 @@ pub record IsAudited (said : Said) (trips : TableView) (outcome : OutcomeView) :
 
 -- what is done of the trips: they are audited where the `block_id` of each selected record is text. Else the first that is not
 -- text is refused
-abbrev pub AuditsOf : Said → TableView → OutcomeView → Type 0
+abbrev pub AuditsOf : FeedView → TableView → OutcomeView → Type 0
 AuditsOf said trips outcome =
     IsRefusedName trips (chosen_in said.settings trips) outcome ⊎ (AreNames trips (chosen_in said.settings trips) × IsAudited said trips outcome)
 
-abbrev pub AuditsBy : Said → Result TableView FeedFault → OutcomeView → Type 0
+abbrev pub AuditsBy : FeedView → Result TableView FeedFault → OutcomeView → Type 0
 AuditsBy said (Err refused) outcome = outcome ≡ refusing refused
 AuditsBy said (Ok trips) outcome = AuditsOf said trips outcome
 
-abbrev pub Audits : ReadView → Said → OutcomeView → Type 0
+abbrev pub Audits : ReadView → FeedView → OutcomeView → Type 0
 Audits read said outcome = AuditsBy said (trips_in read) outcome
 
 -- how a run ends by the misfits: as the script does where there is none, and else as no
@@ -99,16 +99,16 @@ ending_by [] end = end
 ending_by (misfit ∷ misfits) end = ending.No
 
 -- how the run ends: by the misfits, which every matrix of the feed gives alike, and as refused where a `block_id` is
-pub record EndsOf (said : Said) (trips : TableView) (end : Ending) : Type 0 where
+pub record EndsOf (said : FeedView) (trips : TableView) (end : Ending) : Type 0 where
   pub judged : AreNames trips (chosen_in said.settings trips) → (matrix : MatrixView) → IsMatrixFor said matrix
       → end ≡ ending_by (misfits_in (standing said) matrix (stated_of said trips)) (ending_of said)
   pub refused : ¬ AreNames trips (chosen_in said.settings trips) → end ≡ ending.FeedRefused
 
-abbrev pub EndsBy : Said → Result TableView FeedFault → Ending → Type 0
+abbrev pub EndsBy : FeedView → Result TableView FeedFault → Ending → Type 0
 EndsBy said (Err refused) end = end ≡ ending.FeedRefused
 EndsBy said (Ok trips) end = EndsOf said trips end
 
-abbrev pub Ends : ReadView → Said → Ending → Type 0
+abbrev pub Ends : ReadView → FeedView → Ending → Type 0
 Ends read said end = EndsBy said (trips_in read) end
 
 -- with the most steps of a plan from scratch

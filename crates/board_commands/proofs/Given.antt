@@ -19,7 +19,7 @@ use Rattle.desk_run.specs.Outcome.{OutcomeView}
 use Rattle.desk_run.specs.Reading.{ReadView, found_of}
 use Rattle.edit_script.specs.declared.edit.Line.{Line}
 use Rattle.desk_feed.specs.Edited.{standing_after}
-use Rattle.desk_feed.specs.Feed.{Said, deadheads_in, lines_in, pulls_in, said_by, said_with, settings_in, standing, timetable_in}
+use Rattle.desk_feed.specs.Feed.{FeedView, deadheads_in, lines_in, pulls_in, said_by, said_with, settings_in, standing, timetable_in}
 use Rattle.desk_feed.specs.Judging.{IsGivenOf, ending_of, refused_of, said_in}
 use Rattle.desk_feed.specs.Schedule.{IsMatrixFor}
 use Rattle.desk_feed.proofs.ScriptLemmas.{standing-places}
@@ -55,7 +55,7 @@ JoinedIsLeast = (timetable : TimetableView) (matrix : MatrixView) (blocks : List
     → IsLeast (network_of timetable matrix) blocks → sum_of_maxima (deficit (joined_moves timetable matrix blocks)) (length timetable.places) ≡ pos (length blocks)
 
 -- the entries of an accepted feed take time
-entries-said : EntriesTakeTime → (found : Paper → Found) (said : Said) → said_by found ≡ Ok said → TakeTime said.entries
+entries-said : EntriesTakeTime → (found : Paper → Found) (said : FeedView) → said_by found ≡ Ok said → TakeTime said.entries
 unfolding said_by
 entries-said law found said e =
     let settings = read-parts (settings_in found) _ said e in
@@ -64,7 +64,7 @@ entries-said law found said e =
     let pulls = read-parts (pulls_in found entries.0.0) _ said entries.2 in
     let lines = read-parts (lines_in found) _ said pulls.2 in
     let given = said_with settings.0 entries.0.0 entries.0.1 pulls.0 lines.0 in
-    subst (λ (s : Said). TakeTime s.entries) (same_Ok (Ok given) given said refl lines.2) (law (found paper.Deadheads) base.0 entries.0.0 entries.0.1 entries.1)
+    subst (λ (s : FeedView). TakeTime s.entries) (same_Ok (Ok given) given said refl lines.2) (law (found paper.Deadheads) base.0 entries.0.0 entries.0.1 entries.1)
 
 -- what is drawn is a blocking of the trips that run
 pub drawn-blocking : (base : TimetableView) (lines : List Line) (matrix : MatrixView) (drawn : Drawn) → HasDrawn base lines matrix drawn
@@ -74,7 +74,7 @@ drawn-blocking base lines matrix drawn has =
     (subst (λ matrix. IsBlocking (network_of (standing_after base lines) matrix) drawn.blocks) (sym has.matrix_is)
     (drawn-scheduled base lines matrix drawn.desk.plan drawn.blocks has.plan).least.fewest.blocking)
 
-pub joined-given : {E : Type 0} (read : ReadView) (said : Said) (matrix : MatrixView) (drawn : Drawn) → JoinedIsLeast → EntriesTakeTime → said_in read ≡ Ok said
+pub joined-given : {E : Type 0} (read : ReadView) (said : FeedView) (matrix : MatrixView) (drawn : Drawn) → JoinedIsLeast → EntriesTakeTime → said_in read ≡ Ok said
     → IsMatrixFor said matrix → HasDrawn said.base said.lines matrix drawn
     → (result : Result OutcomeView E) → IfOk result (λ outcome. outcome ≡ boards_outcome drawn.refused drawn.ending said.settings.prefix drawn.desk.script.timetable drawn.desk.matrix drawn.blocks)
     → IfOk result (IsGivenOf joined_does read said)

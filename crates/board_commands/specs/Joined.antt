@@ -12,7 +12,7 @@ use Rattle.joined_deficits.specs.declared.limits.TheConstants.{MOST_MOVES}
 use Rattle.desk_run.specs.Commands.{Asked}
 use Rattle.desk_run.specs.Outcome.{OutcomeView}
 use Rattle.desk_run.specs.declared.status.Ending.{Ending}
-use Rattle.desk_feed.specs.Feed.{Said, standing}
+use Rattle.desk_feed.specs.Feed.{FeedView, standing}
 use Rattle.desk_feed.specs.Judging.{FeedAsked, doing, ending_of, of_feed, refused_of}
 use Rattle.desk_feed.specs.Schedule.{IsMatrixFor}
 use Rattle.feed_desk.specs.Drawn.{IsDrawn}
@@ -33,7 +33,7 @@ boards_outcome refused end prefix timetable matrix blocks = record {
 }
 
 -- it is done of the blocks of the plan after the script of a feed, and the maxima add up to their number
-pub record IsJoined (said : Said) (outcome : OutcomeView) : Type 0 where
+pub record IsJoined (said : FeedView) (outcome : OutcomeView) : Type 0 where
   pub matrix : MatrixView
   pub matrix_is : IsMatrixFor said matrix
   pub plan : Plan

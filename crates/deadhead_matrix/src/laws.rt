@@ -22,7 +22,7 @@ ghost use Rattle.trip_model.specs.Plain.{move_at, plain_network, trip_moves, Are
 ghost use Rattle.trip_model.specs.Timetable.{TimetableView, IsTimetable};
 
 /// Without entries and pulls a vehicle can go on exactly from a trip to one that it meets, and never runs empty.
-pub fn standing_law()
+pub fn no_entries_law()
     ensures { (places : ℕ) (moves : List (Option Move)) → AreMoves places moves
         → deadhead_network moves (empty_matrix places) ≡ plain_network moves }
 {}

@@ -8,7 +8,7 @@ ghost use Rattle.deficit_steps.specs.Changes.{IsDeficits, change_at, value, with
 ghost use Rattle.deficit_steps.specs.Holds.{Holds};
 ghost use Rattle.deficit_steps.specs.NextMaximum.{IsNextMaximum, NoNextMaximum};
 
-use crate::row::Row;
+use crate::row::PlaceChanges;
 use desk_io::{Memory, Steps};
 use std::alloc::Global;
 use std::marker::Model;
@@ -19,7 +19,7 @@ use trip_model::Move;
 ///
 /// Memory is taken by [`Deficits::open`] and [`Deficits::step_list`] alone.
 pub struct Deficits {
-    rows: Vec<Row>,
+    rows: Vec<PlaceChanges>,
 }
 
 impl Drop for Deficits {
@@ -49,7 +49,7 @@ impl Deficits {
     {
         let mut rows = Vec::with_capacity(alloc, usize::from(places))?;
         for _ in 0..places {
-            rows.push(Row::open(alloc)?)?;
+            rows.push(PlaceChanges::open(alloc)?)?;
         }
         Ok(Deficits { rows })
     }

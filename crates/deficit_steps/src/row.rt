@@ -13,17 +13,17 @@ use terminal_maxima::{MaxPrefix, Tree};
 use trip_model::MINUTES;
 
 /// The changes of one place, one for each minute, which are the sums of the leaves of a tree.
-pub struct Row {
+pub struct PlaceChanges {
     tree: Tree<MaxPrefix>,
 }
 
-impl Drop for Row {
+impl Drop for PlaceChanges {
     fn drop(self) {
         let Self { tree: _ } = self;
     }
 }
 
-impl Model for Row {
+impl Model for PlaceChanges {
     ghost use Rattle.std.specs.Prelude.{List, ℤ};
     ghost use Rattle.deficit_steps.specs.Leaves.{sums};
 
@@ -32,13 +32,13 @@ impl Model for Row {
     ghost view = { λ r. sums r.tree };
 }
 
-impl Row {
+impl PlaceChanges {
     /// The changes of a place without moves.
-    pub fn open(alloc: Global) -> Result<Row, Memory>
+    pub fn open(alloc: Global) -> Result<PlaceChanges, Memory>
         ensures empty { IfOk result (All (λ c. c ≡ pos 0)) }
         ensures valid { IfOk result AreChanges }
     {
-        Ok(Row {
+        Ok(PlaceChanges {
             tree: Tree::open(alloc)?,
         })
     }

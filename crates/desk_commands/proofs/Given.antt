@@ -6,7 +6,7 @@ use Rattle.edit_script.specs.declared.edit.Line.{Line}
 use Rattle.deadhead_matrix.specs.Matrix.{MatrixView}
 use Rattle.desk_run.specs.Outcome.{OutcomeView}
 use Rattle.desk_run.specs.Reading.{ReadView, found_of}
-use Rattle.desk_feed.specs.Feed.{Said, standing}
+use Rattle.desk_feed.specs.Feed.{FeedView, standing}
 use Rattle.desk_feed.specs.Judging.{IsGivenOf, said_in}
 use Rattle.desk_feed.specs.Schedule.{IsMatrixFor}
 use Rattle.claim_files.specs.Written.{AreOfPlan, IsAccepted}
@@ -47,7 +47,7 @@ abbrev pub AcceptsPlans : Type 0
 AcceptsPlans = (timetable : TimetableView) (matrix : MatrixView) (prefix : List ℕ) (plan : Plan) (blocks : List (List ℕ)) → AreOfPlan timetable matrix prefix plan blocks
     → IsAccepted timetable matrix prefix blocks plan.leave plan.enter
 
-pub plan-given : {E : Type 0} (read : ReadView) (said : Said) (matrix : MatrixView) → AcceptsPlans → TripsAreNamed → said_in read ≡ Ok said → IsMatrixFor said matrix
+pub plan-given : {E : Type 0} (read : ReadView) (said : FeedView) (matrix : MatrixView) → AcceptsPlans → TripsAreNamed → said_in read ≡ Ok said → IsMatrixFor said matrix
     → (result : Result OutcomeView E) (prefix : List ℕ) → prefix ≡ said.settings.prefix
     → IfOk result (IsPlanned said.base said.lines matrix prefix) → IfOk result (IsGivenOf blocks_does read said)
 plan-given read said matrix accepts named says is (Err e) prefix prefix_is planned = tt

@@ -14,7 +14,7 @@ use Rattle.desk_run.specs.Commands.{Asked}
 use Rattle.desk_run.specs.Outcome.{OutcomeView}
 use Rattle.desk_run.specs.declared.outcome.Writing.{Writing}
 use Rattle.desk_feed.specs.Edited.{ending_after, standing_after}
-use Rattle.desk_feed.specs.Feed.{Said, standing}
+use Rattle.desk_feed.specs.Feed.{FeedView, standing}
 use Rattle.desk_feed.specs.Judging.{FeedAsked, doing, of_feed}
 use Rattle.desk_feed.specs.Schedule.{IsMatrixFor}
 use Rattle.feed_desk.specs.Answers.{answers_by}
@@ -51,7 +51,7 @@ abbrev pub IsLastAccepted : TimetableView → MatrixView → List ℕ → Plan �
 IsLastAccepted timetable matrix prefix plan = IsAccepted timetable matrix prefix (blocks_in timetable plan) plan.leave plan.enter
 
 -- and of a feed: its prices prove it to `check`
-pub record IsPlan (said : Said) (outcome : OutcomeView) : Type 0 where
+pub record IsPlan (said : FeedView) (outcome : OutcomeView) : Type 0 where
   pub matrix : MatrixView
   pub matrix_is : IsMatrixFor said matrix
   pub planned : IsPlanned said.base said.lines matrix said.settings.prefix outcome

@@ -11,7 +11,7 @@
 //! - An accepted edit changes the links along the paths of its repair alone.
 //! - An undo and a redo restore the plan as it was, prices included.
 //!
-//! So at two moments at which the same edits stand the timetable and the plan are equal ([`laws::standing_law`]).
+//! So at two moments at which the same edits stand the timetable and the plan are equal ([`laws::same_edits_law`]).
 //!
 //! `feed_desk` shows a use, in `src/follow.rt`.
 //!

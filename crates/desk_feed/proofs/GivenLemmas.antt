@@ -14,7 +14,7 @@ use Rattle.desk_feed.specs.declared.judging.Judged.{Judged}
 use Rattle.desk_feed.specs.declared.judging.Judged.TheVariants.{Accepted}
 use Rattle.desk_feed.specs.declared.script.Edited.{Edited}
 use Rattle.desk_feed.specs.Edited.{IsEdited, refusing_first}
-use Rattle.desk_feed.specs.Feed.{Said, said_of, said_with}
+use Rattle.desk_feed.specs.Feed.{FeedView, said_of, said_with}
 use Rattle.desk_feed.specs.Judging.{Does, EndsBy, FeedAsked, IsGivenOf, Judges, ending_of, of_feed, refused_of, said_in}
 use Rattle.desk_feed.specs.Showing.{PutsBehind, TextAsked, showing, stands_with}
 
@@ -23,7 +23,7 @@ pub says-of : (read : ReadView) (judged : Judged) (feed : Feed) → judged ≡ A
 says-of read judged feed is judges = (subst (Judges read) is judges).0
 
 -- what is given of an accepted feed is given of what was read
-pub given-of : {E : Type 0} (asks : FeedAsked) (read : ReadView) (said : Said) → said_in read ≡ Ok said → (result : Result OutcomeView E)
+pub given-of : {E : Type 0} (asks : FeedAsked) (read : ReadView) (said : FeedView) → said_in read ≡ Ok said → (result : Result OutcomeView E)
     → IfOk result (IsGivenOf asks read said) → IfOk result (IsGiven (of_feed asks) read)
 given-of asks read said says (Err e) given = tt
 given-of asks read said says (Ok outcome) given = record {

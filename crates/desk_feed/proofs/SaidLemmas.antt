@@ -9,17 +9,17 @@ use Rattle.desk_settings.specs.Settings.{SettingsView}
 use Rattle.trip_model.specs.Timetable.{TimetableView}
 use Rattle.deadhead_matrix.specs.declared.entry.Entry.{Entry}
 use Rattle.deadhead_matrix.specs.declared.pulls.Pull.{Pull}
-use Rattle.desk_feed.specs.Feed.{Said, settings_in, timetable_in, deadheads_in, pulls_in, lines_in, said_by, said_with}
+use Rattle.desk_feed.specs.Feed.{FeedView, settings_in, timetable_in, deadheads_in, pulls_in, lines_in, said_by, said_with}
 
 module _ (found : Paper → Found) (settings : SettingsView) where
   -- what is said once the pulls are read, once the deadheads are, and once the timetable is
-  abbrev with_pulls : TimetableView × List Entry → List Pull → Result Said FeedFault
+  abbrev with_pulls : TimetableView × List Entry → List Pull → Result FeedView FeedFault
   with_pulls deadheads pulls = lines_in found >>= λ lines. Ok (said_with settings deadheads.0 deadheads.1 pulls lines)
 
-  abbrev with_deadheads : TimetableView × List Entry → Result Said FeedFault
+  abbrev with_deadheads : TimetableView × List Entry → Result FeedView FeedFault
   with_deadheads deadheads = pulls_in found deadheads.0 >>= with_pulls deadheads
 
-  abbrev with_timetable : TimetableView → Result Said FeedFault
+  abbrev with_timetable : TimetableView → Result FeedView FeedFault
   with_timetable timetable = deadheads_in found timetable >>= with_deadheads
 
   module _ (known : settings_in found ≡ Ok settings) where

@@ -27,7 +27,7 @@ feed_papers = paper.Settings ∷ paper.Terminals ∷ paper.Tolerances ∷ paper.
 
 -- what the papers of a feed say: the settings, of the services that run where there is a date; the base timetable, the lines of the script of edits, the entries of the
 -- deadheads, and the pulls of each place
-pub record Said : Type 0 where
+pub record FeedView : Type 0 where
   pub settings : SettingsView
   pub base : TimetableView
   pub lines : List Line
@@ -63,16 +63,16 @@ abbrev pub lines_in : (Paper → Found) → Result (List Line) FeedFault
 lines_in found = lines_by (found paper.Edits)
 
 -- what is said of these parts
-abbrev pub said_with : SettingsView → TimetableView → List Entry → List Pull → List Line → Said
+abbrev pub said_with : SettingsView → TimetableView → List Entry → List Pull → List Line → FeedView
 said_with settings base entries pulls lines =
     record { settings = settings; base = base; lines = lines; entries = entries; pulls = pulls }
 
 -- the timetable that stands after all records of the script
-abbrev pub standing : Said → TimetableView
+abbrev pub standing : FeedView → TimetableView
 standing said = standing_after said.base said.lines
 
 -- What the papers say. They are judged one after the other, and the first refusal ends it.
-unfoldable pub said_by : (Paper → Found) → Result Said FeedFault
+unfoldable pub said_by : (Paper → Found) → Result FeedView FeedFault
 said_by found = do
   settings ← settings_in found
   timetable ← timetable_in found settings
@@ -82,7 +82,7 @@ said_by found = do
   Ok (said_with settings deadheads.0 deadheads.1 pulls lines)
 
 -- what a feed says
-abbrev pub said_of : Feed → Said
+abbrev pub said_of : Feed → FeedView
 said_of feed = said_with feed.settings feed.timetable feed.deadheads feed.pulls feed.lines.items
 
 -- all papers of a feed were read

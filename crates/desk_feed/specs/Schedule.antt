@@ -10,7 +10,7 @@ use Rattle.deadhead_matrix.specs.declared.pulls.Pull.{Pull}
 use Rattle.deadhead_matrix.specs.Fitting.{network_of}
 use Rattle.deadhead_matrix.specs.Matrix.{MatrixView, AreLeastWalks}
 use Rattle.deadhead_matrix.specs.Prices.{Plan, IsPlanFor}
-use Rattle.desk_feed.specs.Feed.{Said}
+use Rattle.desk_feed.specs.Feed.{FeedView}
 
 -- the matrix has the least walks of the entries between so many places, and the pulls
 pub record IsMatrixOf (entries : List Entry) (pulls : List Pull) (places : ℕ) (matrix : MatrixView) : Type 0 where
@@ -20,7 +20,7 @@ pub record IsMatrixOf (entries : List Entry) (pulls : List Pull) (places : ℕ) 
   pub walks : AreLeastWalks matrix
 
 -- the matrix of what a feed says: no edit changes the places
-abbrev pub IsMatrixFor : Said → MatrixView → Type 0
+abbrev pub IsMatrixFor : FeedView → MatrixView → Type 0
 IsMatrixFor said matrix = IsMatrixOf said.entries said.pulls (length said.base.places) matrix
 
 -- A plan that its prices prove, and the blocks along its links, in order of departure. They are least: no blocking, also with

@@ -57,7 +57,7 @@ fn read_timetable(alloc: Global, settings: &Settings, read: &Read) -> Result<Tim
 {
     let trips = read.found(Paper::Trips);
     let stop_times = read.found(Paper::StopTimes);
-    feed_read::read_feed(alloc, trips, stop_times, settings)
+    feed_read::read_base(alloc, trips, stop_times, settings)
 }
 
 fn read_deadheads(

@@ -18,11 +18,11 @@ use Rattle.gtfs_tables.specs.Numbers.{number_of}
 use Rattle.sample_commands.specs.Sample.{sample_asked}
 use Rattle.journal_commands.specs.Keep.{keep_asked}
 use Rattle.journal_commands.specs.Kept.{kept_asked}
-use Rattle.desk_program.specs.declared.command.Command.{Command}
-use Rattle.desk_program.specs.declared.command.Command.TheVariants.{Deficits, Fixed, Blocks, Check, Write, Chart, Chains, Shifts, Keep, Kept, Joined, Planners, Audit, Sample}
+use Rattle.desk_program.specs.declared.command.CommandName.{CommandName}
+use Rattle.desk_program.specs.declared.command.CommandName.TheVariants.{Deficits, Fixed, Blocks, Check, Write, Chart, Chains, Shifts, Keep, Kept, Joined, Planners, Audit, Sample}
 
 -- the command of that name
-abbrev pub command_named : List ℕ → Option Command
+abbrev pub command_named : List ℕ → Option CommandName
 command_named word =
     if bytes_eq word (codes "deficits") then Some Deficits
     else if bytes_eq word (codes "fixed") then Some Fixed
@@ -53,21 +53,21 @@ abbrev pub trips_in : List ℕ → Option ℕ
 trips_in word = trips_written (length word) (number_of 4 word)
 
 -- the command of a sample, where it has a number of trips
-abbrev pub sample_of : Option ℕ → Option Command
+abbrev pub sample_of : Option ℕ → Option CommandName
 sample_of trips = option_map Sample trips
 
 -- the command that the words name: a command and a folder, or that of a sample and a number
-abbrev pub command_of : List (List ℕ) → Option Command
+abbrev pub command_of : List (List ℕ) → Option CommandName
 command_of (command ∷ word ∷ []) = if bytes_eq command (codes "sample") then sample_of (trips_in word) else command_named command
 command_of words = None
 
 -- a sample of so many trips can be made
-abbrev pub IsMakeable : Command → Type 0
+abbrev pub IsMakeable : CommandName → Type 0
 IsMakeable (Sample trips) = trips ≤ MOST_SAMPLE
 IsMakeable command = ⊤
 
 -- what a command asks
-abbrev pub asked_by : Command → Asked
+abbrev pub asked_by : CommandName → Asked
 asked_by Deficits = deficits_asked
 asked_by Fixed = fixed_asked
 asked_by Blocks = blocks_asked

@@ -8,7 +8,7 @@ use gtfs_tables::read_number;
 
 /// What the words after the program's name ask for.
 #[derive(Clone, Copy)]
-pub enum Command {
+pub enum CommandName {
     /// The deficit functions of a feed.
     Deficits,
     /// Blocks without deadheads, and their number.
@@ -40,23 +40,23 @@ pub enum Command {
 }
 
 // The command of that name.
-fn command_named(word: &str) -> Option<Command>
+fn command_named(word: &str) -> Option<CommandName>
     ensures { result ≡ spec.command_named word.now }
 {
     match word {
-        "deficits" => Some(Command::Deficits),
-        "fixed" => Some(Command::Fixed),
-        "blocks" => Some(Command::Blocks),
-        "check" => Some(Command::Check),
-        "write" => Some(Command::Write),
-        "chart" => Some(Command::Chart),
-        "chains" => Some(Command::Chains),
-        "shifts" => Some(Command::Shifts),
-        "keep" => Some(Command::Keep),
-        "kept" => Some(Command::Kept),
-        "joined" => Some(Command::Joined),
-        "planners" => Some(Command::Planners),
-        "audit" => Some(Command::Audit),
+        "deficits" => Some(CommandName::Deficits),
+        "fixed" => Some(CommandName::Fixed),
+        "blocks" => Some(CommandName::Blocks),
+        "check" => Some(CommandName::Check),
+        "write" => Some(CommandName::Write),
+        "chart" => Some(CommandName::Chart),
+        "chains" => Some(CommandName::Chains),
+        "shifts" => Some(CommandName::Shifts),
+        "keep" => Some(CommandName::Keep),
+        "kept" => Some(CommandName::Kept),
+        "joined" => Some(CommandName::Joined),
+        "planners" => Some(CommandName::Planners),
+        "audit" => Some(CommandName::Audit),
         _ => None,
     }
 }
@@ -86,13 +86,13 @@ fn trips_in(word: &str) -> Option<u32>
 }
 
 /// The command that the words name, and None where they are of no form.
-pub fn command_of(words: &[Text]) -> Option<Command>
+pub fn command_of(words: &[Text]) -> Option<CommandName>
     ensures command { result ≡ spec.command_of words.now }
     ensures few { IfSome result spec.IsMakeable }
 {
     match words {
         [command, trips] if command.as_str() == "sample" => match trips_in(trips.as_str()) {
-            Some(trips) => Some(Command::Sample(trips)),
+            Some(trips) => Some(CommandName::Sample(trips)),
             None => None,
         },
         [command, _folder] => command_named(command.as_str()),

@@ -15,7 +15,7 @@ mod status;
 mod top;
 mod usage;
 
-pub use command::{Command, command_of, folder_of};
+pub use command::{CommandName, command_of, folder_of};
 pub use status::status_line;
 pub use top::run;
 pub use usage::put_usage;

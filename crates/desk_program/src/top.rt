@@ -2,7 +2,7 @@ ghost use Rattle.desk_run.specs.World.{world};
 ghost use Rattle.desk_program.specs.Commands as spec;
 ghost use Rattle.desk_program.specs.Runs.{IsRun};
 
-use crate::{Command, command_of, put_usage};
+use crate::{CommandName, command_of, put_usage};
 use audit_commands::run_audit;
 use board_commands::run_joined;
 use desk_commands::run_blocks;
@@ -32,19 +32,19 @@ pub fn run<S: Shelf, O: Sink, K: Keeper, L: Ledger>(
 {
     match command_of(words) {
         None => put_usage(shelf, out, keeper),
-        Some(Command::Deficits) => run_deficits(alloc, shelf, out, keeper, steps),
-        Some(Command::Fixed) => run_fixed(alloc, shelf, out, keeper, steps),
-        Some(Command::Blocks) => run_blocks(alloc, shelf, out, keeper, steps),
-        Some(Command::Check) => run_check(alloc, shelf, out, keeper, steps),
-        Some(Command::Write) => run_write(alloc, shelf, out, keeper, steps),
-        Some(Command::Chart) => run_chart(alloc, shelf, out, keeper, steps),
-        Some(Command::Chains) => run_chains(alloc, shelf, out, keeper, steps),
-        Some(Command::Shifts) => run_shifts(alloc, shelf, out, keeper, steps),
-        Some(Command::Keep) => run_keep(alloc, shelf, out, keeper, steps),
-        Some(Command::Kept) => run_kept(alloc, shelf, out, keeper, steps),
-        Some(Command::Joined) => run_joined(alloc, shelf, out, keeper, steps),
-        Some(Command::Planners) => run_planners(alloc, shelf, out, keeper, steps),
-        Some(Command::Audit) => run_audit(alloc, shelf, out, keeper, steps),
-        Some(Command::Sample(trips)) => run_sample(alloc, trips, shelf, out, keeper, steps),
+        Some(CommandName::Deficits) => run_deficits(alloc, shelf, out, keeper, steps),
+        Some(CommandName::Fixed) => run_fixed(alloc, shelf, out, keeper, steps),
+        Some(CommandName::Blocks) => run_blocks(alloc, shelf, out, keeper, steps),
+        Some(CommandName::Check) => run_check(alloc, shelf, out, keeper, steps),
+        Some(CommandName::Write) => run_write(alloc, shelf, out, keeper, steps),
+        Some(CommandName::Chart) => run_chart(alloc, shelf, out, keeper, steps),
+        Some(CommandName::Chains) => run_chains(alloc, shelf, out, keeper, steps),
+        Some(CommandName::Shifts) => run_shifts(alloc, shelf, out, keeper, steps),
+        Some(CommandName::Keep) => run_keep(alloc, shelf, out, keeper, steps),
+        Some(CommandName::Kept) => run_kept(alloc, shelf, out, keeper, steps),
+        Some(CommandName::Joined) => run_joined(alloc, shelf, out, keeper, steps),
+        Some(CommandName::Planners) => run_planners(alloc, shelf, out, keeper, steps),
+        Some(CommandName::Audit) => run_audit(alloc, shelf, out, keeper, steps),
+        Some(CommandName::Sample(trips)) => run_sample(alloc, trips, shelf, out, keeper, steps),
     }
 }

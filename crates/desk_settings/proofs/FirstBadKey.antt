@@ -12,7 +12,7 @@ use Rattle.gtfs_tables.specs.Reading.{◌>>=◌}
 use Rattle.gtfs_tables.specs.Entries.{Name}
 use Rattle.toml.specs.Data.{Data, Members, no_members, member, is_before}
 use Rattle.desk_settings.specs.Desk.{with_key, standard_desk, is_bad, HasBad, NoBadBefore, Ascend, desk_from}
-use Rattle.desk_settings.specs.declared.desk.Desk.{Desk}
+use Rattle.desk_settings.specs.declared.desk.DeskTable.{DeskTable}
 
 map-some : {A B C : Type 0} (f : A → B) (g : A → C) (o : Option A) → is_some (option_map f o) ≡ is_some (option_map g o)
 map-some f g None = refl
@@ -23,7 +23,7 @@ either-some true x y u v here there = here
 either-some false x y u v here there = there
 
 -- whether a key is bad is the same for every desk
-bad-anywhere : (desk other : Desk) (key : Name) (value : Data) → is_some (with_key desk key value) ≡ is_some (with_key other key value)
+bad-anywhere : (desk other : DeskTable) (key : Name) (value : Data) → is_some (with_key desk key value) ≡ is_some (with_key other key value)
 unfolding with_key
 bad-anywhere desk other key value =
     either-some (bytes_eq key (codes "services")) _ _ _ _ (map-some _ _ _)
@@ -65,8 +65,8 @@ later-refused : (key bad : Name) (value : Data) (rest : Members) → is_bad key 
     → HasBad bad (member key value rest) × NoBadBefore bad (member key value rest)
 later-refused key bad value rest good later = (inr later.0, ((λ is. absurd (true≢false (sym is ∙ good))), later.1))
 
-refused-by : (o : Option Desk) (key bad : Name) (value : Data) (rest : Members) → is_some o ≡ is_some (with_key standard_desk key value)
-    → is_before key rest ≡ true → Ascend rest → ((desk : Desk) → desk_from desk rest ≡ Err (fault.BadSettings bad) → HasBad bad rest × NoBadBefore bad rest)
+refused-by : (o : Option DeskTable) (key bad : Name) (value : Data) (rest : Members) → is_some o ≡ is_some (with_key standard_desk key value)
+    → is_before key rest ≡ true → Ascend rest → ((desk : DeskTable) → desk_from desk rest ≡ Err (fault.BadSettings bad) → HasBad bad rest × NoBadBefore bad rest)
     → (ok_or o (fault.BadSettings key) >>= λ more. desk_from more rest) ≡ Err (fault.BadSettings bad)
     → HasBad bad (member key value rest) × NoBadBefore bad (member key value rest)
 refused-by None key bad value rest same front ascend later is =
@@ -75,7 +75,7 @@ refused-by (Some desk) key bad value rest same front ascend later is =
     later-refused key bad value rest (sym (ap not same)) (later desk is)
 
 -- the key at which the desk is refused is a bad one, and no bad one comes before it
-pub first_bad : (desk : Desk) (ms : Members) (bad : Name) → Ascend ms → desk_from desk ms ≡ Err (fault.BadSettings bad) → HasBad bad ms × NoBadBefore bad ms
+pub first_bad : (desk : DeskTable) (ms : Members) (bad : Name) → Ascend ms → desk_from desk ms ≡ Err (fault.BadSettings bad) → HasBad bad ms × NoBadBefore bad ms
 first_bad desk no_members bad ascend is = absurd cc
 first_bad desk (member key value rest) bad ascend is =
     refused-by (with_key desk key value) key bad value rest (bad-anywhere desk standard_desk key value) ascend.0 ascend.1 (λ next. λ refused. first_bad next rest bad ascend.1 refused) is

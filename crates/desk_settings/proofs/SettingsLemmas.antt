@@ -8,7 +8,7 @@ use Rattle.gtfs_tables.specs.Entries.{Entries, Name}
 use Rattle.desk_settings.specs.Desk.{desk_of}
 use Rattle.desk_settings.specs.Terminals.{terminals_of}
 use Rattle.desk_settings.specs.Tolerances.{tolerances_of}
-use Rattle.desk_settings.specs.declared.desk.Desk.{Desk}
+use Rattle.desk_settings.specs.declared.desk.DeskTable.{DeskTable}
 use Rattle.desk_settings.specs.Names.{each_once, is_among}
 use Rattle.desk_settings.specs.Settings.{SettingsView, is_chosen, is_in, kept_services, settings_of, settings_with, with_services_kept}
 use Rattle.desk_settings.proofs.NamesLemmas.{among-kept, among-once}
@@ -22,7 +22,7 @@ pub chosen-kept : (settings : SettingsView) (running : List Name) (service : Nam
 chosen-kept settings running service = kept-in settings.services running service
 
 -- the tolerances are refused
-pub settings-no_tolerances : (desk_found terminals_found tolerances_found : Found) (desk : Desk) (terminals : Entries Name) (refused : FeedFault) → desk_of desk_found ≡ Ok desk
+pub settings-no_tolerances : (desk_found terminals_found tolerances_found : Found) (desk : DeskTable) (terminals : Entries Name) (refused : FeedFault) → desk_of desk_found ≡ Ok desk
     → terminals_of terminals_found ≡ Ok terminals → Fails refused (tolerances_of tolerances_found) → Fails refused (settings_of desk_found terminals_found tolerances_found)
 unfolding settings_of
 settings-no_tolerances desk_found terminals_found tolerances_found desk terminals refused desk_read terminals_read due =

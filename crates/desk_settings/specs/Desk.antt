@@ -16,7 +16,7 @@ use Rattle.service_days.specs.Dates.{date_of}
 use Rattle.toml.specs.Data.{Data, Items, no_items, item, Members, no_members, member, is_before, as_integer, as_str, as_array, as_table}
 use Rattle.toml.specs.Parse.{parse_document}
 use Rattle.desk_settings.specs.Names.{with_name}
-use Rattle.desk_settings.specs.declared.desk.Desk.{Desk}
+use Rattle.desk_settings.specs.declared.desk.DeskTable.{DeskTable}
 use Rattle.desk_settings.specs.declared.desk.TheConstants.{MOST_CLASS, MOST_PREFIX}
 
 -- an integer from 0 to `most`
@@ -77,7 +77,7 @@ abbrev pub date_in : Data → Option ℕ
 date_in value = option_and_then if_date (as_str value)
 
 -- what holds where `desk.toml` does not say otherwise
-abbrev pub standard_desk : Desk
+abbrev pub standard_desk : DeskTable
 standard_desk = record { services = None; date = None; classes = []; layover = 0; layovers = []; early = 0; late = 0; prefix = codes "B" }
 
 -- the keys of members ascend in byte order
@@ -86,7 +86,7 @@ Ascend no_members = ⊤
 Ascend (member key value rest) = (is_before key rest ≡ true) × Ascend rest
 
 -- what the desk says with this key and its value; nothing where the key is unknown or its value of another form
-unfoldable pub with_key : Desk → Name → Data → Option Desk
+unfoldable pub with_key : DeskTable → Name → Data → Option DeskTable
 with_key desk key value =
     if bytes_eq key (codes "services") then option_map (λ names. record desk { services = Some names }) (names_in value)
     else if bytes_eq key (codes "date") then option_map (λ date. record desk { date = Some date }) (date_in value)
@@ -113,7 +113,7 @@ NoBadBefore first no_members = ⊤
 NoBadBefore first (member key value rest) = (is_bad key value ≡ true → is_lt (slice_cmp nat_cmp key first) ≡ false) × NoBadBefore first rest
 
 -- the keys one after the other, up to the first that is unknown or has a value of another form
-abbrev pub desk_from : Desk → Members → Result Desk FeedFault
+abbrev pub desk_from : DeskTable → Members → Result DeskTable FeedFault
 desk_from desk no_members = Ok desk
 desk_from desk (member key value rest) = ok_or (with_key desk key value) (fault.BadSettings key) >>= λ more. desk_from more rest
 
@@ -122,5 +122,5 @@ unfoldable pub document_in : List ℕ → Result Members FeedFault
 document_in bytes = provided (is_utf8 bytes) fault.NotToml (ok_or (parse_document bytes) fault.NotToml)
 
 -- what the file says; without one the standard holds
-abbrev pub desk_of : Found → Result Desk FeedFault
+abbrev pub desk_of : Found → Result DeskTable FeedFault
 desk_of found = optional_in paper.Settings standard_desk (λ bytes. document_in bytes >>= desk_from standard_desk) found

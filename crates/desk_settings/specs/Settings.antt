@@ -8,7 +8,7 @@ use Rattle.desk_settings.specs.Names.{each_once, is_among, kept_among}
 use Rattle.desk_settings.specs.Desk.{desk_of}
 use Rattle.desk_settings.specs.Terminals.{terminals_of}
 use Rattle.desk_settings.specs.Tolerances.{tolerances_of}
-use Rattle.desk_settings.specs.declared.desk.Desk.{Desk}
+use Rattle.desk_settings.specs.declared.desk.DeskTable.{DeskTable}
 
 -- the services that are selected, None where all are; the date whose services are selected, if there is one; the classes of
 -- routes. Then the minutes of layover, and those of places; the minutes of tolerance; the prefix of block names. Last the
@@ -26,7 +26,7 @@ pub record SettingsView : Type 0 where
   pub tolerances : Entries (ℕ × ℕ)
 
 -- the settings of a desk with its terminals and tolerances
-abbrev pub settings_with : Desk → Entries Name → Entries (ℕ × ℕ) → SettingsView
+abbrev pub settings_with : DeskTable → Entries Name → Entries (ℕ × ℕ) → SettingsView
 settings_with desk terminals tolerances = record {
   services = desk.services;
   date = desk.date;

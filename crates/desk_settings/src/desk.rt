@@ -23,7 +23,7 @@ pub const MOST_CLASS: usize = 16;
 
 /// What `desk.toml` says.
 #[derive(Drop)]
-pub(crate) struct Desk {
+pub(crate) struct DeskTable {
     /// The services whose trips are selected; None where all are.
     pub(crate) services: Option<Names>,
     /// The date whose services are selected, if there is one.
@@ -162,12 +162,12 @@ fn date_in(value: &Value) -> Option<Date>
     }
 }
 
-impl Desk {
+impl DeskTable {
     // What holds where `desk.toml` does not say otherwise.
-    fn standard(alloc: Global) -> Result<Desk, Memory>
+    fn standard(alloc: Global) -> Result<DeskTable, Memory>
         ensures { IfOk result (λ desk. desk ≡ spec.standard_desk) }
     {
-        Ok(Desk {
+        Ok(DeskTable {
             services: None,
             date: None,
             classes: Entries::new(alloc),
@@ -230,20 +230,20 @@ fn document_in(alloc: Global, bytes: &[u8]) -> Result<Table, FeedFault>
 }
 
 // What the table of a document says.
-fn desk_from(alloc: Global, table: &Table) -> Result<Desk, FeedFault>
+fn desk_from(alloc: Global, table: &Table) -> Result<DeskTable, FeedFault>
     ensures { Gives (λ desk. desk) result (spec.desk_from spec.standard_desk (table_view table.now)) }
 {
-    let mut desk = Desk::standard(alloc)?;
+    let mut desk = DeskTable::standard(alloc)?;
     desk.set_all(alloc, table)?;
     Ok(desk)
 }
 
 /// What the file says; the standard where it is not there.
-pub(crate) fn desk_of(alloc: Global, found: &Found) -> Result<Desk, FeedFault>
+pub(crate) fn desk_of(alloc: Global, found: &Found) -> Result<DeskTable, FeedFault>
     ensures { Gives (λ desk. desk) result (spec.desk_of found.now) }
 {
     match optional_bytes(Paper::Settings, found)? {
         Some(bytes) => desk_from(alloc, &document_in(alloc, bytes)?),
-        None => Ok(Desk::standard(alloc)?),
+        None => Ok(DeskTable::standard(alloc)?),
     }
 }

@@ -9,7 +9,7 @@ ghost use Rattle.desk_settings.specs.Desk.{Ascend, document_in};
 ghost use Rattle.desk_settings.specs.Names.{is_among};
 ghost use Rattle.desk_settings.specs.Settings as spec;
 
-use crate::desk::{Desk, desk_of};
+use crate::desk::{DeskTable, desk_of};
 use crate::laws::key_order_law;
 use crate::minutes::Tolerance;
 use crate::names::Names;
@@ -32,7 +32,7 @@ use std::marker::Model;
 ///
 /// Entries for places, stops and trips that no feed names are kept.
 pub struct Settings {
-    desk: Desk,
+    desk: DeskTable,
     terminals: Entries<Text>,
     tolerances: Entries<(Tolerance, Tolerance)>,
 }

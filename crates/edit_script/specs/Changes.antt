@@ -10,7 +10,7 @@ use Rattle.edit_script.specs.declared.edit.Edit.{Edit}
 use Rattle.edit_script.specs.declared.edit.Edit.TheVariants.{Shift, Cancel, Restore, Extra, Undo, Redo, Show}
 use Rattle.edit_script.specs.declared.fault.EditFault.{EditFault}
 use Rattle.edit_script.specs.declared.fault.EditFault.TheVariants as fault
-use Rattle.edit_script.specs.declared.fault.Side.TheVariants as side
+use Rattle.edit_script.specs.declared.fault.TripEnd.TheVariants as side
 
 -- what is done where a fact holds, and else the refusal
 abbrev pub provided : Bool → EditFault → Result TimetableView EditFault → Result TimetableView EditFault

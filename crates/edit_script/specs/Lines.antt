@@ -6,8 +6,8 @@ use Rattle.edit_script.specs.declared.edit.Edit.{Edit}
 use Rattle.edit_script.specs.declared.edit.Edit.TheVariants.{Shift, Cancel, Restore, Extra, Undo, Redo, Show}
 use Rattle.edit_script.specs.declared.fault.EditFault.{EditFault}
 use Rattle.edit_script.specs.declared.fault.EditFault.TheVariants as fault
-use Rattle.edit_script.specs.declared.fault.Side.{Side}
-use Rattle.edit_script.specs.declared.fault.Side.TheVariants.{From, To}
+use Rattle.edit_script.specs.declared.fault.TripEnd.{TripEnd}
+use Rattle.edit_script.specs.declared.fault.TripEnd.TheVariants.{From, To}
 
 -- a number with its sign, + where it is not negative
 abbrev pub signed_text : ℤ → List ℕ
@@ -24,7 +24,7 @@ fields_of Redo = codes "redo" ∷ []
 fields_of Show = codes "show" ∷ []
 
 -- the printed name of an end of an extra trip
-abbrev pub side_name_of : Side → List ℕ
+abbrev pub side_name_of : TripEnd → List ℕ
 side_name_of From = codes "from"
 side_name_of To = codes "to"
 

@@ -7,7 +7,7 @@ ghost use Rattle.edit_script.specs.declared.edit.Edit.TheVariants.{Cancel, Extra
 ghost use Rattle.edit_script.specs.declared.edit.TheConstants.{MOST_SHIFT};
 ghost use Rattle.trip_model.specs.Timetable.{IsTimetable};
 
-use crate::{EditFault, Side, Touched};
+use crate::{EditFault, TripEnd, Touched};
 use desk_io::{Memory, Text};
 use std::alloc::Global;
 use trip_model::{MOST_SLOTS, Timetable, Trip};
@@ -124,10 +124,10 @@ pub(crate) fn judge_extra(
         return Err(EditFault::TripExists);
     }
     let Some(from) = timetable.find_place(from.as_str()) else {
-        return Err(EditFault::UnknownPlace(Side::From));
+        return Err(EditFault::UnknownPlace(TripEnd::From));
     };
     let Some(to) = timetable.find_place(to.as_str()) else {
-        return Err(EditFault::UnknownPlace(Side::To));
+        return Err(EditFault::UnknownPlace(TripEnd::To));
     };
     if timetable.class_name(from) != timetable.class_name(to) {
         return Err(EditFault::ClassesDiffer);

@@ -7,7 +7,7 @@ use std::alloc::Global;
 
 /// An end of an extra trip.
 #[derive(Clone, Copy, PartialEq, Eq)]
-pub enum Side {
+pub enum TripEnd {
     From,
     To,
 }
@@ -30,7 +30,7 @@ pub enum EditFault {
     /// A trip has that name.
     TripExists,
     /// No place has the name of that end.
-    UnknownPlace(Side),
+    UnknownPlace(TripEnd),
     /// The ends are places of different classes.
     ClassesDiffer,
     /// The trip would not arrive after it departs.
@@ -48,12 +48,12 @@ pub enum EditFault {
 }
 
 // The name of an end.
-fn side_name(side: Side) -> &'static str
+fn side_name(side: TripEnd) -> &'static str
     ensures { result.now ≡ side_name_of side }
 {
     match side {
-        Side::From => "from",
-        Side::To => "to",
+        TripEnd::From => "from",
+        TripEnd::To => "to",
     }
 }
 

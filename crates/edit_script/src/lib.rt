@@ -49,7 +49,7 @@ mod writing;
 
 pub use changes::Judged;
 pub use edit::{Edit, Line, MOST_SHIFT, MOST_SHOWS};
-pub use fault::{EditFault, Side, fault_text};
+pub use fault::{EditFault, TripEnd, fault_text};
 pub use follow::{Follower, follow_records};
 pub use reading::{read_edit, read_script};
 pub use script::Script;

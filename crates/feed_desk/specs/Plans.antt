@@ -13,7 +13,7 @@ use Rattle.deadhead_matrix.specs.Matrix.{MatrixView}
 use Rattle.deadhead_matrix.specs.Prices.{Plan}
 use Rattle.desk_core.specs.Counts.{blocks_in}
 use Rattle.desk_core.specs.Desk as desk
-use Rattle.desk_feed.specs.Feed.{Said}
+use Rattle.desk_feed.specs.Feed.{FeedView}
 use Rattle.desk_feed.specs.Schedule.{IsScheduled, most_steps}
 use Rattle.desk_feed.specs.Script.{line_at, refusal_in, standing_at, state_at, step_at}
 
@@ -62,5 +62,5 @@ most_to base lines zero = 0
 most_to base lines (suc n) = most_to base lines n + most_of (line_at lines n) (length (standing_at base lines (suc n)).slots) (refusal_in (step_at base lines n))
 
 -- the most steps of all plans: those of the first one, and then those of each record
-abbrev pub most_steps_of : Said → ℕ
+abbrev pub most_steps_of : FeedView → ℕ
 most_steps_of said = most_steps (length said.base.slots) + most_to said.base said.lines (length said.lines)

@@ -10,7 +10,7 @@ use crate::answers::Answers;
 use deadhead_matrix::Matrix;
 use deadhead_matrix::laws::plan_law;
 use desk_core::Desk;
-use desk_core::laws::standing_law;
+use desk_core::laws::same_edits_law;
 use desk_feed::ending_by;
 use desk_io::{Memory, Steps};
 use desk_run::Ending;
@@ -122,7 +122,7 @@ pub fn follow_script<A: Answers + Drop, L: Ledger>(
     plan_law();
     plain_law();
     plain_blocks_law();
-    standing_law();
+    same_edits_law();
     machine_law();
     // Their clauses say that no pull is longer than a day, that the plan is certified, and that the timetable is valid.
     let _places = matrix.places();

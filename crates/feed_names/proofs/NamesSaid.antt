@@ -35,7 +35,7 @@ use Rattle.deadhead_matrix.specs.Deadheads.{ReadingView, begun, deadhead_in, dea
 use Rattle.deadhead_matrix.specs.Posts.{Class, classes_of, place_for}
 use Rattle.claim_files.specs.Written.{IsName}
 use Rattle.claim_files.proofs.EachRecord.{each-keeps, provided-parts, read-parts, same_Ok}
-use Rattle.desk_feed.specs.Feed.{Said, deadheads_in, lines_in, pulls_in, said_by, said_with, settings_in, standing, timetable_in}
+use Rattle.desk_feed.specs.Feed.{FeedView, deadheads_in, lines_in, pulls_in, said_by, said_with, settings_in, standing, timetable_in}
 use Rattle.feed_names.proofs.NamesStanding.{lines-named, standing-named}
 
 -- a text that was read is text
@@ -215,7 +215,7 @@ deadheads-slots found t after e =
     ∙ ap (λ (r : TimetableView × List Entry). r.0.slots) (same_Ok (read.0.timetable, read.0.entries) after read.2)
 
 -- the names of an accepted feed are text, after its script too
-pub said-names : (found : Paper → Found) (said : Said) → said_by found ≡ Ok said → All (λ slot. IsName slot.name) (standing said).slots
+pub said-names : (found : Paper → Found) (said : FeedView) → said_by found ≡ Ok said → All (λ slot. IsName slot.name) (standing said).slots
 unfolding said_by
 said-names found said e =
     let settings = read-parts (settings_in found) _ said e in
@@ -226,5 +226,5 @@ said-names found said e =
     let given = said_with settings.0 entries.0.0 entries.0.1 pulls.0 lines.0 in
     let slots = deadheads-slots (found paper.Deadheads) base.0 entries.0 entries.1 in
     let before = subst (All (λ (slot : Slot). IsName slot.name)) slots (base-named settings.0 (found paper.Trips) (found paper.StopTimes) base.0 base.1) in
-    subst (λ (said : Said). All (λ (slot : Slot). IsName slot.name) (standing said).slots) (same_Ok given said lines.2)
+    subst (λ (said : FeedView). All (λ (slot : Slot). IsName slot.name) (standing said).slots) (same_Ok given said lines.2)
     (standing-named entries.0.0 lines.0 (length lines.0) before (lines-named (found paper.Edits) lines.0 lines.1))

@@ -46,7 +46,7 @@ fn feed_trips_in(
 ///
 /// Each file has at most [`gtfs_tables::MOST_BYTES`] bytes.
 #[tactic(auto, unfolding(crate::specs::Base::base_of))]
-pub fn read_feed(
+pub fn read_base(
     alloc: Global,
     trips: &Found,
     stop_times: &Found,

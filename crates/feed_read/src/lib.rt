@@ -1,6 +1,6 @@
 //! From a feed, as an agency publishes it, to its timetable.
 //!
-//! [`read_feed`] makes the base timetable of `trips.txt`, `stop_times.txt` and the settings of a desk. It has the trips of the
+//! [`read_base`] makes the base timetable of `trips.txt`, `stop_times.txt` and the settings of a desk. It has the trips of the
 //! chosen services, in the order of their records. Each goes from its first stop to its last by `stop_sequence`, wherever these
 //! rows are in the file. A feed is classed where the settings give routes classes. Then each trip is of the class of its route,
 //! and the places are posts, which are terminals with a class. So trips of two classes have no place in common.
@@ -29,4 +29,4 @@ mod timetable;
 mod trip_ends;
 mod trips;
 
-pub use feed::read_feed;
+pub use feed::read_base;

@@ -9,7 +9,7 @@ use Rattle.edit_script.specs.Laws.{EditReadsBack}
 use Rattle.desk_keeper.specs.Keeper.{Journal}
 use Rattle.desk_run.specs.Outcome.{OutcomeView}
 use Rattle.desk_run.specs.Reading.{ReadView}
-use Rattle.desk_feed.specs.Feed.{Said}
+use Rattle.desk_feed.specs.Feed.{FeedView}
 use Rattle.desk_feed.specs.Judging.{IsGivenOf}
 use Rattle.desk_feed.specs.Script.{ending_by}
 use Rattle.journal_commands.specs.declared.replay.Replay.{Replay}
@@ -51,7 +51,7 @@ module _ (base : TimetableView) (stored : Journal) (journal lines : List Line) (
   kept-done (Ok outcome) done = done ∙ (λ i. appending (text-both i) (kept-both i) (ending_by (some-both i)) (script_with stored (kept-both i)))
 
 -- what `keep` does of an accepted feed is what it asks
-pub keep-given : {E : Type 0} → EditReadsBack → (read : ReadView) (said : Said) (result : Result OutcomeView E) → IfOk result (λ outcome. outcome ≡ keeping read said)
+pub keep-given : {E : Type 0} → EditReadsBack → (read : ReadView) (said : FeedView) (result : Result OutcomeView E) → IfOk result (λ outcome. outcome ≡ keeping read said)
     → IfOk result (IsGivenOf keep_does read said)
 keep-given reads read said (Err e) done = tt
 keep-given reads read said (Ok outcome) done = record {

@@ -13,7 +13,7 @@ use Rattle.desk_run.specs.Commands.{Asked}
 use Rattle.desk_run.specs.Outcome.{OutcomeView}
 use Rattle.desk_run.specs.Reading.{ReadView}
 use Rattle.desk_run.specs.declared.status.Ending.{Ending}
-use Rattle.desk_feed.specs.Feed.{Said}
+use Rattle.desk_feed.specs.Feed.{FeedView}
 use Rattle.desk_feed.specs.Judging.{FeedAsked, of_feed, refusing}
 use Rattle.desk_feed.specs.Script.{ending_by}
 use Rattle.journal_commands.specs.Journal.{canonical_line, lines_loaded, script_loaded, script_with}
@@ -59,7 +59,7 @@ abbrev pub keeping_by : TimetableView → Journal → List Line → Result (List
 keeping_by base stored lines (Ok journal) = keeping_lines base stored journal lines
 keeping_by base stored lines (Err refused) = refusing refused
 
-abbrev pub keeping : ReadView → Said → OutcomeView
+abbrev pub keeping : ReadView → FeedView → OutcomeView
 keeping read said = keeping_by said.base (lines_loaded read.journal) said.lines (script_loaded read.journal)
 
 -- an edit that can be written and read: it is in form, and its names are texts
@@ -86,7 +86,7 @@ Replays base lines =
     → standing_after base script ≡ standing_after_both base (map line.Edit stored) lines
 
 -- what `keep` gives of what was read; and the journal that it leaves replays
-pub record Keeps (read : ReadView) (said : Said) (outcome : OutcomeView) : Type 0 where
+pub record Keeps (read : ReadView) (said : FeedView) (outcome : OutcomeView) : Type 0 where
   pub done : outcome ≡ keeping read said
   pub replays : Replays said.base said.lines
 

@@ -11,7 +11,7 @@ use Rattle.dh_chains.specs.declared.chain.Chain.{Chain}
 use Rattle.desk_run.specs.Commands.{Asked}
 use Rattle.desk_feed.specs.Judging.{of_feed}
 use Rattle.desk_feed.specs.Schedule.{IsMatrixOf}
-use Rattle.desk_feed.specs.Showing.{Stands, TextAsked, showing}
+use Rattle.desk_feed.specs.Showing.{EditedView, TextAsked, showing}
 use Rattle.lowering_commands.specs.Fleet.{fleet_of, total_line}
 
 -- moves, and the deadheads of a chain as moves besides
@@ -45,7 +45,7 @@ pub record IsChainsText (timetable : TimetableView) (matrix : MatrixView) (moves
   pub printed : text ≡ chains_text timetable moves before chains
 
 -- those of the trips that run
-pub record IsChains (stands : Stands) (text : List ℕ) : Type 0 where
+pub record IsChains (stands : EditedView) (text : List ℕ) : Type 0 where
   pub matrix : MatrixView
   pub matrix_is : IsMatrixOf stands.entries stands.pulls (length stands.timetable.places) matrix
   pub chains : IsChainsText stands.timetable matrix (live_moves stands.timetable.slots) 0 text

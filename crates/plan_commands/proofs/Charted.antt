@@ -5,14 +5,14 @@ use Rattle.deadhead_matrix.specs.Matrix.{MatrixView}
 use Rattle.desk_run.specs.Outcome.{OutcomeView}
 use Rattle.desk_run.specs.Reading.{ReadView}
 use Rattle.desk_feed.specs.Edited.{refusing_first}
-use Rattle.desk_feed.specs.Feed.{Said}
+use Rattle.desk_feed.specs.Feed.{FeedView}
 use Rattle.desk_feed.specs.Judging.{IsGivenOf}
 use Rattle.desk_feed.specs.Schedule.{IsMatrixFor}
 use Rattle.feed_desk.specs.Drawn.{HasDrawn}
 use Rattle.feed_desk.specs.declared.draw.Drawn.{Drawn}
 use Rattle.plan_commands.specs.Chart.{chart_does, chart_text}
 
-pub chart-given : {E : Type 0} (read : ReadView) (said : Said) (matrix : MatrixView) (drawn : Drawn) (text prefix : List ℕ) → IsMatrixFor said matrix → HasDrawn said.base said.lines matrix drawn
+pub chart-given : {E : Type 0} (read : ReadView) (said : FeedView) (matrix : MatrixView) (drawn : Drawn) (text prefix : List ℕ) → IsMatrixFor said matrix → HasDrawn said.base said.lines matrix drawn
     → text ≡ chart_text drawn.desk.script.timetable drawn.desk.matrix prefix drawn.blocks → prefix ≡ said.settings.prefix
     → (result : Result OutcomeView E) → IfOk result (λ outcome. outcome ≡ refusing_first drawn.refused text drawn.ending) → IfOk result (IsGivenOf chart_does read said)
 chart-given read said matrix drawn text prefix is has printed same (Err e) put = tt

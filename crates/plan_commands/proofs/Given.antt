@@ -11,7 +11,7 @@ use Rattle.trip_model.specs.Timetable.{TimetableView}
 use Rattle.claim_files.specs.declared.fault.ClaimFault.{ClaimFault}
 use Rattle.desk_run.specs.Outcome.{OutcomeView}
 use Rattle.desk_run.specs.Reading.{ReadView}
-use Rattle.desk_feed.specs.Feed.{Said, standing}
+use Rattle.desk_feed.specs.Feed.{FeedView, standing}
 use Rattle.desk_feed.specs.Judging.{IsGivenOf, refused_of}
 use Rattle.desk_feed.specs.Schedule.{IsMatrixFor}
 use Rattle.plan_commands.specs.Check.{Proves, check_does, checked, claim_in, claim_outcome, verdict_outcome}
@@ -27,7 +27,7 @@ put-alone refused timetable matrix (Ok claimed) = by (verdict_of timetable matri
     by (Yes vehicles minutes) = (refl, refl)
     by (No reason) = (refl, refl)
 
-module _ (read : ReadView) (said : Said) (timetable : TimetableView) (matrix : MatrixView) (stands : timetable ≡ standing said) (is : IsMatrixFor said matrix) where
+module _ (read : ReadView) (said : FeedView) (timetable : TimetableView) (matrix : MatrixView) (stands : timetable ≡ standing said) (is : IsMatrixFor said matrix) where
   -- the verdict on a claim
   pub check-given : {E : Type 0} (result : Result OutcomeView E) (refused : List ℕ) → refused ≡ refused_of said → AreMoves (length timetable.places) (trip_moves timetable.slots)
       → timetable.places ≡ said.base.places → (claim : Result ClaimedView ClaimFault) → claim ≡ claim_in read said → Proves timetable matrix claim

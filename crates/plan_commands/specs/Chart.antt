@@ -9,7 +9,7 @@ use Rattle.chart_text.specs.Deficits.{deficit_chart_text}
 use Rattle.desk_run.specs.Commands.{Asked}
 use Rattle.desk_run.specs.Outcome.{OutcomeView}
 use Rattle.desk_feed.specs.Edited.{refusing_first}
-use Rattle.desk_feed.specs.Feed.{Said, standing}
+use Rattle.desk_feed.specs.Feed.{FeedView, standing}
 use Rattle.desk_feed.specs.Judging.{FeedAsked, doing, ending_of, of_feed, refused_of}
 use Rattle.desk_feed.specs.Schedule.{IsMatrixFor}
 use Rattle.feed_desk.specs.Drawn.{IsDrawn}
@@ -21,7 +21,7 @@ chart_text timetable matrix prefix blocks =
     deficit_chart_text timetable (deficit (live_moves timetable.slots)) ++ block_chart_text timetable (walk matrix) prefix blocks
 
 -- the charts of deficits and blocks of the plan after the script are put behind the lines of refused records
-pub record IsChart (said : Said) (outcome : OutcomeView) : Type 0 where
+pub record IsChart (said : FeedView) (outcome : OutcomeView) : Type 0 where
   pub matrix : MatrixView
   pub matrix_is : IsMatrixFor said matrix
   pub plan : Plan

@@ -21,7 +21,7 @@ use Rattle.desk_run.specs.Reading.{ReadView, found_of}
 use Rattle.desk_run.specs.declared.status.Ending.{Ending}
 use Rattle.desk_run.specs.declared.status.Ending.TheVariants as ending
 use Rattle.desk_feed.specs.Edited.{refusing_first}
-use Rattle.desk_feed.specs.Feed.{Said, feed_papers, standing}
+use Rattle.desk_feed.specs.Feed.{FeedView, feed_papers, standing}
 use Rattle.desk_feed.specs.Judging.{FeedAsked, of_feed, refused_of}
 use Rattle.desk_feed.specs.Schedule.{IsMatrixFor}
 
@@ -40,11 +40,11 @@ claim_outcome refused timetable matrix (Err fault) = refusing_first refused (cla
 claim_outcome refused timetable matrix (Ok claimed) = verdict_outcome refused timetable claimed (verdict_of timetable matrix claimed)
 
 -- what the two files claim of what a feed says
-abbrev pub claim_in : ReadView → Said → Result ClaimedView ClaimFault
+abbrev pub claim_in : ReadView → FeedView → Result ClaimedView ClaimFault
 claim_in read said = claimed_of (standing said) (found_of read.pages paper.Blocks) (found_of read.pages paper.Prices)
 
 -- what is put of them, by a matrix
-abbrev pub checked : ReadView → Said → MatrixView → OutcomeView
+abbrev pub checked : ReadView → FeedView → MatrixView → OutcomeView
 checked read said matrix = claim_outcome (refused_of said) (standing said) matrix (claim_in read said)
 
 -- A claim against which no reason holds proves its blocks: it is a certificate, and they are least over all blockings.
@@ -53,14 +53,14 @@ Proves timetable matrix read = (claimed : ClaimedView) → read ≡ Ok claimed �
     → IsCertificate (network_of timetable matrix) (length timetable.slots) claimed × IsLeast (network_of timetable matrix) (blocks_in claimed.blocks)
 
 -- The verdict by a matrix of the feed is put. A yes proves the blocks.
-pub record IsChecked (read : ReadView) (said : Said) (outcome : OutcomeView) : Type 0 where
+pub record IsChecked (read : ReadView) (said : FeedView) (outcome : OutcomeView) : Type 0 where
   pub matrix : MatrixView
   pub matrix_is : IsMatrixFor said matrix
   pub done : outcome ≡ checked read said matrix
   pub proved : Proves (standing said) matrix (claim_in read said)
 
 -- how the run ends: by every matrix of the feed in the same way
-abbrev pub EndsAs : ReadView → Said → Ending → Type 0
+abbrev pub EndsAs : ReadView → FeedView → Ending → Type 0
 EndsAs read said end = (matrix : MatrixView) → IsMatrixFor said matrix → end ≡ (checked read said matrix).ending
 
 -- the two files of a claim, which are read after the papers of a feed

@@ -12,7 +12,7 @@ use Rattle.edit_script.specs.declared.edit.Line.{Line}
 use Rattle.desk_run.specs.Outcome.{OutcomeView}
 use Rattle.desk_run.specs.Reading.{ReadView}
 use Rattle.desk_run.specs.declared.status.Ending.{Ending}
-use Rattle.desk_feed.specs.Feed.{Said, said_with}
+use Rattle.desk_feed.specs.Feed.{FeedView, said_with}
 use Rattle.desk_feed.specs.Judging.{IsGivenOf, refusing}
 use Rattle.desk_feed.specs.Schedule.{IsMatrixOf}
 use Rattle.desk_feed.specs.declared.script.Edited.{Edited}
@@ -28,15 +28,15 @@ use Rattle.planner_commands.specs.Reading.{lines_in}
 use Rattle.planner_commands.specs.Stepped.{HasNumbers}
 
 -- how a run ends that does this, and that it appends no lines
-ends-by : (said : Said) (lines : Result (List PlannerLine) FeedFault) (outcome : OutcomeView) → GivesBy said lines outcome → EndsBy said lines outcome.ending
+ends-by : (said : FeedView) (lines : Result (List PlannerLine) FeedFault) (outcome : OutcomeView) → GivesBy said lines outcome → EndsBy said lines outcome.ending
 ends-by said (Ok lines) outcome gives = ap (λ (o : OutcomeView). o.ending) gives.planned.done
 ends-by said (Err refused) outcome gives = ap (λ (o : OutcomeView). o.ending) gives
 
-unkept-by : (said : Said) (lines : Result (List PlannerLine) FeedFault) (outcome : OutcomeView) → GivesBy said lines outcome → outcome.lines ≡ None
+unkept-by : (said : FeedView) (lines : Result (List PlannerLine) FeedFault) (outcome : OutcomeView) → GivesBy said lines outcome → outcome.lines ≡ None
 unkept-by said (Ok lines) outcome gives = ap (λ (o : OutcomeView). o.lines) gives.planned.done
 unkept-by said (Err refused) outcome gives = ap (λ (o : OutcomeView). o.lines) gives
 
-given-of : (read : ReadView) (said : Said) (outcome : OutcomeView) → GivesBy said (lines_in read) outcome → IsGivenOf planners_does read said outcome
+given-of : (read : ReadView) (said : FeedView) (outcome : OutcomeView) → GivesBy said (lines_in read) outcome → IsGivenOf planners_does read said outcome
 given-of read said outcome gives = record {
   gives = gives;
   ends = ends-by said (lines_in read) outcome gives;
@@ -51,7 +51,7 @@ lines-given read settings base entries pulls script lines is (Ok outcome) planne
     let said = said_with settings base entries pulls script in
     given-of read said outcome (subst (λ due. GivesBy said due outcome) (sym is) (planned settings))
 
-pub refused-given : {E : Type 0} (read : ReadView) (said : Said) (refused : FeedFault) → lines_in read ≡ Err refused → (result : Result OutcomeView E) → IfOk result (λ outcome. outcome ≡ refusing refused) → IfOk result (IsGivenOf planners_does read said)
+pub refused-given : {E : Type 0} (read : ReadView) (said : FeedView) (refused : FeedFault) → lines_in read ≡ Err refused → (result : Result OutcomeView E) → IfOk result (λ outcome. outcome ≡ refusing refused) → IfOk result (IsGivenOf planners_does read said)
 refused-given read said refused is (Err e) put = tt
 refused-given read said refused is (Ok outcome) put = given-of read said outcome (subst (λ due. GivesBy said due outcome) (sym is) put)
 

@@ -10,7 +10,7 @@ use Rattle.desk_run.specs.Outcome.{OutcomeView}
 use Rattle.desk_run.specs.declared.status.Ending.{Ending}
 use Rattle.desk_run.specs.declared.status.Ending.TheVariants as ending
 use Rattle.desk_feed.specs.Edited.{refusing_first}
-use Rattle.desk_feed.specs.Feed.{Said, feed_papers, standing}
+use Rattle.desk_feed.specs.Feed.{FeedView, feed_papers, standing}
 use Rattle.desk_feed.specs.Judging.{FeedAsked, ending_of, of_feed, refused_of, refusing}
 use Rattle.desk_feed.specs.Schedule.{IsMatrixFor, most_steps}
 use Rattle.planner_desk.specs.declared.edit.PlannerLine.{PlannerLine}
@@ -37,19 +37,19 @@ pub record IsPlanned (refused : List ℕ) (end : Ending) (base : TimetableView) 
   pub done : outcome ≡ refusing_first refused (planners_text base lines numbers) (ending_after base lines end)
 
 -- and of a feed: the planners begin where its script ends, and what holds of their records holds
-pub record IsPlanners (said : Said) (lines : List PlannerLine) (outcome : OutcomeView) : Type 0 where
+pub record IsPlanners (said : FeedView) (lines : List PlannerLine) (outcome : OutcomeView) : Type 0 where
   pub are : ArePlanners (standing said) lines
   pub matrix : MatrixView
   pub matrix_is : IsMatrixFor said matrix
   pub planned : IsPlanned (refused_of said) (ending_of said) (standing said) matrix lines outcome
 
 -- of what was read; a script of planners that is none is refused
-abbrev pub GivesBy : Said → Result (List PlannerLine) FeedFault → OutcomeView → Type 0
+abbrev pub GivesBy : FeedView → Result (List PlannerLine) FeedFault → OutcomeView → Type 0
 GivesBy said (Ok lines) outcome = IsPlanners said lines outcome
 GivesBy said (Err refused) outcome = outcome ≡ refusing refused
 
 -- how the run ends then, and the most steps
-abbrev pub EndsBy : Said → Result (List PlannerLine) FeedFault → Ending → Type 0
+abbrev pub EndsBy : FeedView → Result (List PlannerLine) FeedFault → Ending → Type 0
 EndsBy said (Ok lines) end = end ≡ ending_after (standing said) lines (ending_of said)
 EndsBy said (Err refused) end = end ≡ ending.FeedRefused
 

@@ -8,7 +8,7 @@ use Rattle.planner_desk.specs.Planners.{PlannersView}
 use Rattle.planner_desk.specs.declared.edit.PlannerLine.{PlannerLine}
 use Rattle.planner_desk.specs.declared.fault.PlannerFault.{PlannerFault}
 use Rattle.planner_desk.specs.declared.fault.PlannerFault.TheVariants as fault
-use Rattle.planner_commands.specs.declared.answers.Answers.{Answers}
+use Rattle.planner_commands.specs.declared.answers.PlannerAnswers.{PlannerAnswers}
 use Rattle.planner_commands.specs.Answers.{answers_to}
 use Rattle.planner_commands.specs.Moments.{refusal_in, some_refused, stand_at}
 use Rattle.planner_commands.specs.Numbers.{IsNumbered}
@@ -20,7 +20,7 @@ pub record IsStepped (number : ℕ) (line : PlannerLine) (refused : Option Plann
   pub answer : refused ≡ refusal_in (line_after old.base old.standing number line)
 
 -- Those stand that the machine makes of so many of the records, what becomes of these was put, and whether one was refused is known.
-pub record AreAnswers (base : TimetableView) (lines : List PlannerLine) (n : ℕ) (answers : Answers) : Type 0 where
+pub record AreAnswers (base : TimetableView) (lines : List PlannerLine) (n : ℕ) (answers : PlannerAnswers) : Type 0 where
   pub base_is : answers.planners.base ≡ base
   pub stand : answers.planners.standing ≡ stand_at base lines n
   pub text : string_bytes answers.text ≡ answers_to base lines n

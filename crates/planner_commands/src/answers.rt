@@ -13,7 +13,7 @@ use std::fmt::Write;
 
 /// Planners whose records are followed, what was put of these, and whether one was refused.
 #[derive(Drop)]
-pub(crate) struct Answers {
+pub(crate) struct PlannerAnswers {
     pub alloc: Global,
     pub planners: Planners,
     pub text: String,
@@ -70,7 +70,7 @@ fn planner_fault_text(alloc: Global, refused: &PlannerFault) -> Result<Text, Mem
 }
 
 // Appends what is put of a record, where the planners stand as before it or it is accepted.
-#[tactic(auto, unfolding(crate::specs::Answers::answer_line))]
+#[tactic(auto, unfolding(crate::specs::PlannerAnswers::answer_line))]
 fn push_answer(
     alloc: Global,
     text: &mut String,
@@ -114,7 +114,7 @@ fn step_planners(
     }
 }
 
-impl Follower<()> for Answers {
+impl Follower<()> for PlannerAnswers {
     ghost use Rattle.planner_commands.specs.Stepped.{AreAnswers};
     ghost use Rattle.planner_desk.specs.Forms.{IsPlannerLine};
 
@@ -148,12 +148,12 @@ pub(crate) fn answer_all(
     alloc: Global,
     planners: Planners,
     lines: &[PlannerLine],
-) -> Result<Answers, Memory>
+) -> Result<PlannerAnswers, Memory>
     requires script { IsPlannerScript lines.now }
     requires opened { planners.standing ≡ [] }
     ensures { IfOk result (AreAnswers planners.base lines.now (length lines.now)) }
 {
-    let mut answers = Answers {
+    let mut answers = PlannerAnswers {
         alloc,
         planners,
         text: String::new(alloc),
@@ -164,7 +164,7 @@ pub(crate) fn answer_all(
 }
 
 // Appends a record that stands.
-#[tactic(auto, unfolding(crate::specs::Answers::asked_line))]
+#[tactic(auto, unfolding(crate::specs::PlannerAnswers::asked_line))]
 fn push_record(alloc: Global, text: &mut String, asked: &PlannerEdit) -> Result<(), Memory>
     requires { InForm asked.now.edit }
     ensures { OnOk result (string_bytes text.new ≡ string_bytes text.old ++ spec.asked_line asked.now) }

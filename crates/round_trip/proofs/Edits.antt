@@ -22,7 +22,7 @@ use Rattle.edit_script.specs.declared.fault.EditFault.{EditFault}
 use Rattle.edit_script.specs.declared.fault.EditFault.TheVariants as fault
 use Rattle.edit_script.specs.Changes.{cancelled_at, edited, extra_from, extra_new, extra_to, extra_trip, is_within, provided, restored_at, shifted_at, with_extra, with_live}
 use Rattle.edit_script.specs.Machine.{Numbered, after_line, after_record, machine, or_same}
-use Rattle.round_trip.specs.Follows.{AreForward, Follows, IsSameTrip}
+use Rattle.round_trip.specs.Follows.{AreForward, IsEditedFrom, IsSameTrip}
 use Rattle.round_trip.specs.Laws as spec
 
 -- a trip, and what is done to it, are the same trip
@@ -47,11 +47,11 @@ shifted-stays trip by forward from = (shifted-same trip by forward from, omega (
 
 -- a timetable follows another, and its trips of the other end after they depart
 record StaysOn (base t : TimetableView) : Type 0 where
-  follows : Follows base t
+  follows : IsEditedFrom base t
   forward : (s : ℕ) → s < length base.slots → (slot_at t s).trip.departs < (slot_at t s).trip.ends
 
 -- it has at least the slots of the other
-enough : (base t : TimetableView) → Follows base t → length base.slots ≤ length t.slots
+enough : (base t : TimetableView) → IsEditedFrom base t → length base.slots ≤ length t.slots
 enough base t follows =
     omega (arith, ap length follows.names, length-take (length base.slots) (slot_names t), length-map t.slots (λ (s : Slot). s.name), length-map base.slots (λ (s : Slot). s.name))
 

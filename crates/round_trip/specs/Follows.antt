@@ -14,7 +14,7 @@ pub record IsSameTrip (trip now : Trip) : Type 0 where
   pub late : now.late ≡ trip.late
 
 -- a timetable has in its first slots the trips of another under their names
-pub record Follows (base standing : TimetableView) : Type 0 where
+pub record IsEditedFrom (base standing : TimetableView) : Type 0 where
   pub names : take (length base.slots) (slot_names standing) ≡ slot_names base
   pub trips : (s : ℕ) → s < length base.slots → IsSameTrip (slot_at base s).trip (slot_at standing s).trip
 

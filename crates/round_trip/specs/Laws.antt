@@ -9,7 +9,7 @@ use Rattle.edit_script.specs.Machine.{Numbered, machine, timetable_at}
 use Rattle.feed_read.specs.Base.{base_of}
 use Rattle.block_writer.specs.StopTimes.{stop_times_written}
 use Rattle.block_writer.specs.Trips.{trips_written}
-use Rattle.round_trip.specs.Follows.{AreForward, Follows}
+use Rattle.round_trip.specs.Follows.{AreForward, IsEditedFrom}
 use Rattle.round_trip.specs.Written.{AreEarly, AreWritable, as_written}
 
 -- The two files are written of a timetable which follows that of a feed. They read as the timetable of the feed, with its trips
@@ -23,7 +23,7 @@ WrittenFeedReadsBack =
     → IsTable trips
     → IsTable stop_times
     → base_of settings (File trips_bytes) (File stop_times_bytes) ≡ Ok base
-    → Follows base standing
+    → IsEditedFrom base standing
     → AreWritable stop_times standing (length base.slots)
     → strip_bom (trips_written trips standing chosen blocks prefix) ≡ trips_written trips standing chosen blocks prefix
     → strip_bom (stop_times_written stop_times standing (length base.slots)) ≡ stop_times_written stop_times standing (length base.slots)
@@ -31,7 +31,7 @@ WrittenFeedReadsBack =
 
 -- what stands after a script over a timetable whose trips end after they depart follows it
 abbrev pub StandingFollows : Type 0
-StandingFollows = (base : TimetableView) (records : List Numbered) → AreForward base → Follows base (timetable_at base (machine base records))
+StandingFollows = (base : TimetableView) (records : List Numbered) → AreForward base → IsEditedFrom base (timetable_at base (machine base records))
 
 -- times before 99:00:00 can be written wherever their trips stand, since no trip is moved by more than an hour
 abbrev pub EarlyTimesAreWritable : Type 0

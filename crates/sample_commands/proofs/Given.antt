@@ -8,13 +8,13 @@ use Rattle.desk_run.specs.Outcome.{OutcomeView}
 use Rattle.desk_run.specs.Reading.{ReadView}
 use Rattle.desk_feed.specs.declared.script.Edited.{Edited}
 use Rattle.desk_feed.specs.Edited.{IsEdited, refusing_first}
-use Rattle.desk_feed.specs.Feed.{Said}
+use Rattle.desk_feed.specs.Feed.{FeedView}
 use Rattle.desk_feed.specs.Judging.{IsGivenOf, ending_of, of_feed, refused_of}
 use Rattle.desk_feed.specs.Schedule.{IsMatrixFor}
 use Rattle.sample_commands.specs.Sample.{HasSummary, sample_asked, sample_read, summary_does, summary_line}
 use Rattle.sample_commands.specs.Summed.{IsSummedOf}
 
-pub summary-given : {E : Type 0} (trips : ℕ) (read : ReadView) (said : Said) (edited : Edited) (matrix : MatrixView) → IsEdited said.base said.lines edited → IsMatrixFor said matrix
+pub summary-given : {E : Type 0} (trips : ℕ) (read : ReadView) (said : FeedView) (edited : Edited) (matrix : MatrixView) → IsEdited said.base said.lines edited → IsMatrixFor said matrix
     → (result : Result OutcomeView E) (prefix : List ℕ) → prefix ≡ said.settings.prefix → IfOk result (IsSummedOf trips edited matrix prefix) → IfOk result (IsGivenOf (summary_does trips) read said)
 summary-given trips read said edited matrix is matrix_is (Err e) prefix prefix_is summed = tt
 summary-given trips read said edited matrix is matrix_is (Ok outcome) prefix prefix_is summed =

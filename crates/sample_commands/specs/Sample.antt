@@ -13,7 +13,7 @@ use Rattle.desk_run.specs.Outcome.{OutcomeView}
 use Rattle.desk_run.specs.Reading.{ReadView, pages_in}
 use Rattle.desk_run.specs.declared.reading.Loaded.TheVariants as loaded
 use Rattle.desk_feed.specs.Edited.{refusing_first}
-use Rattle.desk_feed.specs.Feed.{Said, feed_papers, standing}
+use Rattle.desk_feed.specs.Feed.{FeedView, feed_papers, standing}
 use Rattle.desk_feed.specs.Judging.{FeedAsked, doing, ending_of, of_feed, refused_of}
 use Rattle.desk_feed.specs.Schedule.{IsMatrixFor, IsScheduled, most_steps}
 use Rattle.feed_sample.specs.Sample.{sample_files}
@@ -35,7 +35,7 @@ pub record HasSummary (timetable : TimetableView) (matrix : MatrixView) (prefix 
   pub minutes_is : minutes ≡ empty_minutes (network_of timetable matrix) blocks
 
 -- the outcome of an accepted sample: the lines of the refused records of its script, and the summary after it
-pub record IsSummed (trips : ℕ) (said : Said) (outcome : OutcomeView) : Type 0 where
+pub record IsSummed (trips : ℕ) (said : FeedView) (outcome : OutcomeView) : Type 0 where
   pub matrix : MatrixView
   pub matrix_is : IsMatrixFor said matrix
   pub fixed : ℕ
@@ -45,7 +45,7 @@ pub record IsSummed (trips : ℕ) (said : Said) (outcome : OutcomeView) : Type 0
   pub done : outcome ≡ refusing_first (refused_of said) (summary_line trips fixed vehicles minutes) (ending_of said)
 
 -- the most steps: those of a plan from scratch
-abbrev pub most_of : Said → ℕ
+abbrev pub most_of : FeedView → ℕ
 most_of said = most_steps (length (standing said).slots)
 
 -- what is asked of the feed

@@ -14,7 +14,7 @@ use Rattle.std.proofs.lemmas.Map.Text.{is_eq-slice_cmp}
 use Rattle.std.proofs.lemmas.Map.Views.{Contains-from_any, list_any-from_Contains}
 use Rattle.std.proofs.lemmas.Slice.Eq.{bytes_eq-Decides}
 use Rattle.gtfs_tables.specs.Entries.{Name, value_of}
-use Rattle.service_days.specs.declared.calendar.Schedule.{Schedule}
+use Rattle.service_days.specs.declared.calendar.ServicePeriod.{ServicePeriod}
 use Rattle.service_days.specs.declared.calendar_dates.Exception.{Exception}
 use Rattle.service_days.specs.CalendarDates.{ServiceDate, exception_of, is_same}
 use Rattle.service_days.specs.Services.{ServicesView, runs_by, is_running, with_running, with_excepted, scheduled_on, services_on, AreRunning}
@@ -138,7 +138,7 @@ among-all f test runs service each names (e ∷ entries) =
     either false false = refl
 
 -- a service that runs has a schedule or an exception
-running-found : (exception : Option Exception) (schedule : Option Schedule) (date : ℕ) → runs_by exception schedule date ≡ true → (is_some schedule || is_some exception) ≡ true
+running-found : (exception : Option Exception) (schedule : Option ServicePeriod) (date : ℕ) → runs_by exception schedule date ≡ true → (is_some schedule || is_some exception) ≡ true
 running-found (Some exception) None date runs = refl
 running-found (Some exception) (Some schedule) date runs = refl
 running-found None (Some schedule) date runs = refl

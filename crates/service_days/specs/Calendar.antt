@@ -9,7 +9,7 @@ use Rattle.gtfs_tables.specs.Entries.{Name, Entries, with_record}
 use Rattle.gtfs_tables.specs.Fold.{optional_read}
 use Rattle.gtfs_tables.specs.Reading.{◌>>=◌, nothing, column_in, field_at, text_in, filled_in, number_in}
 use Rattle.service_days.specs.declared.calendar.Columns.{Columns}
-use Rattle.service_days.specs.declared.calendar.Schedule.{Schedule}
+use Rattle.service_days.specs.declared.calendar.ServicePeriod.{ServicePeriod}
 use Rattle.service_days.specs.declared.calendar.Texts.{Texts}
 use Rattle.service_days.specs.Dates.{weekday_of, date_in}
 
@@ -129,7 +129,7 @@ weekdays_in number texts = do
   Ok (monday ∷ tuesday ∷ wednesday ∷ thursday ∷ friday ∷ saturday ∷ sunday ∷ [])
 
 -- the service of one record and its schedule
-unfoldable pub schedule_in : Columns → ℕ → List (List ℕ) → Result (Name × Schedule) FeedFault
+unfoldable pub schedule_in : Columns → ℕ → List (List ℕ) → Result (Name × ServicePeriod) FeedFault
 schedule_in columns number fields = do
   texts ← texts_in columns number fields
   _ ← filled number texts
@@ -139,14 +139,14 @@ schedule_in columns number fields = do
   Ok (texts.service, record { weekdays = weekdays; start = start; end = end })
 
 -- the schedules of services with that of one record
-abbrev pub with_schedule : Columns → ℕ → Entries Schedule → List (List ℕ) → Result (Entries Schedule) FeedFault
+abbrev pub with_schedule : Columns → ℕ → Entries ServicePeriod → List (List ℕ) → Result (Entries ServicePeriod) FeedFault
 with_schedule columns number before fields = schedule_in columns number fields >>= with_record paper.Calendar number before
 
 -- the schedules of the file, record by record; without one there are none
-abbrev pub schedules_of : Found → Result (Entries Schedule) FeedFault
+abbrev pub schedules_of : Found → Result (Entries ServicePeriod) FeedFault
 schedules_of found = optional_read paper.Calendar columns_in with_schedule [] found
 
 -- whether a schedule has a date: its weekday, and from the start to the end, both included
-abbrev pub covers : Schedule → ℕ → Bool
+abbrev pub covers : ServicePeriod → ℕ → Bool
 covers schedule date =
     slice_index_or schedule.weekdays (weekday_of date) false && nat_le schedule.start date && nat_le date schedule.end

@@ -11,7 +11,7 @@ use Rattle.gtfs_tables.specs.declared.fault.FeedFault.TheVariants as fault
 use Rattle.gtfs_tables.specs.declared.paper.Paper.TheVariants as paper
 use Rattle.gtfs_tables.specs.Entries.{Name, Entries, value_of}
 use Rattle.gtfs_tables.specs.Reading.{◌>>=◌, provided}
-use Rattle.service_days.specs.declared.calendar.Schedule.{Schedule}
+use Rattle.service_days.specs.declared.calendar.ServicePeriod.{ServicePeriod}
 use Rattle.service_days.specs.declared.calendar_dates.Exception.{Exception}
 use Rattle.service_days.specs.declared.calendar_dates.Exception.TheVariants.{Added, Removed}
 use Rattle.service_days.specs.Calendar.{schedules_of, covers}
@@ -19,7 +19,7 @@ use Rattle.service_days.specs.CalendarDates.{ServiceDate, exceptions_of, excepti
 
 -- the services with their schedules, and those on dates with their exceptions, record by record
 pub record ServicesView : Type 0 where
-  pub schedules : Entries Schedule
+  pub schedules : Entries ServicePeriod
   pub exceptions : List (ServiceDate × Exception)
 
 -- whether there is no such file
@@ -36,12 +36,12 @@ services_of calendar dates = provided (not (is_missing calendar && is_missing da
   Ok (record { schedules = schedules; exceptions = exceptions }))
 
 -- whether a schedule, if there is one, has the date
-abbrev pub is_scheduled : Option Schedule → ℕ → Bool
+abbrev pub is_scheduled : Option ServicePeriod → ℕ → Bool
 is_scheduled None date = false
 is_scheduled (Some schedule) date = covers schedule date
 
 -- whether a service with that exception on the date, or with none, and that schedule runs on it
-abbrev pub runs_by : Option Exception → Option Schedule → ℕ → Bool
+abbrev pub runs_by : Option Exception → Option ServicePeriod → ℕ → Bool
 runs_by (Some Added) schedule date = true
 runs_by (Some Removed) schedule date = false
 runs_by None schedule date = is_scheduled schedule date

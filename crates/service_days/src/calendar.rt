@@ -31,13 +31,13 @@ pub(crate) struct Columns {
 
 /// When a service runs: on which weekdays, from Monday, and from which date to which, both included.
 #[derive(Clone, Copy)]
-pub(crate) struct Schedule {
+pub(crate) struct ServicePeriod {
     weekdays: [bool; 7],
     start: u32,
     end: u32,
 }
 
-impl Schedule {
+impl ServicePeriod {
     /// Whether the schedule has the date.
     pub(crate) fn covers(&self, date: u32) -> bool
         requires { IsDateNumber date }
@@ -147,7 +147,7 @@ fn schedule_in<'a>(
     row: &'a Row,
     columns: &Columns,
     number: u32,
-) -> Result<(&'a str, Schedule), FeedFault>
+) -> Result<(&'a str, ServicePeriod), FeedFault>
     ensures { Gives (λ entry. (entry.0.now, entry.1)) result (spec.schedule_in columns.now number row.now) }
 {
     let paper = Paper::Calendar;
@@ -156,7 +156,7 @@ fn schedule_in<'a>(
     let weekdays = weekdays_in(&texts, number)?;
     let start = date_in(paper, number, Column::StartDate, texts.start)?;
     let end = date_in(paper, number, Column::EndDate, texts.end)?;
-    let schedule = Schedule {
+    let schedule = ServicePeriod {
         weekdays,
         start,
         end,
@@ -167,28 +167,28 @@ fn schedule_in<'a>(
 /// The schedules of services, in the order of the records that gave them; one is found without going over the others.
 #[derive(Drop)]
 pub(crate) struct Calendar {
-    schedules: Entries<Schedule>,
+    schedules: Entries<ServicePeriod>,
 }
 
 impl Model for Calendar {
     ghost use Rattle.gtfs_tables.specs.Entries.{Entries};
-    ghost use Rattle.service_days.specs.declared.calendar.Schedule.{Schedule};
+    ghost use Rattle.service_days.specs.declared.calendar.ServicePeriod.{ServicePeriod};
 
-    ghost Value = { Entries Schedule };
+    ghost Value = { Entries ServicePeriod };
 
     ghost view = { λ c. c.schedules };
 }
 
 impl RecordReader for Calendar {
     ghost use Rattle.gtfs_tables.specs.Entries.{Entries};
-    ghost use Rattle.service_days.specs.declared.calendar.Schedule.{Schedule};
+    ghost use Rattle.service_days.specs.declared.calendar.ServicePeriod.{ServicePeriod};
     ghost use Rattle.service_days.specs.Calendar as spec;
 
     type Columns = Columns;
 
     ghost Kept = { Unit {0} };
 
-    ghost State = { Entries Schedule };
+    ghost State = { Entries ServicePeriod };
 
     ghost kept = { λ _. tt };
 
@@ -250,7 +250,7 @@ impl Calendar {
     }
 
     /// The schedule of a service, if it has one.
-    pub(crate) fn find(&self, service: &str) -> Option<Schedule>
+    pub(crate) fn find(&self, service: &str) -> Option<ServicePeriod>
         ensures { result ≡ value_of service.now self.now }
     {
         self.schedules.find(service).copied()

@@ -20,7 +20,7 @@ use Rattle.block_writer.specs.Trips.{header_written, trips_rows, with_blocks}
 use Rattle.block_writer.proofs.ReadAgain as writer
 use Rattle.block_audit.specs.Stated.{blocks_by, block_field, selected, stated_in}
 use Rattle.claim_files.proofs.EachRecord.{same_Ok}
-use Rattle.round_trip.specs.Follows.{Follows}
+use Rattle.round_trip.specs.Follows.{IsEditedFrom}
 use Rattle.round_trip.specs.Written.{as_written}
 use Rattle.round_trip.proofs.Edits.{standing-follows}
 use Rattle.round_trip.proofs.ReadBack.{base-forward, written-back}
@@ -76,7 +76,7 @@ same-table : (x y : TableView) → ◌≡◌ {A = Result TableView TableFault} (
 same-table x y e = cc
 
 -- a timetable without extras has the names of the one that it follows
-names-kept : (base standing : TimetableView) → Follows base standing → length standing.slots ≡ length base.slots → slot_names base ≡ slot_names standing
+names-kept : (base standing : TimetableView) → IsEditedFrom base standing → length standing.slots ≡ length base.slots → slot_names base ≡ slot_names standing
 names-kept base standing follows count =
     sym follows.names ∙ take_all (length base.slots) (slot_names standing) (omega (arith, count, length-map standing.slots (λ (s : Slot). s.name)))
 

@@ -12,7 +12,7 @@ use Rattle.feed_read.specs.Base.{base_of}
 use Rattle.block_writer.specs.StopTimes.{stop_times_written}
 use Rattle.block_writer.specs.Trips.{name_of, number_in, trips_written}
 use Rattle.block_audit.specs.Stated.{selected}
-use Rattle.round_trip.specs.Follows.{Follows}
+use Rattle.round_trip.specs.Follows.{IsEditedFrom}
 use Rattle.round_trip.specs.Written.{AreWritable}
 
 -- each trip of a timetable runs
@@ -21,7 +21,7 @@ AllRun timetable = All (λ slot. slot.trip.live ≡ true) timetable.slots
 
 -- a timetable follows that of a feed, without an extra and with no trip cancelled
 pub record IsWhole (base standing : TimetableView) : Type 0 where
-  pub follows : Follows base standing
+  pub follows : IsEditedFrom base standing
   pub no_extras : length standing.slots ≡ length base.slots
   pub runs : AllRun standing
 

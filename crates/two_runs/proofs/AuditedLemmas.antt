@@ -30,7 +30,7 @@ use Rattle.block_audit.specs.Above.{above_by}
 use Rattle.block_audit.specs.Misfits.{misfits_in}
 use Rattle.block_audit.specs.Stated.{slots_by, stated_in}
 use Rattle.block_audit.proofs.StatedLemmas.{have-no-misfit}
-use Rattle.round_trip.specs.Follows.{Follows}
+use Rattle.round_trip.specs.Follows.{IsEditedFrom}
 use Rattle.round_trip.specs.Written.{as_written}
 use Rattle.round_trip.proofs.Edits.{standing-follows}
 use Rattle.round_trip.proofs.ReadBack.{base-forward, written-back}
@@ -41,7 +41,7 @@ use Rattle.stated_again.proofs.Chosen.{of-feed}
 use Rattle.stated_again.proofs.Moves.{same-moves}
 use Rattle.desk_run.specs.Outcome.{OutcomeView, putting}
 use Rattle.desk_run.specs.declared.status.Ending.TheVariants as ending
-use Rattle.desk_feed.specs.Feed.{Said, said_by, said_with, standing}
+use Rattle.desk_feed.specs.Feed.{FeedView, said_by, said_with, standing}
 use Rattle.desk_feed.specs.Judging.{Does, ending_of, refused_of}
 use Rattle.desk_feed.specs.Schedule.{IsScheduled}
 use Rattle.desk_feed.specs.Script.{ending_by, first_records}
@@ -97,7 +97,7 @@ module _ (states : WrittenFeedStatesPlan) (makes : MakesMoves) (settings : Setti
     (feed : IsFeed settings trips_bytes stop_times_bytes trips stop_times read)
     (written : IsWritten (said_with settings (with_slots read.slots more) entries pulls lines) trips stop_times outcome)
     (whole : IsWholeAfter (said_with settings (with_slots read.slots more) entries pulls lines) stop_times) where
-  abbrev said : Said
+  abbrev said : FeedView
   said = said_with settings (with_slots read.slots more) entries pulls lines
 
   abbrev now : TimetableView
@@ -119,7 +119,7 @@ module _ (states : WrittenFeedStatesPlan) (makes : MakesMoves) (settings : Setti
   abbrev base_again : TimetableView
   base_again = with_slots again.slots more
 
-  abbrev said_again : Said
+  abbrev said_again : FeedView
   said_again = said_with settings base_again entries pulls []
 
   valid : IsTimetable now
@@ -128,7 +128,7 @@ module _ (states : WrittenFeedStatesPlan) (makes : MakesMoves) (settings : Setti
   scheduled : IsScheduled now written.matrix written.plan written.blocks
   scheduled = drawn-scheduled said.base lines written.matrix written.plan written.blocks written.drawn
 
-  follows : Follows read now
+  follows : IsEditedFrom read now
   follows =
       let on = standing-follows said.base (first_records lines (length lines)) (base-forward settings (File trips_bytes) (File stop_times_bytes) read feed.read) in
       record { names = on.names; trips = on.trips }

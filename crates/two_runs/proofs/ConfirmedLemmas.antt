@@ -37,7 +37,7 @@ use Rattle.feed_desk.specs.Answers.{answers_by}
 use Rattle.feed_desk.specs.Plans.{IsPlannedAt, fixed_number}
 use Rattle.desk_commands.specs.Answers.{answer_text}
 use Rattle.desk_commands.specs.Blocks.{IsPlan, blocks_asked}
-use Rattle.desk_feed.specs.Feed.{Said, feed_papers, kept_on, lines_by, said_by, said_with, standing}
+use Rattle.desk_feed.specs.Feed.{FeedView, feed_papers, kept_on, lines_by, said_by, said_with, standing}
 use Rattle.desk_feed.specs.Judging.{Does, refused_of, said_in}
 use Rattle.plan_commands.specs.Check.{IsChecked, check_asked, claim_in, claim_outcome, claim_papers, verdict_outcome, yes_line}
 use Rattle.desk_feed.proofs.ScriptLemmas.{standing-places}
@@ -86,11 +86,11 @@ module _ (files : Files) (blocks prices : List ℕ) where
   prices_read short = ap (found_as MOST_BYTES) prices_found ∙ found-short prices (λ long. short (ap (found_as MOST_BYTES) prices_found ∙ long))
 
 -- a run of `blocks` that has done all has done so with an accepted feed
-planned_said : (read : ReadView) (outcome : OutcomeView) → IsGiven blocks_asked read outcome → status_of outcome.ending ≤ EDITS_REFUSED → (said : Said) × (said_in read ≡ Ok said) × IsPlan said outcome
+planned_said : (read : ReadView) (outcome : OutcomeView) → IsGiven blocks_asked read outcome → status_of outcome.ending ≤ EDITS_REFUSED → (said : FeedView) × (said_in read ≡ Ok said) × IsPlan said outcome
 unfolding blocks_asked
 planned_said read outcome given low = by (said_in read) refl given.gives
   where
-    by : (result : Result Said FeedFault) → said_in read ≡ result → Does IsPlan result outcome → (said : Said) × (said_in read ≡ Ok said) × IsPlan said outcome
+    by : (result : Result FeedView FeedFault) → said_in read ≡ result → Does IsPlan result outcome → (said : FeedView) × (said_in read ≡ Ok said) × IsPlan said outcome
     by (Ok said) is does = (said, is, does)
     by (Err refused) is does = absurd (omega (arith, low, ap (λ (o : OutcomeView). status_of o.ending) does))
 
@@ -103,10 +103,10 @@ abbrev pub MakesMoves : Type 0
 MakesMoves = (timetable : TimetableView) → IsTimetable timetable → AreMoves (length timetable.places) (trip_moves timetable.slots)
 
 module _ (makes : MakesMoves) (seen again : Option ReadView) (before left later after : World) (first second : ℕ) (one : HasEnded blocks_asked seen before left first) (two : HasEnded check_asked again later after second) (all : first ≤ EDITS_REFUSED) where
-  abbrev planned : (said : Said) × (said_in one.chosen.read ≡ Ok said) × IsPlan said one.chosen.outcome
+  abbrev planned : (said : FeedView) × (said_in one.chosen.read ≡ Ok said) × IsPlan said one.chosen.outcome
   planned = planned_said one.chosen.read one.chosen.outcome one.chosen.given (omega (arith, all, one.answered))
 
-  abbrev said : Said
+  abbrev said : FeedView
   said = planned.0
 
   abbrev plan : IsPlan said one.chosen.outcome

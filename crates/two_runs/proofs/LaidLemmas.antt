@@ -31,7 +31,7 @@ use Rattle.desk_run.specs.Commands.{IsGiven}
 use Rattle.desk_run.specs.Outcome.{OutcomeView, status_of}
 use Rattle.desk_run.specs.Reading.{ReadView, found_of, pages_in}
 use Rattle.desk_run.specs.declared.status.TheConstants.{EDITS_REFUSED}
-use Rattle.desk_feed.specs.Feed.{Said, deadheads_in, feed_papers, kept_on, lines_by, lines_in, pulls_in, said_by, said_with, settings_in, timetable_in}
+use Rattle.desk_feed.specs.Feed.{FeedView, deadheads_in, feed_papers, kept_on, lines_by, lines_in, pulls_in, said_by, said_with, settings_in, timetable_in}
 use Rattle.desk_feed.specs.Judging.{Does, refusing, said_in}
 use Rattle.written_feed.specs.Write.{IsWritten, Writes, WritesBy, feed_files, files_of, stop_times_in, stop_times_name, stop_times_of, trips_in, trips_name, trips_of, write_asked}
 use Rattle.two_runs.specs.Audited.{IsLaid}
@@ -78,7 +78,7 @@ found-fits (Some stands) bytes e = by (nat_le (length stands) MOST_BYTES) refl e
     by false fits e = absurd (cc)
 
 -- the parts of what a feed says, between whose places its trips run as they were read
-pub record HasParts (found : Paper → Found) (said : Said) : Type 0 where
+pub record HasParts (found : Paper → Found) (said : FeedView) : Type 0 where
   pub settings : SettingsView
   pub read : TimetableView
   pub more : TimetableView
@@ -91,7 +91,7 @@ pub record HasParts (found : Paper → Found) (said : Said) : Type 0 where
   pub pulls_are : pulls_in found more ≡ Ok pulls
   pub said_is : said ≡ said_with settings (with_slots read.slots more) entries pulls lines
 
-pub has-parts : (found : Paper → Found) (said : Said) → said_by found ≡ Ok said → HasParts found said
+pub has-parts : (found : Paper → Found) (said : FeedView) → said_by found ≡ Ok said → HasParts found said
 unfolding said_by
 has-parts found said e =
     let settings = read-parts (settings_in found) _ said e in
@@ -125,7 +125,7 @@ pub record AreFoundAlike (one other : Paper → Found) : Type 0 where
   pub depot : one paper.Depot ≡ other paper.Depot
 
 -- papers found so, with a timetable of other trips and without a script, say this
-pub says-again : (one other : Paper → Found) (said : Said) → AreFoundAlike one other → (parts : HasParts other said) (again : TimetableView) → timetable_in one parts.settings ≡ Ok again
+pub says-again : (one other : Paper → Found) (said : FeedView) → AreFoundAlike one other → (parts : HasParts other said) (again : TimetableView) → timetable_in one parts.settings ≡ Ok again
     → again ≡ with_slots again.slots parts.read → one paper.Edits ≡ Missing
     → said_by one ≡ Ok (said_with parts.settings (with_slots again.slots parts.more) parts.entries parts.pulls [])
 unfolding said_by
@@ -139,7 +139,7 @@ says-again one other said alike parts again read is no_script =
     (and_then (lines_in one) [] _ _ (ap lines_by no_script) refl))))
 
 -- what a run of `write` has written that has done all
-pub record HasWritten (said : Said) (trips stop_times : Result TableView FeedFault) (outcome : OutcomeView) : Type 0 where
+pub record HasWritten (said : FeedView) (trips stop_times : Result TableView FeedFault) (outcome : OutcomeView) : Type 0 where
   pub first : TableView
   pub second : TableView
   pub first_is : trips ≡ Ok first
@@ -149,7 +149,7 @@ pub record HasWritten (said : Said) (trips stop_times : Result TableView FeedFau
 refused-high : (outcome : OutcomeView) (refused : FeedFault) → status_of outcome.ending ≤ EDITS_REFUSED → outcome ≡ refusing refused → ⊥
 refused-high outcome refused low done = omega (arith, low, ap (λ (o : OutcomeView). status_of o.ending) done)
 
-has-written : (said : Said) (trips stop_times : Result TableView FeedFault) (outcome : OutcomeView) → status_of outcome.ending ≤ EDITS_REFUSED → WritesBy said trips stop_times outcome
+has-written : (said : FeedView) (trips stop_times : Result TableView FeedFault) (outcome : OutcomeView) → status_of outcome.ending ≤ EDITS_REFUSED → WritesBy said trips stop_times outcome
     → HasWritten said trips stop_times outcome
 has-written said trips stop_times outcome low (inl bad) = absurd (refused-high outcome bad.refused low bad.done)
 has-written said (Err due) stop_times outcome low (inr (inl none)) = absurd none
@@ -159,11 +159,11 @@ has-written said (Ok first) (Err due) outcome low (inr (inr does)) = absurd does
 has-written said (Ok first) (Ok second) outcome low (inr (inr does)) = record { first = first; second = second; first_is = refl; second_is = refl; written = does.1.1 }
 
 pub written-said : (read : ReadView) (outcome : OutcomeView) → IsGiven write_asked read outcome → status_of outcome.ending ≤ EDITS_REFUSED
-    → (said : Said) × (said_in read ≡ Ok said) × HasWritten said (trips_in read) (stop_times_in read) outcome
+    → (said : FeedView) × (said_in read ≡ Ok said) × HasWritten said (trips_in read) (stop_times_in read) outcome
 unfolding write_asked
 written-said read outcome given low = by (said_in read) refl given.gives
   where
-    by : (result : Result Said FeedFault) → said_in read ≡ result → Does (Writes read) result outcome → (said : Said) × (said_in read ≡ Ok said) × HasWritten said (trips_in read) (stop_times_in read) outcome
+    by : (result : Result FeedView FeedFault) → said_in read ≡ result → Does (Writes read) result outcome → (said : FeedView) × (said_in read ≡ Ok said) × HasWritten said (trips_in read) (stop_times_in read) outcome
     by (Ok said) is does = (said, is, has-written said (trips_in read) (stop_times_in read) outcome low does)
     by (Err refused) is does = absurd (refused-high outcome refused low does)
 
@@ -174,7 +174,7 @@ with_both files trips stop_times = with_two trips_name trips stop_times_name sto
 abbrev pub with_texts : List ℕ → List ℕ → Option Files → Option Files
 with_texts trips stop_times = with_two_told trips_name trips stop_times_name stop_times
 
-pub written-files : (said : Said) (first second : TableView) (blocks : List (List ℕ)) (shelf : ShelfState)
+pub written-files : (said : FeedView) (first second : TableView) (blocks : List (List ℕ)) (shelf : ShelfState)
     → (with_writings (feed_files said first second blocks) shelf).files ≡ with_texts (trips_of said first blocks) (stop_times_of said second) shelf.files
 unfolding files_of
 written-files said first second blocks shelf = refl

@@ -24,7 +24,7 @@ use Rattle.desk_run.specs.Runs.{HasEnded}
 use Rattle.desk_run.specs.World.{World}
 use Rattle.desk_run.specs.declared.status.TheConstants.{EDITS_REFUSED}
 use Rattle.desk_run.proofs.EachStatus.{pages_told}
-use Rattle.desk_feed.specs.Feed.{Said, feed_papers, said_by, said_with}
+use Rattle.desk_feed.specs.Feed.{FeedView, feed_papers, said_by, said_with}
 use Rattle.desk_feed.specs.Judging.{Does, said_in}
 use Rattle.written_feed.specs.Write.{IsWritten, stop_times_in, stop_times_name, stop_times_of, trips_in, trips_name, trips_of, write_asked}
 use Rattle.audit_commands.specs.Audit.{AuditsBy, audit_asked}
@@ -50,7 +50,7 @@ module _ (states : WrittenFeedStatesPlan) (makes : MakesMoves) (files laid : Fil
   after = found_of (pages_in feed_papers laid)
 
   -- what is to be shown of what a feed says
-  abbrev TellsOf : Said → Type 0
+  abbrev TellsOf : FeedView → Type 0
   TellsOf said =
       (written : IsWritten said first second outcome) → IsWholeAfter said second
       → IsLaid (with_both files (trips_of said first written.blocks) (stop_times_of said second)) laid
@@ -60,7 +60,7 @@ module _ (states : WrittenFeedStatesPlan) (makes : MakesMoves) (files laid : Fil
       → TellsLeast audit
 
   -- of a feed by its parts
-  tells-parts : (said : Said) → (parts : HasParts before said) → table_in paper.Trips (before paper.Trips) ≡ Ok first → table_in paper.StopTimes (before paper.StopTimes) ≡ Ok second
+  tells-parts : (said : FeedView) → (parts : HasParts before said) → table_in paper.Trips (before paper.Trips) ≡ Ok first → table_in paper.StopTimes (before paper.StopTimes) ≡ Ok second
       → TellsOf (said_with parts.settings (record parts.more { slots = parts.read.slots }) parts.entries parts.pulls parts.lines)
   tells-parts said parts first_is second_is written whole is trips_readable stop_times_readable does =
       let trips = file-of paper.Trips (before paper.Trips) first first_is in
@@ -89,13 +89,13 @@ module _ (states : WrittenFeedStatesPlan) (makes : MakesMoves) (files laid : Fil
       (ap (table_in paper.Trips) trips_found ∙ ap (or_refused paper.Trips) table)
       audit does
 
-  tells : (said : Said) → said_by before ≡ Ok said → table_in paper.Trips (before paper.Trips) ≡ Ok first → table_in paper.StopTimes (before paper.StopTimes) ≡ Ok second → TellsOf said
+  tells : (said : FeedView) → said_by before ≡ Ok said → table_in paper.Trips (before paper.Trips) ≡ Ok first → table_in paper.StopTimes (before paper.StopTimes) ≡ Ok second → TellsOf said
   tells said says first_is second_is =
       let parts = has-parts before said says in
       subst TellsOf (sym parts.said_is) (tells-parts said parts first_is second_is)
 
 module _ (states : WrittenFeedStatesPlan) (makes : MakesMoves) (seen heard : Option ReadView) (before middle again after : World) (first second : ℕ) (one : HasEnded write_asked seen before middle first) (two : HasEnded audit_asked heard again after second) (all : first ≤ EDITS_REFUSED) where
-  abbrev said : (said : Said) × (said_in one.chosen.read ≡ Ok said) × HasWritten said (trips_in one.chosen.read) (stop_times_in one.chosen.read) one.chosen.outcome
+  abbrev said : (said : FeedView) × (said_in one.chosen.read ≡ Ok said) × HasWritten said (trips_in one.chosen.read) (stop_times_in one.chosen.read) one.chosen.outcome
   said = written-said one.chosen.read one.chosen.outcome one.chosen.given (omega (arith, all, one.answered))
 
   abbrev has : HasWritten said.0 (trips_in one.chosen.read) (stop_times_in one.chosen.read) one.chosen.outcome

@@ -12,7 +12,7 @@ use Rattle.block_writer.specs.StopTimes.{stop_times_written}
 use Rattle.block_writer.specs.Texts.{AreTexts, IsFirstBad, IsRefusedPaper, IsTextPaper, record_at}
 use Rattle.desk_run.specs.Outcome.{OutcomeView}
 use Rattle.desk_run.specs.Reading.{ReadView}
-use Rattle.desk_feed.specs.Feed.{Said}
+use Rattle.desk_feed.specs.Feed.{FeedView}
 use Rattle.desk_feed.specs.Judging.{IsGivenOf, refusing}
 use Rattle.trip_model.specs.Timetable.{TimetableView}
 use Rattle.deadhead_matrix.specs.Matrix.{MatrixView}
@@ -36,7 +36,7 @@ refused-ends : (paper : Paper) (columns : List Column) (table : TableView) (outc
 refused-ends paper columns table outcome is = bad-table table is.for.number is.for.place is.for.first
 
 -- how a run ends that does this
-ends-by : (said : Said) (trips stop_times : Result TableView FeedFault) (outcome : OutcomeView) → WritesBy said trips stop_times outcome → EndsBy said trips stop_times outcome.ending
+ends-by : (said : FeedView) (trips stop_times : Result TableView FeedFault) (outcome : OutcomeView) → WritesBy said trips stop_times outcome → EndsBy said trips stop_times outcome.ending
 ends-by said (Err due) stop_times outcome (inl bad) = ap (λ (o : OutcomeView). o.ending) bad.done
 ends-by said (Err due) stop_times outcome (inr (inl none)) = absurd none
 ends-by said (Err due) stop_times outcome (inr (inr none)) = absurd none
@@ -53,7 +53,7 @@ ends-by said (Ok trips) (Ok stop_times) outcome (inr (inr does)) =
     record { texts = λ one other. ap (λ (o : OutcomeView). o.ending) does.1.1.done; trips_refused = λ no. absurd (no does.0); stop_times_refused = λ no. absurd (no does.1.0) }
 
 -- and no line is kept
-unkept-by : (said : Said) (trips stop_times : Result TableView FeedFault) (outcome : OutcomeView) → WritesBy said trips stop_times outcome → outcome.lines ≡ None
+unkept-by : (said : FeedView) (trips stop_times : Result TableView FeedFault) (outcome : OutcomeView) → WritesBy said trips stop_times outcome → outcome.lines ≡ None
 unkept-by said trips stop_times outcome (inl bad) = ap (λ (o : OutcomeView). o.lines) bad.done
 unkept-by said (Err due) stop_times outcome (inr (inl none)) = absurd none
 unkept-by said (Err due) stop_times outcome (inr (inr none)) = absurd none
@@ -61,7 +61,7 @@ unkept-by said (Ok trips) stop_times outcome (inr (inl bad)) = ap (λ (o : Outco
 unkept-by said (Ok trips) (Err due) outcome (inr (inr (texts, none))) = absurd none
 unkept-by said (Ok trips) (Ok stop_times) outcome (inr (inr does)) = ap (λ (o : OutcomeView). o.lines) does.1.1.done
 
-pub write-given : {E : Type 0} (read : ReadView) (said : Said) (result : Result OutcomeView E) → IfOk result (Writes read said) → IfOk result (IsGivenOf write_does read said)
+pub write-given : {E : Type 0} (read : ReadView) (said : FeedView) (result : Result OutcomeView E) → IfOk result (Writes read said) → IfOk result (IsGivenOf write_does read said)
 write-given read said (Err e) does = tt
 write-given read said (Ok outcome) does = record {
   gives = does;
@@ -93,13 +93,13 @@ texts-of (Ok read) table is = subst AreTexts is.1 is.0
 texts-of (Err due) table is = absurd is
 
 -- the refusal of one of two papers is what is done
-pub refused-by : (said : Said) (timetable : TimetableView) (base : ℕ) (trips stop_times : Result TableView FeedFault) (outcome : OutcomeView)
+pub refused-by : (said : FeedView) (timetable : TimetableView) (base : ℕ) (trips stop_times : Result TableView FeedFault) (outcome : OutcomeView)
     → IsWritable said.settings timetable base trips stop_times (Refused outcome) → WritesBy said trips stop_times outcome
 refused-by said timetable base trips stop_times outcome (inl bad) = inl bad
 refused-by said timetable base trips stop_times outcome (inr bad) = inr (inl bad)
 
 -- else both files are written
-both-by : (said : Said) (timetable : TimetableView) (base : ℕ) (trips stop_times : Result TableView FeedFault) (table : TableView) (text : List ℕ) (outcome : OutcomeView)
+both-by : (said : FeedView) (timetable : TimetableView) (base : ℕ) (trips stop_times : Result TableView FeedFault) (table : TableView) (text : List ℕ) (outcome : OutcomeView)
     → IsTextPaper (λ first. first ≡ table) trips → IsTextPaper (λ second. text ≡ stop_times_written second timetable base) stop_times
     → ((second : TableView) → text ≡ stop_times_written second timetable base → IsWritten said table second outcome)
     → WritesBy said trips stop_times outcome
@@ -109,7 +109,7 @@ both-by said timetable base (Ok first) (Err due) table text outcome one other do
 both-by said timetable base (Err due) stop_times table text outcome one other does = absurd one
 
 -- of the plan after the script
-pub written-given : {E : Type 0} (read : ReadView) (said : Said) (matrix : MatrixView) (drawn : Drawn) (timetable : TimetableView) (base : ℕ) (table : TableView) (text : List ℕ)
+pub written-given : {E : Type 0} (read : ReadView) (said : FeedView) (matrix : MatrixView) (drawn : Drawn) (timetable : TimetableView) (base : ℕ) (table : TableView) (text : List ℕ)
     → IsMatrixFor said matrix → HasDrawn said.base said.lines matrix drawn → timetable ≡ drawn.desk.script.timetable → base ≡ length said.base.slots
     → IsWritable said.settings timetable base (trips_in read) (stop_times_in read) (Texts table text)
     → (result : Result OutcomeView E) → IfOk result (IsWrittenOf said.settings drawn table text) → IfOk result (Writes read said)

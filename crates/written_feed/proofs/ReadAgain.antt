@@ -8,15 +8,15 @@ use Rattle.desk_settings.specs.Selected.{chosen_in}
 use Rattle.trip_model.specs.Timetable.{Slot}
 use Rattle.feed_read.specs.Base.{base_of}
 use Rattle.block_writer.specs.StopTimes.{stop_times_written}
-use Rattle.round_trip.specs.Follows.{Follows}
+use Rattle.round_trip.specs.Follows.{IsEditedFrom}
 use Rattle.round_trip.specs.Written.{AreWritable, as_written}
 use Rattle.round_trip.proofs.Edits.{standing-follows}
 use Rattle.round_trip.proofs.ReadBack.{base-forward, written-back}
-use Rattle.desk_feed.specs.Feed.{Said, standing}
+use Rattle.desk_feed.specs.Feed.{FeedView, standing}
 use Rattle.desk_feed.specs.Script.{first_records}
 use Rattle.written_feed.specs.Write.{AreReadAgain, trips_of}
 
-pub read-again : (said : Said) (trips stop_times : TableView) (blocks : List (List ℕ)) → AreReadAgain said trips stop_times blocks
+pub read-again : (said : FeedView) (trips stop_times : TableView) (blocks : List (List ℕ)) → AreReadAgain said trips stop_times blocks
 read-again said trips stop_times blocks trips_bytes stop_times_bytes base are writable trips_unmarked stop_times_unmarked =
     subst Back (ap length are.slots)
     (λ writable stop_times_unmarked.
@@ -31,8 +31,8 @@ read-again said trips stop_times blocks trips_bytes stop_times_bytes base are wr
         → strip_bom (stop_times_written stop_times (standing said) n) ≡ stop_times_written stop_times (standing said) n
         → base_of said.settings (File (trips_of said trips blocks)) (File (stop_times_written stop_times (standing said) n)) ≡ Ok (as_written base (standing said))
 
-    follows : Follows base (standing said)
+    follows : IsEditedFrom base (standing said)
     follows =
         let forward = base-forward said.settings (File trips_bytes) (File stop_times_bytes) base are.read in
         let on = standing-follows said.base (first_records said.lines (length said.lines)) (subst (All (λ (slot : Slot). slot.trip.departs < slot.trip.ends)) are.slots forward) in
-        subst (λ slots. Follows (record base { slots = slots }) (standing said)) (sym are.slots) (record { names = on.names; trips = on.trips })
+        subst (λ slots. IsEditedFrom (record base { slots = slots }) (standing said)) (sym are.slots) (record { names = on.names; trips = on.trips })

@@ -26,7 +26,7 @@ use Rattle.desk_run.specs.Reading.{ReadView, found_of}
 use Rattle.desk_run.specs.declared.outcome.Writing.{Writing}
 use Rattle.desk_run.specs.declared.status.Ending.{Ending}
 use Rattle.desk_run.specs.declared.status.Ending.TheVariants as ending
-use Rattle.desk_feed.specs.Feed.{Said, standing}
+use Rattle.desk_feed.specs.Feed.{FeedView, standing}
 use Rattle.desk_feed.specs.Judging.{FeedAsked, ending_of, of_feed, refused_of, refusing}
 use Rattle.desk_feed.specs.Schedule.{IsMatrixFor}
 use Rattle.feed_desk.specs.Drawn.{IsDrawn}
@@ -63,18 +63,18 @@ files_of settings timetable blocks trips stop_times =
     ∷ []
 
 -- those of a feed and of blocks for its timetable after the script, of whose slots those before the script have records
-abbrev pub feed_files : Said → TableView → TableView → List (List ℕ) → List Writing
+abbrev pub feed_files : FeedView → TableView → TableView → List (List ℕ) → List Writing
 feed_files said trips stop_times blocks = files_of said.settings (standing said) blocks trips (stop_times_written stop_times (standing said) (length said.base.slots))
 
 -- the texts of the two files of a feed and of blocks
-abbrev pub trips_of : Said → TableView → List (List ℕ) → List ℕ
+abbrev pub trips_of : FeedView → TableView → List (List ℕ) → List ℕ
 trips_of said trips blocks = trips_written trips (standing said) (chosen_in said.settings trips) blocks said.settings.prefix
 
-abbrev pub stop_times_of : Said → TableView → List ℕ
+abbrev pub stop_times_of : FeedView → TableView → List ℕ
 stop_times_of said stop_times = stop_times_written stop_times (standing said) (length said.base.slots)
 
 -- two files are read as these tables, and as a timetable with the trips of a feed
-pub record AreReadAs (said : Said) (trips_bytes stop_times_bytes : List ℕ) (trips stop_times : TableView) (base : TimetableView) : Type 0 where
+pub record AreReadAs (said : FeedView) (trips_bytes stop_times_bytes : List ℕ) (trips stop_times : TableView) (base : TimetableView) : Type 0 where
   pub trips_are : table_of trips_bytes ≡ Ok trips
   pub stop_times_are : table_of stop_times_bytes ≡ Ok stop_times
   pub trips_table : IsTable trips
@@ -84,7 +84,7 @@ pub record AreReadAs (said : Said) (trips_bytes stop_times_bytes : List ℕ) (tr
 
 -- The two written files, read again in the place of these, have the same timetable. Each trip that runs is at its minutes after
 -- the script. Neither file may begin with a byte-order mark, and no time may be moved to 100:00:00 or later.
-abbrev pub AreReadAgain : Said → TableView → TableView → List (List ℕ) → Type 0
+abbrev pub AreReadAgain : FeedView → TableView → TableView → List (List ℕ) → Type 0
 AreReadAgain said trips stop_times blocks =
     (trips_bytes stop_times_bytes : List ℕ) (base : TimetableView) → AreReadAs said trips_bytes stop_times_bytes trips stop_times base
     → AreWritable stop_times (standing said) (length said.base.slots)
@@ -94,7 +94,7 @@ AreReadAgain said trips stop_times blocks =
 
 -- The files are those of the blocks of the plan after the script, and their names begin with a text. They are read again as the
 -- feed. The lines of refused records are put, and then that the files were written.
-pub record IsWritten (said : Said) (trips stop_times : TableView) (outcome : OutcomeView) : Type 0 where
+pub record IsWritten (said : FeedView) (trips stop_times : TableView) (outcome : OutcomeView) : Type 0 where
   pub matrix : MatrixView
   pub matrix_is : IsMatrixFor said matrix
   pub plan : Plan
@@ -112,27 +112,27 @@ pub record IsRefusal (paper : Paper) (columns : List Column) (read : Result Tabl
 
 -- what is done of two papers: the feed is written where both are tables of texts. Else the first refusal is put, that of the
 -- trips before that of the stop times
-abbrev pub WritesBy : Said → Result TableView FeedFault → Result TableView FeedFault → OutcomeView → Type 0
+abbrev pub WritesBy : FeedView → Result TableView FeedFault → Result TableView FeedFault → OutcomeView → Type 0
 WritesBy said trips stop_times outcome =
     IsRefusal paper.Trips (trip_columns said.settings) trips outcome
     ⊎ (IsTextPaper (λ first. IsRefusal paper.StopTimes stop_time_columns stop_times outcome) trips
     ⊎ IsTextPaper (λ first. IsTextPaper (λ second. IsWritten said first second outcome) stop_times) trips)
 
-abbrev pub Writes : ReadView → Said → OutcomeView → Type 0
+abbrev pub Writes : ReadView → FeedView → OutcomeView → Type 0
 Writes read said outcome = WritesBy said (trips_in read) (stop_times_in read) outcome
 
 -- how the run ends: as the script does where all fields of both are texts, and else as refused
-pub record EndsOf (said : Said) (trips stop_times : TableView) (end : Ending) : Type 0 where
+pub record EndsOf (said : FeedView) (trips stop_times : TableView) (end : Ending) : Type 0 where
   pub texts : AreTexts trips → AreTexts stop_times → end ≡ ending_of said
   pub trips_refused : ¬ AreTexts trips → end ≡ ending.FeedRefused
   pub stop_times_refused : ¬ AreTexts stop_times → end ≡ ending.FeedRefused
 
-abbrev pub EndsBy : Said → Result TableView FeedFault → Result TableView FeedFault → Ending → Type 0
+abbrev pub EndsBy : FeedView → Result TableView FeedFault → Result TableView FeedFault → Ending → Type 0
 EndsBy said (Err refused) stop_times end = end ≡ ending.FeedRefused
 EndsBy said (Ok trips) (Err refused) end = end ≡ ending.FeedRefused
 EndsBy said (Ok trips) (Ok stop_times) end = EndsOf said trips stop_times end
 
-abbrev pub Ends : ReadView → Said → Ending → Type 0
+abbrev pub Ends : ReadView → FeedView → Ending → Type 0
 Ends read said end = EndsBy said (trips_in read) (stop_times_in read) end
 
 -- with the most steps of the plans of its script

@@ -40,6 +40,6 @@ returns-clause-followed g c =
     let followed : Followed = record { desk = done.desk; text = done.text; ending = c.ending_by.result } in
     subst (λ (t : TimetableView). HasFollowed (answer c.args.matrix) t lines c.args.matrix followed) (ap (λ (s : ScriptView). s.timetable) script)
     (subst (λ (m : MatrixView). HasFollowed (answer m) desk.script.timetable lines m followed) c.in_ok-desk.ensures.matrix
-    (has-followed c.standing_law.ensures c.plan_law.ensures c.plain_law.ensures.moves c.plain_law.ensures.made c.plain_blocks_law.ensures.reached
+    (has-followed c.same_edits_law.ensures c.plan_law.ensures c.plain_law.ensures.moves c.plain_law.ensures.made c.plain_blocks_law.ensures.reached
     desk.script.timetable lines desk done.desk (length lines) answered.desks answered.are opened pulls
     (answer desk.matrix) followed refl refl answered.put (c.ending_by.ensures ∙ ap ending_by answered.some_is)))

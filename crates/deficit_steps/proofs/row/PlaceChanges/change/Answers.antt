@@ -4,7 +4,7 @@ use Rattle.deficit_steps.specs.Changes.{IsChange, AreChanges}
 use Rattle.deficit_steps.specs.Leaves.{sums}
 use Rattle.deficit_steps.proofs.LeavesLemmas.{change_read, leaf_written, SumsLeaves-change}
 use Rattle.deficit_steps.proofs.RowLemmas.{raised-is, AreChanges-with}
-use Rattle.deficit_steps.proofs.row.Row.change.Goals as goal
+use Rattle.deficit_steps.proofs.row.PlaceChanges.change.Goals as goal
 
 pub set-requires-clause-lawful : goal.set-requires-clause-lawful
 set-requires-clause-lawful g c =

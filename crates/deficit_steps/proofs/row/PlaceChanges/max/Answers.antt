@@ -7,7 +7,7 @@ use Rattle.trip_model.specs.Maximum.{first_maximum}
 use Rattle.deficit_steps.specs.Changes.{AreChanges, value_in}
 use Rattle.deficit_steps.proofs.LeavesLemmas.{first_maximum-reaching}
 use Rattle.deficit_steps.proofs.RowLemmas.{pos-nat_abs}
-use Rattle.deficit_steps.proofs.row.Row.max.Goals as goal
+use Rattle.deficit_steps.proofs.row.PlaceChanges.max.Goals as goal
 
 pub returns : goal.returns
 returns c =

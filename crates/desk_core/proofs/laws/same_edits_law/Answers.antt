@@ -1,5 +1,5 @@
 use Rattle.desk_core.proofs.StandingLemmas.{standing-equal}
-use Rattle.desk_core.proofs.laws.standing_law.Goals as goal
+use Rattle.desk_core.proofs.laws.same_edits_law.Goals as goal
 
 pub returns : goal.returns
 returns c = standing-equal

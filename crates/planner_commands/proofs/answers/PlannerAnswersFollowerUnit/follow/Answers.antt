@@ -5,7 +5,7 @@ use Rattle.planner_desk.specs.declared.edit.PlannerLine.TheVariants as line
 use Rattle.planner_commands.specs.Answers.{answer_line}
 use Rattle.planner_commands.specs.Moments.{refusal_in, stand_at, step_at}
 use Rattle.planner_commands.proofs.MomentsLemmas.{answers-next, some-next, stand-next}
-use Rattle.planner_commands.proofs.answers.AnswersFollowerUnit.follow.Goals as goal
+use Rattle.planner_commands.proofs.answers.PlannerAnswersFollowerUnit.follow.Goals as goal
 
 pub returns-clause-stands : goal.returns-clause-stands
 returns-clause-stands c = λ was had lines n number_is at so_far.

@@ -3,8 +3,8 @@ use Rattle.trip_model.proofs.StepsLemmas.{steps_before-zero, steps-at_end}
 use Rattle.deficit_steps.specs.Changes.{value_in}
 use Rattle.deficit_steps.proofs.LeavesLemmas.{change_read}
 use Rattle.deficit_steps.proofs.RowLemmas.{next_sum-fits, next_sum-is, steps_before-same, steps_before-step, change_is_zero, change_is_not_zero}
-use Rattle.deficit_steps.proofs.row.Row.step_list.Goals as goal
-use Rattle.deficit_steps.proofs.row.Row.step_list.Goals.{then-change-ne0+in_ok-push, else-change-ne0}
+use Rattle.deficit_steps.proofs.row.PlaceChanges.step_list.Goals as goal
+use Rattle.deficit_steps.proofs.row.PlaceChanges.step_list.Goals.{then-change-ne0+in_ok-push, else-change-ne0}
 
 pub loop-minute-init : goal.loop-minute-init
 loop-minute-init c = record {

@@ -1,7 +1,7 @@
 use Rattle.std.proofs.Common.{◌<◌, length, arith}
 use Rattle.deficit_steps.proofs.LeavesLemmas.{change_read}
 use Rattle.deficit_steps.proofs.RowLemmas.{next_sum-fits, next_sum-is}
-use Rattle.deficit_steps.proofs.row.Row.value_at.Goals as goal
+use Rattle.deficit_steps.proofs.row.PlaceChanges.value_at.Goals as goal
 
 pub overflow_add-value : goal.overflow_add-value
 overflow_add-value c =

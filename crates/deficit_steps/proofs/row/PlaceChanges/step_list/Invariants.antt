@@ -2,7 +2,7 @@ use Rattle.std.proofs.Common.{◌≡◌}
 use Rattle.trip_model.specs.Steps.{steps_before}
 use Rattle.deficit_steps.specs.Changes.{value_in}
 use Rattle.deficit_steps.proofs.RowLemmas.{sum_of}
-use Rattle.deficit_steps.proofs.row.Row.step_list.Given as goal
+use Rattle.deficit_steps.proofs.row.PlaceChanges.step_list.Given as goal
 
 abbrev pub invariant-loop-minute : goal.invariant-loop-minute
 invariant-loop-minute l = record {

@@ -5,7 +5,7 @@ use Rattle.terminal_maxima.specs.Reaching.{IsFirstReaching, NoneReaches}
 use Rattle.deficit_steps.specs.Changes.{AreChanges, value_in}
 use Rattle.deficit_steps.specs.NextMaximum.{IsNextMaximum, NoNextMaximum}
 use Rattle.deficit_steps.proofs.LeavesLemmas.{IsNextMaximum-reaching, NoNextMaximum-reaching, IfNone_then}
-use Rattle.deficit_steps.proofs.row.Row.first_max_from.Goals as goal
+use Rattle.deficit_steps.proofs.row.PlaceChanges.first_max_from.Goals as goal
 
 pub returns-clause-found : goal.returns-clause-found
 returns-clause-found c =
