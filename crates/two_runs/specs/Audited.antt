@@ -3,6 +3,7 @@ use Rattle.std.specs.Prelude.{◌≡◌, ◌≢◌, ℕ, ◌≤◌, List, [], �
 use Rattle.std.specs.FinMap.{get}
 use Rattle.std.specs.List.{AllByRecursion}
 use Rattle.csv.specs.Reading.{strip_bom}
+use Rattle.desk_io.specs.History.{Call}
 use Rattle.desk_io.specs.Shelf.{Files, ShelfState, found_in}
 use Rattle.desk_io.specs.Sink.{SinkState, put_bytes}
 use Rattle.desk_io.specs.declared.shelf.Found.TheVariants.{TooLong}
@@ -15,9 +16,9 @@ use Rattle.gtfs_tables.specs.declared.paper.TheConstants.{MOST_BYTES}
 use Rattle.round_trip.specs.Written.{AreWritable}
 use Rattle.stated_again.specs.Planned.{AllRun}
 use Rattle.desk_keeper.specs.Keeper.{KeeperState}
+use Rattle.desk_run.specs.Outside.{Outside}
 use Rattle.desk_run.specs.Performs.{Performs}
 use Rattle.desk_run.specs.Reading.{found_of, pages_in}
-use Rattle.desk_run.specs.World.{World}
 use Rattle.desk_run.specs.declared.status.TheConstants.{DONE, EDITS_REFUSED, NO}
 use Rattle.desk_feed.specs.Feed.{Said, feed_papers, said_by, standing}
 use Rattle.written_feed.specs.Write.{stop_times_name, trips_name, write_asked}
@@ -73,12 +74,14 @@ FindsWrittenLeast files written laid before after first second =
     → IfSome files (λ files. IfSome written (λ written. IfSome laid (λ laid. IsLaid written laid → CanBeAudited files written → FindsLeast before after second)))
 
 -- The first run is one of `write`, which leaves this shelf, and the second one of `audit` over another, which begins with sink
--- and keeper as the first has left them: each of the two is all that the command promises when it runs alone. And the second
+-- and keeper as the first has left them, and with the calls that came to each: each of the two is all that the command promises when it runs alone. And the second
 -- finds least what the first has written.
-pub record WritesAndAudits (before : World) (written laid : ShelfState) (after : World) (first second old new : ℕ) : Type 0 where
+pub record WritesAndAudits (before : Outside) (written : ShelfState) (written_calls : List Call) (laid : ShelfState) (laid_calls : List Call) (after : Outside) (first second old new : ℕ) : Type 0 where
   pub sink : SinkState
+  pub sink_calls : List Call
   pub keeper : KeeperState
+  pub keeper_calls : List Call
   pub steps : ℕ
-  pub write : Performs write_asked before (record { shelf = written; sink = sink; keeper = keeper }) first old steps
-  pub audit : Performs audit_asked (record { shelf = laid; sink = sink; keeper = keeper }) after second steps new
-  pub least : FindsWrittenLeast before.shelf.files written.files laid.files sink after.sink first second
+  pub write : Performs write_asked before (record { world = record { shelf = written; sink = sink; keeper = keeper }; calls = record { shelf = written_calls; sink = sink_calls; keeper = keeper_calls } }) first old steps
+  pub audit : Performs audit_asked (record { world = record { shelf = laid; sink = sink; keeper = keeper }; calls = record { shelf = laid_calls; sink = sink_calls; keeper = keeper_calls } }) after second steps new
+  pub least : FindsWrittenLeast before.world.shelf.files written.files laid.files sink after.world.sink first second
