@@ -7,8 +7,8 @@ ghost use Rattle.block_audit.specs.Misfits.{misfits_in};
 ghost use Rattle.block_audit.specs.Stated.{AreNames, slots_by};
 ghost use Rattle.desk_feed.specs.Feed.{HasPapers};
 ghost use Rattle.desk_feed.specs.Schedule.{most_steps};
+ghost use Rattle.desk_run.specs.Outside.{outside};
 ghost use Rattle.desk_run.specs.Performs.{Performs};
-ghost use Rattle.desk_run.specs.World.{world};
 ghost use Rattle.audit_commands.specs.Audit.{IsCosted, IsJudged, audit_asked, trips_in};
 ghost use Rattle.audit_commands.specs.Auditable.{IsAuditable, Judges};
 
@@ -188,7 +188,7 @@ pub fn run_audit<S: Shelf, O: Sink, K: Keeper, L: Ledger>(
     keeper: &mut K,
     steps: &mut Steps<L>,
 ) -> u8
-    ensures { let at = world S.state O.state K.state in
+    ensures { let at = outside S.state S.history O.state O.history K.state K.history in
         Performs audit_asked (at shelf.old out.old keeper.old) (at shelf.new out.new keeper.new) result steps.old steps.new }
 {
     perform(&OnFeed(AuditFeed), alloc, shelf, out, keeper, steps)

@@ -1,8 +1,8 @@
 ghost use Rattle.std.specs.Prelude.{◌≡◌, ◌+◌, ◌*◌, ◌≤◌, IfOk};
 ghost use Rattle.board_commands.specs.Joined.{boards_outcome, joined_asked, joined_of};
 ghost use Rattle.deadhead_matrix.specs.Fitting.{network_of};
+ghost use Rattle.desk_run.specs.Outside.{outside};
 ghost use Rattle.desk_run.specs.Performs.{Performs};
-ghost use Rattle.desk_run.specs.World.{world};
 ghost use Rattle.joined_deficits.specs.declared.limits.TheConstants.{MOST_MOVES};
 ghost use Rattle.trip_model.specs.Blocking.{IsBlocking};
 
@@ -105,7 +105,7 @@ pub fn run_joined<S: Shelf, O: Sink, K: Keeper, L: Ledger>(
     keeper: &mut K,
     steps: &mut Steps<L>,
 ) -> u8
-    ensures { let at = world S.state O.state K.state in
+    ensures { let at = outside S.state S.history O.state O.history K.state K.history in
         Performs joined_asked (at shelf.old out.old keeper.old) (at shelf.new out.new keeper.new) result steps.old steps.new }
 {
     perform(&OnFeed(WriteBoards), alloc, shelf, out, keeper, steps)

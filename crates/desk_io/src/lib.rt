@@ -2,20 +2,20 @@
 //!
 //! A [`Shelf`] holds named files, a [`Sink`] takes the bytes that are printed, and [`Steps`] counts steps for
 //! proofs alone. Each of the first two is a trait with one meaning, a record of what it holds and of how many
-//! faults it has counted. Callers are generic over them, so that they are proved once: for the objects in memory,
-//! which tell their bytes, and for a real folder and standard output, which tell nothing. [`Calls`] says which calls of
+//! faults it has counted, and a [`History`] of the calls that came to it. Callers are generic over them, so that they are proved once: for the objects in memory,
+//! which tell their bytes, and for a real folder and standard output, which do not. [`Calls`] says which calls of
 //! an object in memory fail.
 //!
 //! The contract that the crates above use: a read gives the file, `Missing` or `TooLong` by the files; [`put_all`]
-//! appends all bytes or a prefix; `Failed` comes only where a count of that object rose, and every other answer
-//! leaves the counts as they were.
+//! appends all bytes or a prefix, and each put is given all that is left; `Failed` comes only where a count of that
+//! object rose, and every other answer leaves the counts as they were; each call is noted, whatever it answers.
 //!
 //! ```text
 //! let mut shelf = FolderShelf::over(&rt, Text::of(rt.alloc(), "feed")?);
 //! let found = shelf.read(rt.alloc(), "trips.txt", 536_870_912)?;
 //! ```
 //!
-//! The contracts cite `Faults` (when a count rose), `Calls` (which calls are listed to fail), `Shelf` (what a shelf
+//! The contracts cite `Faults` (when a count rose), `History` (which calls came), `Calls` (which calls are listed to fail), `Shelf` (what a shelf
 //! holds, and what reads and writes do to it), `Sink` (what a sink has taken), `MemoryShelf` and `MemorySink` (the objects
 //! in memory), `FolderShelf` and `OutSink` (a real folder and standard output).
 #![tactic(auto)]

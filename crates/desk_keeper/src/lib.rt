@@ -1,20 +1,23 @@
 //! The journal of edits: what a keeper of it promises, and a keeper in memory.
 //!
-//! A [`Keeper`] holds a journal, lines of text in their order, and counts its faults. It is a trait with one meaning: a record
-//! of the journal, where the keeper tells it, and of the count. Callers are generic over it, so that they are proved once: for
-//! [`MemoryKeeper`], which tells its journal, and for a real database, which tells nothing. [`Lines`] is what a load answers,
-//! and [`KeeperFault`] why a call does nothing.
+//! A [`Keeper`] holds a journal, lines of text in their order, and counts its faults. It is a trait with one meaning, a
+//! record of the journal, where that is told, and of the count, and a history of the calls that came to it. Callers are
+//! generic over it, so that they are proved once: for [`MemoryKeeper`], which tells its journal, and for a real database,
+//! which does not. [`Lines`] is what
+//! a load answers, and [`KeeperFault`] why a call does nothing.
 //!
-//! The contract that the crates above use:
+//! The contract that the crates above use: a load answers the whole journal, or `TooLong` where it has more lines than
+//! were asked for at most; an append appends all lines in order or none; `Failed` comes only where the count rose, and
+//! every other answer leaves it; each call is noted.
 //!
-//! - A load answers the whole journal, or `TooLong` where it has more lines than the limit of the call.
-//! - An append appends all lines in order, or none.
-//! - `Failed` comes only where the count rose. Every other answer leaves the count.
+//! ```text
+//! let mut keeper = MemoryKeeper::open(alloc, Vec::new(alloc));
+//! keeper.append_all(alloc, &lines)?;
+//! let journal = keeper.load(alloc, 65_536)?;
+//! ```
 //!
-//! `desk_run` shows a use of a keeper, in `src/reading.rt` and `src/carrying.rt`.
-//!
-//! The contracts cite `Keeper` (what a keeper holds, and what loads and appends do to it) and `MemoryKeeper`. Of `desk_io` they
-//! cite `Faults` (when a count rose) and `Calls` (which calls are listed to fail).
+//! The contracts cite `Keeper` (what a keeper holds, and what loads and appends do to it) and `MemoryKeeper`, and of
+//! `desk_io` `Faults` (when a count rose), `History` (which calls came) and `Calls` (which calls are listed to fail).
 #![tactic(auto)]
 
 mod keeper;

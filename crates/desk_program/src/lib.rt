@@ -22,5 +22,3 @@ pub use usage::put_usage;
 
 #[cfg(test)]
 mod fault_tests;
-#[cfg(test)]
-mod tests;

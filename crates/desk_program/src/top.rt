@@ -1,4 +1,4 @@
-ghost use Rattle.desk_run.specs.World.{world};
+ghost use Rattle.desk_run.specs.Outside.{outside};
 ghost use Rattle.desk_program.specs.Commands as spec;
 ghost use Rattle.desk_program.specs.Runs.{IsRun};
 
@@ -27,7 +27,7 @@ pub fn run<S: Shelf, O: Sink, K: Keeper, L: Ledger>(
     keeper: &mut K,
     steps: &mut Steps<L>,
 ) -> u8
-    ensures { let at = world S.state O.state K.state in
+    ensures { let at = outside S.state S.history O.state O.history K.state K.history in
         IsRun (spec.command_of words.now) (at shelf.old out.old keeper.old) (at shelf.new out.new keeper.new) result steps.old steps.new }
 {
     match command_of(words) {

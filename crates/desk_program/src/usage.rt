@@ -1,5 +1,6 @@
+ghost use Rattle.desk_run.specs.Outside.{histories};
 ghost use Rattle.desk_run.specs.World.{world};
-ghost use Rattle.desk_program.specs.Runs.{HasUsageCause, PutsUsage};
+ghost use Rattle.desk_program.specs.Runs.{HasUsageCause, PutsUsage, UsageInOrder};
 
 use desk_io::{Shelf, Sink, put_all};
 use desk_keeper::Keeper;
@@ -16,6 +17,8 @@ pub fn put_usage<S: Shelf, O: Sink, K: Keeper>(shelf: &mut S, out: &mut O, keepe
         PutsUsage (at shelf.old out.old keeper.old) (at shelf.new out.new keeper.new) result }
     ensures cause { let at = world S.state O.state K.state in
         HasUsageCause (at shelf.old out.old keeper.old) (at shelf.new out.new keeper.new) result }
+    ensures order { let at = histories S.history O.history K.history in
+        UsageInOrder result (at shelf.old out.old keeper.old) (at shelf.new out.new keeper.new) }
 {
     match put_all(out, USAGE_LINE.as_bytes()) {
         Ok(()) => USAGE,

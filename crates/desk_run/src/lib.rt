@@ -7,17 +7,17 @@
 //! [`perform`], by what the command asks, so a new command proves nothing but its own outcome.
 //!
 //! The contract that the crates above use is `Performs`: by the status, the one outcome that was carried out, whole or in part
-//! (`RunsAs`); the cause of each status (`HasCause`); which status comes where no fault was counted (`IsComplete`); and how many
-//! steps are counted at the most (`IsCounted`).
+//! (`RunsAs`); the cause of each status (`HasCause`); which status comes where no fault was counted (`IsComplete`); in which order
+//! which calls were made (`IsInOrder`); and how many steps are counted at the most (`IsCounted`).
 //!
 //! ```text
 //! perform(&WriteJournal, alloc, shelf, out, keeper, steps)
 //! ```
 //!
-//! The contracts cite `World` (what stands outside the program), `Reading` (what is read of it), `Outcome` (an outcome as
-//! contracts see it, and the status of its ending), `Becomes` (what becomes of an outcome), `Commands` (what a command
-//! asks), `Runs` (what a run does to the world), `Causes` (when each status comes) and `Performs`; of `desk_io` and
-//! `desk_keeper` what a shelf, a sink and a keeper are.
+//! The contracts cite `World` (what stands outside the program), `Outside` (that, and which calls came to it), `Reading` (what is
+//! read of it), `Outcome` (an outcome as contracts see it, and the status of its ending), `Becomes` (what becomes of an outcome),
+//! `Commands` (what a command asks), `Runs` (what a run does to the world), `Causes` (when each status comes), `Order` (which
+//! calls a run makes) and `Performs`; of `desk_io` and `desk_keeper` what a shelf, a sink and a keeper are.
 #![tactic(auto)]
 
 mod carrying;

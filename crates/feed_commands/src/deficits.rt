@@ -1,5 +1,5 @@
+ghost use Rattle.desk_run.specs.Outside.{outside};
 ghost use Rattle.desk_run.specs.Performs.{Performs};
-ghost use Rattle.desk_run.specs.World.{world};
 ghost use Rattle.feed_commands.specs.Deficits.{deficits_asked};
 
 use deadhead_matrix::{Deadheads, Pulls};
@@ -45,7 +45,7 @@ pub fn run_deficits<S: Shelf, O: Sink, K: Keeper, L: Ledger>(
     keeper: &mut K,
     steps: &mut Steps<L>,
 ) -> u8
-    ensures { let at = world S.state O.state K.state in
+    ensures { let at = outside S.state S.history O.state O.history K.state K.history in
         Performs deficits_asked (at shelf.old out.old keeper.old) (at shelf.new out.new keeper.new) result steps.old steps.new }
 {
     perform(

@@ -1,6 +1,6 @@
 ghost use Rattle.std.specs.Prelude.{◌≡◌, IfOk};
+ghost use Rattle.desk_run.specs.Outside.{outside};
 ghost use Rattle.desk_run.specs.Performs.{Performs};
-ghost use Rattle.desk_run.specs.World.{world};
 ghost use Rattle.journal_commands.specs.Journal as journal_spec;
 ghost use Rattle.journal_commands.specs.Kept as spec;
 ghost use Rattle.journal_commands.specs.Kept.{kept_asked};
@@ -63,7 +63,7 @@ pub fn run_kept<S: Shelf, O: Sink, K: Keeper, L: Ledger>(
     keeper: &mut K,
     steps: &mut Steps<L>,
 ) -> u8
-    ensures { let at = world S.state O.state K.state in
+    ensures { let at = outside S.state S.history O.state O.history K.state K.history in
         Performs kept_asked (at shelf.old out.old keeper.old) (at shelf.new out.new keeper.new) result steps.old steps.new }
 {
     perform(&WriteJournal, alloc, shelf, out, keeper, steps)

@@ -5,8 +5,8 @@ ghost use Rattle.trip_model.specs.declared.trip.Move.{Move as ModelMove};
 ghost use Rattle.deficit_steps.specs.Changes.{IsDeficits};
 ghost use Rattle.deficit_steps.specs.Holds.{Holds};
 ghost use Rattle.dh_chains.specs.Chains.{NoChain, places_of};
+ghost use Rattle.desk_run.specs.Outside.{outside};
 ghost use Rattle.desk_run.specs.Performs.{Performs};
-ghost use Rattle.desk_run.specs.World.{world};
 ghost use Rattle.lowering_commands.specs.Chains.{IsChainsText, chains_asked};
 ghost use Rattle.lowering_commands.specs.Step.{HasPut};
 
@@ -126,7 +126,7 @@ pub fn run_chains<S: Shelf, O: Sink, K: Keeper, L: Ledger>(
     keeper: &mut K,
     steps: &mut Steps<L>,
 ) -> u8
-    ensures { let at = world S.state O.state K.state in
+    ensures { let at = outside S.state S.history O.state O.history K.state K.history in
         Performs chains_asked (at shelf.old out.old keeper.old) (at shelf.new out.new keeper.new) result steps.old steps.new }
 {
     perform(

@@ -1,7 +1,7 @@
 ghost use Rattle.std.specs.Prelude.{◌≡◌, ◌+◌, ◌*◌, ◌<◌, ◌≤◌, [], ◌∷◌, ◌++◌, ℕ, ℤ, true, false, length, codes, IfOk, IsUtf8, Ok, OnOk, string_bytes};
 ghost use Rattle.gtfs_tables.specs.Writing.{record_text};
+ghost use Rattle.desk_run.specs.Outside.{outside};
 ghost use Rattle.desk_run.specs.Performs.{Performs};
-ghost use Rattle.desk_run.specs.World.{world};
 ghost use Rattle.lowering_commands.specs.Shifts.{IsShiftsText, shift_line, shifts_asked, steps_of_search};
 ghost use Rattle.lowering_commands.specs.Step.{HasShifted};
 ghost use Rattle.shift_moves.specs.Lowering.{IsLowering};
@@ -109,7 +109,7 @@ pub fn run_shifts<S: Shelf, O: Sink, K: Keeper, L: Ledger>(
     keeper: &mut K,
     steps: &mut Steps<L>,
 ) -> u8
-    ensures { let at = world S.state O.state K.state in
+    ensures { let at = outside S.state S.history O.state O.history K.state K.history in
         Performs shifts_asked (at shelf.old out.old keeper.old) (at shelf.new out.new keeper.new) result steps.old steps.new }
 {
     perform(

@@ -4,8 +4,8 @@ ghost use Rattle.trip_model.specs.Plain.{trip_moves, AreMoves};
 ghost use Rattle.price_check.specs.Claim.{AreBlockRows, ArePriceRows};
 ghost use Rattle.price_check.specs.Reasons.{verdict_of};
 ghost use Rattle.claim_files.specs.Claims.{claimed_of};
+ghost use Rattle.desk_run.specs.Outside.{outside};
 ghost use Rattle.desk_run.specs.Performs.{Performs};
-ghost use Rattle.desk_run.specs.World.{world};
 ghost use Rattle.plan_commands.specs.Check.{Proves, check_asked, claim_outcome, verdict_outcome};
 
 use claim_files::laws::{rows_law, told_law};
@@ -145,7 +145,7 @@ pub fn run_check<S: Shelf, O: Sink, K: Keeper, L: Ledger>(
     keeper: &mut K,
     steps: &mut Steps<L>,
 ) -> u8
-    ensures { let at = world S.state O.state K.state in
+    ensures { let at = outside S.state S.history O.state O.history K.state K.history in
         Performs check_asked (at shelf.old out.old keeper.old) (at shelf.new out.new keeper.new) result steps.old steps.new }
 {
     perform(&OnFeed(CheckClaim), alloc, shelf, out, keeper, steps)

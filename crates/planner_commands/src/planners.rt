@@ -3,8 +3,8 @@ ghost use Rattle.desk_feed.specs.Edited.{standing_after};
 ghost use Rattle.desk_feed.specs.Feed.{said_with};
 ghost use Rattle.desk_feed.specs.Schedule.{most_steps};
 ghost use Rattle.desk_feed.specs.Script.{IsScript};
+ghost use Rattle.desk_run.specs.Outside.{outside};
 ghost use Rattle.desk_run.specs.Performs.{Performs};
-ghost use Rattle.desk_run.specs.World.{world};
 ghost use Rattle.desk_settings.specs.Settings.{SettingsView};
 ghost use Rattle.planner_commands.specs.Moments.{timetable_after};
 ghost use Rattle.planner_commands.specs.Planners as spec;
@@ -179,7 +179,7 @@ pub fn run_planners<S: Shelf, O: Sink, K: Keeper, L: Ledger>(
     keeper: &mut K,
     steps: &mut Steps<L>,
 ) -> u8
-    ensures { let at = world S.state O.state K.state in
+    ensures { let at = outside S.state S.history O.state O.history K.state K.history in
         Performs planners_asked (at shelf.old out.old keeper.old) (at shelf.new out.new keeper.new) result steps.old steps.new }
 {
     perform(&OnFeed(FollowPlanners), alloc, shelf, out, keeper, steps)

@@ -1,7 +1,7 @@
 ghost use Rattle.std.specs.Prelude.{◌≡◌, ◌≤◌, IfOk};
 ghost use Rattle.desk_io.specs.MemoryShelf.{files_of};
+ghost use Rattle.desk_run.specs.Outside.{outside};
 ghost use Rattle.desk_run.specs.Performs.{Performs};
-ghost use Rattle.desk_run.specs.World.{world};
 ghost use Rattle.feed_sample.specs.Sample.{sample_files};
 ghost use Rattle.feed_sample.specs.declared.sample.TheConstants.{MOST_SAMPLE};
 ghost use Rattle.sample_commands.specs.Sample.{sample_asked, sample_read};
@@ -67,7 +67,7 @@ pub fn run_sample<S: Shelf, O: Sink, K: Keeper, L: Ledger>(
     steps: &mut Steps<L>,
 ) -> u8
     requires { trips ≤ MOST_SAMPLE }
-    ensures { let at = world S.state O.state K.state in
+    ensures { let at = outside S.state S.history O.state O.history K.state K.history in
         Performs (sample_asked trips) (at shelf.old out.old keeper.old) (at shelf.new out.new keeper.new) result steps.old steps.new }
 {
     perform(&Sample { trips }, alloc, shelf, out, keeper, steps)

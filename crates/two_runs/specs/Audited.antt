@@ -3,6 +3,7 @@ use Rattle.std.specs.Prelude.{◌≡◌, ◌≢◌, ℕ, ◌≤◌, List, [], �
 use Rattle.std.specs.FinMap.{get}
 use Rattle.std.specs.List.{AllByRecursion}
 use Rattle.csv.specs.Reading.{strip_bom}
+use Rattle.desk_io.specs.History.{Call}
 use Rattle.desk_io.specs.Shelf.{Files, ShelfState, found_in}
 use Rattle.desk_io.specs.Sink.{SinkState, put_bytes}
 use Rattle.desk_io.specs.declared.shelf.Found.TheVariants.{TooLong}
@@ -15,11 +16,11 @@ use Rattle.gtfs_tables.specs.declared.paper.TheConstants.{MOST_BYTES}
 use Rattle.round_trip.specs.Written.{AreWritable}
 use Rattle.stated_again.specs.Planned.{AllRun}
 use Rattle.desk_keeper.specs.Keeper.{KeeperState}
+use Rattle.desk_run.specs.Outside.{Outside}
 use Rattle.desk_run.specs.Performs.{Performs}
 use Rattle.desk_run.specs.Reading.{found_of, pages_in}
-use Rattle.desk_run.specs.World.{World}
 use Rattle.desk_run.specs.declared.status.TheConstants.{DONE, EDITS_REFUSED, NO}
-use Rattle.desk_feed.specs.Feed.{FeedView, feed_papers, said_by, standing}
+use Rattle.desk_feed.specs.Feed.{Said, feed_papers, said_by, standing}
 use Rattle.written_feed.specs.Write.{stop_times_name, trips_name, write_asked}
 use Rattle.audit_commands.specs.Audit.{audit_asked}
 use Rattle.audit_commands.specs.Lines.{cost_line}
@@ -42,7 +43,7 @@ pub record IsReadable (written : Files) (name : List ℕ) : Type 0 where
   pub unmarked : IfSome (get written name) (λ bytes. strip_bom bytes ≡ bytes)
 
 -- the script of a feed adds no trip and leaves none cancelled, and moves no time to 100:00:00 or later
-pub record IsWholeAfter (said : FeedView) (stop_times : TableView) : Type 0 where
+pub record IsWholeAfter (said : Said) (stop_times : TableView) : Type 0 where
   pub no_extras : length (standing said).slots ≡ length said.base.slots
   pub runs : AllRun (standing said)
   pub times : AreWritable stop_times (standing said) (length said.base.slots)
@@ -51,7 +52,7 @@ pub record IsWholeAfter (said : FeedView) (stop_times : TableView) : Type 0 wher
 pub record CanBeAudited (files written : Files) : Type 0 where
   pub trips : IsReadable written trips_name
   pub stop_times : IsReadable written stop_times_name
-  pub whole : (said : FeedView) (stop_times : TableView) → said_by (found_of (pages_in feed_papers files)) ≡ Ok said
+  pub whole : (said : Said) (stop_times : TableView) → said_by (found_of (pages_in feed_papers files)) ≡ Ok said
       → table_in paper.StopTimes (found_in files (file_name_of paper.StopTimes) MOST_BYTES) ≡ Ok stop_times → IsWholeAfter said stop_times
 
 -- the text of an audit that finds blocks least, which have so many vehicles and empty minutes
@@ -72,13 +73,15 @@ FindsWrittenLeast files written laid before after first second =
     first ≤ EDITS_REFUSED → second ≤ NO
     → IfSome files (λ files. IfSome written (λ written. IfSome laid (λ laid. IsLaid written laid → CanBeAudited files written → FindsLeast before after second)))
 
--- The first run is one of `write`, which leaves this shelf. The second is one of `audit` over another shelf, with sink and
--- keeper as the first has left them. Each of the two is all that the command promises when it runs alone. And the second finds
--- least what the first has written.
-pub record WritesAndAudits (before : World) (written laid : ShelfState) (after : World) (first second old new : ℕ) : Type 0 where
+-- The first run is one of `write`, which leaves this shelf, and the second one of `audit` over another, which begins with sink
+-- and keeper as the first has left them, and with the calls that came to each: each of the two is all that the command promises when it runs alone. And the second
+-- finds least what the first has written.
+pub record WritesAndAudits (before : Outside) (written : ShelfState) (written_calls : List Call) (laid : ShelfState) (laid_calls : List Call) (after : Outside) (first second old new : ℕ) : Type 0 where
   pub sink : SinkState
+  pub sink_calls : List Call
   pub keeper : KeeperState
+  pub keeper_calls : List Call
   pub steps : ℕ
-  pub write : Performs write_asked before (record { shelf = written; sink = sink; keeper = keeper }) first old steps
-  pub audit : Performs audit_asked (record { shelf = laid; sink = sink; keeper = keeper }) after second steps new
-  pub least : FindsWrittenLeast before.shelf.files written.files laid.files sink after.sink first second
+  pub write : Performs write_asked before (record { world = record { shelf = written; sink = sink; keeper = keeper }; calls = record { shelf = written_calls; sink = sink_calls; keeper = keeper_calls } }) first old steps
+  pub audit : Performs audit_asked (record { world = record { shelf = laid; sink = sink; keeper = keeper }; calls = record { shelf = laid_calls; sink = sink_calls; keeper = keeper_calls } }) after second steps new
+  pub least : FindsWrittenLeast before.world.shelf.files written.files laid.files sink after.world.sink first second

@@ -7,6 +7,7 @@ use Rattle.gtfs_tables.specs.Papers.{file_name_of}
 use Rattle.gtfs_tables.specs.declared.paper.Paper.{Paper}
 use Rattle.gtfs_tables.specs.declared.paper.Paper.TheVariants as paper
 use Rattle.gtfs_tables.specs.declared.paper.TheConstants.{MOST_BYTES}
+use Rattle.desk_run.specs.Outside.{Outside}
 use Rattle.desk_run.specs.Performs.{Performs}
 use Rattle.desk_run.specs.Reading.{pages_in}
 use Rattle.desk_run.specs.World.{World}
@@ -44,9 +45,9 @@ Confirms before left later after first second =
 
 -- A run of `blocks`, and one of `check` that begins in the world which the first left. Each is all that its command promises when
 -- it runs alone, and the second confirms the first.
-pub record RunsInTurn (before after : World) (first second old new : ℕ) : Type 0 where
-  pub between : World
+pub record RunsInTurn (before after : Outside) (first second old new : ℕ) : Type 0 where
+  pub between : Outside
   pub steps : ℕ
   pub blocks : Performs blocks_asked before between first old steps
   pub check : Performs check_asked between after second steps new
-  pub confirmed : Confirms before between between after first second
+  pub confirmed : Confirms before.world between.world between.world after.world first second

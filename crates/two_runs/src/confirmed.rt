@@ -1,6 +1,6 @@
 ghost use Rattle.std.specs.Prelude.{ℕ};
+ghost use Rattle.desk_run.specs.Outside.{Outside, outside};
 ghost use Rattle.desk_run.specs.Performs.{Performs};
-ghost use Rattle.desk_run.specs.World.{World, world};
 ghost use Rattle.desk_commands.specs.Blocks.{blocks_asked};
 ghost use Rattle.plan_commands.specs.Check.{check_asked};
 ghost use Rattle.two_runs.specs.Confirmed.{Confirms, RunsInTurn};
@@ -16,8 +16,8 @@ use trip_model::laws::plain_law;
 /// A law: a `check` says yes to what `blocks` wrote, with the same vehicles and empty minutes. It may run at any later time, on
 /// another shelf, with another sink. Each paper that it reads has to be as `blocks` left it.
 pub fn later_law()
-    ensures { (before left later after : World) (first second n m k l : ℕ) → Performs blocks_asked before left first n m
-        → Performs check_asked later after second k l → Confirms before left later after first second }
+    ensures { (before left later after : Outside) (first second n m k l : ℕ) → Performs blocks_asked before left first n m
+        → Performs check_asked later after second k l → Confirms before.world left.world later.world after.world first second }
 {
     plain_law();
 }
@@ -30,7 +30,7 @@ pub fn run_blocks_and_check<S: Shelf, O: Sink, K: Keeper, L: Ledger>(
     keeper: &mut K,
     steps: &mut Steps<L>,
 ) -> (u8, u8)
-    ensures { let at = world S.state O.state K.state in
+    ensures { let at = outside S.state S.history O.state O.history K.state K.history in
         RunsInTurn (at shelf.old out.old keeper.old) (at shelf.new out.new keeper.new) result.0 result.1 steps.old steps.new }
 {
     later_law();

@@ -3,8 +3,8 @@ ghost use Rattle.block_writer.specs.Texts.{AreTexts};
 ghost use Rattle.desk_feed.specs.Feed.{HasPapers, said_with};
 ghost use Rattle.desk_feed.specs.Schedule.{most_steps};
 ghost use Rattle.desk_feed.specs.Script.{IsScript};
+ghost use Rattle.desk_run.specs.Outside.{outside};
 ghost use Rattle.desk_run.specs.Performs.{Performs};
-ghost use Rattle.desk_run.specs.World.{world};
 ghost use Rattle.feed_desk.specs.Plans.{most_to};
 ghost use Rattle.written_feed.specs.Write.{Writes, files_of, stop_times_in, trips_in, write_asked};
 ghost use Rattle.written_feed.specs.Writable.{IsWritable, IsWrittenOf};
@@ -179,7 +179,7 @@ pub fn run_write<S: Shelf, O: Sink, K: Keeper, L: Ledger>(
     keeper: &mut K,
     steps: &mut Steps<L>,
 ) -> u8
-    ensures { let at = world S.state O.state K.state in
+    ensures { let at = outside S.state S.history O.state O.history K.state K.history in
         Performs write_asked (at shelf.old out.old keeper.old) (at shelf.new out.new keeper.new) result steps.old steps.new }
 {
     perform(&OnFeed(WriteFeed), alloc, shelf, out, keeper, steps)

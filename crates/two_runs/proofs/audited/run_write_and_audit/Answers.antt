@@ -5,7 +5,9 @@ use Rattle.two_runs.proofs.audited.run_write_and_audit.Goals as goal
 pub returns : goal.returns
 returns g c = record {
   sink = _;
+  sink_calls = _;
   keeper = _;
+  keeper_calls = _;
   steps = _;
   write = c.run_write-first.ensures;
   audit = c.run_audit-second.ensures;
