@@ -8,7 +8,7 @@ use Rattle.desk_run.specs.Performs.{Performs}
 use Rattle.desk_run.specs.World.{World, NoCountRose}
 use Rattle.desk_run.specs.declared.status.TheConstants.{USAGE, WRITE_FAULT}
 use Rattle.desk_program.specs.Commands.{asked_by}
-use Rattle.desk_program.specs.declared.command.Command.{Command}
+use Rattle.desk_program.specs.declared.command.CommandName.{CommandName}
 
 -- the line that is put for words of no form, with its line feed
 abbrev pub usage_line : List ℕ
@@ -41,6 +41,6 @@ pub record ShowsUsage (before after : Outside) (status old new : ℕ) : Type 0 w
   pub counted : new ≡ old
 
 -- a run, by the command that its words name
-abbrev pub IsRun : Option Command → Outside → Outside → ℕ → ℕ → ℕ → Type 0
+abbrev pub IsRun : Option CommandName → Outside → Outside → ℕ → ℕ → ℕ → Type 0
 IsRun None before after status old new = ShowsUsage before after status old new
 IsRun (Some command) before after status old new = Performs (asked_by command) before after status old new

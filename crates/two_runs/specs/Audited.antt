@@ -20,7 +20,7 @@ use Rattle.desk_run.specs.Outside.{Outside}
 use Rattle.desk_run.specs.Performs.{Performs}
 use Rattle.desk_run.specs.Reading.{found_of, pages_in}
 use Rattle.desk_run.specs.declared.status.TheConstants.{DONE, EDITS_REFUSED, NO}
-use Rattle.desk_feed.specs.Feed.{Said, feed_papers, said_by, standing}
+use Rattle.desk_feed.specs.Feed.{FeedView, feed_papers, said_by, standing}
 use Rattle.written_feed.specs.Write.{stop_times_name, trips_name, write_asked}
 use Rattle.audit_commands.specs.Audit.{audit_asked}
 use Rattle.audit_commands.specs.Lines.{cost_line}
@@ -43,7 +43,7 @@ pub record IsReadable (written : Files) (name : List ℕ) : Type 0 where
   pub unmarked : IfSome (get written name) (λ bytes. strip_bom bytes ≡ bytes)
 
 -- the script of a feed adds no trip and leaves none cancelled, and moves no time to 100:00:00 or later
-pub record IsWholeAfter (said : Said) (stop_times : TableView) : Type 0 where
+pub record IsWholeAfter (said : FeedView) (stop_times : TableView) : Type 0 where
   pub no_extras : length (standing said).slots ≡ length said.base.slots
   pub runs : AllRun (standing said)
   pub times : AreWritable stop_times (standing said) (length said.base.slots)
@@ -52,7 +52,7 @@ pub record IsWholeAfter (said : Said) (stop_times : TableView) : Type 0 where
 pub record CanBeAudited (files written : Files) : Type 0 where
   pub trips : IsReadable written trips_name
   pub stop_times : IsReadable written stop_times_name
-  pub whole : (said : Said) (stop_times : TableView) → said_by (found_of (pages_in feed_papers files)) ≡ Ok said
+  pub whole : (said : FeedView) (stop_times : TableView) → said_by (found_of (pages_in feed_papers files)) ≡ Ok said
       → table_in paper.StopTimes (found_in files (file_name_of paper.StopTimes) MOST_BYTES) ≡ Ok stop_times → IsWholeAfter said stop_times
 
 -- the text of an audit that finds blocks least, which have so many vehicles and empty minutes
