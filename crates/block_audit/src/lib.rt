@@ -7,7 +7,7 @@
 //! The contract that the crates above use: the stated blocks are a blocking of the timetable exactly where there is no misfit.
 //! They are least exactly where they are above the least by nothing ([`laws`]).
 //!
-//! `audit_commands` shows a use, in `src/audit.rt`.
+//! `audit_command` shows a use, in `src/audit.rt`.
 //!
 //! The contracts cite:
 //!

@@ -58,7 +58,7 @@ has_entry entries from to = list_any (λ e. (e.from == from) && (e.to == to)) en
 abbrev pub with_entry : ℕ → List Entry → Entry → Result (List Entry) FeedFault
 with_entry number before entry = provided (not (has_entry before entry.from entry.to)) (fault.DuplicateRow paper.Deadheads number) (Ok (before ++ entry ∷ []))
 
--- the entries with those of a record, from each of these places to the one that stands with it
+-- the entries with those of a record, from each of these places to the one beside it
 abbrev pub with_entries : ℕ → ℕ → List Entry → List ℕ → List ℕ → Result (List Entry) FeedFault
 with_entries number minutes before (a ∷ froms) (b ∷ tos) =
     with_entry number before (record { from = a; to = b; minutes = minutes }) >>= λ more. with_entries number minutes more froms tos
@@ -68,7 +68,7 @@ with_entries number minutes before _ _ = Ok before
 abbrev pub Ends : Type 0
 Ends = List ℕ × List ℕ
 
--- whether a record with these ends stands among others
+-- whether a record with these ends is among others
 abbrev pub has_ends : List Ends → Ends → Bool
 has_ends before ends = list_any (λ e. bytes_eq ends.0 e.0 && bytes_eq ends.1 e.1) before
 
@@ -98,7 +98,7 @@ with_deadhead classes columns number before fields = do
   unplaced ← with_unplaced number classes before.unplaced (deadhead.0, deadhead.1)
   Ok (record { timetable = to.0; entries = entries; unplaced = unplaced })
 
--- where the required columns stand
+-- where the required columns are
 unfoldable pub columns_in : List (List ℕ) → Result Columns FeedFault
 columns_in header = do
   from ← column_in paper.Deadheads column.From header
@@ -106,12 +106,12 @@ columns_in header = do
   minutes ← column_in paper.Deadheads column.Minutes header
   Ok (record { from = from; to = to; minutes = minutes })
 
--- what stands before the first record
+-- what there is before the first record
 abbrev pub begun : TimetableView → ReadingView
 begun timetable = record { timetable = timetable; entries = []; unplaced = [] }
 
--- the timetable and the entries of the file, record by record, for the classes of the places that it has before; without a
--- file there are no entries
+-- the timetable and the entries of the file, record by record, for the classes of its places before. Without a file there are
+-- no entries
 abbrev pub deadheads_of : Found → TimetableView → Result (TimetableView × List Entry) FeedFault
 deadheads_of found timetable = optional_read paper.Deadheads columns_in (with_deadhead (classes_of timetable)) (begun timetable) found
     >>= λ read. Ok (read.timetable, read.entries)

@@ -14,7 +14,7 @@ use Rattle.deadhead_matrix.specs.declared.limits.TheConstants.{MOST_DEADHEAD}
 use Rattle.deadhead_matrix.specs.declared.pulls.Pull.{Pull}
 use Rattle.deadhead_matrix.specs.declared.pulls.TheConstants.{NO_PULL}
 
--- where the required columns stand
+-- where the required columns are
 unfoldable pub columns_in : List (List ℕ) → Result Columns FeedFault
 columns_in header = do
   terminal ← column_in paper.Depot column.Terminal header

@@ -28,7 +28,7 @@ abbrev pub home_after : List Pull → Option Move → ℕ
 home_after pulls None = 0
 home_after pulls (Some m) = (pull_at pulls m.to).pull_in
 
--- a vehicle goes on from a trip to every one that it can reach in time along a least walk, and comes from the depot and goes
+-- a vehicle goes on from a trip to every trip that it can reach in time along a least walk. It comes from the depot and goes
 -- back to it by the pulls
 abbrev pub deadhead_network : List (Option Move) → MatrixView → Network
 deadhead_network moves matrix = record {

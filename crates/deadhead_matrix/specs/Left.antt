@@ -11,7 +11,7 @@ use Rattle.deadhead_matrix.specs.declared.read.Columns.{Columns}
 use Rattle.deadhead_matrix.specs.Deadheads.{ReadingView, columns_in, deadhead_in, begun, with_deadhead, with_place, with_places}
 use Rattle.deadhead_matrix.specs.Posts.{Class, classes_of, place_for}
 
--- what stands after a part was read, and what stands where it was refused
+-- what is left after a part was read, and what is left where it was refused
 abbrev pub left_after : {A B : Type 0} → Result A FeedFault → (A → B) → B → B
 left_after (Ok read) next here = next read
 left_after (Err refused) next here = here
@@ -21,8 +21,8 @@ abbrev pub left_places : List ℕ → TimetableView → List Class → Timetable
 left_places terminal timetable [] = timetable
 left_places terminal timetable (class ∷ classes) = left_after (with_place timetable (place_for timetable.classed terminal class)) (λ here. left_places terminal here.0 classes) timetable
 
--- the timetable that a record leaves, also where it is refused: with the places of its first terminal where the fields are of
--- their form, and with those of its second where there was room for all of the first
+-- the timetable that a record leaves, also where it is refused. Where the fields are of their form, it has the places of the
+-- first terminal. It also has those of the second where there was room for all of the first
 unfoldable pub left_by : List Class → Columns → ℕ → TimetableView → List (List ℕ) → TimetableView
 left_by classes columns number timetable fields =
     left_after (deadhead_in columns number fields) (λ deadhead.

@@ -7,8 +7,7 @@ use Rattle.deadhead_matrix.specs.declared.pulls.TheConstants.{NO_PULL}
 use Rattle.deadhead_matrix.specs.Search.{walks_in}
 use Rattle.deadhead_matrix.specs.Walks.{IsLeastWalk}
 
--- the entries of the planner, for each place and each place the minutes of a least walk from the one to the other, and the
--- pulls of each place
+-- the entries of the planner, the minutes of a least walk from each place to each, and the pulls of each place
 pub record MatrixView : Type 0 where
   pub entries : List Entry
   pub walks : List (List (Option ℕ))
@@ -18,7 +17,7 @@ pub record MatrixView : Type 0 where
 abbrev pub walk : MatrixView → ℕ → ℕ → Option ℕ
 walk matrix a b = slice_index_or (slice_index_or matrix.walks a []) b None
 
--- between each two places stands the least walk
+-- between each two places the minutes are those of the least walk
 abbrev pub AreLeastWalks : MatrixView → Type 0
 AreLeastWalks matrix = (a b : ℕ) → a < length matrix.walks → b < length matrix.walks → IsLeastWalk matrix.entries a b (walk matrix a b)
 

@@ -22,7 +22,7 @@ befores links = map (before_of links) (range_with_len 0 (length links))
 abbrev pub IsNoneOf : List ℕ → ℕ → Type 0
 IsNoneOf slots s = AllByRecursion (λ r. r ≢ s) slots
 
--- no slot stands twice
+-- no slot comes twice
 abbrev pub NoneTwice : List ℕ → Type 0
 NoneTwice [] = ⊤
 NoneTwice (s ∷ slots) = IsNoneOf slots s × NoneTwice slots
@@ -71,8 +71,8 @@ without_link links (Some i) = slice_set links i None
 abbrev pub cut_at : List (Option ℕ) → ℕ → List (Option ℕ)
 cut_at links s = without_link (slice_set links s None) (before_of links s)
 
--- The trip of s is taken: its links are cut, a left path begins with the trip that was before it, and then a right path
--- with its next one.
+-- The trip of s is taken. Its links are cut. A left path begins with the trip that was before it, and then a right path with
+-- its next one.
 pub record IsTaken (old new : List (Option ℕ)) (s : ℕ) : Type 0 where
   pub lists : AreAlike old new
   pub mid : List (Option ℕ)
@@ -87,8 +87,7 @@ with_slot links s = if length links == s then links ++ None ∷ [] else links
 abbrev pub IsAlone : List (Option ℕ) → ℕ → Type 0
 IsAlone links s = (next_of links s ≡ None) × (before_of links s ≡ None)
 
--- A trip is added in s, which may be a new slot at the end and has no links: a left path begins with it, and then a right
--- path.
+-- A trip is added in s, which may be a new slot at the end and has no links. A left path begins with it, and then a right path.
 pub record IsAdded (old new : List (Option ℕ)) (s : ℕ) : Type 0 where
   pub alone : IsAlone (with_slot old s) s
   pub mid : List (Option ℕ)

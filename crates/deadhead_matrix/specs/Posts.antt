@@ -10,7 +10,7 @@ use Rattle.deadhead_matrix.specs.declared.entry.Entry.{Entry}
 abbrev pub Class : Type 0
 Class = List ℕ
 
--- whether a class stands among others
+-- whether a class is among others
 abbrev pub has_class : List Class → Class → Bool
 has_class classes class = list_any (bytes_eq class) classes
 
@@ -18,7 +18,7 @@ has_class classes class = list_any (bytes_eq class) classes
 abbrev pub with_class : List Class → Class → List Class
 with_class classes class = if has_class classes class then classes else classes ++ class ∷ []
 
--- the classes of places, each where it first stands
+-- the classes of places, each where it first comes
 abbrev pub classes_met : List Place → List Class
 classes_met places = fold (λ classes place. with_class classes place.class) [] places
 

@@ -10,7 +10,7 @@ use Rattle.trip_model.specs.Links.{next_of, AreLinks}
 use Rattle.trip_model.specs.Network.{Network}
 use Rattle.trip_model.specs.Timetable.{TimetableView}
 
--- what it saves to make j next after i: a vehicle, and the empty minutes home after i and out to j, less those of the walk;
+-- what it saves to make j next after i: a vehicle, and the empty minutes home after i and out to j, less those of the walk.
 -- None where they do not fit
 abbrev pub weight : Network → ℕ → ℕ → Option ℕ
 weight network i j = option_map (λ minutes. VEHICLE_WEIGHT + network.home i + network.out j - minutes) (network.empty i j)
@@ -34,8 +34,8 @@ weight_to network i (Some j) = unwrap_or (weight network i j) 0
 abbrev pub link_weights : Network → List (Option ℕ) → ℕ
 link_weights network links = sum_by (λ i. weight_to network i (next_of links i)) (range_with_len 0 (length links))
 
--- A plan whose prices prove it: links fit and no trip is the next of two; a slot that is not live has no next trip and no
--- price; on each pair that fits the two prices reach its weight; and all prices together are the weights of the links.
+-- A plan whose prices prove it. Links fit, and no trip is the next of two. A slot that is not live has no next trip and no
+-- price. On each pair that fits the two prices reach its weight. All prices together are the weights of the links.
 pub record IsCertified (network : Network) (plan : Plan) : Type 0 where
   pub leaves : length plan.leave ≡ length plan.next
   pub enters : length plan.enter ≡ length plan.next
@@ -44,8 +44,8 @@ pub record IsCertified (network : Network) (plan : Plan) : Type 0 where
   pub covers : (i j k : ℕ) → weight network i j ≡ Some k → k ≤ price plan.leave i + price plan.enter j
   pub sums : sum plan.leave + sum plan.enter ≡ link_weights network plan.next
 
--- A network of one day: its live slots are below a number of at most 4,096, no walk between trips that fit is longer than
--- the day, and no way out of the depot or home takes more than 1,440 minutes.
+-- A network of one day. Its live slots are below a number of at most 4,096. No walk between trips that fit is longer than the
+-- day. No way out of the depot or home takes more than 1,440 minutes.
 pub record IsDay (network : Network) (slots : ℕ) : Type 0 where
   pub few : slots ≤ MOST_SLOTS
   pub within : (s : ℕ) → network.live s ≡ true → s < slots
@@ -53,9 +53,9 @@ pub record IsDay (network : Network) (slots : ℕ) : Type 0 where
   pub out : (s : ℕ) → network.out s ≤ MOST_DEADHEAD
   pub home : (s : ℕ) → network.home s ≤ MOST_DEADHEAD
 
--- A plan on the way to a certified one: as such a plan, but that a has no next trip and b is the next of none, and that
--- nothing is asked of pairs that leave a or enter b. In place of the sums, on each link the two prices are its weight, and
--- a trip other than a without a next one, or other than b that is the next of none, has no price there.
+-- A plan on the way to a certified one. It is as such a plan, but a has no next trip and b is the next of none. Of pairs that
+-- leave a or enter b nothing is asked. In place of the sums, on each link the two prices are its weight. A trip other than a
+-- without a next one has no leaving price. A trip other than b without one before it has no entering price.
 pub record IsLoose (network : Network) (plan : Plan) (a b : Option ℕ) : Type 0 where
   pub leaves : length plan.leave ≡ length plan.next
   pub enters : length plan.enter ≡ length plan.next

@@ -22,8 +22,8 @@ way_to row place = slice_index_or row place 0
 abbrev pub is_done : List Bool → ℕ → Bool
 is_done done place = slice_index_or done place true
 
--- the places below a number were looked at from a place that is so far: each is no farther than before and than by the
--- entry to it, and as far as one of these; the others are as they were
+-- the places below a number were looked at from a place that is so far. Each is no farther than before and than by the entry to
+-- it, and as far as one of these. The others are as they were
 pub record AreRelaxed (row : List ℕ) (from upto : ℕ) (before after : List ℕ) : Type 0 where
   pub len : length after ≡ length before
   pub nearer : (j : ℕ) → dist_at after j ≤ dist_at before j
@@ -53,9 +53,9 @@ pub record AreWays (places : ℕ) (entries : List Entry) (ways : List (List ℕ)
 abbrev pub AreShort : List (List ℕ) → Type 0
 AreShort ways = (a b : ℕ) → way ways a b ≤ MOST_DEADHEAD
 
--- A search from one place that has come so far. Places that are done are not farther than `reach`, the others not nearer,
--- and from those that are done every entry was looked at. No place that is reached is farther than one entry of 1,440
--- minutes for each place that is done, and one that is done is nearer by such an entry.
+-- A search from one place that has come so far. Places that are done are not farther than `reach`, the others not nearer, and
+-- from those that are done every entry was looked at. No place that is reached is farther than one entry of 1,440 minutes for
+-- each place that is done. One that is done is nearer by such an entry.
 pub record IsSearch (ways : List (List ℕ)) (start reach : ℕ) (done : List Bool) (dist : List ℕ) : Type 0 where
   pub len : length done ≡ length dist
   pub begins : dist_at dist start ≡ 0
@@ -94,7 +94,7 @@ pub record AreTold (entries : List Entry) (ways : List (List ℕ)) : Type 0 wher
   pub short : AreShort ways
   pub told : AreWays MOST_PLACES entries ways
 
--- rows of minutes, each from one place to all, are those of least walks, of which none is longer than the longest walk
+-- rows of minutes, each from one place to all, are those of least walks. None is longer than the longest walk
 pub record AreLeastRows (entries : List Entry) (rows : List (List ℕ)) : Type 0 where
   pub few : length rows ≤ MOST_PLACES
   pub columns : (a : ℕ) → a < length rows → length (slice_index_or rows a []) ≡ MOST_PLACES

@@ -19,8 +19,8 @@ use std::alloc::Global;
 use std::marker::Model;
 use trip_model::{MOST_PLACES, Timetable};
 
-/// The entries of `deadheads.csv` in the order of its records, at most one from each place to each; a single one is found
-/// without going over the others.
+/// The entries of `deadheads.csv` in the order of its records, at most one from each place to each. One is found without going
+/// over the others.
 pub struct Deadheads {
     entries: Vec<Entry>,
     ways: Vec<Ways>,
@@ -112,7 +112,7 @@ impl Deadheads {
         Ok(())
     }
 
-    /// Appends the entries of a record, from each of these places to the one that stands with it.
+    /// Appends the entries of a record, from each of these places to the one beside it.
     pub(crate) fn add_record(
         &mut self,
         number: u32,
@@ -163,11 +163,10 @@ impl Deadheads {
 
     /// The entries of what was found of `deadheads.csv`; a missing file has no records. The places that a record names are
     /// added to the timetable where they are new, without layover, the first before the second. In a timetable of posts a
-    /// record names terminals, and its places and entries are those for each class of the posts, in the order in which the
-    /// classes first stand; so no entry leads from one class to another. The file is refused as a whole at the first record
-    /// that is not of its form, of which the fields are judged before the places; the places of the records before it have
-    /// been added then, and its own as far as they were met. `FeedFault::Memory` may come at any time, after any of these
-    /// places.
+    /// record names terminals. Its places and entries are those for each class of the posts, in the order in which the classes
+    /// are first met. So no entry leads from one class to another. The file is refused as a whole at the first record that is
+    /// not of its form. A record's fields are judged before its places. Then the places of the records before it have been
+    /// added, and its own as far as they were met. `FeedFault::Memory` may come at any time, after any of these places.
     pub fn read(
         alloc: Global,
         deadheads: &Found,

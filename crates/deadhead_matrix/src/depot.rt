@@ -15,7 +15,7 @@ use gtfs_tables::{
 use std::alloc::Global;
 use std::marker::Model;
 
-/// Where the required columns of `depot.csv` stand.
+/// Where the required columns of `depot.csv` are.
 #[derive(Clone, Copy)]
 pub(crate) struct Columns {
     terminal: usize,

@@ -35,7 +35,7 @@ pub fn deadhead_law()
         → All IsPull matrix.pulls → length moves ≤ MOST_SLOTS → IsDay (deadhead_network moves matrix) (length moves) }
 {}
 
-/// The entries of a file lead between places of one class, and so does a walk along such entries: a vehicle that runs empty
+/// The entries of a file lead between places of one class, and so does a walk along such entries. So a vehicle that runs empty
 /// stays among the posts of its class.
 pub fn class_law()
     ensures entries { (found : Found) (timetable after : TimetableView) (entries : List Entry) → IsTimetable timetable
@@ -56,7 +56,7 @@ pub fn terminal_law()
         → IsLeastWalk entries a b None }
 {}
 
-/// The blocks of a certified plan are least over all blockings: no blocking weighs more than all its prices, and a vehicle
+/// The blocks of a certified plan are least over all blockings. For no blocking weighs more than all its prices, and a vehicle
 /// weighs more than all empty minutes of a day.
 pub fn certified_law()
     ensures { (network : Network) (slots : ℕ) (plan : Plan) (departs : ℕ → ℕ) → IsDay network slots
@@ -64,15 +64,15 @@ pub fn certified_law()
         → (order : List ℕ) → StandsOnce network.live order → IsLeast network (blocks_along plan.next order) }
 {}
 
-/// All prices of a certified plan are together at most 4,095 times what a vehicle and the longest ways home and out weigh:
-/// one slot at least has no next trip.
+/// All prices of a certified plan are together at most 4,095 times what a vehicle and the longest ways home and out weigh. For
+/// at least one slot has no next trip.
 pub fn prices_law()
     ensures { (network : Network) (slots : ℕ) (plan : Plan) (departs : ℕ → ℕ) → IsDay network slots
         → length plan.next ≡ slots → IsCertified network plan → AreDepartures network departs
         → sum plan.leave + sum plan.enter ≤ (MOST_SLOTS - 1) * (VEHICLE_WEIGHT + 2 * MOST_DEADHEAD) }
 {}
 
-/// A plan on the way of which nothing is left out is a certified one, and the other way round.
+/// A loose plan with nothing left out is a certified one, and the other way round.
 pub fn loose_law()
     ensures certified { (network : Network) (departs : ℕ → ℕ) (plan : Plan) → AreDepartures network departs
         → ((s : ℕ) → network.live s ≡ true → s < length plan.next) → IsLoose network plan None None → IsCertified network plan }
@@ -80,8 +80,8 @@ pub fn loose_law()
         → ((s : ℕ) → network.live s ≡ true → s < length plan.next) → IsCertified network plan → IsLoose network plan None None }
 {}
 
-/// No price of a plan is greater than what a vehicle and the longest ways home and out weigh: it is 0, or a part of the
-/// weight of a link. Of a loose plan this is said of every price but those of leaving `a` and of entering `b`.
+/// No price of a plan is greater than what a vehicle and the longest ways home and out weigh. It is 0, or a part of the weight
+/// of a link. In a loose plan this holds for every price but those of leaving `a` and of entering `b`.
 pub fn greatest_price_law()
     ensures leave { (network : Network) (slots : ℕ) (plan : Plan) (a b : Option ℕ) → IsDay network slots → IsLoose network plan a b
         → (s : ℕ) → a ≢ Some s → price plan.leave s ≤ VEHICLE_WEIGHT + 2 * MOST_DEADHEAD }

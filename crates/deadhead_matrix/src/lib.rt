@@ -1,27 +1,33 @@
 //! Least walks between the places of a timetable, over the deadheads that the planner allows between its terminals.
 //!
-//! [`Deadheads::read`] reads what was found of `deadheads.csv` and adds the places that it names to the timetable; its
-//! records are seen as entries ([`Entry`]). [`Matrix::of`] makes the matrix of entries between all places, and
-//! [`Matrix::read`] both at once. [`Matrix::minutes`] answers by a look-up in how many minutes a vehicle can run empty
-//! from one place to another, along as many entries as it takes; [`Matrix::walks_from`] lends those from one place.
-//! [`Matrix::read_depot`] reads what was found of `depot.csv`, the pulls of places ([`Pulls`]): in how many minutes a
-//! vehicle comes from the depot and goes back to it.
+//! [`Deadheads::read`] reads what was found of `deadheads.csv` and adds the places that it names to the timetable; its records
+//! are seen as entries ([`Entry`]). [`Matrix::of`] makes the matrix of entries between all places, and [`Matrix::read`] both at
+//! once. [`Matrix::minutes`] looks up in how many minutes a vehicle can run empty from one place to another, along as many
+//! entries as it takes. [`Matrix::walks_from`] lends those from one place. [`Matrix::read_depot`] reads the pulls of places
+//! ([`Pulls`]) from what was found of `depot.csv`. They are the minutes in which a vehicle comes from the depot and goes back
+//! to it.
 //!
-//! The contract that the crates above use: the entries are those of the file, or the first refusal that is due; `minutes`
-//! is the least walk of the entries; and the blocks of a certified plan are least ([`laws::certified_law`]).
+//! The contract that the crates above use: the entries are those of the file, or the first refusal that is due. `minutes` is
+//! the least walk of the entries. The blocks of a certified plan are least ([`laws::certified_law`]).
 //!
-//! ```text
-//! let mut matrix = Matrix::read(alloc, &found, &mut timetable)?;
-//! let minutes = matrix.minutes(from, to);
-//! matrix.read_depot(&depot, &timetable)?;
-//! let out = matrix.pull_out(from);
-//! ```
+//! `desk_feed` shows a use, in `src/matrix.rt`.
 //!
-//! The contracts cite `Walks` (walks of entries, and the least), `Matrix` (what a matrix is seen as), `Deadheads` (the
-//! entries and the places of a file), `Posts` (the places of a terminal, one for each class), `Left` (the places that stand
-//! where the file is refused), `Depot` and `Pulls` (the pulls of places) and `Fitting` (which trips a vehicle can make one
-//! after the other); the laws besides `Prices` (plans of next trips whose prices prove that they are least) and `Paths` (along
-//! which such a plan is repaired). `Search` has the terms of the search from one place for proofs alone.
+//! The contracts cite:
+//!
+//! - `Walks`: walks of entries, and the least
+//! - `Matrix`: what a matrix is seen as
+//! - `Deadheads`: the entries and the places of a file
+//! - `Posts`: the places of a terminal, one for each class
+//! - `Left`: the places that are left where the file is refused
+//! - `Depot`, `Pulls`: the pulls of places
+//! - `Fitting`: which trips a vehicle can make one after the other
+//!
+//! The laws also cite:
+//!
+//! - `Prices`: plans of next trips whose prices prove that they are least
+//! - `Paths`: the paths along which such a plan is repaired
+//!
+//! `Search` has the terms of the search from one place for proofs alone.
 #![tactic(auto)]
 
 mod deadheads;

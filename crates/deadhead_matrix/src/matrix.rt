@@ -23,8 +23,8 @@ use std::alloc::Global;
 use std::marker::Model;
 use trip_model::Timetable;
 
-/// For each two places the minutes in which a vehicle can run empty from the one to the other, along the entries of the
-/// planner, and for each place those in which it comes from the depot and goes back.
+/// For each two places, in how many minutes a vehicle can run empty from the one to the other, along the entries of the
+/// planner. For each place, in how many it comes from the depot and goes back.
 pub struct Matrix {
     entries: Vec<Entry>,
     rows: Vec<Distances>,
@@ -104,7 +104,7 @@ impl Matrix {
         }
     }
 
-    /// In how many minutes a vehicle can run empty from the place `a` to the place `b`: 0 from a place to itself, up to
+    /// In how many minutes a vehicle can run empty from the place `a` to the place `b`. It is 0 from a place to itself, at most
     /// 735,840 over 512 places, and None where there is no walk. A look-up, which takes no memory.
     pub fn minutes(&self, a: u16, b: u16) -> Option<u32>
         requires a { a < length self.now.walks }

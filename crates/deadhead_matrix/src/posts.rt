@@ -13,7 +13,7 @@ use gtfs_tables::{FeedFault, Paper};
 use std::alloc::Global;
 use trip_model::{MOST_PLACES, Timetable};
 
-// Whether a class stands among others.
+// Whether a class is among others.
 fn has_class(classes: &[Text], class: &str) -> bool
     ensures { result ≡ posts.has_class classes.now class.now }
 {
@@ -31,7 +31,7 @@ fn add_class(alloc: Global, classes: &mut Vec<Text>, class: &str) -> Result<(), 
     Ok(())
 }
 
-// The classes of posts, each where it first stands.
+// The classes of posts, each where it first comes.
 fn classes_met(alloc: Global, timetable: &Timetable) -> Result<Vec<Text>, Memory>
     requires { timetable.now.classed ≡ true }
     ensures met { IfOk result (λ classes. classes.items ≡ posts.classes_met timetable.now.places) }
@@ -44,8 +44,8 @@ fn classes_met(alloc: Global, timetable: &Timetable) -> Result<Vec<Text>, Memory
     Ok(classes)
 }
 
-/// The classes for each of which a terminal has a place: those of the posts of the timetable, each where it first stands;
-/// the empty one alone where vehicles are of no classes.
+/// The classes of the posts of the timetable, in the order in which they are first met. A terminal has a place for each. Where
+/// vehicles are of no classes, there is the empty class alone.
 pub(crate) fn classes_of(alloc: Global, timetable: &Timetable) -> Result<Vec<Text>, Memory>
     ensures classes { IfOk result (λ classes. classes.items ≡ posts.classes_of timetable.now) }
     ensures named { IfOk result (λ classes. All (λ class. has_slash class ≡ false) classes.items) }

@@ -11,8 +11,8 @@ use std::alloc::Global;
 use std::marker::Model;
 use trip_model::Timetable;
 
-/// In how many minutes a vehicle runs empty from the depot to a place, before its first trip, and from there back to the
-/// depot, after its last.
+/// In how many minutes a vehicle runs empty from the depot to a place before its first trip, and home from there after its
+/// last.
 #[derive(Clone, Copy)]
 pub struct Pull {
     pub pull_out: u16,
@@ -69,9 +69,9 @@ impl Pulls {
         })
     }
 
-    /// The pulls of the places of a timetable by what was found of `depot.csv`: those of the row of the place's terminal,
-    /// and none where there is no such row. A missing file has no rows, and a row whose terminal has no place is judged and
-    /// then passed over.
+    /// The pulls of the places of a timetable by what was found of `depot.csv`. They are those of the row of the place's
+    /// terminal, and 0 where there is no such row. A missing file has no rows, and a row whose terminal has no place is judged
+    /// and then passed over.
     pub fn read(alloc: Global, depot: &Found, timetable: &Timetable) -> Result<Pulls, FeedFault>
         requires { IsWithinLimit depot.now }
         ensures gives { Gives (λ pulls. pulls) result (pulls_of depot.now timetable.now) }

@@ -25,8 +25,8 @@ use Rattle.desk_feed.specs.declared.feed.Feed.{Feed}
 abbrev pub feed_papers : List Paper
 feed_papers = paper.Settings ∷ paper.Terminals ∷ paper.Tolerances ∷ paper.Calendar ∷ paper.CalendarDates ∷ paper.Trips ∷ paper.StopTimes ∷ paper.Deadheads ∷ paper.Depot ∷ paper.Edits ∷ []
 
--- what the papers of a feed say: the settings, of the services that run where there is a date; the base timetable, the lines of the script of edits, the entries of the
--- deadheads, and the pulls of each place
+-- what the papers of a feed say. The settings, where there is a date with the services alone that run on it. The base
+-- timetable, the lines of the script, the entries of the deadheads, and the pulls of each place
 pub record FeedView : Type 0 where
   pub settings : SettingsView
   pub base : TimetableView
@@ -62,7 +62,7 @@ lines_by found = optional_in paper.Edits [] (script_of paper.Edits) found
 abbrev pub lines_in : (Paper → Found) → Result (List Line) FeedFault
 lines_in found = lines_by (found paper.Edits)
 
--- what is said of these parts
+-- what holds of these parts
 abbrev pub said_with : SettingsView → TimetableView → List Entry → List Pull → List Line → FeedView
 said_with settings base entries pulls lines =
     record { settings = settings; base = base; lines = lines; entries = entries; pulls = pulls }

@@ -42,8 +42,8 @@ abbrev pub most_of : (FeedView → ℕ) → Result FeedView FeedFault → ℕ
 most_of accepted (Ok said) = accepted said
 most_of accepted (Err refused) = 0
 
--- What a command asks that works on a feed: the papers that it reads beyond those of the feed, and whether it reads the journal;
--- then, by what it has read and by what an accepted feed says, how it ends, what it may do, and how many steps it may count.
+-- What a command asks that works on a feed. The papers that it reads beyond those of the feed, and whether it reads the
+-- journal. Then how it ends, what it may do, and how many steps it may count, by what it has read and what the feed says.
 pub record FeedAsked : Type 1 where
   pub further : List Paper
   pub keeps : Bool

@@ -30,6 +30,6 @@ pub record IsScheduled (timetable : TimetableView) (matrix : MatrixView) (plan :
   pub along : blocks ≡ blocks_along plan.next (by_departure (trip_moves timetable.slots))
   pub least : IsLeast (network_of timetable matrix) blocks
 
--- the most steps that a plan from scratch counts: of n trips the cube and the square for the plan, and 28 each for the deficits
+-- the most steps that a plan of n trips from scratch counts: cube and square for the plan, and 28 each for the deficits
 abbrev pub most_steps : ℕ → ℕ
 most_steps n = n * n * n + n * n + 28 * n

@@ -84,13 +84,12 @@ some_refused base lines (suc n) = some_refused base lines n || is_some (refusal_
 abbrev pub ending_by : Bool → Ending
 ending_by refused = if refused then ending.EditsRefused else ending.Done
 
--- A script that stands as the machine does after some records stands so after one more; and it is known why that one is
--- refused, where it is.
+-- A script that is as the machine after some records is so after one more. Where that one is refused, it is known why.
 abbrev pub IsStepped : ℕ → Line → Option EditFault → ScriptView → ScriptView → Type 0
 IsStepped number line refused old new = (base : TimetableView) (records : List Numbered) → IsAt base (machine base records) old
     → (refused ≡ refusal_in (state_after base (machine base records) (numbered number line))) × IsAt base (machine base (records ++ numbered number line ∷ [])) new
 
--- A script stands as the machine does after so many of the records, with the lines of those that were refused, and whether one was.
+-- A script is as the machine after so many of the records, with the lines of those that were refused, and whether one was.
 pub record AreRefusals (base : TimetableView) (lines : List Line) (n : ℕ) (script : ScriptView) (text : List ℕ) (some : Bool) : Type 0 where
   pub at : IsAt base (state_at base lines n) script
   pub text_is : text ≡ refused_to base lines n

@@ -37,8 +37,8 @@ pub trait FeedCommand {
     fn keeps(&self) -> bool
         ensures { result ≡ (asks self.now).keeps };
 
-    /// What it does of what the feed says: its settings, its timetable before the script, its deadheads, the pulls of its depot
-    /// and the lines of its script.
+    /// What it does of what the feed says. That is its settings, its timetable before the script, its deadheads, the pulls of
+    /// its depot and the lines of its script.
     fn outcome<L: Ledger>(
         &self,
         alloc: Global,

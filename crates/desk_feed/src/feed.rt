@@ -13,7 +13,7 @@ use service_days::running;
 use std::alloc::Global;
 use trip_model::Timetable;
 
-/// What a feed says: the settings of the desk, where they have a date with the services alone that run on it; the timetable
+/// What a feed says. The settings of the desk, where they have a date with the services alone that run on it. The timetable
 /// before its script, the deadheads between its places, their pulls, and the lines of its script.
 #[derive(Drop)]
 pub struct Feed {
@@ -91,7 +91,7 @@ fn read_lines(alloc: Global, read: &Read) -> Result<Vec<Line>, FeedFault>
     }
 }
 
-/// The settings, the timetable, the deadheads, the pulls and the script of a feed, or the first refusal in the order in which
+/// The settings, the timetable, the deadheads, the pulls and the script of a feed. Or the first refusal in the order in which
 /// its papers are judged.
 #[tactic(auto, unfolding(crate::specs::Feed::said_by))]
 pub(crate) fn read_feed(alloc: Global, read: &Read) -> Result<Feed, FeedFault>

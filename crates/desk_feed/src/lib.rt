@@ -1,27 +1,35 @@
 //! What a feed says, for every command that works on one.
 //!
 //! A command on a feed is a [`FeedCommand`]: what it asks, and the outcome that it gives of an accepted feed. One that puts a
-//! text of the timetable after the script is a [`TextCommand`], and [`AfterScript`] makes a `FeedCommand` of it. [`OnFeed`] makes
-//! of a `FeedCommand` the `Command` of a run: it reads the [`FEED_PAPERS`] first, and puts the first refusal of a feed that is
-//! none. So no command judges a feed itself.
+//! text of the timetable after the script is a [`TextCommand`], and [`AfterScript`] makes a `FeedCommand` of it. [`OnFeed`]
+//! makes of a `FeedCommand` the `Command` of a run. It reads the [`FEED_PAPERS`] first, and puts the first refusal of a feed
+//! that is not accepted. So no command judges a feed itself.
 //!
-//! What such commands need besides: [`after_script`] is the timetable after the script, [`matrix_of`] the matrix of its places,
-//! [`putting_after`] puts a text behind the lines of the records that were refused, [`push_numbers_line`] is the line of the
-//! three numbers of a timetable, and [`refuse`] puts a refusal.
+//! What such commands need besides:
 //!
-//! The contract that the crates above use: an accepted feed says what its papers say; of a refused one the line of the
-//! first refusal in the order of judging is put, and the run ends as refused. The timetable after the script is that of the
-//! edit machine, and so are the lines of its refused records.
+//! - [`after_script`] is the timetable after the script.
+//! - [`matrix_of`] is the matrix of its places.
+//! - [`putting_after`] puts a text behind the lines of refused records.
+//! - [`push_numbers_line`] is the line of the three numbers of a timetable.
+//! - [`refuse`] puts a refusal.
 //!
-//! ```text
-//! impl TextCommand for ShowDeficits { .. }
-//! perform(&OnFeed(AfterScript(ShowDeficits)), alloc, shelf, out, keeper, steps)
-//! ```
+//! The contract that the crates above use: an accepted feed says what its papers say. Of a refused one the line of the first
+//! refusal in the order of judging is put, and the run ends as refused. The timetable after the script is that of the edit
+//! machine, and so are the lines of its refused records.
 //!
-//! The contracts cite `Feed` (what the papers say, or their first refusal), `Judging` (what is made of that, and what a
-//! command asks that works on a feed), `Showing` (and one that puts a text), `Script` (the moments of a script, and what is
-//! printed of refused records), `Numbers` and `Edited`; of `desk_run` what is read and what an outcome is. `Schedule` has the plan of a
-//! feed and its blocks, which commands draw, write or list.
+//! `feed_commands` shows a use, in `src/deficits.rt`.
+//!
+//! The contracts cite:
+//!
+//! - `Feed`: what the papers say, or their first refusal
+//! - `Judging`: what is made of that, and what a command asks that works on a feed
+//! - `Showing`: what a command asks that puts a text
+//! - `Script`: the moments of a script, and what is printed of refused records
+//! - `Numbers`: the line of three numbers
+//! - `Edited`: the timetable, the refusals and the ending of a script
+//! - of `desk_run` what is read and what an outcome is
+//!
+//! `Schedule` has the plan of a feed and its blocks, which commands draw, write or list.
 #![tactic(auto)]
 
 mod command;

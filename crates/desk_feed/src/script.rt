@@ -45,7 +45,7 @@ fn push_trip(text: &mut String, line: &Line) -> Result<(), Memory>
     }
 }
 
-/// Appends what stands behind the number of a refused record: the trip that it names, and why it is refused.
+/// Appends what is printed behind the number of a refused record: the trip that it names, and why it is refused.
 #[tactic(auto, unfolding(crate::specs::Script::reason_text))]
 pub fn push_reason(
     alloc: Global,

@@ -1,4 +1,4 @@
--- When a count of faults rose in a call. A count stands still at the last value of a u64.
+-- When a count of faults rose in a call. A count stays at the last value of a u64.
 use Rattle.std.specs.Prelude.{◌≡◌, ℕ, ◌+◌, ◌-◌, ◌^◌, ◌<◌, ◌≤◌, min}
 
 -- the last value of a u64
@@ -9,7 +9,7 @@ LAST_COUNT = 2 ^ 64 - 1
 abbrev pub one_more : ℕ → ℕ
 one_more count = min (count + 1) LAST_COUNT
 
--- the count rose: it is greater than before the call, or stands at the last value
+-- the count rose: it is greater than before the call, or is at the last value
 abbrev pub Rose : ℕ → ℕ → Type 0
 Rose before now = one_more before ≤ now
 

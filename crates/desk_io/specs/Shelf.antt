@@ -24,11 +24,11 @@ abbrev pub found_as : ℕ → Option (List ℕ) → Found
 found_as limit None = Missing
 found_as limit (Some bytes) = if nat_le (length bytes) limit then File bytes else TooLong
 
--- what stands under a name
+-- the file of a name
 abbrev pub found_in : Files → List ℕ → ℕ → Found
 found_in files name limit = found_as limit (get files name)
 
--- A shelf that tells its files answers what stands under the name. One that tells nothing may answer anything.
+-- A shelf that tells its files answers the file of the name. One that tells nothing may answer anything.
 abbrev pub Tells : Option Files → List ℕ → ℕ → Found → Type 0
 Tells None name limit found = Unit {0}
 Tells (Some files) name limit found = found ≡ found_in files name limit

@@ -37,8 +37,8 @@ impl<'a, R: Files> FolderShelf<'a, R> {
     }
 }
 
-// What is found of a file that the system opened, of which no more than one byte above the limit is read. What the system
-// refuses is handed on.
+// What is found of a file that the system opened. No more than one byte above the limit is read. What the system refuses is
+// handed on.
 #[tactic(auto, using(crate::proofs::Finding::take_short))]
 fn find<I: Read + Drop>(alloc: Global, file: I, limit: u64) -> io::Result<Found>
     ensures bound { IfOk result (FitsIn limit) }
@@ -70,8 +70,8 @@ impl<'a, R: Files> FolderShelf<'a, R> {
         ShelfFault::Failed
     }
 
-    // What a read answers to what the system answered when it was to open the file. One that is not there is no fault, and
-    // want of memory is told as such; every other refusal of the system is counted.
+    // What a read answers to what the system answered when it was to open the file. One that is not there is no fault, and want
+    // of memory is answered as such. Every other refusal of the system is counted.
     fn answer_open<I>(&mut self, opened: io::Result<I>) -> Result<Option<I>, ShelfFault>
         ensures state { Reads result (folder_state_of self.old) (folder_state_of self.new) }
         ensures history { folder_history_of self.new ≡ folder_history_of self.old }
@@ -107,8 +107,8 @@ impl<'a, R: Files> FolderShelf<'a, R> {
         }
     }
 
-    // What a write answers to what the system answered when it was to open the file for writing. Until then the file is as
-    // it was, so want of memory is told as such; every other refusal is counted.
+    // What a write answers to what the system answered when it was to open the file for writing. Until then the file is as it
+    // was, so want of memory is answered as such. Every other refusal is counted.
     fn answer_create<W>(&mut self, created: io::Result<W>) -> Result<W, ShelfFault>
         ensures history { folder_history_of self.new ≡ folder_history_of self.old }
         ensures opened { IfOk created (λ file. (result ≡ Ok file) × (folder_state_of self.new ≡ folder_state_of self.old)) }
@@ -125,7 +125,7 @@ impl<'a, R: Files> FolderShelf<'a, R> {
         }
     }
 
-    // What a write answers to what the system answered when the file, which it had emptied, was written: every refusal is
+    // What a write answers to what the system answered when the file, which it had emptied, was written. Every refusal is
     // counted, also want of memory.
     fn answer_write(&mut self, written: &io::Result<()>) -> Result<(), ShelfFault>
         ensures history { folder_history_of self.new ≡ folder_history_of self.old }

@@ -10,10 +10,7 @@
 //! appends all bytes or a prefix, and each put is given all that is left; `Failed` comes only where a count of that
 //! object rose, and every other answer leaves the counts as they were; each call is noted, whatever it answers.
 //!
-//! ```text
-//! let mut shelf = FolderShelf::over(&rt, Text::of(rt.alloc(), "feed")?);
-//! let found = shelf.read(rt.alloc(), "trips.txt", 536_870_912)?;
-//! ```
+//! `desk_run` shows a use, in `src/reading.rt` and `src/carrying.rt`.
 //!
 //! The contracts cite `Faults` (when a count rose), `History` (which calls came), `Calls` (which calls are listed to fail), `Shelf` (what a shelf
 //! holds, and what reads and writes do to it), `Sink` (what a sink has taken), `MemoryShelf` and `MemorySink` (the objects

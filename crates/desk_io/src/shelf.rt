@@ -51,7 +51,7 @@ pub trait Shelf {
     fn read(&mut self, alloc: Global, name: &str, limit: u64) -> Result<Found, ShelfFault>
         // No file is longer than was asked for, on every shelf.
         ensures bound { IfOk result (FitsIn limit) }
-        // Where the files are told, the answer is exactly what stands under the name.
+        // Where the shelf tells its files, the answer is exactly the file of that name.
         ensures found { IfOk result (Tells (state self.old).files name.now limit) }
         // A fault is counted, and every other answer leaves the shelf as it was.
         ensures state { Reads result (state self.old) (state self.new) }

@@ -5,7 +5,7 @@ use std::sync::ledger::{Blank, Book, Ledger, Share};
 
 /// How many steps were counted, for proofs alone: it takes no bytes, and nothing is done for it when the program runs.
 ///
-/// One step is one look at a pair of trips, or at all trips that begin or end at a place, or one node of a tree that is
+/// One step is one look at a pair of trips, or at all trips that begin or end at a place. Or it is one node of a tree that is
 /// written.
 #[derive(Drop)]
 pub struct Steps<L: Ledger> {

@@ -3,20 +3,20 @@ ghost use Rattle.desk_program.specs.Commands as spec;
 ghost use Rattle.desk_program.specs.Runs.{IsRun};
 
 use crate::{CommandName, command_of, put_usage};
-use audit_commands::run_audit;
-use board_commands::run_joined;
-use desk_commands::run_blocks;
+use audit_command::run_audit;
+use blocks_command::run_blocks;
 use desk_io::{Shelf, Sink, Steps, Text};
 use desk_keeper::Keeper;
 use feed_commands::{run_deficits, run_fixed};
+use joined_command::run_joined;
 use journal_commands::{run_keep, run_kept};
 use lowering_commands::{run_chains, run_shifts};
 use plan_commands::{run_chart, run_check};
-use planner_commands::run_planners;
-use sample_commands::run_sample;
+use planners_command::run_planners;
+use sample_command::run_sample;
 use std::alloc::Global;
 use std::sync::ledger::Ledger;
-use written_feed::run_write;
+use write_command::run_write;
 
 /// The whole program over the words after its name, a shelf, a sink and a keeper. It answers the status.
 pub fn run<S: Shelf, O: Sink, K: Keeper, L: Ledger>(

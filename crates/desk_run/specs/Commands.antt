@@ -6,8 +6,8 @@ use Rattle.desk_run.specs.Reading.{ReadView, AreRead, IsLoaded}
 use Rattle.desk_run.specs.World.{World}
 use Rattle.desk_run.specs.declared.status.Ending.{Ending}
 
--- The papers that it reads, in their order; whether it reads the journal besides, and alone may append to it; how it ends
--- after what it has read; which outcomes it may give of that; and how many steps it may count then.
+-- The papers that it reads, in their order. Whether it reads the journal besides; only then may it append to it. How it ends
+-- after what it has read, which outcomes it may give of that, and how many steps it may count then.
 pub record Asked : Type 1 where
   pub papers : List Paper
   pub keeps : Bool
@@ -21,7 +21,7 @@ pub record IsGiven (asked : Asked) (read : ReadView) (outcome : OutcomeView) : T
   pub ends : asked.Ends read outcome.ending
   pub unkept : asked.keeps ≡ false → outcome.lines ≡ None
 
--- what a command reads of the world: what stands in it, where that is told
+-- what a command reads of the world: what is in it, where the world tells that
 pub record IsReadIn (asked : Asked) (world : World) (read : ReadView) : Type 0 where
   pub pages : AreRead world.shelf.files asked.papers read.pages
   pub journal : IsLoaded asked.keeps world.keeper.journal read.journal

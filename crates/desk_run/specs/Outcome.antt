@@ -13,8 +13,8 @@ status_of ending.EditsRefused = EDITS_REFUSED
 status_of ending.FeedRefused = FEED_REFUSED
 status_of ending.No = NO
 
--- the files that it writes, in their order; the lines that it appends to the journal, or none; the text that it puts; and
--- how it ends
+-- the files that it writes, in their order; the lines that it appends to the journal, or none; the text that it puts; its
+-- ending
 pub record OutcomeView : Type 0 where
   pub writes : List Writing
   pub lines : Option Journal

@@ -44,14 +44,14 @@ pub record AreRead (files : Option Files) (papers : List Paper) (pages : List Pa
   pub told : All (λ page. Tells files (file_name_of page.paper) MOST_BYTES page.found) pages
   pub within : All (λ page. IsWithinLimit page.found) pages
 
--- a paper as it stands in told files, and several
+-- a paper as the files have it, and several papers
 abbrev pub page_in : Files → Paper → Page
 page_in files paper = record { paper = paper; found = found_in files (file_name_of paper) MOST_BYTES }
 
 abbrev pub pages_in : List Paper → Files → List Page
 pages_in papers files = map (page_in files) papers
 
--- a told journal as it is loaded
+-- a journal as it is loaded
 abbrev pub loaded_in : Journal → Loaded
 loaded_in journal = if nat_le (length journal) MOST_RECORDS then loaded.Lines journal else loaded.TooLong
 

@@ -1,4 +1,4 @@
--- What stands outside the program: the files of a folder, what was printed, and the journal.
+-- What is outside the program: the files of a folder, what was printed, and the journal.
 use Rattle.std.specs.Prelude.{◌≡◌}
 use Rattle.desk_io.specs.Faults.{NoneCounted}
 use Rattle.desk_io.specs.Shelf.{ShelfState}

@@ -52,8 +52,8 @@ fn append<K: Keeper>(alloc: Global, keeper: &mut K, lines: &Option<Lines>) -> Re
     }
 }
 
-/// Carries an outcome out: writes its files, appends its lines and then puts its text by one call, up to the first of these
-/// that is refused; and answers the status of its ending.
+/// Carries an outcome out: writes its files, appends its lines and then puts its text by one call, up to the first refused
+/// call. Answers the status of its ending.
 pub fn carry_out<S: Shelf, O: Sink, K: Keeper>(
     alloc: Global,
     outcome: &Outcome,

@@ -1,18 +1,16 @@
 //! The shape of a run, for every command: what it reads, what it gives, and what becomes of that.
 //!
-//! A [`Command`] says which papers it reads, whether it reads the journal, and what outcome it gives of what it has read.
-//! An [`Outcome`] is what it asks of the world: files to write in their order, lines to append to the journal or none, a
-//! text to put, and how the run ends. [`perform`] reads, asks the command, and carries the outcome out, over any shelf,
-//! sink and keeper, up to the first call that is refused; it answers the status. All that is promised of a run is said of
-//! [`perform`], by what the command asks, so a new command proves nothing but its own outcome.
+//! A [`Command`] says which papers it reads, whether it reads the journal, and what outcome it gives of what it has read. An
+//! [`Outcome`] is what it asks of the world. It has files to write in their order, lines to append to the journal or none, a
+//! text to put, and an ending. [`perform`] reads, asks the command, and carries the outcome out, over any shelf, sink and
+//! keeper, up to the first call that is refused. It answers the status. The contract of [`perform`] has all that is promised of
+//! a run, by what the command asks. So a new command proves nothing but its own outcome.
 //!
 //! The contract that the crates above use is `Performs`: by the status, the one outcome that was carried out, whole or in part
 //! (`RunsAs`); the cause of each status (`HasCause`); which status comes where no fault was counted (`IsComplete`); in which order
 //! which calls were made (`IsInOrder`); and how many steps are counted at the most (`IsCounted`).
 //!
-//! ```text
-//! perform(&WriteJournal, alloc, shelf, out, keeper, steps)
-//! ```
+//! `journal_commands` shows a use, in `src/kept.rt`.
 //!
 //! The contracts cite `World` (what stands outside the program), `Outside` (that, and which calls came to it), `Reading` (what is
 //! read of it), `Outcome` (an outcome as contracts see it, and the status of its ending), `Becomes` (what becomes of an outcome),

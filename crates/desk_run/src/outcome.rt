@@ -27,8 +27,8 @@ impl Writing {
     }
 }
 
-/// What a run that comes to its end does: it writes files in their order, appends lines to the journal where there are any
-/// to append, puts a text, and ends with a status.
+/// What a run that comes to its end does. It writes files in their order, appends lines to the journal if there are any, puts a
+/// text, and ends with a status.
 pub struct Outcome {
     pub(crate) writes: Vec<Writing>,
     pub(crate) lines: Option<Lines>,

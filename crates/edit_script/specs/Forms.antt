@@ -101,7 +101,7 @@ edit_by fields word row =
     else if (fields == 6) && bytes_eq word (codes "extra") then extra_edit row
     else None
 
--- the edit of a record, if it has one of the forms; empty fields at its end, and spaces round its first word, are passed over
+-- the edit of a record, if it has one of the forms. Empty fields at its end, and spaces round its first word, are passed over
 abbrev pub edit_of : List (List ℕ) → Option Edit
 edit_of row = edit_by (filled row) (without_spaces (field_at row 0)) row
 
@@ -120,6 +120,6 @@ line_by None = line.NotAnEdit
 abbrev pub line_of : List (List ℕ) → Line
 line_of row = line_by (edit_of row)
 
--- the lines of the records of a file, of which there may be so many
+-- the lines of the records of a file, at most so many
 abbrev pub script_of : Paper → List ℕ → Result (List Line) FeedFault
 script_of paper bytes = provided (nat_le (length (records bytes)) MOST_RECORDS) (TooManyRecords paper) (Ok (map line_of (records bytes)))

@@ -23,7 +23,7 @@ script_seen t log standing last shows = record {
   later = timetables_past with_change t log.undone;
 }
 
--- each kept change was made, each undone one can be made again, the numbers of the kept ones are the newest that stand, and
+-- each kept change was made, and each undone one can be made again. The numbers of the kept ones are the newest that stand, and
 -- numbers rise
 pub record IsKept (t : TimetableView) (log : LogView Change) (standing : List ℕ) (last : ℕ) : Type 0 where
   pub made : FitAlong without_change WasMade t log.kept

@@ -28,8 +28,8 @@ no_edit_record number = record { number = number; line = line.NotAnEdit }
 abbrev pub numbers_of : List Numbered → List ℕ
 numbers_of records = map (λ (r : Numbered). r.number) records
 
--- what the records so far have come to: those that stand, those that were undone (of both the last is the newest), how many
--- of the former can be undone, and how often the plan was shown
+-- what the records so far have come to: those that stand, and those that were undone, the newest last. Then how many of those
+-- that stand can be undone, and how often the plan was shown
 pub record State : Type 0 where
   pub standing : List Numbered
   pub undone : List Numbered
@@ -94,8 +94,8 @@ with_record base m r = or_stays m (state_after base m r)
 abbrev pub machine : TimetableView → List Numbered → State
 machine base records = fold (with_record base) begun records
 
--- a script is at a state: its timetable is that of the state, of each edit that can be undone it has the timetable before
--- it, and of each undone one the timetable after it
+-- a script is at a state: its timetable is that of the state. It has the timetable before each edit that can be undone, and the
+-- timetable after each undone one
 pub record IsAt (base : TimetableView) (m : State) (s : ScriptView) : Type 0 where
   pub timetable : s.timetable ≡ timetable_at base m
   pub standing : s.standing ≡ numbers_of m.standing
@@ -105,8 +105,8 @@ pub record IsAt (base : TimetableView) (m : State) (s : ScriptView) : Type 0 whe
   pub earlier : s.earlier ≡ drop (length m.standing - m.kept) (timetables_before after_record base m.standing)
   pub later : s.later ≡ timetables_past after_record (timetable_at base m) m.undone
 
--- a step of a script and a record's step of the machine are alike: both are refused for the same reason, or both are
--- accepted, and then the script is at the new state
+-- a step of a script and a record's step of the machine are alike: both are refused for the same reason, or both are accepted.
+-- Then the script is at the new state
 abbrev pub AreAlike : TimetableView → Result ScriptView EditFault → Result State EditFault → Type 0
 AreAlike base (Ok s) (Ok m) = IsAt base m s
 AreAlike base (Err one) (Err other) = one ≡ other

@@ -88,7 +88,7 @@ pub record IsDue (t : TimetableView) (edit : Edit) (judged : Judged) : Type 0 wh
   pub slot : IsSlotOf edit t (Some judged.slot)
   pub does : edited t edit ≡ Ok (with_judged t judged)
 
--- an edit of a trip is judged: it is known what it does, or why it is refused, or memory is wanted for one that is accepted
+-- an edit of a trip is judged: it is known what it does, or why it is refused. Or there was no memory for one that is accepted
 abbrev pub IsJudged : Result Judged EditFault → TimetableView → Edit → Type 0
 IsJudged (Ok judged) t edit = IsDue t edit judged
 IsJudged (Err fault.Memory) t edit = IsOk (edited t edit)

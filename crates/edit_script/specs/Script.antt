@@ -12,9 +12,9 @@ use Rattle.edit_script.specs.declared.fault.EditFault.TheVariants as fault
 use Rattle.edit_script.specs.declared.touched.Touched.{Touched}
 use Rattle.edit_script.specs.Changes.{edited, with_extra}
 
--- a script: the timetable that stands, the numbers of the edits that stand and of those that were undone, the greatest
--- number that ever stood, how often the plan was shown, of each edit that can be undone the timetable before it, and of
--- each that can be redone the timetable after it; the last of each list is the newest
+-- a script: the timetable that stands, and the numbers of the edits that stand and of those that were undone. Then the greatest
+-- number that ever stood, and how often the plan was shown. Then the timetable before each edit that can be undone, and the one
+-- after each that can be redone. The last of each list is the newest
 pub record ScriptView : Type 0 where
   pub timetable : TimetableView
   pub standing : List ℕ
@@ -24,7 +24,7 @@ pub record ScriptView : Type 0 where
   pub earlier : List TimetableView
   pub later : List TimetableView
 
--- the numbers that stand, and after them those that were undone, of which the newest comes first
+-- the numbers that stand, and after them those that were undone, the newest first
 abbrev pub numbers_along : List ℕ → List ℕ → List ℕ
 numbers_along standing undone = standing ++ reverse undone
 

@@ -7,7 +7,7 @@ ghost use Rattle.edit_script.specs.declared.edit.Edit.TheVariants.{Cancel, Extra
 ghost use Rattle.edit_script.specs.declared.edit.TheConstants.{MOST_SHIFT};
 ghost use Rattle.trip_model.specs.Timetable.{IsTimetable};
 
-use crate::{EditFault, TripEnd, Touched};
+use crate::{EditFault, Touched, TripEnd};
 use desk_io::{Memory, Text};
 use std::alloc::Global;
 use trip_model::{MOST_SLOTS, Timetable, Trip};

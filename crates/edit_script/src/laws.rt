@@ -12,8 +12,8 @@ pub fn read_back_law()
     ensures { spec.EditReadsBack }
 {}
 
-/// A script that is stepped over the records of a script stays at the state of the edit machine: its timetable is that of
-/// the edits that stand, and of each that can be undone, or redone, it has the timetable before it, or after it.
+/// A script that is stepped over records stays at the state of the edit machine. Its timetable is that of the edits that stand.
+/// It has the timetable before each edit that can be undone, and after each that can be redone.
 pub fn machine_law()
     ensures start { (base : TimetableView) → IsAt base (machine base []) (opened base) }
     // an edit that is accepted is accepted by the machine

@@ -10,7 +10,7 @@ use std::marker::Model;
 use trip_model::Timetable;
 use undo_log::Log;
 
-/// A timetable under edits, of which the last 256 can be undone.
+/// A timetable under edits. The last 256 of them can be undone.
 pub struct Script {
     alloc: Global,
     timetable: Timetable,

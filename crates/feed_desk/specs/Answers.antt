@@ -6,7 +6,7 @@ use Rattle.edit_script.specs.declared.fault.EditFault.{EditFault}
 use Rattle.deadhead_matrix.specs.Prices.{Plan}
 use Rattle.desk_feed.specs.Script.{line_at, refusal_in, refusal_text, standing_at, step_at}
 
--- what is put of a record: by its number and its line, the timetable and the plan after it, and why it is refused, if it is
+-- what is put of a record, by its number and its line, the timetable and the plan after it, and why it is refused
 abbrev pub Answer : Type 0
 Answer = ℕ → Line → TimetableView → Plan → Option EditFault → List ℕ
 

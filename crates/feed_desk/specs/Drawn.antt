@@ -12,8 +12,8 @@ use Rattle.feed_desk.specs.Plans.{ArePlanned}
 use Rattle.feed_desk.specs.declared.follow.Followed.{Followed}
 use Rattle.feed_desk.specs.declared.draw.Drawn.{Drawn}
 
--- A desk has followed a script, with one plan for each moment: it stands where the script ends, with the last of these plans;
--- and of each record this was put.
+-- A desk has followed a script, with one plan for each moment. It is where the script ends, with the last of these plans. This
+-- was put of the records.
 pub record HasFollowed (answer : Answer) (base : TimetableView) (lines : List Line) (matrix : MatrixView) (followed : Followed) : Type 0 where
   pub plans : ℕ → Plan
   pub are : ArePlanned base lines matrix plans

@@ -26,7 +26,7 @@ IsFollowed line.NotAnEdit None old new = ⊥
 IsFollowed (line.Edit edit) None old new = IsEdited edit old new
 IsFollowed line (Some refused) old new = new ≡ old
 
--- a desk stands where the machine does at a moment, and its plan is one for a valid timetable
+-- a desk is where the machine is at a moment, and its plan is one for a valid timetable
 pub record IsMoment (base : TimetableView) (lines : List Line) (matrix : MatrixView) (m : ℕ) (desk : DeskView) : Type 0 where
   pub at : IsAt base (state_at base lines m) desk.script
   pub matrix_is : desk.matrix ≡ matrix
@@ -40,8 +40,8 @@ pub record AreMoments (base : TimetableView) (lines : List Line) (first : DeskVi
   pub each : (k : ℕ) → k ≤ m → IsMoment base lines first.matrix k (desks k)
   pub follow : (k : ℕ) → k < m → IsFollowed (line_at lines k) (refusal_in (step_at base lines k)) (desks k) (desks (suc k))
 
--- What was put of the records from a first moment to a last one, whether one was refused, and how many steps there were before
--- and are now.
+-- What was put of the records from a first moment to a last one, and whether one was refused. And how many steps there were
+-- before and are now.
 pub record IsAnswered (answer : Answer) (base : TimetableView) (lines : List Line) (first : DeskView) (had m : ℕ) (last : DeskView) (text : List ℕ) (some : Bool) (steps : ℕ) : Type 0 where
   pub desks : ℕ → DeskView
   pub are : AreMoments base lines first m last desks

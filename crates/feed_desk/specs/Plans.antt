@@ -28,22 +28,22 @@ pub record IsFixed (timetable : TimetableView) (fixed : ℕ) : Type 0 where
   pub fewest : IsFewest (plain_network (trip_moves timetable.slots)) blocks
   pub count : length blocks ≡ fixed
 
--- A plan of a timetable that stands: its prices prove it, and its blocks are least over all blockings; and the fewest vehicles
+-- A plan of a timetable that stands. Its prices prove it, and its blocks are least over all blockings. The fewest vehicles
 -- without deadheads are the sum of the maxima. The timetable is valid.
 pub record IsPlannedAt (timetable : TimetableView) (matrix : MatrixView) (plan : Plan) : Type 0 where
   pub valid : IsTimetable timetable
   pub scheduled : IsScheduled timetable matrix plan (blocks_in timetable plan)
   pub without : IsFixed timetable (fixed_number timetable)
 
--- Along which paths a record changes the links of a plan for a timetable: those of the repair of its trip. Undo and redo are told
--- by what stands, and a record that is refused changes none.
+-- Along which paths a record changes the links of a plan for a timetable: those of the repair of its trip. What an undo and a
+-- redo give follows from what stands. A refused record changes no plan.
 abbrev pub AreRelinked : Line → Option EditFault → TimetableView → List (Option ℕ) → List (Option ℕ) → Type 0
 AreRelinked (line.Edit edit) None timetable old new = desk.AreRepaired edit timetable old new
 AreRelinked line refused timetable old new = new ≡ old
 
--- One plan for each moment of a script, which is after so many of its records: each is a plan of the timetable that stands
--- then. Where the same edits stand the plans are equal, prices included. A record that is refused leaves the plan as it is, and
--- the edit of a trip changes links along the paths of its repair alone. The edits that stand are each accepted over those before.
+-- One plan for each moment of a script. A moment is after so many of its records. Each is a plan of the timetable that stands
+-- then. Where the same edits stand the plans are equal, prices included. A refused record leaves the plan as it is. The edit of
+-- a trip changes links along the paths of its repair alone. The edits that stand are each accepted over those before.
 pub record ArePlanned (base : TimetableView) (lines : List Line) (matrix : MatrixView) (plans : ℕ → Plan) : Type 0 where
   pub planned : (m : ℕ) → m ≤ length lines → IsPlannedAt (standing_at base lines m) matrix (plans m)
   pub restored : (m k : ℕ) → m ≤ length lines → k ≤ length lines → (state_at base lines m).standing ≡ (state_at base lines k).standing → plans m ≡ plans k

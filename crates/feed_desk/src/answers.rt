@@ -13,7 +13,7 @@ pub trait Answers {
     /// What it puts, with the matrix of the places.
     ghost answer: { Self → MatrixView → Answer };
 
-    /// Appends what is put of a record, after which a desk stands.
+    /// Appends what is put of a record. The desk is that after the record.
     fn push_answer(
         &self,
         alloc: Global,

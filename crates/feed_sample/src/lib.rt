@@ -7,7 +7,7 @@
 //! The contract that the crates above use: the shelf has exactly these files, byte for byte (`sample_files`), and none of its
 //! calls fails.
 //!
-//! `sample_commands` shows a use, in `src/sample.rt`.
+//! `sample_command` shows a use, in `src/sample.rt`.
 //!
 //! The contracts cite `Sample` (the text of each file).
 #![tactic(auto)]

@@ -4,7 +4,7 @@
 //!
 //! The contract that the crates above use: the plan is certified, and its blocks are least over all blockings.
 //!
-//! `planner_commands` shows a use, in `src/planners.rt`.
+//! `planners_command` shows a use, in `src/planners.rt`.
 //!
 //! The contracts cite `Schedule` of `desk_feed`.
 #![tactic(auto)]

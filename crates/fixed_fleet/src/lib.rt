@@ -6,10 +6,7 @@
 //! The contract that the crates above use: the links number the trips less the sum of the maxima of the deficits, and no
 //! blocking without deadheads has fewer blocks than that sum ([`laws::plain_blocks_law`], over any list of moves).
 //!
-//! ```text
-//! let links = fixed_links(alloc, &timetable)?;
-//! let next = links.next(0);
-//! ```
+//! `feed_commands` shows a use, in `src/fixed.rt`.
 //!
 //! The contracts cite `Rule` (the links of the rule), and of `trip_model` `Blocking`, `Plain`, `Links`, `Order`, `Deficit`
 //! and `Maximum`.

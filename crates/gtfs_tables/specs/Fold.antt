@@ -41,7 +41,7 @@ optional_read paper columns_in step start found = optional_in paper start (bytes
 abbrev pub longer_from : ℕ → ℕ → List (List (List ℕ)) → Option ℕ
 longer_from width number rows = position_from (is_longer width) number rows
 
--- a record that is too long is refused before all that is said of records, wherever it stands
+-- a record that is too long is refused before all other refusals of records, wherever it is in the file
 abbrev pub unless_longer : {A : Type 0} → Paper → Option ℕ → Result A FeedFault → Result A FeedFault
 unless_longer paper None read = read
 unless_longer paper (Some number) read = Err (fault.RowTooLong paper number)
@@ -56,7 +56,7 @@ abbrev pub rest_read : {A : Type 0} → Paper → ℕ → Step A → ℕ → A �
 rest_read paper width step number before rows =
     unless_longer paper (longer_from width number rows) (each_record step number before (map (padded width) rows))
 
--- what stands after a part was read: what it leaves where it was refused, else what is said of what it gave
+-- what holds after a part was read: what it leaves where it was refused, else what holds of what it gave
 abbrev pub LeftBy : {A : Type 0} → Type 0 → (A → Type 0) → Result A FeedFault → Type 0
 LeftBy here next (Ok more) = next more
 LeftBy here next (Err refused) = here

@@ -29,7 +29,7 @@ file_name_of paper.Prices = codes "prices.csv"
 abbrev pub IsWithinLimit : Found → Type 0
 IsWithinLimit found = FitsIn MOST_BYTES found
 
--- the name of a column, as it stands in a header and is printed; `field` for any other
+-- the name of a column, as it is in a header and is printed; `field` for any other
 abbrev pub column_name_of : Column → List ℕ
 column_name_of column.StopId = codes "stop_id"
 column_name_of column.Terminal = codes "terminal"

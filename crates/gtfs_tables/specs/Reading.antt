@@ -84,7 +84,7 @@ optional_in paper none read found = optional_bytes paper found >>= or_none none 
 abbrev pub nothing : Result (Unit {0}) FeedFault
 nothing = Ok tt
 
--- a paper is a table, of which nothing more is read
+-- a paper is a table, and nothing more is read of it
 abbrev pub judged : Paper → Found → Result (Unit {0}) FeedFault
 judged paper found = table_in paper found >>= λ _. nothing
 

@@ -7,8 +7,8 @@ use Rattle.csv.specs.declared.reader.Reader.{Reader}
 use Rattle.csv.specs.declared.reader.Trim.TheVariants as trim
 use Rattle.gtfs_tables.specs.Rows.{padded}
 
--- the records of a file: those that `csv` reads, of any lengths, with comma and double quote, of the bytes
--- after at most one leading byte-order mark
+-- the records of a file: those that `csv` reads with comma and double quote, of any lengths, after at most one leading
+-- byte-order mark
 abbrev pub records : List ℕ → List (List (List ℕ))
 records bytes = csv.records csv.default_config (csv.strip_bom bytes)
 
@@ -20,7 +20,7 @@ unread reader = unwrap_or (csv.source_of (λ (bytes : Bor (List ℕ)). Some byte
 abbrev pub records_left : Reader (Bor (List ℕ)) → List (List (List ℕ))
 records_left reader = csv.records_from csv.default_config (length (unread reader) + 1) (csv.reader_state reader) (unread reader)
 
--- a reader that stands between two records, with commas and double quotes, and has not failed
+-- a reader that is between two records, with commas and double quotes, and has not failed
 pub record IsReading (reader : Reader (Bor (List ℕ))) : Type 0 where
   pub config : csv.reader_config reader ≡ csv.default_config
   pub untrimmed : csv.reader_trim reader ≡ trim.None
@@ -29,7 +29,7 @@ pub record IsReading (reader : Reader (Bor (List ℕ))) : Type 0 where
   pub source : IsSome (csv.source_of (λ (bytes : Bor (List ℕ)). Some bytes.now) reader)
   pub between : ends_at_end (csv.reader_state reader) ≡ false
 
--- a read found the next record, with these fields, and stands behind it; or there was none left
+-- a read found the next record, with these fields, and is behind it; or there was none left
 abbrev pub ReadsNext : Reader (Bor (List ℕ)) → Bool → List (List ℕ) → Reader (Bor (List ℕ)) → Type 0
 ReadsNext old found fields new =
     MatchBool found ((records_left old ≡ fields ∷ records_left new) × IsReading new) (records_left old ≡ [])

@@ -26,7 +26,7 @@ pub enum FeedFault {
     BadNumber(Paper, u32, Column),
     /// The time is not of its form.
     BadTime(Paper, u32, Column),
-    /// The record's key stands in an earlier record.
+    /// An earlier record has the record's key.
     DuplicateRow(Paper, u32),
     /// The settings are no TOML.
     NotToml,

@@ -16,7 +16,7 @@ use std::alloc::Global;
 
 /// What is made of the records of a paper, one after the other.
 pub trait RecordReader {
-    /// Where the columns stand that it reads.
+    /// Where the columns are that it reads.
     type Columns: Drop;
 
     // What no record changes.
@@ -48,7 +48,7 @@ pub trait RecordReader {
         ensures kept { Self.kept self.new ≡ Self.kept self.old };
 }
 
-// The refusal that is due where this one came after so many records: that of the first record left that is too long, if
+// The refusal that is due where this one came after so many records. It is that of the first record left that is too long, if
 // there is one.
 fn due_of(
     paper: Paper,
@@ -130,8 +130,8 @@ fn read_bytes<R: RecordReader>(
 }
 
 /// Takes in the records of a paper that must be there, in one pass that keeps none of them; or answers the first refusal. A
-/// record that has more fields than the header is refused before all that is said of the columns and of records, wherever it
-/// stands.
+/// record that has more fields than the header is refused before all other refusals of columns and records, wherever it is in
+/// the file.
 pub fn read_records<R: RecordReader>(
     alloc: Global,
     paper: Paper,
@@ -222,8 +222,8 @@ impl RecordReader for AnyRecord {
     }
 }
 
-/// Whether a paper is a table, of which no record has more fields than the header; for a caller whose records change more
-/// than a refused paper may leave.
+/// Whether a paper is a table: no record has more fields than the header. It is for a caller whose records change more than a
+/// refused paper may leave.
 pub fn judge_table(alloc: Global, paper: Paper, found: &Found) -> Result<(), FeedFault>
     requires { IsWithinLimit found.now }
     ensures { Gives (λ done. done) result (judged paper found.now) }

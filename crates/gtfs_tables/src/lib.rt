@@ -1,31 +1,34 @@
 //! Comma-separated files as tables, small texts as numbers and times, and the lines of refused files.
 //!
-//! [`read_records`] takes the records of a file one by one into a [`RecordReader`], [`judge_table`] tells whether a file is
-//! a table, [`Table::read`] gives a header and rows of as many fields, and [`read_rows`] the records of a file that has no
+//! [`read_records`] takes the records of a file one by one into a [`RecordReader`]. [`judge_table`] says whether a file is a
+//! table. [`Table::read`] gives a header and rows of as many fields, and [`read_rows`] the records of a file that has no
 //! header. [`read_time`], [`read_minute`] and [`read_number`] read values with spaces round them, which [`without_spaces`]
 //! takes off, and [`digits_number`] reads digits alone. [`minute_text`] prints a minute, and [`RecordWriter`] writes records.
-//! [`Paper`] and [`Column`] name the files and their columns, and [`feed_line`] is the line of a [`FeedFault`].
-//! [`table_in`], [`column_in`], [`text_in`], [`filled_in`], [`number_in`] and [`time_in`] read a feed's table step by step,
-//! each up to its own refusal; [`place_of`] finds a column that need not be there. [`read_optional`] and [`optional_bytes`]
-//! read a file that need not be there. [`Entries`] are names with a value each.
+//! [`Paper`] and [`Column`] name the files and their columns, and [`feed_line`] is the line of a [`FeedFault`]. [`table_in`],
+//! [`column_in`], [`text_in`], [`filled_in`], [`number_in`] and [`time_in`] read a feed's table step by step, each up to its
+//! own refusal. [`place_of`] finds a column that need not be there. [`read_optional`] and [`optional_bytes`] read a file that
+//! need not be there. [`Entries`] are names with a value each.
 //!
-//! The contract that the crates above use: what a fold gives is its definition over the record list of the bytes, as `csv`
-//! promises to read them, or the first refusal, or there was no memory; a time and a number are the values of their
-//! grammars; records that are written read back, unless the text begins with a byte-order mark ([`laws`]).
+//! The contract that the crates above use:
 //!
-//! ```text
-//! let table = Table::read(alloc, bytes)?;
-//! if let Some(column) = table.column("trip_id") {
-//!     for before in 0..table.records() {
-//!         let trip = table.row(before + 1).field(column);
-//!     }
-//! }
-//! ```
+//! - A fold gives its definition over the records that `csv` reads of the bytes. Or it gives the first refusal, or there was no
+//!   memory.
+//! - A time and a number are the values of their grammars.
+//! - Records that are written read back, unless the text begins with a byte-order mark ([`laws`]).
 //!
-//! The contracts cite `Records` (the records of a file), `Rows` and `Table` (padding, the table or its fault, the place
-//! of a column), `Times` and `Numbers` (the grammars, the rounding to minutes), `Spaces`, `Papers` and `Faults` (the
-//! printed names and lines), `Reading` (reading one part after another up to the first refusal), `Fold` (reading record by
-//! record), `Entries` (names with a value each), `Writing` (records as text) and `Laws`.
+//! `desk_settings` shows a use, in `src/terminals.rt`.
+//!
+//! The contracts cite:
+//!
+//! - `Records`: the records of a file
+//! - `Rows`, `Table`: padding, the table or its fault, the place of a column
+//! - `Times`, `Numbers`, `Spaces`: the grammars, and the rounding to minutes
+//! - `Papers`, `Faults`: the printed names and lines
+//! - `Reading`: reading one part after another up to the first refusal
+//! - `Fold`: reading record by record
+//! - `Entries`: names with a value each
+//! - `Writing`: records as text
+//! - `Laws`: what is written reads back
 #![tactic(auto)]
 
 mod entries;

@@ -46,8 +46,8 @@ pub fn column_in(paper: Paper, column: Column, header: &Row) -> Result<usize, Fe
         .ok_or(FeedFault::NoColumn(paper, column))
 }
 
-/// The number, from 0, of a column that the header need not name; where it does not, of the next column, in which each field
-/// is empty.
+/// The number, from 0, of a column that the header need not name. Where it does not, it is that of the next column, where each
+/// field is empty.
 pub fn place_of(column: Column, header: &Row) -> usize
     ensures { result ≡ spec.place_of column header.now }
 {
@@ -74,8 +74,8 @@ pub fn filled_in(paper: Paper, number: u32, column: Column, text: &str) -> Resul
     Ok(text)
 }
 
-/// The value of a field, which must be a number of at most so many decimal digits, and at most `most`; spaces may
-/// stand round it. Records count from 1 after the header.
+/// The value of a field, which must be a number of at most so many decimal digits, and at most `most`. It may have spaces round
+/// it. Records count from 1 after the header.
 pub fn number_in(
     paper: Paper,
     number: u32,
@@ -94,8 +94,8 @@ pub fn number_in(
     }
 }
 
-/// The seconds of a field, which may be a time of the service day, at most 359,999; None where it is empty or has spaces
-/// alone. Records count from 1 after the header.
+/// The seconds of a field, which may be a time of the service day, at most 359,999. None where it is empty or has spaces alone.
+/// Records count from 1 after the header.
 pub fn time_in(
     paper: Paper,
     number: u32,

@@ -9,7 +9,7 @@ use std::alloc::Global;
 /// The last second of a time of the service day, 99:59:59.
 pub const LAST_SECOND: u32 = 359_999;
 
-// The value of two decimal digits, of which the first is at most `most`.
+// The value of two decimal digits. The first is at most `most`.
 fn pair(most: u8, tens: u8, ones: u8) -> Option<u32>
     requires { most ≤ 57 }
     ensures value { result ≡ (if spec.is_pair most tens ones then Some (spec.pair_value tens ones) else None) }
@@ -35,8 +35,8 @@ fn full_time(text: [u8; 8]) -> Option<u32>
     Some(3600 * hours + 60 * minutes + seconds)
 }
 
-/// The seconds of a time of the service day, at most 359,999: one or two digits of hours, a colon, two digits from 00
-/// to 59, a colon, two digits from 00 to 59, with any spaces round them. None exactly where the text has another form.
+/// The seconds of a time of the service day, at most 359,999. It has one or two digits of hours, and minutes and seconds of two
+/// digits from 00 to 59, with colons between. Spaces may be round it. None exactly where the text has another form.
 pub fn read_time(text: &str) -> Option<u32>
     ensures value { result ≡ spec.seconds_of text.now }
     ensures bound { IfSome result (λ seconds. seconds ≤ LAST_SECOND) }
@@ -61,8 +61,8 @@ fn full_minute(text: [u8; 5]) -> Option<u16>
     Some((60 * hours + minutes) as u16)
 }
 
-/// The minute of a time of the service day without seconds, at most 5,999: one or two digits of hours, a colon, two digits
-/// from 00 to 59, with any spaces round them. None exactly where the text has another form.
+/// The minute of a time of the service day without seconds, at most 5,999. It has one or two digits of hours, a colon, and two
+/// digits from 00 to 59. Spaces may be round it. None exactly where the text has another form.
 pub fn read_minute(text: &str) -> Option<u16>
     ensures value { result ≡ spec.minute_of text.now }
     ensures bound { IfSome result (λ minute. minute ≤ spec.rounded_down LAST_SECOND) }

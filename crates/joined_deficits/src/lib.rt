@@ -7,7 +7,7 @@
 //! The contract that the crates above use: where blocks are least, the maxima of their joined moves add up to the number of
 //! blocks ([`laws::joined_law`]). So with the deadheads of least blocks put in, every vehicle is seen in the deficits.
 //!
-//! `board_commands` shows a use, in `src/joined.rt`.
+//! `joined_command` shows a use, in `src/joined.rt`.
 //!
 //! The contracts cite:
 //!

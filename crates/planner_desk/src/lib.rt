@@ -11,7 +11,7 @@
 //! comes last. Whatever is taken back, the edits that stand fold without a refusal ([`laws::folding_law`]). [`laws::undo_law`]
 //! says what an undo takes out. Stepped over records, planners stay at the state of their machine ([`laws::machine_law`]).
 //!
-//! `planner_commands` shows a use, in `src/planners.rt` and `src/answers.rt`.
+//! `planners_command` shows a use, in `src/planners.rt` and `src/answers.rt`.
 //!
 //! The contracts cite:
 //!

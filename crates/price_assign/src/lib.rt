@@ -8,11 +8,7 @@
 //! The contract that the crates above use: after `solve` the plan is certified, within a count of steps; a search takes a
 //! loose plan to one from which one side less is left out, along the path of its definition.
 //!
-//! ```text
-//! let mut solver = Solver::open(alloc)?;
-//! solver.solve(&pairs, &mut steps);
-//! let next = solver.plan().links().next(0);
-//! ```
+//! `feed_schedule` shows a use, in `src/schedule.rt`.
 //!
 //! The contracts cite `Plans` (plans with other slots, or another entry), and of `deadhead_matrix` `Prices` and `Paths`.
 //! `Side`, `Order`, `Groups`, `Renamed`, `Assignment`, `Search`, `Relinking`, `Inverse`, `Turned`, `Visits` and `Lists` have the terms of

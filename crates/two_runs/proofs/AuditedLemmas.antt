@@ -30,15 +30,15 @@ use Rattle.block_audit.specs.Above.{above_by}
 use Rattle.block_audit.specs.Misfits.{misfits_in}
 use Rattle.block_audit.specs.Stated.{slots_by, stated_in}
 use Rattle.block_audit.proofs.StatedLemmas.{have-no-misfit}
-use Rattle.round_trip.specs.Follows.{IsEditedFrom}
-use Rattle.round_trip.specs.Written.{as_written}
-use Rattle.round_trip.proofs.Edits.{standing-follows}
-use Rattle.round_trip.proofs.ReadBack.{base-forward, written-back}
-use Rattle.stated_again.specs.Found.{StatesPlan}
-use Rattle.stated_again.specs.Laws.{WrittenFeedStatesPlan}
-use Rattle.stated_again.specs.Planned.{AreReadable, IsFeed, IsWhole}
-use Rattle.stated_again.proofs.Chosen.{of-feed}
-use Rattle.stated_again.proofs.Moves.{same-moves}
+use Rattle.written_laws.specs.Follows.{IsEditedFrom}
+use Rattle.written_laws.specs.Written.{as_written}
+use Rattle.written_laws.proofs.Edits.{standing-follows}
+use Rattle.written_laws.proofs.ReadBack.{base-forward, written-back}
+use Rattle.written_laws.specs.Found.{StatesPlan}
+use Rattle.written_laws.specs.PlanLaws.{WrittenFeedStatesPlan}
+use Rattle.written_laws.specs.Planned.{AreReadable, IsFeed, IsWhole}
+use Rattle.written_laws.proofs.Chosen.{of-feed}
+use Rattle.written_laws.proofs.Moves.{same-moves}
 use Rattle.desk_run.specs.Outcome.{OutcomeView, putting}
 use Rattle.desk_run.specs.declared.status.Ending.TheVariants as ending
 use Rattle.desk_feed.specs.Feed.{FeedView, said_by, said_with, standing}
@@ -48,9 +48,9 @@ use Rattle.desk_feed.specs.Script.{ending_by, first_records}
 use Rattle.desk_feed.proofs.OneNetwork.{network-same}
 use Rattle.desk_feed.proofs.ScriptLemmas.{first-none, refused-none, some-none, standing-places}
 use Rattle.feed_desk.proofs.DrawnLemmas.{drawn-scheduled, drawn-valid}
-use Rattle.written_feed.specs.Write.{IsWritten}
-use Rattle.audit_commands.specs.Audit.{AuditsBy, AuditsOf, IsAudited, IsCosted, IsJudged}
-use Rattle.audit_commands.specs.Lines.{above_line, cost_line, costs_text}
+use Rattle.write_command.specs.Write.{IsWritten}
+use Rattle.audit_command.specs.Audit.{AuditsBy, AuditsOf, IsAudited, IsCosted, IsJudged}
+use Rattle.audit_command.specs.Lines.{above_line, cost_line, costs_text}
 use Rattle.two_runs.specs.Audited.{IsWholeAfter, least_text}
 use Rattle.two_runs.proofs.ConfirmedLemmas.{MakesMoves}
 use Rattle.two_runs.proofs.DeadheadsOver.{with_slots}

@@ -35,8 +35,8 @@ use Rattle.desk_run.proofs.EachStatus.{pages_told}
 use Rattle.desk_core.specs.Counts.{blocks_in, minutes_in}
 use Rattle.feed_desk.specs.Answers.{answers_by}
 use Rattle.feed_desk.specs.Plans.{IsPlannedAt, fixed_number}
-use Rattle.desk_commands.specs.Answers.{answer_text}
-use Rattle.desk_commands.specs.Blocks.{IsPlan, blocks_asked}
+use Rattle.blocks_command.specs.Answers.{answer_text}
+use Rattle.blocks_command.specs.Blocks.{IsPlan, blocks_asked}
 use Rattle.desk_feed.specs.Feed.{FeedView, feed_papers, kept_on, lines_by, said_by, said_with, standing}
 use Rattle.desk_feed.specs.Judging.{Does, refused_of, said_in}
 use Rattle.plan_commands.specs.Check.{IsChecked, check_asked, claim_in, claim_outcome, claim_papers, verdict_outcome, yes_line}

@@ -33,7 +33,7 @@ use Rattle.desk_run.specs.Reading.{ReadView, found_of, pages_in}
 use Rattle.desk_run.specs.declared.status.TheConstants.{EDITS_REFUSED}
 use Rattle.desk_feed.specs.Feed.{FeedView, deadheads_in, feed_papers, kept_on, lines_by, lines_in, pulls_in, said_by, said_with, settings_in, timetable_in}
 use Rattle.desk_feed.specs.Judging.{Does, refusing, said_in}
-use Rattle.written_feed.specs.Write.{IsWritten, Writes, WritesBy, feed_files, files_of, stop_times_in, stop_times_name, stop_times_of, trips_in, trips_name, trips_of, write_asked}
+use Rattle.write_command.specs.Write.{IsWritten, Writes, WritesBy, feed_files, files_of, stop_times_in, stop_times_name, stop_times_of, trips_in, trips_name, trips_of, write_asked}
 use Rattle.two_runs.specs.Audited.{IsLaid}
 use Rattle.two_runs.proofs.DeadheadsOver.{deadheads-over, slots-kept, with_slots}
 use Rattle.two_runs.proofs.TwoFiles.{first-stands, is_name, others-stand, second-stands, with_two, with_two_told}

@@ -15,8 +15,8 @@ use Rattle.gtfs_tables.specs.declared.paper.Paper.{Paper}
 use Rattle.gtfs_tables.specs.declared.paper.Paper.TheVariants as paper
 use Rattle.gtfs_tables.specs.declared.paper.TheConstants.{MOST_BYTES}
 use Rattle.feed_read.specs.Base.{base_of}
-use Rattle.stated_again.specs.Laws.{WrittenFeedStatesPlan}
-use Rattle.stated_again.specs.Planned.{IsFeed}
+use Rattle.written_laws.specs.PlanLaws.{WrittenFeedStatesPlan}
+use Rattle.written_laws.specs.Planned.{IsFeed}
 use Rattle.desk_run.specs.Becomes.{with_writings}
 use Rattle.desk_run.specs.Outcome.{OutcomeView, status_of}
 use Rattle.desk_run.specs.Reading.{ReadView, AreRead, found_of, pages_in}
@@ -26,8 +26,8 @@ use Rattle.desk_run.specs.declared.status.TheConstants.{EDITS_REFUSED}
 use Rattle.desk_run.proofs.EachStatus.{pages_told}
 use Rattle.desk_feed.specs.Feed.{FeedView, feed_papers, said_by, said_with}
 use Rattle.desk_feed.specs.Judging.{Does, said_in}
-use Rattle.written_feed.specs.Write.{IsWritten, stop_times_in, stop_times_name, stop_times_of, trips_in, trips_name, trips_of, write_asked}
-use Rattle.audit_commands.specs.Audit.{AuditsBy, audit_asked}
+use Rattle.write_command.specs.Write.{IsWritten, stop_times_in, stop_times_name, stop_times_of, trips_in, trips_name, trips_of, write_asked}
+use Rattle.audit_command.specs.Audit.{AuditsBy, audit_asked}
 use Rattle.two_runs.specs.Audited.{CanBeAudited, FindsLeast, IsLaid, IsReadable, IsWholeAfter}
 use Rattle.two_runs.proofs.AuditedLemmas.{TellsLeast, finds-least, read_again, table_again}
 use Rattle.two_runs.proofs.ConfirmedLemmas.{MakesMoves}

@@ -13,17 +13,17 @@ use Rattle.gtfs_tables.specs.Table.{TableView}
 use Rattle.gtfs_tables.specs.declared.paper.Paper.{Paper}
 use Rattle.gtfs_tables.specs.declared.paper.Paper.TheVariants as paper
 use Rattle.gtfs_tables.specs.declared.paper.TheConstants.{MOST_BYTES}
-use Rattle.round_trip.specs.Written.{AreWritable}
-use Rattle.stated_again.specs.Planned.{AllRun}
+use Rattle.written_laws.specs.Written.{AreWritable}
+use Rattle.written_laws.specs.Planned.{AllRun}
 use Rattle.desk_keeper.specs.Keeper.{KeeperState}
 use Rattle.desk_run.specs.Outside.{Outside}
 use Rattle.desk_run.specs.Performs.{Performs}
 use Rattle.desk_run.specs.Reading.{found_of, pages_in}
 use Rattle.desk_run.specs.declared.status.TheConstants.{DONE, EDITS_REFUSED, NO}
 use Rattle.desk_feed.specs.Feed.{FeedView, feed_papers, said_by, standing}
-use Rattle.written_feed.specs.Write.{stop_times_name, trips_name, write_asked}
-use Rattle.audit_commands.specs.Audit.{audit_asked}
-use Rattle.audit_commands.specs.Lines.{cost_line}
+use Rattle.write_command.specs.Write.{stop_times_name, trips_name, write_asked}
+use Rattle.audit_command.specs.Audit.{audit_asked}
+use Rattle.audit_command.specs.Lines.{cost_line}
 
 -- the papers of a feed beside its trips, its stop times and its script
 abbrev pub other_papers : List Paper

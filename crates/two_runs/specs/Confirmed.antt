@@ -13,7 +13,7 @@ use Rattle.desk_run.specs.Reading.{pages_in}
 use Rattle.desk_run.specs.World.{World}
 use Rattle.desk_run.specs.declared.status.TheConstants.{DONE, EDITS_REFUSED, NO}
 use Rattle.desk_feed.specs.Numbers.{numbers_line}
-use Rattle.desk_commands.specs.Blocks.{blocks_asked}
+use Rattle.blocks_command.specs.Blocks.{blocks_asked}
 use Rattle.plan_commands.specs.Check.{check_asked, claim_papers, yes_line}
 
 -- the file of a paper is not longer than a file may be

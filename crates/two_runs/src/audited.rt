@@ -1,14 +1,14 @@
 ghost use Rattle.desk_run.specs.Outside.{outside};
 ghost use Rattle.two_runs.specs.Audited.{WritesAndAudits};
 
-use audit_commands::run_audit;
+use audit_command::run_audit;
 use desk_io::{Shelf, Sink, Steps};
 use desk_keeper::Keeper;
-use stated_again::laws::plan_law;
 use std::alloc::Global;
 use std::sync::ledger::Ledger;
 use trip_model::laws::plain_law;
-use written_feed::run_write;
+use write_command::run_write;
+use written_laws::laws::plan_law;
 
 /// `write`, and then `audit` over another shelf. It finds the written blocks least where the written feed is laid on that shelf
 /// and can be audited. It can where the script adds no trip, cancels none, and moves no time to 100:00:00 or later. Also

@@ -1,11 +1,11 @@
 ghost use Rattle.std.specs.Prelude.{ℕ};
 ghost use Rattle.desk_run.specs.Outside.{Outside, outside};
 ghost use Rattle.desk_run.specs.Performs.{Performs};
-ghost use Rattle.desk_commands.specs.Blocks.{blocks_asked};
+ghost use Rattle.blocks_command.specs.Blocks.{blocks_asked};
 ghost use Rattle.plan_commands.specs.Check.{check_asked};
 ghost use Rattle.two_runs.specs.Confirmed.{Confirms, RunsInTurn};
 
-use desk_commands::run_blocks;
+use blocks_command::run_blocks;
 use desk_io::{Shelf, Sink, Steps};
 use desk_keeper::Keeper;
 use plan_commands::run_check;

@@ -5,8 +5,8 @@
 //! [`run_write_and_audit`] is `write`, and then `audit` over a shelf on which the written feed is laid, which finds the written
 //! blocks least.
 //!
-//! The contracts cite `Confirmed` and `Audited`. They also cite `Blocks` of `desk_commands`, `Check` of `plan_commands`,
-//! `Write` of `written_feed`, and `Audit` of `audit_commands`.
+//! The contracts cite `Confirmed` and `Audited`. They also cite `Blocks` of `blocks_command`, `Check` of `plan_commands`,
+//! `Write` of `write_command`, and `Audit` of `audit_command`.
 #![tactic(auto)]
 
 mod audited;

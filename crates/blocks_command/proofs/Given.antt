@@ -1,0 +1,74 @@
+-- What `blocks` gives of an accepted feed is what it asks.
+use Rattle.std.proofs.Common.{◌≡◌, ◌++◌, List, None, ℕ, Result, Ok, Err, length, ap, subst, ◌∙◌, arith}
+use Rattle.std.specs.Prelude.{IfOk, IsUtf8, string_bytes}
+use Rattle.trip_model.specs.Timetable.{TimetableView}
+use Rattle.edit_script.specs.declared.edit.Line.{Line}
+use Rattle.deadhead_matrix.specs.Matrix.{MatrixView}
+use Rattle.desk_run.specs.Outcome.{OutcomeView}
+use Rattle.desk_run.specs.Reading.{ReadView, found_of}
+use Rattle.desk_feed.specs.Feed.{FeedView, standing}
+use Rattle.desk_feed.specs.Judging.{IsGivenOf, said_in}
+use Rattle.desk_feed.specs.Schedule.{IsMatrixFor}
+use Rattle.claim_files.specs.Written.{AreOfPlan, IsAccepted}
+use Rattle.deadhead_matrix.specs.Prices.{Plan}
+use Rattle.desk_core.specs.Counts.{blocks_in}
+use Rattle.feed_names.specs.Laws.{TripsAreNamed}
+use Rattle.feed_desk.specs.Drawn.{HasFollowed}
+use Rattle.feed_desk.specs.declared.follow.Followed.{Followed}
+use Rattle.blocks_command.specs.Answers.{answer_text, numbers_text}
+use Rattle.blocks_command.specs.Blocks.{IsPlanned, blocks_does, plan_files}
+
+-- what is written and put of a desk that has followed a script is that of its plans
+pub planned-of : {E : Type 0} (base : TimetableView) (lines : List Line) (matrix : MatrixView) (prefix : List ℕ) (followed : Followed)
+    → HasFollowed (answer_text matrix prefix) base lines matrix followed → IsUtf8 prefix → (result : Result OutcomeView E)
+    → IfOk result (λ outcome. outcome ≡ record {
+      writes = plan_files followed.desk.script.timetable followed.desk.matrix prefix followed.desk.plan;
+      lines = None;
+      text = string_bytes followed.text ++ numbers_text followed.desk.script.timetable followed.desk.matrix followed.desk.plan;
+      ending = followed.ending;
+    })
+    → IfOk result (IsPlanned base lines matrix prefix)
+planned-of base lines matrix prefix followed has begun (Err e) done = tt
+planned-of base lines matrix prefix followed has begun (Ok outcome) done = record {
+  plans = has.plans;
+  are = has.are;
+  pulls = has.pulls;
+  begun = begun;
+  done = done ∙ (λ i. record {
+    writes = plan_files (has.timetable i) (has.matrix_is i) prefix (has.plan i);
+    lines = None;
+    text = has.text i ++ numbers_text (has.timetable i) (has.matrix_is i) (has.plan i);
+    ending = has.ending i;
+  });
+}
+
+-- what is needed of the laws
+abbrev pub AcceptsPlans : Type 0
+AcceptsPlans = (timetable : TimetableView) (matrix : MatrixView) (prefix : List ℕ) (plan : Plan) (blocks : List (List ℕ)) → AreOfPlan timetable matrix prefix plan blocks
+    → IsAccepted timetable matrix prefix blocks plan.leave plan.enter
+
+pub plan-given : {E : Type 0} (read : ReadView) (said : FeedView) (matrix : MatrixView) → AcceptsPlans → TripsAreNamed → said_in read ≡ Ok said → IsMatrixFor said matrix
+    → (result : Result OutcomeView E) (prefix : List ℕ) → prefix ≡ said.settings.prefix
+    → IfOk result (IsPlanned said.base said.lines matrix prefix) → IfOk result (IsGivenOf blocks_does read said)
+plan-given read said matrix accepts named says is (Err e) prefix prefix_is planned = tt
+plan-given read said matrix accepts named says is (Ok outcome) prefix prefix_is planned =
+    let here : IsPlanned said.base said.lines matrix said.settings.prefix outcome = subst (λ p. IsPlanned said.base said.lines matrix p outcome) prefix_is planned in
+    let plan = here.plans (length said.lines) in
+    let last = here.are.planned (length said.lines) (omega arith) in
+    record {
+      gives = record {
+        matrix = matrix;
+        matrix_is = is;
+        planned = here;
+        accepted = accepts (standing said) matrix said.settings.prefix plan (blocks_in (standing said) plan) (record {
+          valid = last.valid;
+          pulls = here.pulls;
+          certified = last.scheduled.certified;
+          along = last.scheduled.along;
+          begun = here.begun;
+          names = named (found_of read.pages) said says;
+        });
+      };
+      ends = ap (λ (o : OutcomeView). o.ending) here.done;
+      unkept = λ _. ap (λ (o : OutcomeView). o.lines) here.done;
+    }

@@ -1,0 +1,84 @@
+ghost use Rattle.std.specs.Prelude.{◌≡◌, ◌++◌, OnOk, string_bytes};
+ghost use Rattle.blocks_command.specs.Answers as spec;
+
+use block_build::{block_lines, price_lines};
+use desk_core::Desk;
+use desk_feed::{push_numbers_line, push_refusal};
+use desk_io::Memory;
+use edit_script::{Edit, EditFault, Line};
+use feed_desk::{Answers, blocks_now};
+use std::alloc::Global;
+use std::fmt::Write;
+
+/// Appends the three numbers of a desk.
+pub(crate) fn push_numbers(text: &mut String, desk: &Desk) -> Result<(), Memory>
+    ensures { OnOk result (string_bytes text.new ≡ string_bytes text.old ++ spec.numbers_text desk.now.script.timetable desk.now.matrix desk.now.plan) }
+{
+    let fixed = u64::from(desk.fixed());
+    let vehicles = desk.vehicles() as usize;
+    push_numbers_line(text, fixed, vehicles, desk.minutes())
+}
+
+// Appends the plan of a desk: the lines of its blocks and of its prices.
+fn push_show(alloc: Global, text: &mut String, desk: &Desk, prefix: &str) -> Result<(), Memory>
+    ensures { OnOk result (string_bytes text.new ≡ string_bytes text.old ++ spec.show_text desk.now.matrix prefix.now desk.now.script.timetable desk.now.plan) }
+{
+    let timetable = desk.timetable();
+    let plan = desk.plan();
+    let blocks = blocks_now(alloc, desk)?;
+    let indented = format!(in alloc; " {prefix}")?;
+    let lines = block_lines(alloc, timetable, desk.matrix(), &blocks, &indented)?;
+    let prices = price_lines(alloc, timetable, plan.leave(), plan.enter())?;
+    text.push_str(lines.as_str())?;
+    text.push_str(prices.as_str())?;
+    Ok(())
+}
+
+// Appends what is shown after a record that is accepted.
+fn push_shown(
+    alloc: Global,
+    text: &mut String,
+    desk: &Desk,
+    line: &Line,
+    prefix: &str,
+) -> Result<(), Memory>
+    ensures { OnOk result (string_bytes text.new ≡ string_bytes text.old
+        ++ spec.shown_text desk.now.matrix prefix.now line.now desk.now.script.timetable desk.now.plan) }
+{
+    match line {
+        Line::Edit(Edit::Show) => push_show(alloc, text, desk, prefix),
+        _ => Ok(()),
+    }
+}
+
+/// Of each record the numbers after it, and of a show the plan with blocks of this prefix; or why the record is refused.
+#[derive(Drop)]
+pub(crate) struct Numbers<'a> {
+    pub(crate) prefix: &'a str,
+}
+
+impl<'a> Answers for Numbers<'a> {
+    ghost use Rattle.blocks_command.specs.Answers.{answer_text};
+
+    ghost answer = { λ numbers matrix. answer_text matrix numbers.prefix.now };
+
+    #[tactic(auto, unfolding(crate::specs::Answers::answer_text))]
+    fn push_answer(
+        &self,
+        alloc: Global,
+        text: &mut String,
+        desk: &Desk,
+        number: u32,
+        line: &Line,
+        refused: &Option<EditFault>,
+    ) -> Result<(), Memory> {
+        match refused {
+            Some(refused) => push_refusal(alloc, text, number, line, refused),
+            None => {
+                write!(text, "record {number}: ok, ")?;
+                push_numbers(text, desk)?;
+                push_shown(alloc, text, desk, line, self.prefix)
+            }
+        }
+    }
+}

@@ -1,0 +1,121 @@
+ghost use Rattle.std.specs.Prelude.{◌≡◌, ◌+◌, ◌≤◌, ◌++◌, length, None, IfOk, string_bytes};
+ghost use Rattle.blocks_command.specs.Answers.{numbers_text};
+ghost use Rattle.desk_run.specs.Outside.{outside};
+ghost use Rattle.desk_run.specs.Performs.{Performs};
+ghost use Rattle.blocks_command.specs.Blocks.{IsPlanned, blocks_asked, plan_files};
+ghost use Rattle.desk_feed.specs.Schedule.{most_steps};
+ghost use Rattle.desk_feed.specs.Script.{IsScript};
+ghost use Rattle.feed_desk.specs.Plans.{most_to};
+
+use crate::answers::{Numbers, push_numbers};
+use block_build::{blocks_text, prices_text};
+use claim_files::laws::accepted_law;
+use deadhead_matrix::{Deadheads, Matrix, Pulls};
+use desk_feed::{FEED_PAPERS, FeedCommand, OnFeed, matrix_of};
+use desk_io::{Memory, Shelf, Sink, Steps, Text};
+use desk_keeper::Keeper;
+use desk_run::{Outcome, Read, Writing, perform};
+use desk_settings::Settings;
+use edit_script::Line;
+use feed_desk::{Followed, blocks_now, follow_script};
+use feed_names::laws::names_law;
+use gtfs_tables::Paper;
+use std::alloc::Global;
+use std::sync::ledger::Ledger;
+use trip_model::Timetable;
+
+// The files of the last plan, and behind what was put of the records the numbers after them all.
+fn finished(alloc: Global, followed: Followed, prefix: &str) -> Result<Outcome, Memory>
+    ensures { IfOk result (λ outcome. outcome ≡ record {
+      writes = plan_files followed.desk.script.timetable followed.desk.matrix prefix.now followed.desk.plan;
+      lines = None;
+      text = string_bytes followed.text ++ numbers_text followed.desk.script.timetable followed.desk.matrix followed.desk.plan;
+      ending = followed.ending;
+    }) }
+{
+    let Followed {
+        desk,
+        mut text,
+        ending,
+    } = followed;
+    let timetable = desk.timetable();
+    let plan = desk.plan();
+    let blocks = blocks_now(alloc, &desk)?;
+    let blocks = blocks_text(alloc, timetable, desk.matrix(), &blocks, prefix)?;
+    let prices = prices_text(alloc, timetable, plan.leave(), plan.enter())?;
+    let first = Writing::of(alloc, Paper::Blocks.file_name(), blocks)?;
+    let second = Writing::of(alloc, Paper::Prices.file_name(), prices)?;
+    let writes = vec![in alloc; first, second]?;
+    push_numbers(&mut text, &desk)?;
+    Ok(Outcome::of(writes, None, Text::wrap(text), ending))
+}
+
+// What is written and put of a timetable, the lines of its script and its matrix.
+fn planned<L: Ledger>(
+    alloc: Global,
+    timetable: Timetable,
+    lines: &[Line],
+    matrix: Matrix,
+    prefix: &str,
+    steps: &mut Steps<L>,
+) -> Result<Outcome, Memory>
+    requires script { IsScript lines.now }
+    requires places { length timetable.places ≡ length matrix.walks }
+    ensures planned { IfOk result (IsPlanned timetable lines.now matrix prefix.now) }
+    ensures counted { steps.new ≤ steps.old + (most_steps (length timetable.slots) + most_to timetable lines.now (length lines.now)) }
+{
+    let answers = Numbers { prefix };
+    let followed = follow_script(alloc, timetable, lines, matrix, answers, steps)?;
+    finished(alloc, followed, prefix)
+}
+
+#[derive(Drop)]
+struct WriteBlocks;
+
+impl FeedCommand for WriteBlocks {
+    ghost use Rattle.blocks_command.specs.Blocks.{blocks_does};
+
+    ghost asks = { λ _. blocks_does };
+
+    fn papers(&self) -> &[Paper] {
+        &FEED_PAPERS
+    }
+
+    fn keeps(&self) -> bool {
+        false
+    }
+
+    fn outcome<L: Ledger>(
+        &self,
+        alloc: Global,
+        _read: &Read,
+        settings: &Settings,
+        timetable: Timetable,
+        deadheads: &Deadheads,
+        pulls: Pulls,
+        lines: &[Line],
+        steps: &mut Steps<L>,
+    ) -> Result<Outcome, Memory> {
+        accepted_law();
+        names_law();
+        let matrix = matrix_of(alloc, &timetable, deadheads, pulls)?;
+        planned(alloc, timetable, lines, matrix, settings.prefix(), steps)
+    }
+}
+
+/// The command `blocks`. After each record of the script it puts the fewest vehicles without deadheads, the fewest with them,
+/// and their fewest empty minutes. After all records `blocks.csv` has the blocks that reach these, and `prices.csv` the dual
+/// prices that prove it. It answers the status.
+#[tactic(auto, unfolding(crate::specs::Blocks::blocks_asked))]
+pub fn run_blocks<S: Shelf, O: Sink, K: Keeper, L: Ledger>(
+    alloc: Global,
+    shelf: &mut S,
+    out: &mut O,
+    keeper: &mut K,
+    steps: &mut Steps<L>,
+) -> u8
+    ensures { let at = outside S.state S.history O.state O.history K.state K.history in
+        Performs blocks_asked (at shelf.old out.old keeper.old) (at shelf.new out.new keeper.new) result steps.old steps.new }
+{
+    perform(&OnFeed(WriteBlocks), alloc, shelf, out, keeper, steps)
+}

@@ -1,6 +1,0 @@
-use Rattle.desk_commands.proofs.Given.{planned-of}
-use Rattle.desk_commands.proofs.blocks.planned.Goals as goal
-
-pub returns-clause-planned : goal.returns-clause-planned
-returns-clause-planned g c =
-    planned-of c.args.timetable c.args.lines.now c.args.matrix c.args.prefix.now c.in_ok-followed.followed c.in_ok-followed.ensures.followed c.utf8.prefix c.finished.result c.finished.ensures

@@ -1,0 +1,112 @@
+ghost use Rattle.std.specs.Prelude.{◌≡◌, ◌+◌, ◌*◌, ◌≤◌, IfOk};
+ghost use Rattle.joined_command.specs.Joined.{boards_outcome, joined_asked, joined_of};
+ghost use Rattle.deadhead_matrix.specs.Fitting.{network_of};
+ghost use Rattle.desk_run.specs.Outside.{outside};
+ghost use Rattle.desk_run.specs.Performs.{Performs};
+ghost use Rattle.joined_deficits.specs.declared.limits.TheConstants.{MOST_MOVES};
+ghost use Rattle.trip_model.specs.Blocking.{IsBlocking};
+
+use deadhead_matrix::{Deadheads, Pulls};
+use desk_feed::{FEED_PAPERS, FeedCommand, OnFeed, matrix_of};
+use desk_io::{Memory, Shelf, Sink, Steps, Text};
+use desk_keeper::Keeper;
+use desk_run::{Outcome, Read, Writing, perform};
+use desk_settings::Settings;
+use edit_script::Line;
+use feed_desk::{Drawn, draw_after};
+use gtfs_tables::Paper;
+use joined_deficits::laws::{entries_law, joined_law};
+use joined_deficits::{boards_text, joined_deficits, joined_lines, joined_moves};
+use std::alloc::Global;
+use std::sync::ledger::Ledger;
+use trip_model::Timetable;
+
+// The deficits of all moves of the blocks beside those of the trips alone.
+fn joined_text<L: Ledger>(
+    alloc: Global,
+    drawn: &Drawn,
+    steps: &mut Steps<L>,
+) -> Result<Text, Memory>
+    requires blocking { IsBlocking (network_of drawn.now.desk.script.timetable drawn.now.desk.matrix) drawn.now.blocks }
+    ensures text { IfOk result (λ text. text ≡ joined_of drawn.now.desk.script.timetable drawn.now.desk.matrix drawn.now.blocks) }
+    ensures counted { steps.new ≤ steps.old + 28 * MOST_MOVES }
+{
+    let timetable = drawn.desk.timetable();
+    let moves = joined_moves(alloc, timetable, drawn.desk.matrix(), &drawn.blocks)?;
+    let joined = joined_deficits(alloc, timetable.places(), &moves, steps)?;
+    let before = drawn.desk.deficits();
+    joined_lines(alloc, timetable, &joined, before, drawn.blocks.len())
+}
+
+// What is written and put of the plan after a script.
+fn boarded<L: Ledger>(
+    alloc: Global,
+    settings: &Settings,
+    drawn: &Drawn,
+    steps: &mut Steps<L>,
+) -> Result<Outcome, Memory>
+    requires blocking { IsBlocking (network_of drawn.now.desk.script.timetable drawn.now.desk.matrix) drawn.now.blocks }
+    ensures boarded { IfOk result (λ outcome.
+        outcome ≡ boards_outcome drawn.now.refused drawn.now.ending settings.now.prefix drawn.now.desk.script.timetable drawn.now.desk.matrix drawn.now.blocks) }
+    ensures counted { steps.new ≤ steps.old + 28 * MOST_MOVES }
+{
+    let timetable = drawn.desk.timetable();
+    let matrix = drawn.desk.matrix();
+    let boards = boards_text(alloc, timetable, matrix, &drawn.blocks, settings.prefix())?;
+    let writing = Writing::of(alloc, "boards.csv", boards)?;
+    let writes = vec![in alloc; writing]?;
+    let text = joined_text(alloc, drawn, steps)?;
+    let text = format!(in alloc; "{}{}", drawn.refused.as_str(), text.as_str())?;
+    Ok(Outcome::of(writes, None, Text::wrap(text), drawn.ending))
+}
+
+#[derive(Drop)]
+struct WriteBoards;
+
+impl FeedCommand for WriteBoards {
+    ghost use Rattle.joined_command.specs.Joined.{joined_does};
+
+    ghost asks = { λ _. joined_does };
+
+    fn papers(&self) -> &[Paper] {
+        &FEED_PAPERS
+    }
+
+    fn keeps(&self) -> bool {
+        false
+    }
+
+    fn outcome<L: Ledger>(
+        &self,
+        alloc: Global,
+        _read: &Read,
+        settings: &Settings,
+        timetable: Timetable,
+        deadheads: &Deadheads,
+        pulls: Pulls,
+        lines: &[Line],
+        steps: &mut Steps<L>,
+    ) -> Result<Outcome, Memory> {
+        entries_law();
+        joined_law();
+        let matrix = matrix_of(alloc, &timetable, deadheads, pulls)?;
+        let drawn = draw_after(alloc, timetable, lines, matrix, steps)?;
+        boarded(alloc, settings, &drawn, steps)
+    }
+}
+
+/// The command `joined`: the deficits with the deadheads of least blocks put in. Their maxima add up to the number of blocks.
+/// `boards.csv` has the running board of each vehicle. It answers the status.
+#[tactic(auto, unfolding(crate::specs::Joined::joined_asked))]
+pub fn run_joined<S: Shelf, O: Sink, K: Keeper, L: Ledger>(
+    alloc: Global,
+    shelf: &mut S,
+    out: &mut O,
+    keeper: &mut K,
+    steps: &mut Steps<L>,
+) -> u8
+    ensures { let at = outside S.state S.history O.state O.history K.state K.history in
+        Performs joined_asked (at shelf.old out.old keeper.old) (at shelf.new out.new keeper.new) result steps.old steps.new }
+{
+    perform(&OnFeed(WriteBoards), alloc, shelf, out, keeper, steps)
+}

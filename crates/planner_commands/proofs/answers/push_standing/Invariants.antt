@@ -1,6 +1,0 @@
-use Rattle.std.proofs.Common.{◌≡◌, ◌++◌, take, string_bytes}
-use Rattle.planner_commands.specs.Answers.{standing_text}
-use Rattle.planner_commands.proofs.answers.push_standing.Given as goal
-
-abbrev pub invariant-loop-at : goal.invariant-loop-at
-invariant-loop-at l = string_bytes l.text ≡ string_bytes l.fn.text ++ standing_text (take l.at l.planners.standing)

@@ -1,0 +1,181 @@
+ghost use Rattle.std.specs.Prelude.{◌≡◌, ◌+◌, ◌≤◌, ◌<◌, length, All, IfOk, Ok, ◌*◌, pos};
+ghost use Rattle.claim_files.specs.Written.{IsAccepted, IsName, written};
+ghost use Rattle.desk_feed.specs.Schedule.{most_steps};
+ghost use Rattle.desk_io.specs.declared.shelf.Found.TheVariants.{File};
+ghost use Rattle.gtfs_tables.specs.Papers.{IsWithinLimit};
+ghost use Rattle.price_check.specs.Claim.{AreBlockRows, ArePriceRows};
+ghost use Rattle.sample_command.specs.Sample.{HasSummary};
+ghost use Rattle.sample_command.specs.Summed.{IsSummedOf};
+
+use block_build::{Blocks, blocks_text, prices_text};
+use claim_files::laws::accepted_law;
+use claim_files::{ClaimFault, read_claimed};
+use deadhead_matrix::{Deadheads, Matrix, Pulls};
+use deficit_steps::fixed_of;
+use desk_feed::{Edited, FEED_PAPERS, FeedCommand, after_script, matrix_of, putting_after};
+use desk_io::{Bytes, Found, Memory, Steps, Text};
+use desk_run::{Outcome, Read};
+use desk_settings::Settings;
+use edit_script::Line;
+use feed_names::laws::names_law;
+use feed_schedule::schedule_of;
+use gtfs_tables::{MOST_BYTES, Paper};
+use price_assign::Plan;
+use price_check::{Claimed, Verdict, check};
+use std::alloc::Global;
+use std::sync::ledger::Ledger;
+use trip_model::Timetable;
+
+// The three numbers of a timetable.
+#[derive(Clone, Copy)]
+struct Numbers {
+    fixed: u64,
+    vehicles: u32,
+    minutes: u32,
+}
+
+// A text as a file. For a longer one than a file may be there is no memory.
+fn file_of(alloc: Global, text: &Text) -> Result<Found, Memory>
+    ensures { IfOk result (λ found. (found ≡ File text.now) × IsWithinLimit found) }
+{
+    let bytes = text.as_str().as_bytes();
+    if bytes.len() as u64 > MOST_BYTES {
+        return Err(Memory);
+    }
+    Ok(Found::File(Bytes::of(alloc, bytes)?))
+}
+
+// The claim of a plan and its blocks, as its two files are read, which are in form.
+fn claim_of(
+    alloc: Global,
+    timetable: &Timetable,
+    matrix: &Matrix,
+    prefix: &str,
+    plan: &Plan,
+    blocks: &Blocks,
+) -> Result<Claimed, Memory>
+    requires places { length timetable.now.places ≡ length matrix.now.walks }
+    requires slots { All (All (λ s. s < length timetable.now.slots)) blocks.now }
+    requires prices { length plan.now.next ≡ length timetable.now.slots }
+    requires accepted { IsAccepted timetable.now matrix.now prefix.now blocks.now plan.now.leave plan.now.enter }
+    ensures claim { IfOk result (λ claimed. written timetable.now matrix.now prefix.now blocks.now plan.now.leave plan.now.enter ≡ Ok claimed) }
+    ensures blocks { IfOk result (λ claimed. AreBlockRows timetable.now claimed.blocks) }
+    ensures prices { IfOk result (λ claimed. ArePriceRows timetable.now claimed.prices) }
+{
+    let blocks = file_of(
+        alloc,
+        &blocks_text(alloc, timetable, matrix, blocks, prefix)?,
+    )?;
+    let prices = file_of(
+        alloc,
+        &prices_text(alloc, timetable, plan.leave(), plan.enter())?,
+    )?;
+    match read_claimed(alloc, timetable, &blocks, &prices) {
+        Ok(claimed) => Ok(claimed),
+        Err(ClaimFault::Memory) => Err(Memory),
+        Err(_) => unreachable!(),
+    }
+}
+
+// The three numbers of a timetable, on whose plan `check` says yes.
+fn numbers_of<L: Ledger>(
+    alloc: Global,
+    timetable: &Timetable,
+    matrix: &Matrix,
+    prefix: &str,
+    steps: &mut Steps<L>,
+) -> Result<Numbers, Memory>
+    requires places { length timetable.now.places ≡ length matrix.now.walks }
+    requires names { All (λ slot. IsName slot.name) timetable.now.slots }
+    ensures summary { IfOk result (λ n. HasSummary timetable.now matrix.now prefix.now n.fixed n.vehicles n.minutes) }
+    ensures counted { steps.new ≤ steps.old + most_steps (length timetable.now.slots) }
+{
+    accepted_law();
+    // Their clauses say that the timetable is valid and that no pull is longer than a day.
+    let _slots = timetable.slots();
+    let _places = matrix.places();
+    let fixed = fixed_of(alloc, timetable, steps)?;
+    let schedule = schedule_of(alloc, timetable, matrix, steps)?;
+    let plan = schedule.solver.plan();
+    let claimed = claim_of(alloc, timetable, matrix, prefix, plan, &schedule.blocks)?;
+    match check(timetable, matrix, &claimed) {
+        Verdict::Yes { vehicles, minutes } => Ok(Numbers {
+            fixed,
+            vehicles,
+            minutes,
+        }),
+        Verdict::No(_) => unreachable!(),
+    }
+}
+
+// The summary of a timetable after its script.
+#[tactic(auto, unfolding(crate::specs::Sample::summary_line))]
+fn summed<L: Ledger>(
+    alloc: Global,
+    trips: u32,
+    prefix: &str,
+    edited: &Edited,
+    matrix: &Matrix,
+    steps: &mut Steps<L>,
+) -> Result<Outcome, Memory>
+    requires places { length edited.now.script.timetable.places ≡ length matrix.now.walks }
+    requires names { All (λ slot. IsName slot.name) edited.now.script.timetable.slots }
+    ensures summed { IfOk result (IsSummedOf trips edited.now matrix.now prefix.now) }
+    ensures counted { steps.new ≤ steps.old + most_steps (length edited.now.script.timetable.slots) }
+{
+    let timetable = edited.script.timetable();
+    let numbers = numbers_of(alloc, timetable, matrix, prefix, steps)?;
+    let Numbers {
+        fixed,
+        vehicles,
+        minutes,
+    } = numbers;
+    let line = format!(in alloc;
+        "sample {trips}: fixed {fixed}, vehicles {vehicles}, minutes {minutes}, check yes\n"
+    )?;
+    putting_after(alloc, &edited.refused, &Text::wrap(line), edited.ending)
+}
+
+/// The command on a feed that puts the summary of a sample of so many trips.
+#[derive(Drop)]
+pub struct Summarize {
+    pub trips: u32,
+}
+
+impl FeedCommand for Summarize {
+    ghost use Rattle.sample_command.specs.Sample.{summary_does};
+
+    ghost asks = { λ c. summary_does c.trips };
+
+    fn papers(&self) -> &[Paper] {
+        &FEED_PAPERS
+    }
+
+    fn keeps(&self) -> bool {
+        false
+    }
+
+    fn outcome<L: Ledger>(
+        &self,
+        alloc: Global,
+        _read: &Read,
+        settings: &Settings,
+        timetable: Timetable,
+        deadheads: &Deadheads,
+        pulls: Pulls,
+        lines: &[Line],
+        steps: &mut Steps<L>,
+    ) -> Result<Outcome, Memory> {
+        names_law();
+        let matrix = matrix_of(alloc, &timetable, deadheads, pulls)?;
+        let edited = after_script(alloc, timetable, lines)?;
+        summed(
+            alloc,
+            self.trips,
+            settings.prefix(),
+            &edited,
+            &matrix,
+            steps,
+        )
+    }
+}

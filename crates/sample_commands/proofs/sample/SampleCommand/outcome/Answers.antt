@@ -1,5 +1,0 @@
-use Rattle.sample_commands.proofs.Given.{sample-given}
-use Rattle.sample_commands.proofs.sample.SampleCommand.outcome.Goals as goal
-
-pub returns-clause-given : goal.returns-clause-given
-returns-clause-given g c = sample-given c.args.self.now.trips c.args._read.now c.in_ok-read.read c.in_ok-read.ensures c.outcome.result c.outcome.ensures.given

@@ -1,3 +1,0 @@
-pub mod Found
-pub mod Laws
-pub mod Planned

@@ -1,0 +1,186 @@
+ghost use Rattle.std.specs.Prelude.{◌≡◌, ◌+◌, ◌<◌, ◌≤◌, length, All, IfOk};
+ghost use Rattle.block_writer.specs.Texts.{AreTexts};
+ghost use Rattle.desk_feed.specs.Feed.{HasPapers, said_with};
+ghost use Rattle.desk_feed.specs.Schedule.{most_steps};
+ghost use Rattle.desk_feed.specs.Script.{IsScript};
+ghost use Rattle.desk_run.specs.Outside.{outside};
+ghost use Rattle.desk_run.specs.Performs.{Performs};
+ghost use Rattle.feed_desk.specs.Plans.{most_to};
+ghost use Rattle.write_command.specs.Write.{Writes, files_of, stop_times_in, trips_in, write_asked};
+ghost use Rattle.write_command.specs.Writable.{IsWritable, IsWrittenOf};
+
+use crate::judging::trip_columns;
+use block_build::Blocks;
+use block_writer::{read_texts, stop_times_text, trips_text};
+use deadhead_matrix::{Deadheads, Pulls};
+use desk_feed::{FEED_PAPERS, FeedCommand, OnFeed, matrix_of, refuse};
+use desk_io::{Bytes, Memory, Shelf, Sink, Steps, Text};
+use desk_keeper::Keeper;
+use desk_run::{Outcome, Read, Writing, perform};
+use desk_settings::{Settings, chosen_in};
+use edit_script::Line;
+use feed_desk::{Drawn, draw_after};
+use gtfs_tables::{FeedFault, Paper, Table};
+use std::alloc::Global;
+use std::sync::ledger::Ledger;
+use trip_model::Timetable;
+
+// What is written again of a feed: the table of its trips and the text of its stop times. Or what is done where one of the two
+// papers is refused.
+#[derive(Drop)]
+enum Writable {
+    Texts(Table, Bytes),
+    Refused(Outcome),
+}
+
+// What is written again of the two papers, for a timetable and the number of its slots that have records.
+fn writable_of(
+    alloc: Global,
+    settings: &Settings,
+    read: &Read,
+    timetable: &Timetable,
+    base: u16,
+) -> Result<Writable, Memory>
+    requires { HasPapers read.now.pages }
+    ensures { IfOk result (IsWritable settings.now timetable.now base (trips_in read.now) (stop_times_in read.now)) }
+{
+    let trips = read.found(Paper::Trips);
+    let stop_times = read.found(Paper::StopTimes);
+    let trips = match read_texts(alloc, Paper::Trips, trip_columns(settings), trips) {
+        Ok(trips) => trips,
+        Err(FeedFault::Memory) => return Err(Memory),
+        Err(fault) => return Ok(Writable::Refused(refuse(alloc, &fault)?)),
+    };
+    match stop_times_text(alloc, stop_times, timetable, base) {
+        Ok(text) => Ok(Writable::Texts(trips, text)),
+        Err(FeedFault::Memory) => Err(Memory),
+        Err(fault) => Ok(Writable::Refused(refuse(alloc, &fault)?)),
+    }
+}
+
+// A file of these bytes.
+fn file(alloc: Global, name: &str, bytes: Bytes) -> Result<Writing, Memory>
+    ensures { IfOk result (λ file. file ≡ record { name = name.now; bytes = bytes }) }
+{
+    let name = Text::of(alloc, name)?;
+    Ok(Writing { name, bytes })
+}
+
+// The two files of blocks for a timetable.
+#[tactic(auto, unfolding(crate::specs::Write::files_of))]
+fn files(
+    alloc: Global,
+    settings: &Settings,
+    timetable: &Timetable,
+    blocks: &Blocks,
+    trips: &Table,
+    stop_times: Bytes,
+) -> Result<Vec<Writing>, Memory>
+    requires slots { All (All (λ s. s < length timetable.now.slots)) blocks.now }
+    requires trips { AreTexts trips.now }
+    ensures { IfOk result (λ writes. writes.items ≡ files_of settings.now timetable.now blocks.now trips.now stop_times) }
+{
+    let chosen = chosen_in(alloc, settings, trips)?;
+    let prefix = settings.prefix();
+    let first = trips_text(alloc, trips, timetable, &chosen, blocks, prefix)?;
+    let first = file(alloc, "trips_blocks.txt", first)?;
+    let second = file(alloc, "stop_times_blocks.txt", stop_times)?;
+    Ok(vec![in alloc; first, second]?)
+}
+
+// What is written and put of the plan after a script.
+fn written(
+    alloc: Global,
+    settings: &Settings,
+    drawn: &Drawn,
+    trips: &Table,
+    stop_times: Bytes,
+) -> Result<Outcome, Memory>
+    requires slots { All (All (λ s. s < length drawn.now.desk.script.timetable.slots)) drawn.now.blocks }
+    requires trips { AreTexts trips.now }
+    ensures { IfOk result (IsWrittenOf settings.now drawn.now trips.now stop_times) }
+{
+    let timetable = drawn.desk.timetable();
+    // Its clause says that the prefix is text.
+    let _prefix = settings.prefix().as_bytes();
+    let writes = files(alloc, settings, timetable, &drawn.blocks, trips, stop_times)?;
+    let refused = drawn.refused.as_str();
+    let text = format!(in alloc; "{refused}wrote trips_blocks.txt, stop_times_blocks.txt\n")?;
+    Ok(Outcome::of(writes, None, Text::wrap(text), drawn.ending))
+}
+
+// What is written and put of what a feed says.
+fn written_of<L: Ledger>(
+    alloc: Global,
+    read: &Read,
+    settings: &Settings,
+    timetable: Timetable,
+    deadheads: &Deadheads,
+    pulls: Pulls,
+    lines: &[Line],
+    steps: &mut Steps<L>,
+) -> Result<Outcome, Memory>
+    requires papers { HasPapers read.now.pages }
+    requires pulls { length pulls ≡ length timetable.places }
+    requires script { IsScript lines.now }
+    ensures writes { IfOk result (Writes read.now (said_with settings.now timetable deadheads.now pulls lines.now)) }
+    ensures counted { steps.new ≤ steps.old + (most_steps (length timetable.slots) + most_to timetable lines.now (length lines.now)) }
+{
+    let slots = timetable.slots();
+    let matrix = matrix_of(alloc, &timetable, deadheads, pulls)?;
+    let drawn = draw_after(alloc, timetable, lines, matrix, steps)?;
+    let stands = drawn.desk.timetable();
+    match writable_of(alloc, settings, read, stands, slots)? {
+        Writable::Refused(outcome) => Ok(outcome),
+        Writable::Texts(trips, stop_times) => written(alloc, settings, &drawn, &trips, stop_times),
+    }
+}
+
+#[derive(Drop)]
+struct WriteFeed;
+
+impl FeedCommand for WriteFeed {
+    ghost use Rattle.write_command.specs.Write.{write_does};
+
+    ghost asks = { λ _. write_does };
+
+    fn papers(&self) -> &[Paper] {
+        &FEED_PAPERS
+    }
+
+    fn keeps(&self) -> bool {
+        false
+    }
+
+    fn outcome<L: Ledger>(
+        &self,
+        alloc: Global,
+        read: &Read,
+        settings: &Settings,
+        timetable: Timetable,
+        deadheads: &Deadheads,
+        pulls: Pulls,
+        lines: &[Line],
+        steps: &mut Steps<L>,
+    ) -> Result<Outcome, Memory> {
+        written_of(
+            alloc, read, settings, timetable, deadheads, pulls, lines, steps,
+        )
+    }
+}
+
+/// The command `write`: the agency's trips with the block of each in `trips_blocks.txt`, and its stop times with those of
+/// shifted trips moved in `stop_times_blocks.txt`. It answers the status.
+#[tactic(auto, unfolding(crate::specs::Write::write_asked))]
+pub fn run_write<S: Shelf, O: Sink, K: Keeper, L: Ledger>(
+    alloc: Global,
+    shelf: &mut S,
+    out: &mut O,
+    keeper: &mut K,
+    steps: &mut Steps<L>,
+) -> u8
+    ensures { let at = outside S.state S.history O.state O.history K.state K.history in
+        Performs write_asked (at shelf.old out.old keeper.old) (at shelf.new out.new keeper.new) result steps.old steps.new }
+{
+    perform(&OnFeed(WriteFeed), alloc, shelf, out, keeper, steps)
+}

@@ -1,0 +1,16 @@
+pub mod Again
+pub mod Base
+pub mod Chosen
+pub mod Columns
+pub mod Early
+pub mod Edits
+pub mod FeedTrips
+pub mod Grouped
+pub mod Moves
+pub mod Named
+pub mod ReadBack
+pub mod Records
+pub mod Stated
+pub mod StopTimes
+pub mod Times
+pub mod Trips

@@ -1,0 +1,6 @@
+pub mod Follows
+pub mod Found
+pub mod Laws
+pub mod PlanLaws
+pub mod Planned
+pub mod Written
