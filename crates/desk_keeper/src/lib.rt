@@ -10,11 +10,7 @@
 //! were asked for at most; an append appends all lines in order or none; `Failed` comes only where the count rose, and
 //! every other answer leaves it; each call is noted.
 //!
-//! ```text
-//! let mut keeper = MemoryKeeper::open(alloc, Vec::new(alloc));
-//! keeper.append_all(alloc, &lines)?;
-//! let journal = keeper.load(alloc, 65_536)?;
-//! ```
+//! //! `desk_run` shows a use of a keeper, in `src/reading.rt` and `src/carrying.rt`.
 //!
 //! The contracts cite `Keeper` (what a keeper holds, and what loads and appends do to it) and `MemoryKeeper`, and of
 //! `desk_io` `Faults` (when a count rose), `History` (which calls came) and `Calls` (which calls are listed to fail).

@@ -7,7 +7,7 @@
 //! The contract that the crates above use: each moment of the script has one plan. It is certified and least over all blockings
 //! of the timetable that stands then. Where the same edits stand the plans are equal. What is drawn is the last one.
 //!
-//! `board_commands` shows a use, in `src/joined.rt`.
+//! `joined_command` shows a use, in `src/joined.rt`.
 //!
 //! The contracts cite `Plans` (one plan for each moment), `Answers` (what is put of the records) and `Drawn` (what stands after
 //! the script). Of `desk_core` they cite `Counts`, and of `desk_feed` `Edited`, `Schedule` and `Script`. `Moments` has terms of

@@ -10,13 +10,7 @@
 //! network is one of one day, in which departures rise, as [`Pairs::slots`] says. So the laws of `deadhead_matrix` hold of
 //! plans over these pairs.
 //!
-//! ```text
-//! let pairs = Pairs::of(&timetable, &matrix);
-//! let saved = pairs.weight(0, 1, &mut steps);
-//! if let Some(row) = pairs.row(0) {
-//!     let reach = row.reach(2);
-//! }
-//! ```
+//! //! `feed_schedule` shows a use, in `src/schedule.rt`.
 //!
 //! The contracts cite `Pairs` (what the pairs are seen as) and `Reach` (what a vehicle saves by the trips at one place). Of
 //! `deadhead_matrix` they cite `Fitting` and `Prices`, and of `trip_model` `Plain` and `Network`.
