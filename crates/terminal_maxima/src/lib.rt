@@ -8,12 +8,7 @@
 //! fold of all. `greatest_prefix` is the greatest of 0 and all prefix sums. `first_reaching` and `first_from` give the first
 //! place whose prefix sum reaches a value.
 //!
-//! ```text
-//! let mut tree = Tree::open(alloc)?;
-//! tree.set(480, MaxPrefix { sum: 1, high: 1 }, &mut steps);
-//! let most = tree.greatest_prefix();
-//! let first = tree.first_reaching(most);
-//! ```
+//! `src/tests.rt` shows a use.
 //!
 //! The contracts cite:
 //!
