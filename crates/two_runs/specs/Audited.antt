@@ -73,9 +73,9 @@ FindsWrittenLeast files written laid before after first second =
     first ≤ EDITS_REFUSED → second ≤ NO
     → IfSome files (λ files. IfSome written (λ written. IfSome laid (λ laid. IsLaid written laid → CanBeAudited files written → FindsLeast before after second)))
 
--- The first run is one of `write`, which leaves this shelf, and the second one of `audit` over another, which begins with sink
--- and keeper as the first has left them, and with the calls that came to each: each of the two is all that the command promises when it runs alone. And the second
--- finds least what the first has written.
+-- The first run is one of `write`, which leaves this shelf, and the second one of `audit` over another. The second begins with
+-- sink and keeper as the first has left them, and with the calls that came to each. Each of the two is all that the command
+-- promises when it runs alone. And the second finds least what the first has written.
 pub record WritesAndAudits (before : Outside) (written : ShelfState) (written_calls : List Call) (laid : ShelfState) (laid_calls : List Call) (after : Outside) (first second old new : ℕ) : Type 0 where
   pub sink : SinkState
   pub sink_calls : List Call
