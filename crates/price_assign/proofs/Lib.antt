@@ -1,15 +1,2 @@
-pub mod AddLemmas
-pub mod FitLemmas
-pub mod GroupLemmas
-pub mod InverseLemmas
-pub mod LentLemmas
-pub mod LookLemmas
-pub mod LooseLemmas
-pub mod OrderLemmas
-pub mod RelinkLemmas
-pub mod RenameLemmas
+pub mod PlanLemmas
 pub mod RightLemmas
-pub mod ShiftLemmas
-pub mod SideLemmas
-pub mod TreeLemmas
-pub mod VisitLemmas

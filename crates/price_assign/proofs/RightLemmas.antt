@@ -8,10 +8,10 @@ use Rattle.trip_model.specs.Network.{Network, Fits, AreDepartures}
 use Rattle.trip_model.proofs.BeforeLemmas.{next-within}
 use Rattle.deadhead_matrix.specs.Paths.{IsPath, IsRightPath}
 use Rattle.deadhead_matrix.specs.Prices.{weight, Plan, price, IsDay, IsLoose}
-use Rattle.price_assign.specs.Inverse.{IsInverse}
-use Rattle.price_assign.specs.Turned.{MayBeginTurned, IsFoundTurned}
-use Rattle.price_assign.proofs.InverseLemmas.{inverse-before}
-use Rattle.price_assign.proofs.LooseLemmas.{IsWithout, fits-weight, weight-fits, is-at, AreNextTrips-loose}
+use Rattle.pair_search.specs.Inverse.{IsInverse}
+use Rattle.pair_search.specs.Turned.{MayBeginTurned, IsFoundTurned}
+use Rattle.pair_search.proofs.InverseLemmas.{inverse-before}
+use Rattle.pair_search.proofs.LooseLemmas.{IsWithout, fits-weight, weight-fits, is-at, AreNextTrips-loose}
 
 -- the inverse of an inverse
 inverse-swap : (next before : List (Option ℕ)) → IsInverse (length next) next before → IsInverse (length before) before next

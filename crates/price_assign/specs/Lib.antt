@@ -1,12 +1,1 @@
-pub mod Assignment
-pub mod Groups
-pub mod Inverse
-pub mod Lists
-pub mod Order
 pub mod Plans
-pub mod Relinking
-pub mod Renamed
-pub mod Search
-pub mod Side
-pub mod Turned
-pub mod Visits

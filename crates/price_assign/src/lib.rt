@@ -10,26 +10,11 @@
 //!
 //! `feed_schedule` shows a use, in `src/schedule.rt`.
 //!
-//! The contracts cite `Plans` (plans with other slots, or another entry), and of `deadhead_matrix` `Prices` and `Paths`.
-//! `Side`, `Order`, `Groups`, `Renamed`, `Assignment`, `Search`, `Relinking`, `Inverse`, `Turned`, `Visits` and `Lists` have the terms of
-//! the search for proofs alone.
+//! The contracts cite `Plans` (plans with other slots, or another entry), and of `deadhead_matrix` `Prices` and `Paths`. The search
+//! is that of `pair_search`.
 #![tactic(auto)]
 
-mod groups;
-mod grow;
-mod invert;
-mod limits;
-mod line;
-mod links;
-mod lists;
-mod order;
 mod plan;
-mod relink;
-mod rename;
-mod scan;
-mod search;
-mod shift;
-mod side;
 mod solver;
 
 pub use plan::Plan;

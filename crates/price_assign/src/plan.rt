@@ -2,17 +2,16 @@ ghost use Rattle.std.specs.Prelude.{◌≡◌, ◌+◌, ◌*◌, ◌<◌, ◌≤
 ghost use Rattle.deadhead_matrix.specs.Paths.{IsLeftPath, IsRightPath};
 ghost use Rattle.deadhead_matrix.specs.Prices.{IsCertified, IsLoose};
 ghost use Rattle.pair_graph.specs.Pairs.{pairs_network};
-ghost use Rattle.price_assign.specs.Lists.{AreLists};
+ghost use Rattle.pair_search.specs.Lists.{AreLists};
 ghost use Rattle.price_assign.specs.Plans.{with_slots, with_entry};
 ghost use Rattle.trip_model.specs.declared.limits.TheConstants.{MOST_SLOTS};
 
-use crate::groups::{Group, find_groups};
-use crate::lists::Lists;
-use crate::order::{Column, arrange, arrange_departures};
-use crate::search::{link_all, search_befores, search_links};
-use crate::side::Side;
 use desk_io::{Memory, Steps};
 use pair_graph::Pairs;
+use pair_search::{
+    Column, Group, Lists, Side, arrange, arrange_departures, find_groups, link_all, search_befores,
+    search_links,
+};
 use std::alloc::Global;
 use std::marker::Model;
 use std::sync::ledger::Ledger;

@@ -6,9 +6,9 @@ ghost use Rattle.price_assign.specs.Plans.{with_slots, with_entry};
 ghost use Rattle.trip_model.specs.declared.limits.TheConstants.{MOST_SLOTS};
 
 use crate::Plan;
-use crate::lists::{Lists, Order};
 use desk_io::{Memory, Steps};
 use pair_graph::Pairs;
+use pair_search::{Lists, Order};
 use std::alloc::Global;
 use std::marker::Model;
 use std::sync::ledger::Ledger;
@@ -42,7 +42,7 @@ impl Model for Solver {
 
     ghost Value = { prices.Plan };
 
-    ghost use Rattle.price_assign.specs.Lists.{AreLists, AreOrders};
+    ghost use Rattle.pair_search.specs.Lists.{AreLists, AreOrders};
 
     ghost view = { λ s. s.plan };
 

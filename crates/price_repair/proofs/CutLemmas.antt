@@ -15,7 +15,7 @@ use Rattle.deadhead_matrix.specs.Prices.{Plan, price, weight_to, IsCertified, Is
 use Rattle.deadhead_matrix.proofs.Days.{AreDepartures-deadhead}
 use Rattle.deadhead_matrix.proofs.Looseness.{IsLoose-certified}
 use Rattle.pair_graph.specs.Pairs.{PairsView, pairs_network}
-use Rattle.price_assign.proofs.LooseLemmas.{weight-fits}
+use Rattle.pair_search.proofs.LooseLemmas.{weight-fits}
 use Rattle.price_repair.specs.Cut.{plan_without}
 use Rattle.price_repair.specs.Without.{pairs_without, IsCertifiedWith}
 use Rattle.price_repair.proofs.WithoutLemmas.{LacksTrip, LacksTrip-without, get_or-set_default, fits-other, AreNextTrips-links}

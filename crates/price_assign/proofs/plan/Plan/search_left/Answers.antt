@@ -4,8 +4,8 @@ use Rattle.trip_model.specs.Plain.{move_at}
 use Rattle.deadhead_matrix.specs.Paths.{IsLeftPath}
 use Rattle.deadhead_matrix.specs.Prices.{Plan, IsDay, IsLoose}
 use Rattle.pair_graph.specs.Pairs.{pairs_network}
-use Rattle.price_assign.proofs.LooseLemmas.{IsLeftPath-loose}
-use Rattle.price_assign.proofs.SideLemmas.{MayBegin-leaving, IsLoose-leaving}
+use Rattle.pair_search.proofs.LooseLemmas.{IsLeftPath-loose}
+use Rattle.price_assign.proofs.PlanLemmas.{MayBegin-leaving, IsLoose-leaving}
 use Rattle.price_assign.proofs.plan.Plan.search_left.Goals as goal
 
 pub search_links-requires-clause-begins : goal.search_links-requires-clause-begins

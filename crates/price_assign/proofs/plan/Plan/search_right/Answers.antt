@@ -4,10 +4,10 @@ use Rattle.trip_model.specs.Plain.{move_at}
 use Rattle.deadhead_matrix.specs.Paths.{IsRightPath}
 use Rattle.deadhead_matrix.specs.Prices.{Plan, IsDay, IsLoose}
 use Rattle.pair_graph.specs.Pairs.{pairs_network}
-use Rattle.price_assign.proofs.LooseLemmas.{AreNextTrips-loose}
+use Rattle.pair_search.proofs.LooseLemmas.{AreNextTrips-loose}
 use Rattle.price_assign.proofs.RightLemmas.{IsRightPath-loose}
-use Rattle.price_assign.proofs.SideLemmas.{MayBegin-entering, IsLoose-entering}
-use Rattle.price_assign.specs.Side.{side_weight}
+use Rattle.price_assign.proofs.PlanLemmas.{MayBegin-entering, IsLoose-entering}
+use Rattle.pair_search.specs.Side.{side_weight}
 use Rattle.price_assign.proofs.plan.Plan.search_right.Goals as goal
 
 pub search_befores-requires-clause-apart : goal.search_befores-requires-clause-apart

@@ -3,9 +3,9 @@ use Rattle.trip_model.specs.Order.{minute_left}
 use Rattle.trip_model.specs.Plain.{move_at}
 use Rattle.deadhead_matrix.specs.Prices.{Plan, IsDay}
 use Rattle.pair_graph.specs.Pairs.{pairs_network}
-use Rattle.price_assign.specs.Order.{slot_at, place_of, IsRenaming}
-use Rattle.price_assign.specs.Side.{side_slots}
-use Rattle.price_assign.proofs.SideLemmas.{IsCertified-leaving}
+use Rattle.pair_search.specs.Order.{slot_at, place_of, IsRenaming}
+use Rattle.pair_search.specs.Side.{side_slots}
+use Rattle.price_assign.proofs.PlanLemmas.{IsCertified-leaving}
 use Rattle.price_assign.proofs.plan.Plan.solve.Goals as goal
 
 pub returns-clause-certified : goal.returns-clause-certified

@@ -1,0 +1,243 @@
+-- What a row weighs with the columns at one post.
+use Rattle.std.proofs.Common.{◌≡◌, ℕ, ◌+◌, ◌-◌, ◌<◌, ◌≤◌, nat_le, Bool, true, false, cond, List, length, take, drop, get_or, Option, None, Some, refl, sym, ap, ◌∙◌, ⊎_elim, arith}
+use Rattle.std.specs.Prelude.{is_some}
+use Rattle.std.specs.Option.{option_map}
+use Rattle.std.proofs.lemmas.Bool.{both_ways, cases_lt, le-leb, lt-leb}
+use Rattle.std.proofs.lemmas.List.{get_or-drop, get_or-take, length-drop, length-take}
+use Rattle.std.proofs.lemmas.Option.{none-some, same_Some}
+use Rattle.trip_model.specs.Links.{leads_to}
+use Rattle.trip_model.specs.Plain.{move_at, AreMoves, IsMove}
+use Rattle.trip_model.specs.declared.trip.Move.{Move}
+use Rattle.deadhead_matrix.specs.Matrix.{walk}
+use Rattle.deadhead_matrix.specs.Fitting.{empty_between}
+use Rattle.deadhead_matrix.specs.Prices.{weight}
+use Rattle.pair_graph.specs.Pairs.{PairsView, pairs_network}
+use Rattle.pair_graph.specs.Reach.{saved_from, saved_until}
+use Rattle.pair_graph.specs.declared.reach.Reach.{Reach}
+use Rattle.pair_search.specs.Order.{column_minute, column_post, no_column, IsOrder}
+use Rattle.pair_search.specs.declared.order.Column.{Column}
+use Rattle.pair_search.specs.Groups.{group_at, AreGroups}
+use Rattle.pair_search.specs.declared.groups.Group.{Group}
+use Rattle.pair_search.specs.Side.{SideView, LineView, side_slots, side_slot, line_weight, pairs_minute, pairs_post, IsFit, FitsNone}
+use Rattle.pair_search.proofs.SideLemmas.{all_weights, masked}
+
+-- the column of a trip that runs and is not left out stands at a post
+record IsStanding (pairs : PairsView) (turned : Bool) (without : Option ℕ) (slot p : ℕ) : Type 0 where
+  pub made : Move
+  pub is : move_at pairs.moves slot ≡ Some made
+  pub kept : leads_to slot without ≡ false
+  pub here : cond turned made.to made.from ≡ p
+
+standing : (pairs : PairsView) (turned : Bool) (without : Option ℕ) (slot p : ℕ) → pairs_post pairs turned without slot ≡ Some p → IsStanding pairs turned without slot p
+standing pairs turned without slot p e = by (move_at pairs.moves slot) refl e
+  where
+    left : (m : Move) → move_at pairs.moves slot ≡ Some m → (t : Bool) → leads_to slot without ≡ t → cond t None (Some (cond turned m.to m.from)) ≡ Some p → IsStanding pairs turned without slot p
+    left m is false kept e = record { made = m; is = is; kept = kept; here = same_Some (cond turned m.to m.from) p e }
+    left m is true kept e = absurd (none-some p e)
+
+    by : (o : Option Move) → move_at pairs.moves slot ≡ o → column_post turned without slot o ≡ Some p → IsStanding pairs turned without slot p
+    by None is e = absurd (none-some p e)
+    by (Some m) is e = left m is (leads_to slot without) refl e
+
+-- nothing fits a trip that does not run
+idle : (pairs : PairsView) (i j : ℕ) → move_at pairs.moves i ≡ None → (weight (pairs_network pairs) i j ≡ None) × (weight (pairs_network pairs) j i ≡ None)
+idle pairs i j none = (ap (λ o. weighed (empty_between (walk pairs.matrix) o (move_at pairs.moves j))) none, by (move_at pairs.moves j) refl)
+  where
+    weighed : Option ℕ → Option ℕ
+    weighed o = option_map (λ minutes. 67108864 + (pairs_network pairs).home i + (pairs_network pairs).out j - minutes) o
+
+    weighed-back : Option ℕ → Option ℕ
+    weighed-back o = option_map (λ minutes. 67108864 + (pairs_network pairs).home j + (pairs_network pairs).out i - minutes) o
+
+    by : (o : Option Move) → move_at pairs.moves j ≡ o → weight (pairs_network pairs) j i ≡ None
+    by None e = ap (λ m. weighed-back (empty_between (walk pairs.matrix) m (move_at pairs.moves i))) e
+    by (Some m) e = ap (λ o. weighed-back (empty_between (walk pairs.matrix) o (move_at pairs.moves i))) e ∙ ap (λ o. weighed-back (empty_between (walk pairs.matrix) (Some m) o)) none
+
+-- seen from the entering side, the minutes count backward
+turned-minutes : (result : Option Reach) (arrives : ℕ) → arrives ≤ 8191 → saved_until result arrives ≡ saved_from (option_map (λ (r : Reach). record { minute = 8191 - r.minute; saved = r.saved }) result) (8191 - arrives)
+turned-minutes None arrives day = refl
+turned-minutes (Some r) arrives day = ap (λ b. cond b (Some r.saved) None) same
+  where
+    same : nat_le arrives r.minute ≡ nat_le (8191 - r.minute) (8191 - arrives)
+    same = ⊎_elim
+        (λ (late : r.minute < arrives). lt-leb arrives r.minute late ∙ sym (lt-leb (8191 - r.minute) (8191 - arrives) (omega (arith, late, day))))
+        (λ (in-time : arrives ≤ r.minute). le-leb arrives r.minute in-time ∙ sym (le-leb (8191 - r.minute) (8191 - arrives) (omega (arith, in-time, day))))
+        (cases_lt r.minute arrives)
+
+-- the columns of a side are in order and in groups, and moves are of one day
+pub record IsArranged (side : SideView) : Type 0 where
+  pub order : IsOrder (side_slots side) (pairs_minute side.pairs side.turned) (pairs_post side.pairs side.turned side.without) side.columns side.places
+  pub groups : AreGroups (side_slots side) side.columns side.count side.groups
+  pub moves : AreMoves (length side.pairs.matrix.walks) side.pairs.moves
+
+module _ (line : LineView) (arranged : IsArranged line.side) where
+  abbrev column : ℕ → Column
+  column k = get_or line.side.columns k (no_column (side_slots line.side))
+
+  at-post : (k p : ℕ) → k < side_slots line.side → (column k).post ≡ Some p → IsStanding line.side.pairs line.side.turned line.side.without (side_slot line.side k) p
+  at-post k p lt e = standing line.side.pairs line.side.turned line.side.without (side_slot line.side k) p (sym (arranged.order.posts k lt) ∙ e)
+
+  -- where the column stands
+  pub post-within : (k p : ℕ) → k < side_slots line.side → (column k).post ≡ Some p → p < length line.side.pairs.matrix.walks
+  post-within k p lt e =
+      let s = at-post k p lt e in
+      let move = arranged.moves.each (side_slot line.side k) s.made s.is in
+      by s.made move line.side.turned s.here
+    where
+      by : (m : Move) → IsMove (length line.side.pairs.matrix.walks) m → (t : Bool) → cond t m.to m.from ≡ p → p < length line.side.pairs.matrix.walks
+      by m move true e = omega (arith, e, move.to)
+      by m move false e = omega (arith, e, move.from)
+
+  -- a column that stands nowhere fits none
+  pub nowhere : (k : ℕ) → k < side_slots line.side → (column k).post ≡ None → line_weight line k ≡ None
+  nowhere k lt e = by (move_at line.side.pairs.moves (side_slot line.side k)) refl (sym (arranged.order.posts k lt) ∙ e)
+    where
+      left : (m : Move) → (t : Bool) → leads_to (side_slot line.side k) line.side.without ≡ t → cond t None (Some (cond line.side.turned m.to m.from)) ≡ None → line_weight line k ≡ None
+      left m true out e = masked line.side line.row (side_slot line.side k) true out
+      left m false out e = absurd (none-some _ (sym e))
+
+      off : (t : Bool) → move_at line.side.pairs.moves (side_slot line.side k) ≡ None → all_weights line.side.pairs t line.row (side_slot line.side k) ≡ None
+      off true none = (idle line.side.pairs (side_slot line.side k) line.row none).0
+      off false none = (idle line.side.pairs (side_slot line.side k) line.row none).1
+
+      unmade : (t : Bool) → leads_to (side_slot line.side k) line.side.without ≡ t → move_at line.side.pairs.moves (side_slot line.side k) ≡ None → line_weight line k ≡ None
+      unmade true out none = masked line.side line.row (side_slot line.side k) true out
+      unmade false out none = masked line.side line.row (side_slot line.side k) false out ∙ off line.side.turned none
+
+      by : (o : Option Move) → move_at line.side.pairs.moves (side_slot line.side k) ≡ o → column_post line.side.turned line.side.without (side_slot line.side k) o ≡ None → line_weight line k ≡ None
+      by None is e = unmade (leads_to (side_slot line.side k) line.side.without) refl is
+      by (Some m) is e = left m (leads_to (side_slot line.side k) line.side.without) refl e
+
+  -- the weights of the columns at a post
+  abbrev pub AreSaved : ℕ → Option Reach → Type 0
+  AreSaved p result = (k : ℕ) → k < side_slots line.side → (column k).post ≡ Some p → line_weight line k ≡ saved_from result (column k).minute
+
+  pub saved-leaving : (p : ℕ) (result : Option Reach) → line.side.turned ≡ false
+      → ((j : ℕ) (m : Move) → move_at line.side.pairs.moves j ≡ Some m → m.from ≡ p → weight (pairs_network line.side.pairs) line.row j ≡ saved_from result m.leaves) → AreSaved p result
+  saved-leaving p result leaving reach k lt e =
+      let s = at-post k p lt e in
+      let slot = side_slot line.side k in
+      masked line.side line.row slot false s.kept
+      ∙ ap (λ t. all_weights line.side.pairs t line.row slot) leaving
+      ∙ reach slot s.made s.is (sym (ap (λ t. cond t s.made.to s.made.from) leaving) ∙ s.here)
+      ∙ ap (saved_from result) (sym (arranged.order.minutes k lt ∙ ap (column_minute line.side.turned) s.is ∙ ap (λ t. column_minute t (Some s.made)) leaving))
+
+  pub saved-entering : (p : ℕ) (result : Option Reach) → line.side.turned ≡ true
+      → ((i : ℕ) (m : Move) → move_at line.side.pairs.moves i ≡ Some m → m.to ≡ p → weight (pairs_network line.side.pairs) i line.row ≡ saved_until result m.arrives)
+      → AreSaved p (option_map (λ (r : Reach). record { minute = 8191 - r.minute; saved = r.saved }) result)
+  saved-entering p result entering reach k lt e =
+      let s = at-post k p lt e in
+      let slot = side_slot line.side k in
+      let turned = option_map (λ (r : Reach). record { minute = 8191 - r.minute; saved = r.saved }) result in
+      masked line.side line.row slot false s.kept
+      ∙ ap (λ t. all_weights line.side.pairs t line.row slot) entering
+      ∙ reach slot s.made s.is (sym (ap (λ t. cond t s.made.to s.made.from) entering) ∙ s.here)
+      ∙ turned-minutes result s.made.arrives (arranged.moves.each slot s.made s.is).in_day
+      ∙ ap (saved_from turned) (sym (arranged.order.minutes k lt ∙ ap (column_minute line.side.turned) s.is ∙ ap (λ t. column_minute t (Some s.made)) entering))
+
+  pub saved-idle : (p : ℕ) → (pairs_network line.side.pairs).live line.row ≡ false → AreSaved p None
+  saved-idle p dead k lt e =
+      let s = at-post k p lt e in
+      masked line.side line.row (side_slot line.side k) false s.kept ∙ by line.side.turned
+    where
+      true-false : true ≡ false → ⊥
+      true-false e = both_ways true e refl
+
+      none : (o : Option Move) → move_at line.side.pairs.moves line.row ≡ o → is_some o ≡ false → move_at line.side.pairs.moves line.row ≡ None
+      none None is e = is
+      none (Some m) is e = absurd (true-false e)
+
+      by : (t : Bool) → all_weights line.side.pairs t line.row (side_slot line.side k) ≡ None
+      by true = (idle line.side.pairs line.row (side_slot line.side k) (none (move_at line.side.pairs.moves line.row) refl dead)).1
+      by false = (idle line.side.pairs line.row (side_slot line.side k) (none (move_at line.side.pairs.moves line.row) refl dead)).0
+
+  -- a group of columns at one post, and how many of them stand before the minute from which on the row may be needed
+  module _ (g : ℕ) (inside : g < line.side.count) where
+    in-group : (k : ℕ) → k < (group_at line.side.groups g).to → k < side_slots line.side
+    in-group k lt = omega (arith, lt, arranged.groups.within g inside)
+
+    stand : (k : ℕ) → (group_at line.side.groups g).from ≤ k → k < (group_at line.side.groups g).to → (column k).post ≡ (group_at line.side.groups g).post
+    stand k after before = arranged.groups.posts g k (no_column (side_slots line.side)) inside after before
+
+    pub post-there : (p : ℕ) → (group_at line.side.groups g).post ≡ Some p → p < length line.side.pairs.matrix.walks
+    post-there p e =
+        let begin = (group_at line.side.groups g).from in
+        post-within begin p (in-group begin (arranged.groups.after g inside)) (stand begin (omega arith) (arranged.groups.after g inside) ∙ e)
+
+    pub none-nowhere : (group_at line.side.groups g).post ≡ None → FitsNone line (group_at line.side.groups g)
+    none-nowhere e k after before = nowhere k (in-group k before) (stand k after before ∙ e)
+
+    pub none-reached : (p : ℕ) → (group_at line.side.groups g).post ≡ Some p → AreSaved p None → FitsNone line (group_at line.side.groups g)
+    none-reached p e saved k after before = saved k (in-group k before) (stand k after before ∙ e)
+
+    module _ (p : ℕ) (e : (group_at line.side.groups g).post ≡ Some p) (r : Reach) (saved : AreSaved p (Some r)) (early : ℕ)
+        (before : (k : ℕ) → (group_at line.side.groups g).from ≤ k → k < (group_at line.side.groups g).from + early → (column k).minute < r.minute) where
+      late : (k : ℕ) → (group_at line.side.groups g).from ≤ k → k < (group_at line.side.groups g).from + early → k < (group_at line.side.groups g).to → line_weight line k ≡ None
+      late k from lt to = saved k (in-group k to) (stand k from to ∙ e) ∙ ap (λ b. cond b (Some r.saved) None) (lt-leb r.minute (column k).minute (before k from lt))
+
+      pub none-early : (group_at line.side.groups g).to ≤ (group_at line.side.groups g).from + early → FitsNone line (group_at line.side.groups g)
+      none-early all k from to = late k from (omega (arith, all, to)) to
+
+      pub IsFit-found : (group_at line.side.groups g).from + early < (group_at line.side.groups g).to
+          → ((k : ℕ) → (group_at line.side.groups g).from + early ≤ k → k < (group_at line.side.groups g).to → r.minute ≤ (column k).minute) → IsFit line (group_at line.side.groups g) (record { from = (group_at line.side.groups g).from + early; weight = r.saved })
+      IsFit-found some after = record {
+        after = omega arith;
+        within = some;
+        early = λ k from lt. late k from lt (omega (arith, lt, some));
+        fits = λ k from to.
+            saved k (in-group k to) (stand k (omega (arith, from)) to ∙ e) ∙ ap (λ b. cond b (Some r.saved) None) (le-leb r.minute (column k).minute (after k from to));
+      }
+
+-- the columns of a list between two places
+abbrev pub piece : List Column → ℕ → ℕ → List Column
+piece columns from to = take (to - from) (drop from columns)
+
+piece-at : (columns : List Column) (from to k : ℕ) (d : Column) → from ≤ k → k < to → get_or (piece columns from to) (k - from) d ≡ get_or columns k d
+piece-at columns from to k d after before =
+    get_or-take (to - from) (drop from columns) (k - from) d (omega (arith, after, before)) ∙ get_or-drop from columns (k - from) d ∙ ap (λ m. get_or columns m d) (omega (arith, after))
+
+pub length-piece : (columns : List Column) (from to : ℕ) → to ≤ length columns → length (piece columns from to) ≡ to - from
+length-piece columns from to within = omega (arith, length-take (to - from) (drop from columns), length-drop from columns, within)
+
+-- the minutes of a group rise
+pub rise-piece : (n : ℕ) (columns : List Column) (count : ℕ) (groups : List Group) (g : ℕ) (group : Group) → AreGroups n columns count groups → g < count → group ≡ group_at groups g → n ≤ length columns
+    → (i j : ℕ) (d : Column) → i ≤ j → j < length (piece columns group.from group.to) → (get_or (piece columns group.from group.to) i d).minute ≤ (get_or (piece columns group.from group.to) j d).minute
+rise-piece n columns count groups g group are inside is all i j d le lt =
+    let from = ap (λ (x : Group). x.from) is in
+    let to = ap (λ (x : Group). x.to) is in
+    let short : j < group.to - group.from = omega (arith, lt, length-piece columns group.from group.to (omega (arith, to, are.within g inside, all))) in
+    let at-i = ap (λ (x : Column). x.minute) (piece-at columns group.from group.to (group.from + i) d (omega arith) (omega (arith, short, le))) in
+    let at-j = ap (λ (x : Column). x.minute) (piece-at columns group.from group.to (group.from + j) d (omega arith) (omega (arith, short))) in
+    omega (
+      arith,
+      at-i,
+      at-j,
+      ap (λ m. (get_or (piece columns group.from group.to) m d).minute) (place-back group.from i),
+      ap (λ m. (get_or (piece columns group.from group.to) m d).minute) (place-back group.from j),
+      are.rise g (group.from + i) (group.from + j) d inside (omega (arith, from)) (omega (arith, le)) (omega (arith, short, to)),
+    )
+  where
+    place-back : (a b : ℕ) → a + b - a ≡ b
+    place-back a b = omega arith
+
+-- how early the columns of a group are
+pub early-piece : (columns columns' : List Column) (from to early minute : ℕ) → columns ≡ columns' → from + early ≤ to
+    → ((k : ℕ) (d : Column) → k < early → (get_or (piece columns from to) k d).minute < minute) → (k : ℕ) (d : Column) → from ≤ k → k < from + early → (get_or columns' k d).minute < minute
+early-piece columns columns' from to early minute is within before k d after lt =
+    omega (
+      arith,
+      ap (λ xs. (get_or xs k d).minute) is,
+      ap (λ (x : Column). x.minute) (piece-at columns from to k d after (omega (arith, lt, within))),
+      before (k - from) d (omega (arith, after, lt)),
+    )
+
+pub late-piece : (columns columns' : List Column) (from to early minute : ℕ) → columns ≡ columns' → to ≤ length columns
+    → ((k : ℕ) (d : Column) → early ≤ k → k < length (piece columns from to) → minute ≤ (get_or (piece columns from to) k d).minute) → (k : ℕ) (d : Column) → from + early ≤ k → k < to
+    → minute ≤ (get_or columns' k d).minute
+late-piece columns columns' from to early minute is all after k d le lt =
+    omega (
+      arith,
+      ap (λ xs. (get_or xs k d).minute) is,
+      ap (λ (x : Column). x.minute) (piece-at columns from to k d (omega (arith, le)) lt),
+      after (k - from) d (omega (arith, le)) (omega (arith, length-piece columns from to all, le, lt)),
+    )

@@ -1,0 +1,14 @@
+pub mod AddLemmas
+pub mod FitLemmas
+pub mod GroupLemmas
+pub mod InverseLemmas
+pub mod LentLemmas
+pub mod LookLemmas
+pub mod LooseLemmas
+pub mod OrderLemmas
+pub mod RelinkLemmas
+pub mod RenameLemmas
+pub mod ShiftLemmas
+pub mod SideLemmas
+pub mod TreeLemmas
+pub mod VisitLemmas

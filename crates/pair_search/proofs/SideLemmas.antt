@@ -1,0 +1,52 @@
+-- What the weights of a side are.
+use Rattle.std.proofs.Common.{◌≡◌, ◌≢◌, ℕ, Bool, true, false, cond, Option, None, Some, refl, sym, ap, ◌∙◌, ⊎_elim, inl, inr, ◌⊎◌}
+use Rattle.std.specs.Prelude.{if◌then◌else◌}
+use Rattle.std.proofs.lemmas.Bool.{cases_eq, eq-eqb, ne_eqb}
+use Rattle.std.proofs.lemmas.Option.{none-some, same_Some}
+use Rattle.trip_model.specs.Links.{leads_to}
+use Rattle.deadhead_matrix.specs.Prices.{weight}
+use Rattle.pair_graph.specs.Pairs.{PairsView, pairs_network}
+use Rattle.pair_search.specs.Assignment.{AreWeights}
+use Rattle.pair_search.specs.Side.{SideView, side_weight}
+use Rattle.pair_search.proofs.LooseLemmas.{IsWithout, AreWeights-turned, AreWeights-without}
+
+-- the weights of all pairs, from the side
+abbrev pub all_weights : PairsView → Bool → ℕ → ℕ → Option ℕ
+all_weights pairs turned i j = if turned then weight (pairs_network pairs) j i else weight (pairs_network pairs) i j
+
+-- one that is left out leads to nothing else
+leads : (b : Option ℕ) (j : ℕ) → ((b ≡ Some j) × (leads_to j b ≡ true)) ⊎ ((b ≢ Some j) × (leads_to j b ≡ false))
+leads None j = inr (λ e. none-some j e, refl)
+leads (Some s) j = ⊎_elim
+    (λ (e : s ≡ j). inl (ap Some e, eq-eqb s j e))
+    (λ (ne : s ≡ j → ⊥). inr (λ e. ne (same_Some s j e), ne_eqb s j ne))
+    (cases_eq s j)
+
+pub masked : (side : SideView) (i j : ℕ) (left : Bool) → leads_to j side.without ≡ left → side_weight side i j ≡ cond left None (all_weights side.pairs side.turned i j)
+unfolding side_weight
+masked side i j left e = ap (λ t. cond t None (all_weights side.pairs side.turned i j)) e
+
+pub IsWithout-side : (side : SideView) → IsWithout (side_weight side) (all_weights side.pairs side.turned) side.without
+IsWithout-side side = record {
+  some = λ i j k e. ⊎_elim
+      (λ (at-b : (side.without ≡ Some j) × (leads_to j side.without ≡ true)). absurd (none-some k (sym (masked side i j true at-b.1) ∙ e)))
+      (λ (away : (side.without ≢ Some j) × (leads_to j side.without ≡ false)). sym (masked side i j false away.1) ∙ e)
+      (leads side.without j);
+  all = λ i j k other e. ⊎_elim
+      (λ (at-b : (side.without ≡ Some j) × (leads_to j side.without ≡ true)). absurd (other at-b.0))
+      (λ (away : (side.without ≢ Some j) × (leads_to j side.without ≡ false)). masked side i j false away.1 ∙ e)
+      (leads side.without j);
+  none = λ i j at-b. ⊎_elim
+      (λ (here : (side.without ≡ Some j) × (leads_to j side.without ≡ true)). masked side i j true here.1)
+      (λ (away : (side.without ≢ Some j) × (leads_to j side.without ≡ false)). absurd (away.0 at-b))
+      (leads side.without j);
+}
+
+-- weights are those of a network, from either side
+pub AreWeights-side : (side : SideView) (n : ℕ) → AreWeights (weight (pairs_network side.pairs)) n → AreWeights (side_weight side) n
+AreWeights-side side n weights =
+    AreWeights-without (side_weight side) (all_weights side.pairs side.turned) side.without n (IsWithout-side side) (by side.turned)
+  where
+    by : (turned : Bool) → AreWeights (all_weights side.pairs turned) n
+    by true = AreWeights-turned (weight (pairs_network side.pairs)) n weights
+    by false = weights

@@ -1,0 +1,17 @@
+use Rattle.std.proofs.Common.{ℕ, ◌≤◌, Bool, List, Option}
+use Rattle.pair_search.specs.Relinking.{IsTightBack, IsPassing, IsRelinked}
+use Rattle.pair_search.specs.Search.{at}
+use Rattle.pair_search.proofs.relink.relink.Given as goal
+
+abbrev pub invariant-back : goal.invariant-back
+invariant-back l = record {
+  upto : l.place ≤ l.fn.end.from;
+  relinked : IsRelinked l.initial.next l.next l.rows l.fn.end.from l.place l.to;
+  matched : (w : ℕ → ℕ → Option ℕ) (out : ℕ → Bool) (b : Option ℕ) (leave enter : List ℕ)
+      → IsTightBack w out l.initial.next leave enter l.parent l.rows l.fn.end.from
+      → IsPassing w out (at l.rows 0) b l.initial.next leave enter (at l.rows l.fn.end.from) l.fn.end.to
+      → IsPassing w out (at l.rows 0) b l.next leave enter (at l.rows l.place) l.to;
+}
+
+abbrev pub decreases-back : goal.decreases-back
+decreases-back l = l.place

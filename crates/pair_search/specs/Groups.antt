@@ -1,0 +1,65 @@
+-- Groups of columns, and what a search has seen of them.
+use Rattle.std.specs.Prelude.{◌≡◌, ℕ, ◌+◌, ◌<◌, ◌≤◌, nat_lt, Bool, false, List, length, slice_index_or, None, Some, if◌then◌else◌}
+use Rattle.trip_model.specs.declared.limits.TheConstants.{MOST_SLOTS}
+use Rattle.pair_search.specs.declared.groups.Group.{Group}
+use Rattle.pair_search.specs.declared.limits.TheConstants.{GREATEST_PRICE}
+use Rattle.pair_search.specs.declared.order.Column.{Column}
+use Rattle.pair_search.specs.declared.scan.Nearby.{Nearby}
+use Rattle.pair_search.specs.declared.scan.Seen.{Seen}
+use Rattle.pair_search.specs.Search.{at, is_done}
+
+-- a group of a list; past its end one without columns
+abbrev pub group_at : List Group → ℕ → Group
+group_at groups r = slice_index_or groups r (record { post = None; from = 0; to = 0 })
+
+-- the place at which a group of so many begins; that past the last column where there is no such group
+abbrev pub begins : ℕ → ℕ → List Group → ℕ → ℕ
+begins n count groups r = if nat_lt r count then (group_at groups r).from else n
+
+-- The columns in so many groups, one after the other. Those of one stand at its post, and their minutes rise.
+pub record AreGroups (n : ℕ) (columns : List Column) (count : ℕ) (groups : List Group) : Type 0 where
+  pub few : count ≤ n
+  pub most : count ≤ MOST_SLOTS
+  pub room : count ≤ length groups
+  pub first : begins n count groups 0 ≡ 0
+  pub next : (r : ℕ) → r < count → (group_at groups r).to ≡ begins n count groups (r + 1)
+  pub after : (r : ℕ) → r < count → (group_at groups r).from < (group_at groups r).to
+  pub within : (r : ℕ) → r < count → (group_at groups r).to ≤ n
+  pub posts : (r k : ℕ) (d : Column) → r < count → (group_at groups r).from ≤ k → k < (group_at groups r).to → (slice_index_or columns k d).post ≡ (group_at groups r).post
+  pub rise : (r h k : ℕ) (d : Column) → r < count → (group_at groups r).from ≤ h → h ≤ k → k < (group_at groups r).to
+      → (slice_index_or columns h d).minute ≤ (slice_index_or columns k d).minute
+
+-- what was seen at a place of a list
+abbrev pub seen_at : List Seen → ℕ → Seen
+seen_at seen r = slice_index_or seen r (record { near = 0; cost = 0; from = 0 })
+
+-- of the columns of each group that are not done none is nearer than what was seen of it
+abbrev pub AreNear : ℕ → List Group → List Bool → List ℕ → List Seen → Type 0
+AreNear count groups done dist seen = (r j : ℕ) → r < count → (group_at groups r).from ≤ j → j < (group_at groups r).to → is_done done j ≡ false → (seen_at seen r).near ≤ at dist j
+
+-- those from a place on are no farther than as they are reached at a cost
+abbrev pub AreReached : ℕ → List Group → List ℕ → List Bool → List ℕ → List Seen → Type 0
+AreReached count groups enter done dist seen = (r j : ℕ) → r < count → (seen_at seen r).from ≤ j → (group_at groups r).from ≤ j → j < (group_at groups r).to → is_done done j ≡ false
+    → at dist j + GREATEST_PRICE ≤ (seen_at seen r).cost + at enter j
+
+-- Columns between two places were approached at a cost from a place of the tree: each that is not done is no farther than
+-- before and than the cost with its price, and if it is nearer than before, it was reached so; none of these is nearer than
+-- `near`.
+pub record AreApproached (first upto from cost : ℕ) (enter : List ℕ) (done : List Bool) (dist parent dist' parent' : List ℕ) (near : ℕ) : Type 0 where
+  pub covered : (j : ℕ) → first ≤ j → j < upto → is_done done j ≡ false → at dist' j + GREATEST_PRICE ≤ cost + at enter j
+  pub nearer : (j : ℕ) → at dist' j ≤ at dist j
+  pub same : (j : ℕ) → at dist j ≤ at dist' j → at parent' j ≡ at parent j
+  pub between : (j : ℕ) → at dist' j < at dist j → (first ≤ j) × (j < upto)
+  pub undone : (j : ℕ) → at dist' j < at dist j → is_done done j ≡ false
+  pub by : (j : ℕ) → at dist' j < at dist j → at parent' j ≡ from
+  pub exact : (j : ℕ) → at dist' j < at dist j → at dist' j + GREATEST_PRICE ≡ cost + at enter j
+  pub least : (j : ℕ) → at dist' j < at dist j → near ≤ at dist' j
+
+-- a column that is not done is nearer than those before
+pub record IsNearer (done : List Bool) (dist : List ℕ) (best now : Nearby) : Type 0 where
+  pub column : ℕ
+  pub is : now.column ≡ Some column
+  pub within : column < length dist
+  pub undone : is_done done column ≡ false
+  pub far : at dist column ≡ now.distance
+  pub nearer : now.distance < best.distance

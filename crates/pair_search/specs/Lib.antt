@@ -1,0 +1,11 @@
+pub mod Assignment
+pub mod Groups
+pub mod Inverse
+pub mod Lists
+pub mod Order
+pub mod Relinking
+pub mod Renamed
+pub mod Search
+pub mod Side
+pub mod Turned
+pub mod Visits

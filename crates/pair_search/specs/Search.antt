@@ -1,0 +1,156 @@
+-- The search from one row: a tree of rows, how far they and the columns are from it, and along which rows they were
+-- reached.
+use Rattle.std.specs.Prelude.{◌≡◌, ◌≢◌, ℕ, ◌+◌, ◌<◌, ◌≤◌, ◌⊎◌, Bool, true, false, not, List, length, count_by, Option, None, Some, slice_index_or}
+use Rattle.pair_search.specs.declared.limits.TheConstants.{GREATEST_PRICE, FAR}
+use Rattle.trip_model.specs.declared.limits.TheConstants.{MOST_SLOTS}
+use Rattle.trip_model.specs.Links.{next_of, AreApart}
+use Rattle.pair_search.specs.declared.grow.End.{End}
+use Rattle.pair_search.specs.Assignment.{AreWeights}
+
+-- a number of a list; 0 past its end
+abbrev pub at : List ℕ → ℕ → ℕ
+at xs i = slice_index_or xs i 0
+
+-- whether a column is done: the row that is linked to it is in the tree
+abbrev pub is_done : List Bool → ℕ → Bool
+is_done done j = slice_index_or done j false
+
+-- the column was reached from a place of the tree: it is as far as that, with the row's price and its own, less the weight
+pub record IsReached (w : ℕ → Option ℕ) (from start : ℕ) (enter : List ℕ) (done : List Bool) (dist parent : List ℕ) (j : ℕ) : Type 0 where
+  pub undone : is_done done j ≡ false
+  pub by : at parent j ≡ from
+  pub weight : ℕ
+  pub fits : w j ≡ Some weight
+  pub exact : at dist j + weight ≡ start + at enter j
+
+-- the columns below a number were looked at from a place of the tree: each that is not done is no farther than before and
+-- than by the row there, and if it is nearer than before, it was reached from there
+pub record AreLooked (w : ℕ → Option ℕ) (upto from start : ℕ) (enter : List ℕ) (done : List Bool) (dist parent dist' parent' : List ℕ) : Type 0 where
+  pub covered : (j k : ℕ) → j < upto → is_done done j ≡ false → w j ≡ Some k → at dist' j + k ≤ start + at enter j
+  pub nearer : (j : ℕ) → at dist' j ≤ at dist j
+  pub same : (j : ℕ) → at dist j ≤ at dist' j → at parent' j ≡ at parent j
+  pub reached : (j : ℕ) → at dist' j < at dist j → IsReached w from start enter done dist' parent' j
+
+-- of the columns that are not done none is nearer than this one, and it is nearer than a bound
+pub record IsNearest (done : List Bool) (dist : List ℕ) (bound j : ℕ) : Type 0 where
+  pub within : j < length dist
+  pub undone : is_done done j ≡ false
+  pub below : at dist j < bound
+  pub least : (h : ℕ) → h < length dist → is_done done h ≡ false → at dist j ≤ at dist h
+
+-- what a search is given: weights, how many rows and columns, the row from which it goes out, for each column the row that
+-- is linked to it, and the prices
+pub record Problem : Type 0 where
+  pub w : ℕ → ℕ → Option ℕ
+  pub n : ℕ
+  pub a : ℕ
+  pub before : List (Option ℕ)
+  pub leave : List ℕ
+  pub enter : List ℕ
+
+abbrev pub problem : (ℕ → ℕ → Option ℕ) → ℕ → ℕ → List (Option ℕ) → List ℕ → List ℕ → Problem
+problem w n a before leave enter = record { w = w; n = n; a = a; before = before; leave = leave; enter = enter }
+
+-- the row is the one from which the search goes out, or it is linked
+abbrev pub IsInside : Problem → ℕ → Type 0
+IsInside p i = (i ≡ p.a) ⊎ ((j : ℕ) × (next_of p.before j ≡ Some i))
+
+-- No row is linked to two columns, and the one from which the search goes out to none. No price that is used is greater
+-- than the greatest, and from rows that can be in the tree the two prices of each pair that fits reach its weight.
+pub record IsGiven (p : Problem) : Type 0 where
+  pub few : p.n ≤ MOST_SLOTS
+  pub weights : AreWeights p.w p.n
+  pub start : p.a < p.n
+  pub root : (j : ℕ) → next_of p.before j ≢ Some p.a
+  pub once : AreApart p.before
+  pub rows : (i j : ℕ) → next_of p.before j ≡ Some i → (i < p.n) × (j < p.n)
+  pub leave_low : (i : ℕ) → at p.leave i ≤ GREATEST_PRICE
+  pub enter_low : (i j k : ℕ) → p.w i j ≡ Some k → at p.enter j ≤ GREATEST_PRICE
+  pub covers : (i j k : ℕ) → IsInside p i → p.w i j ≡ Some k → k ≤ at p.leave i + at p.enter j
+
+-- how far the columns are, from which place of the tree they were reached, and which are done; the rows of the tree in the
+-- order in which they came in, how far they are, and how many; and how far the search has gone
+pub record Tree : Type 0 where
+  pub dist : List ℕ
+  pub parent : List ℕ
+  pub done : List Bool
+  pub rows : List ℕ
+  pub far : List ℕ
+  pub size : ℕ
+  pub reach : ℕ
+
+abbrev pub tree_of : List ℕ → List ℕ → List Bool → List ℕ → List ℕ → ℕ → ℕ → Tree
+tree_of dist parent done rows far size reach =
+    record { dist = dist; parent = parent; done = done; rows = rows; far = far; size = size; reach = reach }
+
+-- the row at a place of the tree came in by the column that it is linked to
+pub record IsVia (p : Problem) (s : Tree) (t : ℕ) : Type 0 where
+  pub column : ℕ
+  pub linked : next_of p.before column ≡ Some (at s.rows t)
+  pub done : is_done s.done column ≡ true
+  pub far : at s.dist column ≡ at s.far t
+  pub parent : at s.parent column < t
+
+-- the row that is linked to a column that is done stands at a place of the tree
+pub record IsIn (p : Problem) (s : Tree) (j : ℕ) : Type 0 where
+  pub place : ℕ
+  pub within : (0 < place) × (place < s.size)
+  pub linked : next_of p.before j ≡ Some (at s.rows place)
+  pub far : at s.dist j ≡ at s.far place
+
+-- the column was reached from a row of the tree
+pub record IsFrom (p : Problem) (s : Tree) (j : ℕ) : Type 0 where
+  pub within : at s.parent j < s.size
+  pub weight : ℕ
+  pub fits : p.w (at s.rows (at s.parent j)) j ≡ Some weight
+  pub exact : at s.dist j + weight ≡ at s.far (at s.parent j) + at p.leave (at s.rows (at s.parent j)) + at p.enter j
+
+-- The tree of a search that has come so far. Its rows are distinct, none is farther than `reach`, and each but the first
+-- came in by the column that it is linked to. Columns that are not done are not nearer than `reach`, and every column is as
+-- far as along some row, and no farther than along any.
+pub record IsTree (p : Problem) (s : Tree) : Type 0 where
+  pub root : (0 < s.size) × (at s.rows 0 ≡ p.a) × (at s.far 0 ≡ 0)
+  pub within : (t : ℕ) → t < s.size → at s.far t ≤ s.reach
+  pub via : (t : ℕ) → 0 < t → t < s.size → IsVia p s t
+  pub apart : (r t : ℕ) → r < t → t < s.size → at s.rows r ≢ at s.rows t
+  pub covered : (t j k : ℕ) → t < s.size → p.w (at s.rows t) j ≡ Some k → at s.dist j + k ≤ at s.far t + at p.leave (at s.rows t) + at p.enter j
+  pub later : (j : ℕ) → j < p.n → is_done s.done j ≡ false → s.reach ≤ at s.dist j
+  pub done : (j : ℕ) → j < p.n → is_done s.done j ≡ true → IsIn p s j
+  pub reached : (j : ℕ) → j < p.n → at s.dist j < FAR → IsFrom p s j
+  pub count : s.size + count_by not s.done ≡ p.n + 1
+
+-- a row comes in next: it is linked to a column that is not done, of which none is nearer
+pub record IsNext (p : Problem) (s : Tree) (row column : ℕ) : Type 0 where
+  pub within : column < p.n
+  pub undone : is_done s.done column ≡ false
+  pub near : at s.dist column < FAR
+  pub least : (j : ℕ) → j < p.n → is_done s.done j ≡ false → at s.dist column ≤ at s.dist j
+  pub linked : next_of p.before column ≡ Some row
+
+-- Of the rows of the tree none loses its price sooner than the one where the search would end, which then has no link; it
+-- loses it when prices fall so far.
+pub record IsBest (p : Problem) (s : Tree) (end : End) : Type 0 where
+  pub alone : end.to ≡ None
+  pub within : end.from < s.size
+  pub least : (t : ℕ) → t < s.size → end.fall ≤ at s.far t + at p.leave (at s.rows t)
+  pub exact : end.fall ≡ at s.far end.from + at p.leave (at s.rows end.from)
+  pub later : s.reach ≤ end.fall
+  pub low : end.fall ≤ GREATEST_PRICE
+
+-- How the search has ended: prices fall so far, and the row at a place of the tree is then linked to a column that was
+-- linked to none, or to none itself.
+pub record HasEnded (p : Problem) (s : Tree) (end : End) : Type 0 where
+  pub within : end.from < s.size
+  pub later : s.reach ≤ end.fall
+  pub low : end.fall ≤ GREATEST_PRICE
+  pub columns : (j : ℕ) → j < p.n → is_done s.done j ≡ false → end.fall ≤ at s.dist j
+  pub rows : (t : ℕ) → t < s.size → end.fall ≤ at s.far t + at p.leave (at s.rows t)
+  pub alone : end.to ≡ None → end.fall ≡ at s.far end.from + at p.leave (at s.rows end.from)
+  pub column : (j : ℕ) → end.to ≡ Some j → (j < p.n) × (at s.dist j ≡ end.fall) × (at s.parent j ≡ end.from) × (next_of p.before j ≡ None)
+
+-- a tree has grown until the search ended
+pub record IsGrown (p : Problem) (dist parent : List ℕ) (done : List Bool) (rows far : List ℕ) (end : End) : Type 0 where
+  pub size : ℕ
+  pub reach : ℕ
+  pub tree : IsTree p (tree_of dist parent done rows far size reach)
+  pub ended : HasEnded p (tree_of dist parent done rows far size reach) end

@@ -1,0 +1,150 @@
+ghost use Rattle.std.specs.Prelude.{◌≡◌, ℕ, ◌<◌, ◌≤◌, nat_lt, false, Option, None, length, slice_index_or, IfSome};
+ghost use Rattle.std.specs.List.Sorted.{IsNonDecreasingBy};
+ghost use Rattle.trip_model.specs.declared.limits.TheConstants.{LAST_MINUTE, MOST_SLOTS};
+ghost use Rattle.pair_search.specs.Order as spec;
+ghost use Rattle.pair_search.specs.Order.{slot_at, place_of, IsOrder, IsRenaming};
+ghost use Rattle.pair_search.specs.Side.{pairs_minute, pairs_post};
+
+use pair_graph::Pairs;
+use trip_model::{LAST_MINUTE, Move};
+
+/// A column of a search: where its trip begins or, seen from the entering side, ends; the minute by which a row that is linked
+/// to it must be ready; and its slot. No row is linked to one that stands nowhere.
+#[derive(Clone, Copy, PartialEq, Eq, PartialOrd, Ord)]
+pub struct Column {
+    pub post: Option<u16>,
+    pub minute: u16,
+    pub slot: u16,
+}
+
+// The minute by which a row that is linked to this trip's column must be ready.
+fn column_minute(turned: bool, made: Option<Move>) -> u16
+    requires { IfSome made (λ m. m.arrives ≤ LAST_MINUTE) }
+    ensures { result ≡ spec.column_minute turned made }
+{
+    let Some(made) = made else {
+        return 0;
+    };
+    if turned {
+        LAST_MINUTE - made.arrives
+    } else {
+        made.leaves
+    }
+}
+
+// Where this trip's column stands, unless its slot is left out.
+fn column_post(turned: bool, without: Option<u16>, slot: u16, made: Option<Move>) -> Option<u16>
+    ensures { result ≡ spec.column_post turned without slot made }
+{
+    if without == Some(slot) {
+        return None;
+    }
+    let made = made?;
+    Some(if turned { made.to } else { made.from })
+}
+
+// The columns by their slots.
+fn list_columns(pairs: &Pairs<'_>, turned: bool, without: Option<u16>, columns: &mut [Column])
+    requires { length columns.old ≡ length pairs.now.moves }
+    ensures slots { (j : ℕ) (d : _) → j < length columns.old → (slice_index_or columns.new j d).slot ≡ j }
+    ensures minutes { (j : ℕ) (d : _) → j < length columns.old → (slice_index_or columns.new j d).minute ≡ pairs_minute pairs.now turned j }
+    ensures posts { (j : ℕ) (d : _) → j < length columns.old → (slice_index_or columns.new j d).post ≡ pairs_post pairs.now turned without j }
+{
+    for slot in 0..pairs.slots() {
+        let made = pairs.move_at(slot);
+        let post = column_post(turned, without, slot, made);
+        let minute = column_minute(turned, made);
+        columns[slot as usize] = Column { post, minute, slot };
+    }
+}
+
+// The slots as columns that stand nowhere, by when their trips depart.
+fn list_departures(pairs: &Pairs<'_>, columns: &mut [Column])
+    requires { length columns.old ≡ length pairs.now.moves }
+    ensures slots { (j : ℕ) (d : _) → j < length columns.old → (slice_index_or columns.new j d).slot ≡ j }
+    ensures minutes { (j : ℕ) (d : _) → j < length columns.old → (slice_index_or columns.new j d).minute ≡ pairs_minute pairs.now false j }
+    ensures posts { (j : ℕ) (d : _) → j < length columns.old → (slice_index_or columns.new j d).post ≡ None }
+{
+    for slot in 0..pairs.slots() {
+        let minute = column_minute(false, pairs.move_at(slot));
+        columns[slot as usize] = Column {
+            post: None,
+            minute,
+            slot,
+        };
+    }
+}
+
+// The places of columns in their order.
+fn number_places(columns: &[Column], places: &mut [u16])
+    requires count { length columns.now ≡ length places.old }
+    requires few { length places.old ≤ MOST_SLOTS }
+    requires within { (k : ℕ) → k < length places.old → slot_at (length places.old) columns.now k < length places.old }
+    requires apart { (h k : ℕ) → h < length places.old → k < length places.old
+        → slot_at (length places.old) columns.now h ≡ slot_at (length places.old) columns.now k → h ≡ k }
+    ensures { (k : ℕ) → k < length places.old → place_of (length places.old) places.new (slot_at (length places.old) columns.now k) ≡ k }
+{
+    for place in 0..columns.len() {
+        let slot = columns[place].slot;
+        places[slot as usize] = place as u16;
+    }
+}
+
+// Puts columns that stand by their slots into order: by where they stand, those of one post by their minutes, and those of
+// one minute by their slots.
+fn sort(columns: &mut [Column], places: &mut [u16])
+    requires places { length places.old ≡ length columns.old }
+    requires few { length columns.old ≤ MOST_SLOTS }
+    requires slots { (j : ℕ) (d : _) → j < length columns.old → (slice_index_or columns.old j d).slot ≡ j }
+    ensures { (minute : ℕ → ℕ) (post : ℕ → Option ℕ) → ((j : ℕ) (d : _) → j < length columns.old → (slice_index_or columns.old j d).minute ≡ minute j)
+        → ((j : ℕ) (d : _) → j < length columns.old → (slice_index_or columns.old j d).post ≡ post j)
+        → IsOrder (length columns.old) minute post columns.new places.new }
+{
+    columns.sort_unstable();
+    number_places(columns, places);
+}
+
+/// Puts the columns of a search into order: those of one post together, in the order of their minutes.
+pub fn arrange(
+    pairs: &Pairs<'_>,
+    turned: bool,
+    without: Option<u16>,
+    columns: &mut [Column],
+    places: &mut [u16],
+)
+    requires columns { length columns.old ≡ length pairs.now.moves }
+    requires places { length places.old ≡ length pairs.now.moves }
+    ensures { IsOrder (length pairs.now.moves) (pairs_minute pairs.now turned) (pairs_post pairs.now turned without) columns.new places.new }
+{
+    // Its clause says how many there may be.
+    let _slots = pairs.slots();
+    list_columns(pairs, turned, without, columns);
+    sort(columns, places);
+}
+
+/// Puts the slots into the order in which their trips depart.
+pub fn arrange_departures(pairs: &Pairs<'_>, columns: &mut [Column], places: &mut [u16])
+    requires columns { length columns.old ≡ length pairs.now.moves }
+    requires places { length places.old ≡ length pairs.now.moves }
+    ensures count { length columns.new ≡ length pairs.now.moves }
+    ensures renaming { IsRenaming (length pairs.now.moves) (slot_at (length pairs.now.moves) columns.new) (place_of (length pairs.now.moves) places.new) }
+{
+    // Its clause says how many there may be.
+    let _slots = pairs.slots();
+    list_departures(pairs, columns);
+    sort(columns, places);
+}
+
+/// How many columns stand at the front that need a row sooner than at a minute.
+pub(crate) fn columns_before(columns: &[Column], minute: u16) -> usize
+    requires { IsNonDecreasingBy (λ c. c.minute) columns.now }
+    ensures within { result ≤ length columns.now }
+    ensures before { (k : ℕ) (d : _) → k < result → (slice_index_or columns.now k d).minute < minute }
+    ensures after { (k : ℕ) (d : _) → result ≤ k → k < length columns.now → minute ≤ (slice_index_or columns.now k d).minute }
+{
+    columns.partition_point(
+        |column| -> bool
+            ensures { result ≡ nat_lt column.now.minute minute }
+        { column.minute < minute },
+    )
+}

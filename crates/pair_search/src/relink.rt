@@ -1,0 +1,32 @@
+ghost use Rattle.std.specs.Prelude.{◌≡◌, ℕ, ◌≤◌, Bool, List, length, Option, None, Some, IfSome};
+ghost use Rattle.deadhead_matrix.specs.Paths.{IsPath};
+ghost use Rattle.trip_model.specs.Links.{next_of, before_of};
+ghost use Rattle.pair_search.specs.Assignment.{IsMatched};
+ghost use Rattle.pair_search.specs.Relinking.{LeadsBack, IsTightBack, IsPassing};
+ghost use Rattle.pair_search.specs.Search.{at};
+
+use crate::grow::End;
+
+/// Links rows anew from where a search has ended back to its first row: each is given what the one after it had.
+pub(crate) fn relink(end: End, parent: &[u16], rows: &[u16], next: &mut [Option<u16>])
+    requires back { LeadsBack next.old parent.now rows.now end.from }
+    requires free { IfSome end.to (λ j. before_of next.old j ≡ None) }
+    ensures path { IsPath (next_of next.old) (before_of next.old) (next_of next.new) (at rows.now 0) }
+    ensures matched { (w : ℕ → ℕ → Option ℕ) (out : ℕ → Bool) (b : Option ℕ) (leave enter : List ℕ)
+        → IsTightBack w out next.old leave enter parent.now rows.now end.from
+        → IsPassing w out (at rows.now 0) b next.old leave enter (at rows.now end.from) end.to
+        → IsMatched w out None b next.new leave enter }
+{
+    let mut place = end.from;
+    let mut to = end.to;
+    'back: loop {
+        let row = rows[place as usize];
+        let had = next[row as usize];
+        next[row as usize] = to;
+        let Some(column) = had else {
+            return;
+        };
+        place = parent[column as usize];
+        to = Some(column);
+    }
+}

@@ -1,0 +1,133 @@
+ghost use Rattle.std.specs.Prelude.{◌≡◌, ◌<◌, ◌≤◌, length};
+ghost use Rattle.pair_search.specs.Assignment.{AreWeights};
+ghost use Rattle.pair_search.specs.Groups.{group_at, AreGroups};
+ghost use Rattle.pair_search.specs.Order.{IsOrder, IsRenaming};
+ghost use Rattle.pair_search.specs.Side.{side_slots, side_slot, side_place, side_weight, pairs_minute, pairs_post};
+ghost use Rattle.trip_model.specs.declared.limits.TheConstants.{MOST_SLOTS};
+
+use crate::groups::Group;
+use crate::line::Line;
+use crate::order::Column;
+use pair_graph::Pairs;
+use std::marker::Model;
+
+/// What rows and columns of a search weigh: leaving sides as rows and entering sides as columns, or the other way round.
+/// One column may be left out. Columns stand in groups, of which each weighs the same with a row as far as they fit.
+#[derive(Drop)]
+pub struct Side<'a> {
+    pub(crate) pairs: &'a Pairs<'a>,
+    pub(crate) turned: bool,
+    pub(crate) without: Option<u16>,
+    pub(crate) columns: &'a [Column],
+    pub(crate) places: &'a [u16],
+    pub(crate) groups: &'a [Group],
+    pub(crate) count: usize,
+}
+
+impl<'a> Model for Side<'a> {
+    ghost use Rattle.std.specs.Prelude.{length};
+    ghost use Rattle.pair_search.specs.Groups.{AreGroups};
+    ghost use Rattle.pair_search.specs.Order.{IsOrder};
+    ghost use Rattle.pair_search.specs.Side.{SideView, pairs_minute, pairs_post};
+
+    ghost Value = { SideView };
+
+    ghost view = { λ s. record { pairs = s.pairs.now; turned = s.turned; without = s.without; columns = s.columns.now; places = s.places.now; groups = s.groups.now; count = s.count } };
+
+    ghost invariant = { λ s. (IsOrder (length s.pairs.now.moves) (pairs_minute s.pairs.now s.turned) (pairs_post s.pairs.now s.turned s.without) s.columns.now s.places.now)
+        × (AreGroups (length s.pairs.now.moves) s.columns.now s.count s.groups.now) };
+}
+
+impl<'a> Side<'a> {
+    /// The pairs from one side, with their columns in order and in groups.
+    pub fn of(
+        pairs: &'a Pairs<'a>,
+        turned: bool,
+        without: Option<u16>,
+        columns: &'a [Column],
+        places: &'a [u16],
+        groups: &'a [Group],
+        count: usize,
+    ) -> Side<'a>
+        requires order { IsOrder (length pairs.now.moves) (pairs_minute pairs.now turned) (pairs_post pairs.now turned without) columns.now places.now }
+        requires groups { AreGroups (length pairs.now.moves) columns.now count groups.now }
+        ensures { result ≡ record { pairs = pairs.now; turned = turned; without = without; columns = columns.now; places = places.now; groups = groups.now; count = count } }
+    {
+        Side {
+            pairs,
+            turned,
+            without,
+            columns,
+            places,
+            groups,
+            count,
+        }
+    }
+
+    /// How many rows there are, and as many columns.
+    pub(crate) fn slots(&self) -> u16
+        ensures count { result ≡ side_slots self.now }
+        ensures few { result ≤ MOST_SLOTS }
+        ensures sound { AreWeights (side_weight self.now) result }
+        ensures renaming { IsRenaming (side_slots self.now) (side_slot self.now) (side_place self.now) }
+    {
+        self.pairs.slots()
+    }
+
+    /// How many groups of columns there are.
+    pub(crate) fn groups(&self) -> usize
+        ensures count { result ≡ self.now.count }
+        ensures groups { AreGroups (side_slots self.now) self.now.columns self.now.count self.now.groups }
+    {
+        self.count
+    }
+
+    /// A group of columns.
+    pub(crate) fn group(&self, group: usize) -> Group
+        requires { group < self.now.count }
+        ensures group { result ≡ group_at self.now.groups group }
+        ensures within { (result.from ≤ result.to) × (result.to ≤ side_slots self.now) }
+        ensures few { (group < side_slots self.now) × (group < MOST_SLOTS) }
+        ensures groups { AreGroups (side_slots self.now) self.now.columns self.now.count self.now.groups }
+    {
+        let groups = self.groups;
+        groups[group]
+    }
+
+    /// The slot of the column at a place.
+    pub(crate) fn slot(&self, place: u16) -> u16
+        requires { place < side_slots self.now }
+        ensures slot { result ≡ side_slot self.now place }
+        ensures within { result < side_slots self.now }
+    {
+        self.columns[place as usize].slot
+    }
+
+    /// The place of a column.
+    pub(crate) fn place(&self, slot: u16) -> u16
+        requires { slot < side_slots self.now }
+        ensures place { result ≡ side_place self.now slot }
+        ensures within { result < side_slots self.now }
+    {
+        self.places[slot as usize]
+    }
+
+    /// A row with each column.
+    pub(crate) fn line(&self, row: u16) -> Line<'_>
+        requires { row < side_slots self.now }
+        ensures { result ≡ record { side = self.now; row = row } }
+    {
+        let pairs = self.pairs;
+        let (leaving, entering) = if self.turned {
+            (None, pairs.column(row))
+        } else {
+            (pairs.row(row), None)
+        };
+        Line {
+            side: self,
+            row,
+            leaving,
+            entering,
+        }
+    }
+}

@@ -1,8 +1,0 @@
-use Rattle.std.proofs.Common.{◌≡◌, ℕ, ◌<◌}
-use Rattle.std.specs.Option.{option_map}
-use Rattle.trip_model.specs.Links.{next_of}
-use Rattle.price_assign.specs.Side.{side_place}
-use Rattle.price_assign.proofs.rename.link_places.Given as goal
-
-abbrev pub invariant-loop-row : goal.invariant-loop-row
-invariant-loop-row l = (i : ℕ) → i < l.row → next_of l.placed i ≡ option_map (side_place l.side) (next_of l.next i)
