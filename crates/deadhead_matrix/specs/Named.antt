@@ -1,4 +1,4 @@
--- The places that the records of `deadheads.csv` name. A timetable gains no others of it, also after want of memory.
+-- The places that the records of `deadheads.csv` name. A timetable gains no others of it, also after lack of memory.
 use Rattle.std.specs.Prelude.{◌≡◌, ◌⊎◌, ℕ, Bool, List, ◌++◌, All, Contains, Ok}
 use Rattle.desk_io.specs.declared.shelf.Found.{Found}
 use Rattle.gtfs_tables.specs.declared.paper.Paper.TheVariants as paper

@@ -175,7 +175,7 @@ impl Deadheads {
         requires { IsWithinLimit deadheads.now }
         ensures gives { Gives (λ read. (timetable.new, read)) result (deadheads_of deadheads.now timetable.old) }
         ensures left { result ≢ Err FeedFault.Memory → timetable.new ≡ timetable_left deadheads.now timetable.old }
-        // Also after want of memory: the timetable is as it was, but for places at the end of its list that records name.
+        // Also after lack of memory: the timetable is as it was, but for places at the end of its list that records name.
         ensures gained { HasGained (IsNamed deadheads.now timetable.old) timetable.old timetable.new }
     {
         read_deadheads(alloc, deadheads, timetable)

@@ -84,7 +84,7 @@ impl Matrix {
         ensures pulls { IfOk result (λ matrix. matrix.pulls ≡ replicate (length timetable.new.places) NO_PULL) }
         ensures standing { IfOk result (λ matrix. matrix.entries ≡ [] → matrix ≡ empty_matrix (length timetable.new.places)) }
         ensures left { result ≢ Err FeedFault.Memory → timetable.new ≡ timetable_left deadheads.now timetable.old }
-        // Also after want of memory: the timetable is as it was, but for places at the end of its list that records name.
+        // Also after lack of memory: the timetable is as it was, but for places at the end of its list that records name.
         ensures gained { HasGained (IsNamed deadheads.now timetable.old) timetable.old timetable.new }
     {
         let deadheads = Deadheads::read(alloc, deadheads, timetable)?;

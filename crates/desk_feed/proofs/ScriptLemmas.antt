@@ -49,7 +49,7 @@ pub none-refused : (due : Result State EditFault) → IsOk due → None ≡ refu
 none-refused (Ok m) is = refl
 none-refused (Err refused) is = absurd (false≢true is)
 
--- a refusal that is not want of memory is that of the script
+-- a refusal that is not lack of memory is that of the script
 pub refusal-named : (refused : EditFault) (edit : Edit) (due : Result ScriptView EditFault) → refused ≢ fault.Memory → IsRefusal refused edit due → due ≡ Err refused
 refusal-named fault.Memory edit due named is = absurd (named refl)
 refusal-named refused edit due named is = is

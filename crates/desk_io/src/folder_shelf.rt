@@ -91,7 +91,7 @@ impl<'a, R: Files> FolderShelf<'a, R> {
     }
 
     // What a read answers to what the system answered when the file, which it had opened, was read. Such a file is never
-    // missing: every refusal but want of memory is counted.
+    // missing: every refusal but lack of memory is counted.
     fn answer_read(&mut self, read: io::Result<Found>) -> Result<Found, ShelfFault>
         ensures state { Reads result (folder_state_of self.old) (folder_state_of self.new) }
         ensures history { folder_history_of self.new ≡ folder_history_of self.old }
@@ -108,7 +108,7 @@ impl<'a, R: Files> FolderShelf<'a, R> {
     }
 
     // What a write answers to what the system answered when it was to open the file for writing. Until then the file is as it
-    // was, so want of memory is answered as such. Every other refusal is counted.
+    // was, so lack of memory is answered as such. Every other refusal is counted.
     fn answer_create<W>(&mut self, created: io::Result<W>) -> Result<W, ShelfFault>
         ensures history { folder_history_of self.new ≡ folder_history_of self.old }
         ensures opened { IfOk created (λ file. (result ≡ Ok file) × (folder_state_of self.new ≡ folder_state_of self.old)) }
@@ -126,7 +126,7 @@ impl<'a, R: Files> FolderShelf<'a, R> {
     }
 
     // What a write answers to what the system answered when the file, which it had emptied, was written. Every refusal is
-    // counted, also want of memory.
+    // counted, also lack of memory.
     fn answer_write(&mut self, written: &io::Result<()>) -> Result<(), ShelfFault>
         ensures history { folder_history_of self.new ≡ folder_history_of self.old }
         ensures done { OnOk written.now ((IsOk result) × (folder_state_of self.new ≡ folder_state_of self.old)) }

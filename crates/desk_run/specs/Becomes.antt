@@ -1,4 +1,4 @@
--- What becomes of an outcome: it is carried out whole, or a fault or want of memory ends that.
+-- What becomes of an outcome: it is carried out whole, or a fault or lack of memory ends that.
 use Rattle.std.specs.Prelude.{◌≡◌, ◌⊎◌, ℕ, List, fold, take, slice_get, Option, None, Some, IsSome, Result, Ok, Err}
 use Rattle.desk_io.specs.Shelf.{ShelfState, with_file, WriteFailed}
 use Rattle.desk_io.specs.Sink.{put_bytes, PutsPrefix}

@@ -28,7 +28,7 @@ abbrev pub side_name_of : TripEnd → List ℕ
 side_name_of From = codes "from"
 side_name_of To = codes "to"
 
--- what is printed of a refused edit; of want of memory nothing is
+-- what is printed of a refused edit; of lack of memory nothing is
 abbrev pub fault_text_of : EditFault → List ℕ
 fault_text_of fault.NotAnEdit = codes "not an edit"
 fault_text_of fault.UnknownTrip = codes "unknown trip"

@@ -98,7 +98,7 @@ TakesMemory Undo = ⊥
 TakesMemory Show = ⊥
 TakesMemory edit = ⊤
 
--- a fault is the refusal of an edit, or want of memory for one that would have been accepted
+-- a fault is the refusal of an edit, or lack of memory for one that would have been accepted
 abbrev pub IsRefusal : EditFault → Edit → Result ScriptView EditFault → Type 0
 IsRefusal fault.Memory edit due = TakesMemory edit × IsOk due
 IsRefusal refused edit due = due ≡ Err refused

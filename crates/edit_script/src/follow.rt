@@ -18,7 +18,7 @@ pub trait Follower<C> {
     ghost IsReady: { Self → ℕ → Type 0 };
     // It was before the records of a script, and is now after so many of them.
     ghost Stands: { Self → C → List Self.Line → ℕ → Self → C → Type 0 };
-    // It was before the records, and stopped at one of them for want of memory.
+    // It was before the records, and stopped at one of them for lack of memory.
     ghost Stops: { Self → C → List Self.Line → C → Type 0 };
 
     /// Follows the record of that number, counted from 1.

@@ -93,7 +93,7 @@ fn extra_edit(alloc: Global, row: &Row) -> Result<Edit, EditFault>
     })
 }
 
-/// The edit of a record. It is refused as no edit exactly where the record is of no form, and else for want of memory alone.
+/// The edit of a record. It is refused as no edit exactly where the record is of no form, and else for lack of memory alone.
 pub fn read_edit(alloc: Global, row: &Row) -> Result<Edit, EditFault>
     ensures gives { GivesEdit result (spec.edit_of row.now) }
     ensures form { IfOk result InForm }

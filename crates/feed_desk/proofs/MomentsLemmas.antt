@@ -35,7 +35,7 @@ use Rattle.feed_desk.specs.Drawn.{HasFollowed}
 use Rattle.feed_desk.specs.declared.follow.Followed.{Followed}
 use Rattle.feed_desk.specs.Moments.{AreMoments, IsAnswered, IsFollowed, IsMoment}
 
--- a refusal that is not want of memory is that of the script
+-- a refusal that is not lack of memory is that of the script
 pub refusal-named : (refused : EditFault) (edit : Edit) (due : Result ScriptView EditFault) → refused ≢ fault.Memory → IsRefused refused edit due → due ≡ Err refused
 refusal-named fault.Memory edit due named is = absurd (named refl)
 refusal-named refused edit due named is = is

@@ -27,7 +27,7 @@ pub Fails->>= : {A B : Type 0} (refused : FeedFault) (read : Result A FeedFault)
 Fails->>= fault.Memory read next due = tt
 Fails->>= refused read next due = ap (λ r. r >>= next) due
 
--- a refusal other than want of memory was due
+-- a refusal other than lack of memory was due
 pub Fails-due : {A : Type 0} (refused : FeedFault) (read : Result A FeedFault) → refused ≢ fault.Memory → Fails refused read → read ≡ Err refused
 Fails-due fault.Memory read other due = absurd (other refl)
 Fails-due refused read other due = due

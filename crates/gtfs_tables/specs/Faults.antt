@@ -15,7 +15,7 @@ record_text_of paper number what = file_name_of paper ++ (codes " record " ++ (d
 abbrev pub trip_text_of : List ℕ → List ℕ → List ℕ
 trip_text_of trip what = codes "stop_times.txt: trip " ++ (trip ++ (codes " " ++ what))
 
--- what is printed of a refused file; of want of memory nothing is
+-- what is printed of a refused file; of lack of memory nothing is
 abbrev pub fault_text_of : FeedFault → List ℕ
 fault_text_of (fault.Missing paper) = file_name_of paper ++ codes ": missing"
 fault_text_of (fault.TooLong paper) = file_name_of paper ++ codes ": too long"

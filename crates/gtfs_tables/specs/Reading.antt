@@ -27,7 +27,7 @@ abbrev pub ◌>>=◌ : {A B : Type 0} → Result A FeedFault → (A → Result B
 abbrev pub provided : {A : Type 0} → Bool → FeedFault → Result A FeedFault → Result A FeedFault
 provided holds refused rest = if holds then rest else Err refused
 
--- a fault is the one that was due, or want of memory, which is never due
+-- a fault is the one that was due, or lack of memory, which is never due
 abbrev pub Fails : {A : Type 0} → FeedFault → Result A FeedFault → Type 0
 Fails fault.Memory read = ⊤
 Fails refused read = read ≡ Err refused

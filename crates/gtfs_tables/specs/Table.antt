@@ -40,7 +40,7 @@ table_from (header ∷ rows) = with_header header (body_of (length header) rows)
 abbrev pub table_of : List ℕ → Result TableView TableFault
 table_of bytes = table_from (records bytes)
 
--- a refusal is the one that was due, or want of memory
+-- a refusal is the one that was due, or lack of memory
 abbrev pub IsFaultOf : {T : Type 0} → Result T TableFault → TableFault → Type 0
 IsFaultOf due NoHeader = due ≡ Err NoHeader
 IsFaultOf due (RowTooLong r) = due ≡ Err (RowTooLong r)

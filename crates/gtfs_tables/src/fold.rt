@@ -142,7 +142,7 @@ pub fn read_records<R: RecordReader>(
     ensures gives { Gives (λ _. R.state records.new) result (paper_read paper R.columns_in (R.step (R.kept records.old)) (R.state records.old) found.now) }
     ensures left { (table : TableView) → table_in paper found.now ≡ Ok table → result ≢ Err FeedFault.Memory
         → IsTableLeft R.columns_in (R.step (R.kept records.old)) (R.Leaves (R.kept records.old)) (R.state records.old) table (R.state records.new) }
-    // Also after want of memory: no more was changed than the first records change.
+    // Also after lack of memory: no more was changed than the first records change.
     ensures changed { (table : TableView) → table_in paper found.now ≡ Ok table
         → IsTableChanged R.columns_in (R.Changes (R.kept records.old)) (R.state records.old) table (R.state records.new) }
     ensures kept { R.kept records.new ≡ R.kept records.old }

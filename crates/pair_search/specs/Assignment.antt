@@ -24,7 +24,7 @@ pub record IsMatched (w : ℕ → ℕ → Option ℕ) (out : ℕ → Bool) (a b 
 abbrev pub Covers : (ℕ → ℕ → Option ℕ) → (ℕ → Bool) → Option ℕ → List ℕ → List ℕ → Type 0
 Covers w out a leave enter = (i j k : ℕ) → out i ≡ false → a ≢ Some i → w i j ≡ Some k → k ≤ price leave i + price enter j
 
--- a search may begin at a row: links are matched but for it and for b, prices cover the other rows, and it is not left out
+-- a search may begin at a row. Links are matched but for it and for b, prices cover the other rows, and it is not left out
 pub record MayBegin (w : ℕ → ℕ → Option ℕ) (n : ℕ) (out : ℕ → Bool) (a : ℕ) (b : Option ℕ) (next : List (Option ℕ)) (leave enter : List ℕ) : Type 0 where
   pub start : a < n
   pub inside : out a ≡ false

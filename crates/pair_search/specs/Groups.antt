@@ -16,7 +16,7 @@ group_at groups r = slice_index_or groups r (record { post = None; from = 0; to 
 abbrev pub begins : ℕ → ℕ → List Group → ℕ → ℕ
 begins n count groups r = if nat_lt r count then (group_at groups r).from else n
 
--- The columns in so many groups, one after the other. Those of one stand at its post, and their minutes rise.
+-- The columns in so many groups, one after the other. Those of one are at its post, and their minutes rise.
 pub record AreGroups (n : ℕ) (columns : List Column) (count : ℕ) (groups : List Group) : Type 0 where
   pub few : count ≤ n
   pub most : count ≤ MOST_SLOTS
@@ -42,9 +42,8 @@ abbrev pub AreReached : ℕ → List Group → List ℕ → List Bool → List �
 AreReached count groups enter done dist seen = (r j : ℕ) → r < count → (seen_at seen r).from ≤ j → (group_at groups r).from ≤ j → j < (group_at groups r).to → is_done done j ≡ false
     → at dist j + GREATEST_PRICE ≤ (seen_at seen r).cost + at enter j
 
--- Columns between two places were approached at a cost from a place of the tree: each that is not done is no farther than
--- before and than the cost with its price, and if it is nearer than before, it was reached so; none of these is nearer than
--- `near`.
+-- Columns between two places were approached at a cost from a place of the tree. Each that is not done is no farther than
+-- before and than the cost with its price. If it is nearer than before, it was reached so. None of these is nearer than `near`.
 pub record AreApproached (first upto from cost : ℕ) (enter : List ℕ) (done : List Bool) (dist parent dist' parent' : List ℕ) (near : ℕ) : Type 0 where
   pub covered : (j : ℕ) → first ≤ j → j < upto → is_done done j ≡ false → at dist' j + GREATEST_PRICE ≤ cost + at enter j
   pub nearer : (j : ℕ) → at dist' j ≤ at dist j

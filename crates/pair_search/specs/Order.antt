@@ -5,19 +5,19 @@ use Rattle.trip_model.specs.declared.limits.TheConstants.{LAST_MINUTE}
 use Rattle.trip_model.specs.declared.trip.Move.{Move}
 use Rattle.pair_search.specs.declared.order.Column.{Column}
 
--- the minute by which a row that is linked to the column must be ready: when its trip departs; seen from the entering side,
--- how long before the last minute its trip ends
+-- the minute by which a row that is linked to the column must be ready: when the column's trip departs. Seen from the entering
+-- side, it is how long before the last minute that trip ends
 abbrev pub column_minute : Bool → Option Move → ℕ
 column_minute turned None = 0
 column_minute turned (Some m) = if turned then LAST_MINUTE - m.arrives else m.leaves
 
--- where the column of a slot stands: the place at which its trip begins; seen from the entering side, at which it ends; nowhere
--- where no trip runs, and where the slot is left out
+-- the place of the column of a slot: that at which its trip begins, or, seen from the entering side, ends. None where no trip
+-- runs, and where the slot is left out
 abbrev pub column_post : Bool → Option ℕ → ℕ → Option Move → Option ℕ
 column_post turned without slot None = None
 column_post turned without slot (Some m) = if leads_to slot without then None else Some (if turned then m.to else m.from)
 
--- stands past the last of so many columns
+-- a column past the last of so many
 abbrev pub no_column : ℕ → Column
 no_column n = record { post = None; minute = 0; slot = n }
 
@@ -29,7 +29,7 @@ slot_at n columns k = (slice_index_or columns k (no_column n)).slot
 abbrev pub place_of : ℕ → List ℕ → ℕ → ℕ
 place_of n places j = slice_index_or places j n
 
--- slots and places are numbers of the same columns, of which there are so many
+-- slots and places are numbers of the same columns, so many in all
 pub record IsRenaming (n : ℕ) (slot place : ℕ → ℕ) : Type 0 where
   pub slot_within : (k : ℕ) → k < n → slot k < n
   pub place_within : (j : ℕ) → j < n → place j < n
@@ -38,7 +38,7 @@ pub record IsRenaming (n : ℕ) (slot place : ℕ → ℕ) : Type 0 where
   pub no_slot : (k : ℕ) → n ≤ k → n ≤ slot k
   pub no_place : (j : ℕ) → n ≤ j → n ≤ place j
 
--- each column stands once, with its minute and where it stands
+-- each column is there once, with its minute and its post
 pub record IsOrder (n : ℕ) (minute : ℕ → ℕ) (post : ℕ → Option ℕ) (columns : List Column) (places : List ℕ) : Type 0 where
   pub count : length columns ≡ n
   pub slots : length places ≡ n
@@ -46,6 +46,6 @@ pub record IsOrder (n : ℕ) (minute : ℕ → ℕ) (post : ℕ → Option ℕ) 
   pub minutes : (k : ℕ) → k < n → (slice_index_or columns k (no_column n)).minute ≡ minute (slot_at n columns k)
   pub posts : (k : ℕ) → k < n → (slice_index_or columns k (no_column n)).post ≡ post (slot_at n columns k)
 
--- the column of a row stands before a place
+-- the column of a row is before a place
 abbrev pub stands_before : (ℕ → ℕ) → ℕ → ℕ → Bool
 stands_before place k i = nat_le (place i + 1) k

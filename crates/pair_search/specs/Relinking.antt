@@ -26,13 +26,13 @@ pub record LeadsBack (next : List (Option ℕ)) (parent rows : List ℕ) (top : 
   pub apart : (r t : ℕ) → r < t → t ≤ top → at rows r ≢ at rows t
   pub within : (t : ℕ) → t ≤ top → at rows t < length next
 
--- the rows at these places are not left out, and each column of the way back has the weight of the row that it leads to
+-- the rows at these places are not left out. Each column of the way back has the weight of the row that it leads to
 pub record IsTightBack (w : ℕ → ℕ → Option ℕ) (out : ℕ → Bool) (next : List (Option ℕ)) (leave enter : List ℕ) (parent rows : List ℕ) (top : ℕ) : Type 0 where
   pub inside : (t : ℕ) → t ≤ top → out (at rows t) ≡ false
   pub tight : (t j : ℕ) → t ≤ top → next_of next (at rows t) ≡ Some j → w (at rows (at parent j)) j ≡ Some (price leave (at rows (at parent j)) + price enter j)
 
--- Links that are matched but for a row: it is to be linked to a column, which is linked to none, or to none, and then it
--- has no price.
+-- Links that are matched but for a row. It is to be linked to a column that is linked to none. Or it is to be linked to none,
+-- and then it has no price.
 pub record IsPassing (w : ℕ → ℕ → Option ℕ) (out : ℕ → Bool) (a : ℕ) (b : Option ℕ) (next : List (Option ℕ)) (leave enter : List ℕ) (row : ℕ) (to : Option ℕ) : Type 0 where
   pub once : AreApart next
   pub tight : (i j : ℕ) → next_of next i ≡ Some j → w i j ≡ Some (price leave i + price enter j)
@@ -43,12 +43,12 @@ pub record IsPassing (w : ℕ → ℕ → Option ℕ) (out : ℕ → Bool) (a : 
   pub alone : to ≡ None → price leave row ≡ 0
   pub column : (j : ℕ) → to ≡ Some j → (w row j ≡ Some (price leave row + price enter j)) × ((i : ℕ) → next_of next i ≢ Some j)
 
--- a slot before the path is given this: what the first of the path had, or, where there is no path, nothing or what none had
+-- a slot before the path is given this: what the first of the path had. Where there is no path, it is nothing, or what none had
 abbrev pub IsPassedTo : (had had_by given : ℕ → Option ℕ) → Option ℕ → List ℕ → Type 0
 IsPassedTo had had_by given to [] = IfSome to (λ t. had_by t ≡ None)
 IsPassedTo had had_by given to (r ∷ path) = (to ≡ had r) × IsSome (had r) × IsPassedOn had had_by given r path
 
--- the slot stands in the rows after a place, up to another
+-- the slot is in the rows after a place, up to another
 pub record IsRowAfter (rows : List ℕ) (t top slot : ℕ) : Type 0 where
   pub place : ℕ
   pub after : t < place

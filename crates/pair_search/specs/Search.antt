@@ -15,7 +15,7 @@ at xs i = slice_index_or xs i 0
 abbrev pub is_done : List Bool → ℕ → Bool
 is_done done j = slice_index_or done j false
 
--- the column was reached from a place of the tree: it is as far as that, with the row's price and its own, less the weight
+-- the column was reached from a place of the tree. It is as far as that, plus the row's price and its own, less the weight
 pub record IsReached (w : ℕ → Option ℕ) (from start : ℕ) (enter : List ℕ) (done : List Bool) (dist parent : List ℕ) (j : ℕ) : Type 0 where
   pub undone : is_done done j ≡ false
   pub by : at parent j ≡ from
@@ -23,8 +23,8 @@ pub record IsReached (w : ℕ → Option ℕ) (from start : ℕ) (enter : List �
   pub fits : w j ≡ Some weight
   pub exact : at dist j + weight ≡ start + at enter j
 
--- the columns below a number were looked at from a place of the tree: each that is not done is no farther than before and
--- than by the row there, and if it is nearer than before, it was reached from there
+-- the columns below a number were looked at from a place of the tree. Each that is not done is no farther than before and than
+-- by the row there. If it is nearer than before, it was reached from there
 pub record AreLooked (w : ℕ → Option ℕ) (upto from start : ℕ) (enter : List ℕ) (done : List Bool) (dist parent dist' parent' : List ℕ) : Type 0 where
   pub covered : (j k : ℕ) → j < upto → is_done done j ≡ false → w j ≡ Some k → at dist' j + k ≤ start + at enter j
   pub nearer : (j : ℕ) → at dist' j ≤ at dist j
@@ -38,8 +38,8 @@ pub record IsNearest (done : List Bool) (dist : List ℕ) (bound j : ℕ) : Type
   pub below : at dist j < bound
   pub least : (h : ℕ) → h < length dist → is_done done h ≡ false → at dist j ≤ at dist h
 
--- what a search is given: weights, how many rows and columns, the row from which it goes out, for each column the row that
--- is linked to it, and the prices
+-- what a search is given: weights, how many rows and columns there are, and the row from which it goes out. Then for each
+-- column the row that is linked to it, and the prices
 pub record Problem : Type 0 where
   pub w : ℕ → ℕ → Option ℕ
   pub n : ℕ
@@ -55,8 +55,8 @@ problem w n a before leave enter = record { w = w; n = n; a = a; before = before
 abbrev pub IsInside : Problem → ℕ → Type 0
 IsInside p i = (i ≡ p.a) ⊎ ((j : ℕ) × (next_of p.before j ≡ Some i))
 
--- No row is linked to two columns, and the one from which the search goes out to none. No price that is used is greater
--- than the greatest, and from rows that can be in the tree the two prices of each pair that fits reach its weight.
+-- No row is linked to two columns, and the one from which the search goes out to none. No price that is used is greater than
+-- the greatest. From rows that can be in the tree, the two prices of each pair that fits reach its weight.
 pub record IsGiven (p : Problem) : Type 0 where
   pub few : p.n ≤ MOST_SLOTS
   pub weights : AreWeights p.w p.n
@@ -68,8 +68,8 @@ pub record IsGiven (p : Problem) : Type 0 where
   pub enter_low : (i j k : ℕ) → p.w i j ≡ Some k → at p.enter j ≤ GREATEST_PRICE
   pub covers : (i j k : ℕ) → IsInside p i → p.w i j ≡ Some k → k ≤ at p.leave i + at p.enter j
 
--- how far the columns are, from which place of the tree they were reached, and which are done; the rows of the tree in the
--- order in which they came in, how far they are, and how many; and how far the search has gone
+-- of the columns: how far they are, from which place of the tree they were reached, and which are done. Of the rows of the
+-- tree: their order, how far they are, and how many. And how far the search has gone
 pub record Tree : Type 0 where
   pub dist : List ℕ
   pub parent : List ℕ
@@ -91,7 +91,7 @@ pub record IsVia (p : Problem) (s : Tree) (t : ℕ) : Type 0 where
   pub far : at s.dist column ≡ at s.far t
   pub parent : at s.parent column < t
 
--- the row that is linked to a column that is done stands at a place of the tree
+-- the row that is linked to a column that is done is at a place of the tree
 pub record IsIn (p : Problem) (s : Tree) (j : ℕ) : Type 0 where
   pub place : ℕ
   pub within : (0 < place) × (place < s.size)
@@ -105,9 +105,9 @@ pub record IsFrom (p : Problem) (s : Tree) (j : ℕ) : Type 0 where
   pub fits : p.w (at s.rows (at s.parent j)) j ≡ Some weight
   pub exact : at s.dist j + weight ≡ at s.far (at s.parent j) + at p.leave (at s.rows (at s.parent j)) + at p.enter j
 
--- The tree of a search that has come so far. Its rows are distinct, none is farther than `reach`, and each but the first
--- came in by the column that it is linked to. Columns that are not done are not nearer than `reach`, and every column is as
--- far as along some row, and no farther than along any.
+-- The tree of a search that has come so far. Its rows are distinct, none is farther than `reach`, and each but the first came
+-- in by the column that it is linked to. Columns that are not done are not nearer than `reach`. Every column is as far as along
+-- some row, and no farther than along any.
 pub record IsTree (p : Problem) (s : Tree) : Type 0 where
   pub root : (0 < s.size) × (at s.rows 0 ≡ p.a) × (at s.far 0 ≡ 0)
   pub within : (t : ℕ) → t < s.size → at s.far t ≤ s.reach
@@ -119,7 +119,7 @@ pub record IsTree (p : Problem) (s : Tree) : Type 0 where
   pub reached : (j : ℕ) → j < p.n → at s.dist j < FAR → IsFrom p s j
   pub count : s.size + count_by not s.done ≡ p.n + 1
 
--- a row comes in next: it is linked to a column that is not done, of which none is nearer
+-- a row comes in next: it is linked to a nearest column that is not done
 pub record IsNext (p : Problem) (s : Tree) (row column : ℕ) : Type 0 where
   pub within : column < p.n
   pub undone : is_done s.done column ≡ false
@@ -127,8 +127,8 @@ pub record IsNext (p : Problem) (s : Tree) (row column : ℕ) : Type 0 where
   pub least : (j : ℕ) → j < p.n → is_done s.done j ≡ false → at s.dist column ≤ at s.dist j
   pub linked : next_of p.before column ≡ Some row
 
--- Of the rows of the tree none loses its price sooner than the one where the search would end, which then has no link; it
--- loses it when prices fall so far.
+-- No row of the tree loses its price sooner than the one where the search would end. That row loses it when prices fall so far,
+-- and then has no link.
 pub record IsBest (p : Problem) (s : Tree) (end : End) : Type 0 where
   pub alone : end.to ≡ None
   pub within : end.from < s.size
@@ -137,8 +137,8 @@ pub record IsBest (p : Problem) (s : Tree) (end : End) : Type 0 where
   pub later : s.reach ≤ end.fall
   pub low : end.fall ≤ GREATEST_PRICE
 
--- How the search has ended: prices fall so far, and the row at a place of the tree is then linked to a column that was
--- linked to none, or to none itself.
+-- How the search has ended: prices fall so far. The row at a place of the tree is then linked to a column that was linked to
+-- none, or to none itself.
 pub record HasEnded (p : Problem) (s : Tree) (end : End) : Type 0 where
   pub within : end.from < s.size
   pub later : s.reach ≤ end.fall

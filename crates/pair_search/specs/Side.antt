@@ -9,8 +9,8 @@ use Rattle.pair_search.specs.declared.groups.Group.{Group}
 use Rattle.pair_search.specs.declared.line.Fit.{Fit}
 use Rattle.pair_search.specs.Order.{column_minute, column_post, slot_at, place_of}
 
--- pairs; whether entering sides are the rows; the column that is left out, if one is; the columns in an order, with the place
--- of each; and their groups, with how many there are
+-- pairs; whether entering sides are the rows; the column that is left out, if one is. Then the columns in an order, with the
+-- place of each, and their groups, with how many there are
 pub record SideView : Type 0 where
   pub pairs : PairsView
   pub turned : Bool
@@ -41,7 +41,7 @@ side_place side = place_of (side_slots side) side.places
 abbrev pub pairs_minute : PairsView → Bool → ℕ → ℕ
 pairs_minute pairs turned j = column_minute turned (move_at pairs.moves j)
 
--- where columns stand
+-- where columns are
 abbrev pub pairs_post : PairsView → Bool → Option ℕ → ℕ → Option ℕ
 pairs_post pairs turned without j = column_post turned without j (move_at pairs.moves j)
 

@@ -12,7 +12,7 @@ use crate::side::Side;
 use desk_io::Steps;
 use std::sync::ledger::Ledger;
 
-/// Where a search ends: when prices have fallen so far, the row at a place of the tree is linked to a column, or to none.
+/// Where a search ends. When prices have fallen so far, the row at a place of the tree is linked to a column, or to none.
 #[derive(Clone, Copy)]
 pub(crate) struct End {
     pub from: u16,
@@ -57,7 +57,7 @@ pub(crate) fn begin<L: Ledger>(
     ensures visited { AreVisited (place_weight side.now a) side.now.groups side.now.count (replicate (side_slots side.now) FAR) dist.new steps.old steps.new }
     ensures counted { steps.new ≤ steps.old + side_slots side.now }
 {
-    // Its clause says how the columns stand in groups.
+    // Its clause says how the columns are in groups.
     let groups = side.groups();
     leave[a as usize] = GREATEST_PRICE;
     dist.fill(FAR);

@@ -38,8 +38,8 @@ impl<'a> Model for Line<'a> {
 }
 
 impl<'a> Line<'a> {
-    // What the row weighs with each column at a post that it is in time for, and the minute from which on such a column may need
-    // it.
+    // What the row weighs with each column at a post that it is in time for. And the minute from which on such a column may
+    // need it.
     fn reach(&self, post: u16) -> Option<Reach>
         requires { post < length self.now.side.pairs.matrix.walks }
         ensures { (k : ℕ) → k < side_slots self.now.side → (slice_index_or self.now.side.columns k (no_column (side_slots self.now.side))).post ≡ Some post

@@ -8,8 +8,8 @@ ghost use Rattle.pair_search.specs.Side.{pairs_minute, pairs_post};
 use pair_graph::Pairs;
 use trip_model::{LAST_MINUTE, Move};
 
-/// A column of a search: where its trip begins or, seen from the entering side, ends; the minute by which a row that is linked
-/// to it must be ready; and its slot. No row is linked to one that stands nowhere.
+/// A column of a search: where its trip begins or, seen from the entering side, ends. Then the minute by which a row that is
+/// linked to it must be ready, and its slot. No row is linked to one without a post.
 #[derive(Clone, Copy, PartialEq, Eq, PartialOrd, Ord)]
 pub struct Column {
     pub post: Option<u16>,
@@ -32,7 +32,7 @@ fn column_minute(turned: bool, made: Option<Move>) -> u16
     }
 }
 
-// Where this trip's column stands, unless its slot is left out.
+// The post of this trip's column, unless its slot is left out.
 fn column_post(turned: bool, without: Option<u16>, slot: u16, made: Option<Move>) -> Option<u16>
     ensures { result ≡ spec.column_post turned without slot made }
 {
@@ -90,8 +90,8 @@ fn number_places(columns: &[Column], places: &mut [u16])
     }
 }
 
-// Puts columns that stand by their slots into order: by where they stand, those of one post by their minutes, and those of
-// one minute by their slots.
+// Puts columns that are in the order of their slots into order by post. Those of one post are ordered by their minutes, and
+// those of one minute by their slots.
 fn sort(columns: &mut [Column], places: &mut [u16])
     requires places { length places.old ≡ length columns.old }
     requires few { length columns.old ≤ MOST_SLOTS }
@@ -135,7 +135,7 @@ pub fn arrange_departures(pairs: &Pairs<'_>, columns: &mut [Column], places: &mu
     sort(columns, places);
 }
 
-/// How many columns stand at the front that need a row sooner than at a minute.
+/// How many columns at the front need a row sooner than at a minute.
 pub(crate) fn columns_before(columns: &[Column], minute: u16) -> usize
     requires { IsNonDecreasingBy (λ c. c.minute) columns.now }
     ensures within { result ≤ length columns.now }

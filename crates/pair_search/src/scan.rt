@@ -11,7 +11,7 @@ use crate::side::Side;
 use desk_io::Steps;
 use std::sync::ledger::Ledger;
 
-/// What a search has seen of a group of columns: none that is not done is nearer than `near`, and those from a place on were
+/// What a search has seen of a group of columns. None that is not done is nearer than `near`, and those from a place on were
 /// reached at a cost.
 #[derive(Clone, Copy)]
 pub(crate) struct Seen {

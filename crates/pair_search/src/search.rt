@@ -190,7 +190,7 @@ fn search_with<L: Ledger>(
     );
 }
 
-/// Searches over links, of which the slots are the rows.
+/// Searches over links whose slots are the rows.
 pub fn search_links<L: Ledger>(
     side: &Side<'_>,
     a: u16,
@@ -227,7 +227,7 @@ pub fn search_links<L: Ledger>(
     write_links(next, links);
 }
 
-/// Searches over links, of which the slots are the columns: what stands before each is linked anew.
+/// Searches over links whose slots are the columns: what is before each is linked anew.
 pub fn search_befores<L: Ledger>(
     side: &Side<'_>,
     b: u16,

@@ -11,8 +11,8 @@ use crate::order::Column;
 use pair_graph::Pairs;
 use std::marker::Model;
 
-/// What rows and columns of a search weigh: leaving sides as rows and entering sides as columns, or the other way round.
-/// One column may be left out. Columns stand in groups, of which each weighs the same with a row as far as they fit.
+/// What rows and columns of a search weigh: leaving sides as rows and entering sides as columns, or the other way round. One
+/// column may be left out. Columns are in groups. Those of a group weigh the same with a row as far as they fit.
 #[derive(Drop)]
 pub struct Side<'a> {
     pub(crate) pairs: &'a Pairs<'a>,

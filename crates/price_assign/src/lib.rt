@@ -1,12 +1,12 @@
 //! A plan of next trips with its dual prices, for the pairs of a timetable.
 //!
-//! A [`Solver`] holds a [`Plan`] and all the memory for making and repairing it, which [`Solver::open`] takes. What a plan is
-//! certified or loose for is said of the network of the pairs. [`Solver::solve`] makes a plan from nothing: it adds the
-//! leaving side of one trip after the other. [`Solver::search_left`] adds one to a loose plan, and
-//! [`Solver::search_right`] an entering side, each by a search along a shortest augmenting path of the assignment problem.
+//! A [`Solver`] holds a [`Plan`] and all the memory for making and repairing it, which [`Solver::open`] takes. A plan is
+//! certified or loose for the network of the pairs. [`Solver::solve`] makes a plan from nothing: it adds the leaving side of
+//! one trip after the other. [`Solver::search_left`] adds one to a loose plan, and [`Solver::search_right`] an entering side,
+//! each by a search along a shortest augmenting path of the assignment problem.
 //!
-//! The contract that the crates above use: after `solve` the plan is certified, within a count of steps; a search takes a
-//! loose plan to one from which one side less is left out, along the path of its definition.
+//! The contract that the crates above use: after `solve` the plan is certified, within a count of steps. A search takes a loose
+//! plan to one with one side less left out, along the path of its definition.
 //!
 //! `feed_schedule` shows a use, in `src/schedule.rt`.
 //!

@@ -63,7 +63,7 @@ impl Solver {
         })
     }
 
-    /// The plan as it stands.
+    /// The plan as it is now.
     pub fn plan(&self) -> &Plan
         ensures { result.now ≡ self.now }
     {
@@ -106,8 +106,8 @@ impl Solver {
         );
     }
 
-    /// Adds the leaving side of `a` to a plan from which it is left out, as is the entering side of `b` where there is one: a
-    /// search goes out from it over the pairs that do not enter `b`. At most n^2 + n steps for n slots.
+    /// Adds the leaving side of `a` to a plan from which it is left out. The entering side of `b`, where there is one, is left
+    /// out too. A search goes out from `a` over the pairs that do not enter `b`. At most n^2 + n steps for n slots.
     pub fn search_left<L: Ledger>(
         &mut self,
         pairs: &Pairs<'_>,
@@ -134,7 +134,7 @@ impl Solver {
         );
     }
 
-    /// Adds the entering side of `b`, as [`Solver::search_left`] adds a leaving one: a search goes out from it over the pairs
+    /// Adds the entering side of `b`, as [`Solver::search_left`] adds a leaving one. A search goes out from `b` over the pairs
     /// that do not leave `a`. At most n^2 + n steps for n slots.
     pub fn search_right<L: Ledger>(
         &mut self,
