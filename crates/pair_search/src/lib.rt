@@ -8,13 +8,7 @@
 //! The contract that the crates above use: links and prices that are matched and cover all rows but one do so with that row
 //! too, along the path of its definition. A search visits no pair twice, and each visit is a step.
 //!
-//! ```text
-//! let mut order = Order::open(alloc)?;
-//! arrange(&pairs, false, None, &mut order.columns, &mut order.places);
-//! let count = find_groups(&order.columns, &mut order.groups);
-//! let side = Side::of(&pairs, false, None, &order.columns, &order.places, &order.groups, count);
-//! search_links(&side, 0, &mut links, &mut leave, &mut enter, &mut next, &mut lists, &mut steps);
-//! ```
+//! `price_assign` shows a use, in `src/plan.rt`.
 //!
 //! The contracts cite `Side` (the pairs, seen from one side), `Order` and `Groups` (how columns stand), `Assignment` and `Turned`
 //! (links and prices that are matched), `Visits` (which pairs a search visits), and `Lists`. `Search`, `Relinking`, `Renamed` and
