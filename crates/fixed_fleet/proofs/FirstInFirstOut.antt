@@ -83,10 +83,10 @@ state-none moves high done links j b are state here in_day demand none = record 
         omega (arith, demand, come, gone, maximum-bounds (made moves) high are b.from b.leaves in_day)
 
 -- the next trip of a slot after one link more
-next-set : (links : List (Option ℕ)) (i j s : ℕ) → i < length links → s ≡ i → next_of (set links i (Some j)) s ≡ Some j
+pub next-set : (links : List (Option ℕ)) (i j s : ℕ) → i < length links → s ≡ i → next_of (set links i (Some j)) s ≡ Some j
 next-set links i j s h same = ap (next_of (set links i (Some j))) same ∙ get_or-set_same links i (Some j) None h
 
-next-kept : (links : List (Option ℕ)) (i j s : ℕ) → s ≢ i → next_of (set links i (Some j)) s ≡ next_of links s
+pub next-kept : (links : List (Option ℕ)) (i j s : ℕ) → s ≢ i → next_of (set links i (Some j)) s ≡ next_of links s
 next-kept links i j s other = get_or-set_other links i s (Some j) None other
 
 -- two moves that meet, where the second is known
@@ -97,7 +97,7 @@ meet-place (Some a) b e = (a, refl, eqb-true a.to b.from (and_parts (a.to == b.f
 plain-fits : (moves : List (Option Move)) (i j : ℕ) → meets (move_at moves i) (move_at moves j) ≡ true → Fits (plain_network moves) i j
 plain-fits moves i j e = ap (λ t. is_some {T = ℕ} (if t then Some 0 else None)) e
 
-no_next : (next : Option ℕ) → is_none next ≡ true → next ≡ None
+pub no_next : (next : Option ℕ) → is_none next ≡ true → next ≡ None
 no_next None e = refl
 no_next (Some j) e = absurd (false≢true e)
 
@@ -217,7 +217,7 @@ state-run places moves high moving are (j ∷ rest) done links is state =
     state-run places moves high moving are rest (done ++ j ∷ []) (with_link links (forerunner moves links j) j) regroup
     (state-step moves high done links j b.0 are state b.1 in_day new demand (forerunner moves links j) (IsForerunner-forerunner moves links j))
 
-none-linked : (n i : ℕ) → next_of (replicate n None) i ≡ None
+pub none-linked : (n i : ℕ) → next_of (replicate n None) i ≡ None
 none-linked n i = ⊎_elim
     (λ (h : i < n). get_or-replicate n i None None h)
     (λ (h : n ≤ i). get_or_past (replicate n None) i None (omega (arith, length-replicate {A = Option ℕ} n None)))

@@ -2,8 +2,9 @@
 use Rattle.std.proofs.Common.{◌≡◌, ◌≢◌, ◌⊎◌, ℕ, zero, suc, ◌<◌, ◌≤◌, ◌&&◌, Bool, true, false, List, length, Option, None, Some, if◌then◌else◌, refl, sym, ap, ◌∙◌, inl, inr, ⊎_elim, arith}
 use Rattle.std.proofs.lemmas.Bool.{and_parts, and_from, ltb-true, lt-ltb, false≢true, cases_eq, cases_lt}
 use Rattle.trip_model.specs.declared.trip.Move.{Move}
+use Rattle.trip_model.specs.Order.{minute_arrived}
 use Rattle.trip_model.specs.Plain.{move_at}
-use Rattle.fixed_fleet.specs.Rule.{may_precede, minute_arrived, ends_before, forerunner_below, forerunner, IsForerunner}
+use Rattle.fixed_fleet.specs.Rule.{may_precede, ends_before, forerunner_below, forerunner, IsForerunner}
 
 -- the slot is the forerunner of j among those below a bound
 abbrev IsBestBelow : List (Option Move) → List (Option ℕ) → ℕ → ℕ → Option ℕ → Type 0
@@ -69,3 +70,20 @@ widen moves links j (Some i) best = best
 
 pub IsForerunner-forerunner : (moves : List (Option Move)) (links : List (Option ℕ)) (j : ℕ) → IsForerunner moves links j (forerunner moves links j)
 IsForerunner-forerunner moves links j = widen moves links j (forerunner moves links j) (best-below moves links j (length moves))
+
+-- a trip has one forerunner
+pub forerunner-once : (moves : List (Option Move)) (links : List (Option ℕ)) (j : ℕ) (a b : Option ℕ) → IsForerunner moves links j a → IsForerunner moves links j b → a ≡ b
+forerunner-once moves links j None None x y = refl
+forerunner-once moves links j None (Some k) x y = absurd (x k y.0 y.1)
+forerunner-once moves links j (Some i) None x y = absurd (y i x.0 x.1)
+forerunner-once moves links j (Some i) (Some k) x y = ⊎_elim
+    (λ (sooner : minute_arrived (move_at moves i) < minute_arrived (move_at moves k)). ⊎_elim
+    (λ (later : minute_arrived (move_at moves k) < minute_arrived (move_at moves i)). absurd (omega arith))
+    (λ (tie : (minute_arrived (move_at moves k) ≡ minute_arrived (move_at moves i)) × (k ≤ i)). absurd (let same = tie.0 in omega arith))
+    (y.2 i x.0 x.1))
+    (λ (tie : (minute_arrived (move_at moves i) ≡ minute_arrived (move_at moves k)) × (i ≤ k)). ⊎_elim
+    (λ (later : minute_arrived (move_at moves k) < minute_arrived (move_at moves i)). absurd (let same = tie.0 in omega arith))
+    (λ (other : (minute_arrived (move_at moves k) ≡ minute_arrived (move_at moves i)) × (k ≤ i)).
+    let one : i ≡ k = (let le = tie.1 in let ge = other.1 in omega arith) in ap Some one)
+    (y.2 i x.0 x.1))
+    (x.2 k y.0 y.1)

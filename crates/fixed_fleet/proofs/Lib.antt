@@ -1,4 +1,5 @@
 pub mod FirstInFirstOut
 pub mod Forerunners
+pub mod Fronts
 pub mod LeastNumber
 pub mod PlainBlocks

@@ -1,18 +1,13 @@
 -- First in, first out: which trip follows on which where vehicles never run empty.
 use Rattle.std.specs.Prelude.{◌≡◌, ◌⊎◌, ℕ, zero, suc, ◌<◌, ◌≤◌, ◌&&◌, nat_lt, Bool, true, List, length, fold, replicate, slice_set, Option, None, Some, is_none, if◌then◌else◌}
 use Rattle.trip_model.specs.Links.{next_of}
-use Rattle.trip_model.specs.Order.{by_departure}
+use Rattle.trip_model.specs.Order.{minute_arrived, by_departure}
 use Rattle.trip_model.specs.Plain.{move_at, meets}
 use Rattle.trip_model.specs.declared.trip.Move.{Move}
 
 -- the vehicle of i is free, as no next trip was found for it yet, and stands where j begins when j departs
 abbrev pub may_precede : List (Option Move) → List (Option ℕ) → ℕ → ℕ → Bool
 may_precede moves links j i = is_none (next_of links i) && meets (move_at moves i) (move_at moves j)
-
--- the minute in which a move arrives; 0 where there is none
-abbrev pub minute_arrived : Option Move → ℕ
-minute_arrived None = 0
-minute_arrived (Some m) = m.arrives
 
 -- the trip of i ends before that of the other slot; true where there is none yet
 abbrev pub ends_before : List (Option Move) → ℕ → Option ℕ → Bool

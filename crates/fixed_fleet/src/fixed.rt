@@ -1,9 +1,9 @@
-ghost use Rattle.std.specs.Prelude.{◌≡◌, ◌<◌, true, pos, ◌+ℤ◌, length, IfOk, IfSome};
+ghost use Rattle.std.specs.Prelude.{◌≡◌, ◌≢◌, ℕ, ◌<◌, ◌≤◌, true, pos, ◌+ℤ◌, length, slice_index_or, All, IfOk, IfSome, IfNone};
 ghost use Rattle.trip_model.specs.Blocking.{IsFewest};
 ghost use Rattle.trip_model.specs.Fleet.{deficit_sum};
 ghost use Rattle.trip_model.specs.Links.{AreLinks, link_count, blocks_along};
 ghost use Rattle.trip_model.specs.Order as order;
-ghost use Rattle.trip_model.specs.Plain.{plain_network, trip_moves, move_at};
+ghost use Rattle.trip_model.specs.Plain.{plain_network, trip_moves};
 ghost use Rattle.trip_model.specs.Timetable.{slot_at};
 ghost use Rattle.fixed_fleet.specs.Rule as rule;
 
@@ -11,82 +11,44 @@ use crate::laws::{plain_blocks_law, rule_law};
 use desk_io::Memory;
 use std::alloc::Global;
 use trip_model::laws::plain_law;
-use trip_model::{Links, Timetable, by_departure};
+use trip_model::{Links, Timetable, by_departure, by_end};
 
-// Whether the vehicle of the slot `other` is free, and stands where the trip of `slot` begins when that departs.
-fn may_precede(timetable: &Timetable, links: &Links, slot: u16, other: u16) -> bool
-    requires links { length links.now ≡ length timetable.now.slots }
-    requires slot { slot < length timetable.now.slots }
-    requires other { other < length timetable.now.slots }
-    requires live { (slot_at timetable.now slot).trip.live ≡ true }
-    ensures same { result ≡ rule.may_precede (trip_moves timetable.now.slots) links.now slot other }
-    ensures live { result ≡ true → (slot_at timetable.now other).trip.live ≡ true }
+// From a position on, the first one whose trip ends at a place; behind the last one where none does.
+fn next_to(timetable: &Timetable, ended: &[u16], place: u16, from: usize) -> usize
+    requires within { All (λ s. s < length timetable.now.slots) ended.now }
+    requires from { from ≤ length ended.now }
+    ensures on { from ≤ result }
+    ensures end { result ≤ length ended.now }
+    ensures passed { (k : ℕ) → from ≤ k → k < result → (slot_at timetable.now (slice_index_or ended.now k 0)).trip.to ≢ place }
+    ensures found { result < length ended.now → (slot_at timetable.now (slice_index_or ended.now result 0)).trip.to ≡ place }
 {
-    let trip = timetable.trip(slot);
-    let before = timetable.trip(other);
-    before.live
-        && links.next(other).is_none()
-        && before.to == trip.from
-        && before.ends <= trip.departs
+    for at in from..ended.len() {
+        if timetable.trip(ended[at]).to == place {
+            return at;
+        }
+    }
+    ended.len()
 }
 
-// Whether the trip of a slot ends before the best so far; true where there is none yet.
-fn ends_before(timetable: &Timetable, slot: u16, best: Option<u16>) -> bool
-    requires slot { slot < length timetable.now.slots }
-    requires live { (slot_at timetable.now slot).trip.live ≡ true }
-    requires within { IfSome best (λ b. b < length timetable.now.slots) }
-    requires best { IfSome best (λ b. (slot_at timetable.now b).trip.live ≡ true) }
-    ensures { result ≡ rule.ends_before (trip_moves timetable.now.slots) slot best }
+// The slot at a position, where there is one and its trip has ended by a minute.
+fn ended_by(timetable: &Timetable, ended: &[u16], at: usize, minute: u16) -> Option<u16>
+    requires within { All (λ s. s < length timetable.now.slots) ended.now }
+    ensures at { IfSome result (λ s. (at < length ended.now) × (s ≡ slice_index_or ended.now at 0)) }
+    ensures in_time { IfSome result (λ s. (slot_at timetable.now s).trip.ends ≤ minute) }
+    ensures none { IfNone result (at < length ended.now → minute < (slot_at timetable.now (slice_index_or ended.now at 0)).trip.ends) }
 {
-    match best {
-        None => true,
-        Some(best) => timetable.trip(slot).ends < timetable.trip(best).ends,
+    let before = *ended.get(at)?;
+    if timetable.trip(before).ends <= minute {
+        Some(before)
+    } else {
+        None
     }
-}
-
-// The better forerunner of a slot: the next one to be looked at, or the best so far.
-fn better(
-    timetable: &Timetable,
-    links: &Links,
-    slot: u16,
-    other: u16,
-    best: Option<u16>,
-) -> Option<u16>
-    requires links { length links.now ≡ length timetable.now.slots }
-    requires slot { slot < length timetable.now.slots }
-    requires live { (slot_at timetable.now slot).trip.live ≡ true }
-    requires other { other < length timetable.now.slots }
-    requires best { IfSome best (λ b. b < length timetable.now.slots) }
-    requires best_live { IfSome best (λ b. (slot_at timetable.now b).trip.live ≡ true) }
-    ensures better { result ≡ rule.better (trip_moves timetable.now.slots) links.now slot other best }
-    ensures within { IfSome result (λ b. b < length timetable.now.slots) }
-    ensures live { IfSome result (λ b. (slot_at timetable.now b).trip.live ≡ true) }
-{
-    if may_precede(timetable, links, slot, other) && ends_before(timetable, other, best) {
-        return Some(other);
-    }
-    best
-}
-
-// The slot after which the trip of a slot is made, where there is one.
-fn forerunner(timetable: &Timetable, links: &Links, slot: u16) -> Option<u16>
-    requires links { length links.now ≡ length timetable.now.slots }
-    requires slot { slot < length timetable.now.slots }
-    requires live { (slot_at timetable.now slot).trip.live ≡ true }
-    ensures found { result ≡ rule.forerunner (trip_moves timetable.now.slots) links.now slot }
-    ensures within { IfSome result (λ s. s < length timetable.now.slots) }
-{
-    let mut best = None;
-    for other in 0..timetable.slots() {
-        best = better(timetable, links, slot, other, best);
-    }
-    best
 }
 
 /// Links the trips that run first in, first out. They are taken by departure, then by slot; each follows on the trip that
 /// ends where it begins, at or before its departure, has no next trip yet and has ended first; of those that ended
-/// together on the one of the least slot; where there is none it begins a block. For each trip that runs it looks at every
-/// slot once.
+/// together on the one of the least slot; where there is none it begins a block. For each place it passes once over the
+/// slots in order of their ends.
 pub fn fixed_links(alloc: Global, timetable: &Timetable) -> Result<Links, Memory>
     ensures rule { IfOk result (λ links. links ≡ rule.first_in_first_out (trip_moves timetable.now.slots)) }
     ensures slots { IfOk result (λ links. length links ≡ length timetable.now.slots) }
@@ -104,10 +66,18 @@ pub fn fixed_links(alloc: Global, timetable: &Timetable) -> Result<Links, Memory
     plain_blocks_law();
     rule_law();
     let mut links = Links::open(alloc, timetable.slots())?;
+    // Of each place, where in the order of ends its first vehicle waits that has not gone on.
+    let mut fronts = vec![in alloc; 0usize; usize::from(timetable.places())]?;
+    let ended = by_end(alloc, timetable)?;
     let order = by_departure(alloc, timetable)?;
     for slot in &order {
-        if let Some(before) = forerunner(timetable, &links, *slot) {
+        let trip = timetable.trip(*slot);
+        let place = usize::from(trip.from);
+        let at = next_to(timetable, &ended, trip.from, fronts[place]);
+        fronts[place] = at;
+        if let Some(before) = ended_by(timetable, &ended, at, trip.departs) {
             links.set(before, Some(*slot));
+            fronts[place] = at + 1;
         }
     }
     Ok(links)

@@ -5,7 +5,8 @@
 //! order in which they were pushed, and found by name. Its places are terminals, or, where vehicles are of classes
 //! ([`Timetable::open_classed`]), posts, each a terminal with a class. A [`Move`] is what a deficit counts of a trip: where a
 //! vehicle leaves and arrives, and in which minutes. [`Links`] say for each slot which trip its vehicle makes next, and
-//! [`by_departure`] answers the slots in order of departure. Its limits are constants, as [`MOST_SLOTS`].
+//! [`by_departure`] and [`by_end`] answer the slots in order of departure and of end. Its limits are constants, as
+//! [`MOST_SLOTS`].
 //!
 //! The contract that the crates above use: a timetable is two lists and two numbers. Its names are distinct in each list, and
 //! every trip is valid. [`Timetable::places`] and [`Timetable::slots`] hand this fact on. Links are a list, and those along
@@ -25,7 +26,7 @@
 //! - `Blocking`: blocks, and when they are least
 //! - `Plain`: vehicles that never run empty
 //! - `Links`: the blocks that links make
-//! - `Order`: slots by departure
+//! - `Order`: slots by departure, and by end
 //!
 //! The laws of these are the contracts of [`laws`].
 #![tactic(auto)]
@@ -42,6 +43,6 @@ pub use limits::{
     MOST_TOLERANCE,
 };
 pub use links::Links;
-pub use order::by_departure;
+pub use order::{by_departure, by_end};
 pub use timetable::Timetable;
 pub use trip::{Move, Trip};
