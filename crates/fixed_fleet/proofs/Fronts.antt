@@ -1,4 +1,5 @@
--- At each place, where in the order of ends the first vehicle waits that has not gone on; and that its trip is the forerunner.
+-- A position of each place in the order of ends: before it the vehicles have gone on, and from there on none has. The
+-- first trip from there on that ends at the place is the forerunner, where it ends in time.
 use Rattle.std.proofs.Common.{◌≡◌, ◌≢◌, ℕ, zero, suc, ◌+◌, ◌<◌, ◌≤◌, ◌==◌, nat_le, Bool, true, false, cond, List, [], ◌∷◌, length, get_or, set, take, fold, replicate, All, Option, None, Some, if◌then◌else◌, refl, sym, ap, subst, ◌∙◌, inl, inr, ⊎_elim, arith}
 use Rattle.std.specs.Option.{is_none, is_some}
 use Rattle.std.proofs.lemmas.Bool.{and_parts, and_from, eq-eqb, ne_eqb, eqb-true, leb-true, le-leb, false≢true, cases_eq, cases_lt}
@@ -92,7 +93,7 @@ apart t ended k m are before within same =
     let eq : get_or ended k 0 ≡ get_or ended m 0 = same in
     omega arith
 
--- the first vehicle goes on
+-- the vehicle at the position goes on
 pub IsFront-taken : (t : TimetableView) (links : List (Option ℕ)) (ended : List ℕ) (place at i j : ℕ) → IsByEnd t ended → IsFront t links ended place at
     → at < length ended → i ≡ get_or ended at 0 → i < length links → IsFront t (set links i (Some j)) ended place (at + 1)
 IsFront-taken t links ended place at i j are front within is linked = record {
@@ -118,7 +119,7 @@ IsFront-kept t links ended place at i j front elsewhere =
       free = λ k le lt to. next-kept links i j (get_or ended k 0) (other k to) ∙ front.free k le lt to;
     }
 
--- The fronts of all places.
+-- Such a position of each place.
 pub record AreFronts (t : TimetableView) (links : List (Option ℕ)) (ended fronts : List ℕ) : Type 0 where
   pub each : (p : ℕ) → p < length fronts → IsFront t links ended p (get_or fronts p 0)
 
@@ -168,7 +169,7 @@ slots-meet x y true true live_x live_y to le = and_from (x.trip.to == y.trip.fro
 slots-meet x y true false live_x live_y to le = absurd (false≢true live_y)
 slots-meet x y false b live_x live_y to le = absurd (false≢true live_x)
 
--- what the slot is that may precede another
+-- the vehicle of a slot is free and stands where j begins when j departs
 record Precedes (t : TimetableView) (links : List (Option ℕ)) (j h : ℕ) : Type 0 where
   next : next_of links h ≡ None
   live : (slot_at t h).trip.live ≡ true
@@ -186,7 +187,7 @@ may-precede t links j h runs is =
     and_from (is_none (next_of links h)) (meets (move_at (trip_moves t.slots) h) (move_at (trip_moves t.slots) j)) (ap is_none is.next)
     ((λ i. meets (slot-move t h i) (slot-move t j i)) ∙ slots-meet (slot_at t h) (slot_at t j) ((slot_at t h).trip.live) ((slot_at t j).trip.live) is.live runs is.place is.in_time)
 
--- a slot that may precede another has a position from the front on
+-- the slot of such a vehicle comes at the front or behind it
 behind : (t : TimetableView) (links : List (Option ℕ)) (ended : List ℕ) (j h at : ℕ) → IsByEnd t ended → IsFront t links ended (slot_at t j).trip.from at → Precedes t links j h
     → (k : ℕ) × (at ≤ k) × (k < length ended) × (get_or ended k 0 ≡ h)
 behind t links ended j h at are front is =
@@ -243,7 +244,7 @@ forerunner-front t links ended j i at are front runs slot within is to in_time =
     ) in
     forerunner-once moves links j (Some i) (forerunner moves links j) found (IsForerunner-forerunner moves links j)
 
--- there is none where the trip at the front ends too late
+-- there is no forerunner where the trip at the front ends too late
 pub forerunner-late : (t : TimetableView) (links : List (Option ℕ)) (ended : List ℕ) (j at : ℕ) → IsByEnd t ended → IsFront t links ended (slot_at t j).trip.from at
     → (at < length ended → (slot_at t j).trip.departs < (slot_at t (get_or ended at 0)).trip.ends) → None ≡ forerunner (trip_moves t.slots) links j
 forerunner-late t links ended j at are front late =
@@ -271,7 +272,7 @@ linked-more moves start links order i within so_far found is =
     ∙ sym (fold_push step start (take i order) (get_or order i 0))
     ∙ ap (fold step start) (sym (take_more order i 0 within))
 
--- What the fronts of all places become at the trip of j, where `at` is the next position of its place.
+-- At the trip of j the front of its place moves on to `at`.
 pub record AreNext (t : TimetableView) (links : List (Option ℕ)) (ended fronts : List ℕ) (j place at : ℕ) : Type 0 where
   pub front : IsFront t links ended (slot_at t j).trip.from at
   pub all : AreFronts t links ended (set fronts place at)

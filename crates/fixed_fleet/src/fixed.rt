@@ -13,7 +13,7 @@ use std::alloc::Global;
 use trip_model::laws::plain_law;
 use trip_model::{Links, Timetable, by_departure, by_end};
 
-// From a position on, the first one whose trip ends at a place; behind the last one where none does.
+// The first position, from one on, whose trip ends at a place; behind the last one where none does.
 fn next_to(timetable: &Timetable, ended: &[u16], place: u16, from: usize) -> usize
     requires within { All (λ s. s < length timetable.now.slots) ended.now }
     requires from { from ≤ length ended.now }
@@ -66,7 +66,7 @@ pub fn fixed_links(alloc: Global, timetable: &Timetable) -> Result<Links, Memory
     plain_blocks_law();
     rule_law();
     let mut links = Links::open(alloc, timetable.slots())?;
-    // Of each place, where in the order of ends its first vehicle waits that has not gone on.
+    // A position of each place in the order of ends: before it the vehicles have gone on, and from there on none has.
     let mut fronts = vec![in alloc; 0usize; usize::from(timetable.places())]?;
     let ended = by_end(alloc, timetable)?;
     let order = by_departure(alloc, timetable)?;
