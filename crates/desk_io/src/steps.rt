@@ -5,8 +5,8 @@ use std::sync::ledger::{Blank, Book, Ledger, Share};
 
 /// How many steps were counted, for proofs alone: it takes no bytes, and nothing is done for it when the program runs.
 ///
-/// One step is one look at a pair of trips, or at all trips that begin or end at a place. Or it is one node of a tree that is
-/// written.
+/// One step is one pair of trips that is read, or one node of a tree that is written. A look at a place by which no pair there
+/// has to be read is a step too.
 #[derive(Drop)]
 pub struct Steps<L: Ledger> {
     book: Book<L>,
