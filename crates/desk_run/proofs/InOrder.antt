@@ -1,18 +1,17 @@
 -- The calls of a run, in their order, from the calls of its parts.
-use Rattle.std.proofs.Common.{◌≡◌, inl, inr, ℕ, ◌<◌, ◌≤◌, Bool, true, false, List, [], ◌∷◌, ◌++◌, length, drop, Option, None, Some, Result, Ok, Err, refl, sym, ap, subst, ◌∙◌, append_assoc, arith}
+use Rattle.std.proofs.Common.{◌≡◌, inr, ℕ, ◌<◌, Bool, true, false, List, [], ◌∷◌, ◌++◌, length, drop, Option, None, Some, Result, Ok, Err, refl, sym, ap, subst, ◌∙◌, append_assoc, arith}
 use Rattle.std.proofs.lemmas.List.{append-nil, drop_all}
 use Rattle.std.proofs.lemmas.List.Sums.{fold-append}
-use Rattle.desk_io.specs.History.{Call, Read, Write, Put, Load, Append, ComeFirst}
+use Rattle.desk_io.specs.History.{Call, Put, ComeFirst}
 use Rattle.desk_io.specs.Sink.{ArePuts, PutsCome}
 use Rattle.desk_keeper.specs.Keeper.{Journal}
 use Rattle.gtfs_tables.specs.declared.paper.Paper.{Paper}
 use Rattle.desk_run.specs.Becomes.{Becomes}
 use Rattle.desk_run.specs.Commands.{Asked, Chosen}
-use Rattle.desk_run.specs.Order.{CallsToCarry, CarriesInOrder, IsInOrder, MakesFirst, append_of, carrying, load_of, reading, reads_of, status_by, with_call, with_calls, writes_of}
+use Rattle.desk_run.specs.Order.{CallsToCarry, IsInOrder, MakesFirst, append_of, carrying, load_of, reading, reads_of, status_by, with_call, with_calls, writes_of}
 use Rattle.desk_run.specs.Outcome.{OutcomeView}
-use Rattle.desk_run.specs.Outside.{Histories}
+use Rattle.desk_run.specs.Outside.{Histories, Outside}
 use Rattle.desk_run.specs.Reading.{ReadView}
-use Rattle.desk_run.specs.World.{World}
 use Rattle.desk_run.specs.declared.fault.RunFault.{RunFault}
 use Rattle.desk_run.specs.declared.fault.RunFault.TheVariants as run_fault
 use Rattle.desk_run.specs.declared.outcome.Writing.{Writing}
@@ -208,10 +207,17 @@ fails_above run_fault.Keeper = omega arith
 fails_above run_fault.Memory = omega arith
 
 -- a run that gave an outcome
-pub carried_in_order : (asked : Asked) (found : Option ReadView) (world left right : World) (result : Result ℕ RunFault) (chosen : Chosen asked found world) (h read after : Histories) → read ≡ with_calls h (reading asked)
-    → CallsToCarry chosen.outcome result read after → Becomes chosen.outcome result left right → IsInOrder asked found world (status_by result) h after
+pub carried_in_order : (asked : Asked) (found : Option ReadView) (before after : Outside) (result : Result ℕ RunFault) (chosen : Chosen asked found before.world) (read : Histories) → read ≡ with_calls before.calls (reading asked)
+    → CallsToCarry chosen.outcome result read after.calls → Becomes chosen.outcome result before.world after.world → IsInOrder asked found before after (status_by result)
 unfolding then_first
-carried_in_order asked found world left right (Ok status) chosen h read after is carries becomes =
-    inr (record { chosen = chosen; puts = carries.puts; are = carries.are; first = then_first h read after (reading asked) (carrying chosen.outcome carries.puts) is carries.first; whole = λ low. (carries.whole, becomes.0) })
-carried_in_order asked found world left right (Err fault) chosen h read after is carries becomes =
-    inr (record { chosen = chosen; puts = carries.puts; are = carries.are; first = then_first h read after (reading asked) (carrying chosen.outcome carries.puts) is carries.first; whole = λ low. absurd (omega (arith, low, fails_above fault)) })
+carried_in_order asked found before after result chosen read is carries becomes =
+    inr (record {
+      chosen = chosen;
+      puts = carries.puts;
+      are = carries.are;
+      first = then_first before.calls read after.calls (reading asked) (carrying chosen.outcome carries.puts) is carries.first;
+      result = result;
+      answered = refl;
+      becomes = becomes;
+      whole = carries.whole;
+    })

@@ -1,6 +1,6 @@
 -- Calls that are made one after the other, one for each item of a list.
-use Rattle.std.proofs.Common.{◌≡◌, ℕ, ◌+◌, ◌<◌, ◌≤◌, List, [], ◌∷◌, ◌++◌, length, take, drop, get_or, map, sym, ap, ◌∙◌, append_assoc, arith}
-use Rattle.std.proofs.lemmas.List.{append-nil, map-append, take-append-drop, take_all, take_more}
+use Rattle.std.proofs.Common.{◌≡◌, ℕ, ◌+◌, ◌<◌, ◌≤◌, List, [], ◌∷◌, ◌++◌, length, take, drop, get_or, map, sym, ap, ◌∙◌, append_assoc}
+use Rattle.std.proofs.lemmas.List.{map-append, take-append-drop, take_all, take_more}
 use Rattle.desk_io.specs.History.{Call, ComeFirst}
 
 module _ {X : Type 0} (call : X → Call) (xs : List X) (before now next : List Call) (i : ℕ) (x d : X) (far : now ≡ before ++ map call (take i xs)) (noted : next ≡ now ++ call x ∷ []) (lt : i < length xs) (is : x ≡ get_or xs i d) where

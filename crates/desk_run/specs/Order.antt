@@ -1,15 +1,15 @@
 -- In which order a run calls the shelf, the sink and the keeper.
-use Rattle.std.specs.Prelude.{◌≡◌, ◌⊎◌, ℕ, ◌<◌, ◌≤◌, Bool, true, false, List, [], ◌∷◌, ◌++◌, fold, map, IfOk, Option, None, Some, Result, Ok, Err}
+use Rattle.std.specs.Prelude.{◌≡◌, ◌⊎◌, ℕ, ◌<◌, Bool, true, false, List, [], ◌∷◌, ◌++◌, fold, map, IfOk, Option, None, Some, Result, Ok, Err}
 use Rattle.desk_io.specs.History.{Call, Read, Write, Put, Load, Append}
 use Rattle.desk_io.specs.Sink.{ArePuts}
 use Rattle.desk_keeper.specs.Keeper.{Journal}
 use Rattle.gtfs_tables.specs.Papers.{file_name_of}
 use Rattle.gtfs_tables.specs.declared.paper.Paper.{Paper}
+use Rattle.desk_run.specs.Becomes.{Becomes}
 use Rattle.desk_run.specs.Commands.{Asked, Chosen}
-use Rattle.desk_run.specs.Outcome.{OutcomeView, status_of}
-use Rattle.desk_run.specs.Outside.{Histories}
+use Rattle.desk_run.specs.Outcome.{OutcomeView}
+use Rattle.desk_run.specs.Outside.{Histories, Outside}
 use Rattle.desk_run.specs.Reading.{ReadView}
-use Rattle.desk_run.specs.World.{World}
 use Rattle.desk_run.specs.declared.fault.RunFault.{RunFault}
 use Rattle.desk_run.specs.declared.fault.RunFault.TheVariants as run_fault
 use Rattle.desk_run.specs.declared.outcome.Writing.{Writing}
@@ -60,19 +60,6 @@ append_of (Some lines) = Append lines ∷ []
 abbrev pub carrying : OutcomeView → List Call → List Call
 carrying outcome puts = writes_of outcome.writes ++ (append_of outcome.lines ++ puts)
 
--- the calls that read and then carry one outcome of that out: all of them where the run comes to its end, else the first ones
-pub record CarriesInOrder (asked : Asked) (found : Option ReadView) (world : World) (status : ℕ) (before after : Histories) : Type 0 where
-  pub chosen : Chosen asked found world
-  pub puts : List Call
-  pub are : ArePuts chosen.outcome.text [] puts
-  pub first : MakesFirst (reading asked ++ carrying chosen.outcome puts) before after
-  pub whole : status ≤ NO → (first.left ≡ []) × (status ≡ status_of chosen.outcome.ending)
-
--- the calls of a run, in their order; where it has no outcome, it does not come to its end, and makes no call but those that read
-abbrev pub IsInOrder : Asked → Option ReadView → World → ℕ → Histories → Histories → Type 0
-IsInOrder asked found world status before after =
-    ((NO < status) × MakesFirst (reading asked) before after) ⊎ CarriesInOrder asked found world status before after
-
 -- the status of a run, by what it answers or why it did not come to its end
 abbrev pub status_by : Result ℕ RunFault → ℕ
 status_by (Ok status) = status
@@ -80,6 +67,23 @@ status_by (Err run_fault.Read) = READ_FAULT
 status_by (Err run_fault.Write) = WRITE_FAULT
 status_by (Err run_fault.Keeper) = KEEPER_FAULT
 status_by (Err run_fault.Memory) = NO_MEMORY
+
+-- The calls that read, and then carry one outcome of that out: all of them where the run comes to its end, else the first ones.
+-- The same outcome became what the world shows.
+pub record CarriesInOrder (asked : Asked) (found : Option ReadView) (before after : Outside) (status : ℕ) : Type 0 where
+  pub chosen : Chosen asked found before.world
+  pub puts : List Call
+  pub are : ArePuts chosen.outcome.text [] puts
+  pub first : MakesFirst (reading asked ++ carrying chosen.outcome puts) before.calls after.calls
+  pub result : Result ℕ RunFault
+  pub answered : status ≡ status_by result
+  pub becomes : Becomes chosen.outcome result before.world after.world
+  pub whole : IfOk result (λ end. first.left ≡ [])
+
+-- the calls of a run, in their order; where it has no outcome, it does not come to its end, and makes no call but those that read
+abbrev pub IsInOrder : Asked → Option ReadView → Outside → Outside → ℕ → Type 0
+IsInOrder asked found before after status =
+    ((NO < status) × MakesFirst (reading asked) before.calls after.calls) ⊎ CarriesInOrder asked found before after status
 
 -- what was carried out of an outcome: all its calls were made, or where the answer is a fault the first ones
 pub record CallsToCarry {T E : Type 0} (outcome : OutcomeView) (result : Result T E) (before after : Histories) : Type 0 where

@@ -15,5 +15,5 @@ pub record Performs (asked : Asked) (before after : Outside) (status old new : â
   pub run : RunsAs asked found before.world after.world status
   pub cause : HasCause asked found before.world after.world status
   pub complete : IsComplete asked found before.world after.world status
-  pub order : IsInOrder asked found before.world status before.calls after.calls
+  pub order : IsInOrder asked found before after status
   pub counted : IsCounted asked found old new

@@ -2,7 +2,7 @@ use Rattle.std.proofs.Common.{Ok, Err, sym, subst, ◌∙◌}
 use Rattle.std.proofs.lemmas.Result.{err_from_is_err_and}
 use Rattle.desk_run.specs.Order.{CallsToCarry}
 use Rattle.desk_run.specs.Outcome.{OutcomeView}
-use Rattle.desk_run.specs.Outside.{Histories, histories}
+use Rattle.desk_run.specs.Outside.{histories}
 use Rattle.desk_run.specs.declared.fault.RunFault.TheVariants as run_fault
 use Rattle.desk_run.proofs.InOrder.{ends_at_file, ends_at_lines, ends_at_text, ends_whole}
 use Rattle.desk_run.proofs.carrying.carry_out.Goals as goal

@@ -1,11 +1,11 @@
 use Rattle.std.proofs.Common.{inl, refl, None, Some, Err, sym, ap, subst, ◌∙◌}
 use Rattle.std.proofs.lemmas.Result.{err_from_is_err_and}
 use Rattle.desk_run.specs.Becomes.{Becomes}
-use Rattle.desk_run.specs.Commands.{Chosen, IsCounted}
-use Rattle.desk_run.specs.Order.{CallsToCarry, IsInOrder, status_by}
-use Rattle.desk_run.specs.Outside.{Outside, outside}
+use Rattle.desk_run.specs.Commands.{Chosen}
+use Rattle.desk_run.specs.Order.{IsInOrder, status_by}
+use Rattle.desk_run.specs.Outside.{outside}
 use Rattle.desk_run.specs.Reading.{ReadView}
-use Rattle.desk_run.specs.Runs.{Attempts, Follows}
+use Rattle.desk_run.specs.Runs.{Attempts}
 use Rattle.desk_run.specs.World.{World}
 use Rattle.desk_run.specs.declared.fault.RunFault.TheVariants as run_fault
 use Rattle.desk_run.proofs.Carried.{carried, unloaded, unread}
@@ -24,7 +24,7 @@ returns-in_err-pages g c =
     record {
       found = None;
       told = tt;
-      does = subst (λ result. Attempts asked None result before.world after.world × IsInOrder asked None before.world (status_by result) before.calls after.calls)
+      does = subst (λ result. Attempts asked None result before.world after.world × IsInOrder asked None before after (status_by result))
           (sym (fault.1 ∙ ap Err fault.2)) (
             unread (Unit {0}) asked before.world after.world.shelf c.in_err-pages.field-0.0 c.in_err-pages.ensures.state,
             inl (fails_above c.in_err-pages.field-0.0, ends_at_paper asked before.calls _ asked.keeps c.papers.ensures refl _ c.in_err-pages.ensures.come),
@@ -43,7 +43,7 @@ returns-in_err-journal g c =
     record {
       found = None;
       told = tt;
-      does = subst (λ result. Attempts asked None result before.world after.world × IsInOrder asked None before.world (status_by result) before.calls after.calls)
+      does = subst (λ result. Attempts asked None result before.world after.world × IsInOrder asked None before after (status_by result))
           (sym (fault.1 ∙ ap Err fault.2)) (
             unloaded (Unit {0}) asked before.world after.world.shelf after.world.keeper _ c.in_err-journal.field-0.0 c.in_ok-pages.ensures.state c.keeps.ensures c.in_err-journal.ensures.state,
             inl (fails_above c.in_err-journal.field-0.0, ends_at_load asked before.calls _ _ c.papers.ensures c.keeps.ensures _ c.in_ok-pages.ensures.come _ c.in_err-journal.ensures.come),
@@ -67,7 +67,7 @@ returns g c =
       told = told;
       does = (
         carried asked (Some read) before.world after.world chosen c.carry_out.result becomes,
-        carried_in_order asked (Some read) before.world before.world after.world c.carry_out.result chosen before.calls _ after.calls
+        carried_in_order asked (Some read) before after c.carry_out.result chosen _
             (all_read asked before.calls _ _ c.papers.ensures c.keeps.ensures _ c.in_ok-pages.ensures.come _ c.in_ok-journal.ensures.come) c.carry_out.ensures.calls becomes,
       );
       counted = c.in_ok-outcome.ensures.counted;
@@ -85,7 +85,7 @@ returns-in_err-outcome g c =
     record {
       found = Some read;
       told = read_in asked before.world _ _ read c.papers.ensures c.keeps.ensures c.in_ok-pages.ensures.read c.in_ok-journal.ensures.loaded;
-      does = subst (λ result. Attempts asked (Some read) result before.world after.world × IsInOrder asked (Some read) before.world (status_by result) before.calls after.calls)
+      does = subst (λ result. Attempts asked (Some read) result before.world after.world × IsInOrder asked (Some read) before after (status_by result))
           (sym (memory.1 ∙ ap Err memory.2)) (
             inl (λ i. record { shelf = c.in_ok-pages.ensures.state i; sink = before.world.sink; keeper = c.in_ok-journal.ensures.state i }),
             inl (fails_above run_fault.Memory, loaded_first asked before.calls _ _ c.papers.ensures c.keeps.ensures _ c.in_ok-pages.ensures.come _ c.in_ok-journal.ensures.come),
