@@ -12,4 +12,4 @@ returns-then-place-len c =
     ∙ seen-set c.in_ok-fields.fields.items row c.args.place c.as_bytes.result c.in_ok-fields.ensures
     ∙ ap (λ field. set row c.args.place field) c.as_bytes.ensures.value
     ∙ with-set row c.args.place field (omega (arith, c.len.ensures)) in
-    written-as c.push.result c.args.records.now c.push.new.self _ _ seen c.push.ensures
+    written-as c.push.result c.args.records.now c.push.new.self _ _ seen c.push.ensures.pushed
