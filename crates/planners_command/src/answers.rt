@@ -70,7 +70,7 @@ fn planner_fault_text(alloc: Global, refused: &PlannerFault) -> Result<Text, Mem
 }
 
 // Appends what is put of a record, where the planners stand as before it or it is accepted.
-#[tactic(auto, unfolding(crate::specs::PlannerAnswers::answer_line))]
+#[tactic(auto, unfolding(crate::specs::Answers::answer_line))]
 fn push_answer(
     alloc: Global,
     text: &mut String,
@@ -164,7 +164,7 @@ pub(crate) fn answer_all(
 }
 
 // Appends a record that stands.
-#[tactic(auto, unfolding(crate::specs::PlannerAnswers::asked_line))]
+#[tactic(auto, unfolding(crate::specs::Answers::asked_line))]
 fn push_record(alloc: Global, text: &mut String, asked: &PlannerEdit) -> Result<(), Memory>
     requires { InForm asked.now.edit }
     ensures { OnOk result (string_bytes text.new ≡ string_bytes text.old ++ spec.asked_line asked.now) }
