@@ -3,7 +3,7 @@ ghost use Rattle.desk_feed.specs.Feed.{HasPapers};
 
 use desk_core::Desk;
 use desk_feed::{FEED_PAPERS, Feed, Judged, judge_feed, matrix_of};
-use desk_io::{Memory, MemoryShelf, Steps};
+use desk_io::{Memory, MemoryShelf, Steps, Text};
 use desk_run::Read;
 use feed_desk::{Drawn, draw_after};
 use pair_graph::Pairs;
@@ -84,7 +84,7 @@ type Answers = (Option<u32>, Option<u32>, Option<u32>, Option<u64>);
 
 fn answers<L: Ledger>(
     alloc: Global,
-    deadheads: &str,
+    deadheads: &Text,
     blank: Blank,
 ) -> Result<Option<Answers>, Memory>
     requires name { blank.name ≡ L.name }
@@ -92,7 +92,7 @@ fn answers<L: Ledger>(
     requires shared { 0 < blank.parts }
 {
     let mut steps = Steps::<L>::open(blank);
-    let Some(read) = read(alloc, deadheads, "")? else {
+    let Some(read) = read(alloc, deadheads.as_str(), "")? else {
         return Ok(None);
     };
     let Some(drawn) = followed(alloc, &read, &mut steps)? else {
@@ -126,8 +126,8 @@ fn walks_and_weights_between_three_terminals(rt: HostRuntime) -> Result<(), Fail
         ("B,X,5\nB,C,31\n", (Some(31), None, Some(0), None)),
     ];
     for (records, expected) in rows {
-        let deadheads = format!(in alloc; "from,to,minutes\n{records}")?;
-        let found = answers::<Brand>(alloc, deadheads.as_str(), Blank::new(1))?;
+        let deadheads = Text::wrap(format!(in alloc; "from,to,minutes\n{records}")?);
+        let found = answers::<Brand>(alloc, &deadheads, Blank::new(1))?;
         assert!(rt; found == Some(expected));
     }
     Ok(())
@@ -136,7 +136,7 @@ fn walks_and_weights_between_three_terminals(rt: HostRuntime) -> Result<(), Fail
 // How many slots the last kept edit changed in the plan, where an edit is kept.
 fn changed<L: Ledger>(
     alloc: Global,
-    edits: &str,
+    edits: &Text,
     blank: Blank,
 ) -> Result<Option<Option<usize>>, Memory>
     requires name { blank.name ≡ L.name }
@@ -144,7 +144,7 @@ fn changed<L: Ledger>(
     requires shared { 0 < blank.parts }
 {
     let mut steps = Steps::<L>::open(blank);
-    let Some(read) = read(alloc, "from,to,minutes\nB,C,30\n", edits)? else {
+    let Some(read) = read(alloc, "from,to,minutes\nB,C,30\n", edits.as_str())? else {
         return Ok(None);
     };
     let Some(drawn) = followed(alloc, &read, &mut steps)? else {
@@ -162,7 +162,8 @@ fn what_the_last_kept_edit_changed(rt: HostRuntime) -> Result<(), Fail> {
     // No other trip is linked with H, so that nothing of the plan changes but which trips run.
     let rows = [("cancel,H\n", Some(0)), ("cancel,H\nundo\n", None)];
     for (edits, expected) in rows {
-        let found = changed::<Brand>(alloc, edits, Blank::new(1))?;
+        let edits = Text::of(alloc, edits)?;
+        let found = changed::<Brand>(alloc, &edits, Blank::new(1))?;
         assert!(rt; found == Some(expected));
     }
     Ok(())
