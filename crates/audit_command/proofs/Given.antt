@@ -30,7 +30,7 @@ use Rattle.desk_feed.specs.Script.{some_refused}
 use Rattle.audit_command.specs.declared.audit.Auditable.TheVariants.{Trips, Refused}
 use Rattle.audit_command.specs.Audit.{AuditsBy, EndsBy, IsAudited, IsJudged, IsRefusedName, audit_does, ending_by, stated_of, trips_in}
 use Rattle.audit_command.specs.Auditable.{IsAuditable, Judges}
-use Rattle.desk_feed.proofs.OneNetwork.{network-same}
+use Rattle.desk_feed.proofs.OneMatrix.{matrix-same}
 
 -- a record is not judged where its `block_id` is refused
 refused-names : (trips : TableView) (chosen : List Bool) (outcome : OutcomeView) → IsRefusedName trips chosen outcome → ¬ AreNames trips chosen
@@ -63,21 +63,6 @@ script-ends : (some : Bool) → (if some then ending.EditsRefused else ending.Do
 script-ends true e = subst is-no (sym e) tt
 script-ends false e = subst is-no (sym e) tt
 
--- a list with an element is not empty
-abbrev holds-some : List Misfit → Type 0
-holds-some [] = ⊥
-holds-some (misfit ∷ misfits) = Unit {0}
-
-some-misfit : (misfit : Misfit) (misfits : List Misfit) → misfit ∷ misfits ≡ [] → ⊥
-some-misfit misfit misfits e = subst holds-some e tt
-
--- lists that are empty together end a run alike
-ends-alike : (one other : List Misfit) (end : Ending) → (one ≡ [] → other ≡ []) → (other ≡ [] → one ≡ []) → ending_by one end ≡ ending_by other end
-ends-alike [] [] end there back = refl
-ends-alike [] (misfit ∷ misfits) end there back = absurd (some-misfit misfit misfits (there refl))
-ends-alike (misfit ∷ misfits) [] end there back = absurd (some-misfit misfit misfits (back refl))
-ends-alike (misfit ∷ misfits) (first ∷ more) end there back = refl
-
 module _ (refused : List ℕ) (end : Ending) (timetable : TimetableView) (matrix : MatrixView) (stated : List NamedBlock) (outcome : OutcomeView) where
   judged-ends : (misfits : List Misfit) → IsJudged refused end timetable matrix stated misfits outcome → outcome.ending ≡ ending_by misfits end
   judged-ends [] is = ap (λ (o : OutcomeView). o.ending) is.done
@@ -96,18 +81,10 @@ module _ (said : FeedView) (trips : TableView) where
   abbrev here : List NamedBlock
   here = stated_of said trips
 
-  -- there is a misfit by each matrix of the feed, or by none
-  none-same : AreMoves (length said.base.places) (trip_moves (standing said).slots) → (one other : MatrixView) → IsMatrixFor said one → IsMatrixFor said other
-      → misfits_in (standing said) one here ≡ [] → misfits_in (standing said) other here ≡ []
-  none-same moves one other one_is other_is none =
-      have-no-misfit (standing said) other here
-      (subst (λ (network : Network). IsBlocking network (slots_by here)) (network-same said.entries said.pulls (length said.base.places) one other one_is other_is (trip_moves (standing said).slots) moves)
-      (are-blocking trips (standing said) (chosen_in said.settings trips) one none))
-
-  pub audited-by : AreMoves (length said.base.places) (trip_moves (standing said).slots) → AreNames trips (chosen_in said.settings trips) → (matrix : MatrixView) → IsMatrixFor said matrix
+  pub audited-by : AreNames trips (chosen_in said.settings trips) → (matrix : MatrixView) → IsMatrixFor said matrix
       → (outcome : OutcomeView) → IsJudged (refused_of said) (ending_of said) (standing said) matrix here (misfits_in (standing said) matrix here) outcome
       → AuditsBy said (Ok trips) outcome × EndsBy said (Ok trips) outcome.ending × (outcome.lines ≡ None)
-  audited-by moves names matrix is outcome judged =
+  audited-by names matrix is outcome judged =
       let ends = judged-ends (refused_of said) (ending_of said) (standing said) matrix here outcome (misfits_in (standing said) matrix here) judged in
       let of : IsAudited said trips outcome = record {
         matrix = matrix;
@@ -123,7 +100,7 @@ module _ (said : FeedView) (trips : TableView) where
         record {
           judged = λ _ other other_is.
               ends
-              ∙ ends-alike (misfits_in (standing said) matrix here) (misfits_in (standing said) other here) (ending_of said) (none-same moves matrix other is other_is) (none-same moves other matrix other_is is);
+              ∙ ap (λ m. ending_by (misfits_in (standing said) m here) (ending_of said)) (matrix-same said.entries said.pulls (length said.base.places) matrix other is other_is);
           refused = λ no. absurd (no names);
         },
         judged-lines (refused_of said) (ending_of said) (standing said) matrix here outcome (misfits_in (standing said) matrix here) judged,
@@ -136,9 +113,6 @@ module _ (said : FeedView) (matrix : MatrixView) (edited : Edited) (table : Tabl
       → AuditsBy said read outcome × EndsBy said read outcome.ending × (outcome.lines ≡ None)
   audited-read is stands moves places (Err refused) may outcome judged = absurd may
   audited-read is stands moves places (Ok trips) may outcome judged =
-      let run : AreMoves (length said.base.places) (trip_moves (standing said).slots) =
-      subst (λ (t : TimetableView). AreMoves (length said.base.places) (trip_moves t.slots)) stands.timetable
-      (subst (λ ps. AreMoves (length ps) (trip_moves edited.script.timetable.slots)) places moves) in
       let judge : List ℕ → Ending → TimetableView → TableView → List Bool → Type 0 = λ refused end t trips chosen.
       IsJudged refused end t matrix (stated_in trips t chosen) (misfits_in t matrix (stated_in trips t chosen)) outcome in
       let by-refused : judge (refused_of said) edited.ending edited.script.timetable table chosen.items =
@@ -151,7 +125,7 @@ module _ (said : FeedView) (matrix : MatrixView) (edited : Edited) (table : Tabl
       subst (λ t. judge (refused_of said) (ending_of said) (standing said) t chosen.items) may.0 by-timetable in
       let by-chosen : judge (refused_of said) (ending_of said) (standing said) trips (chosen_in said.settings trips) =
       subst (λ c. judge (refused_of said) (ending_of said) (standing said) trips c) may.1 by-trips in
-      audited-by said trips run may.2 matrix is outcome by-chosen
+      audited-by said trips may.2 matrix is outcome by-chosen
 
   pub audited-given : {E : Type 0} (read : ReadView) → IsMatrixFor said matrix → IsEdited said.base said.lines edited → AreMoves (length edited.script.timetable.places) (trip_moves edited.script.timetable.slots)
       → edited.script.timetable.places ≡ said.base.places → IsAuditable said.settings (trips_in read) (Trips table chosen) → (result : Result OutcomeView E) → IfOk result (Judges edited matrix table chosen.items) → IfOk result (IsGivenOf audit_does read said)

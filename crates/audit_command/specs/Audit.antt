@@ -12,7 +12,7 @@ use Rattle.trip_model.specs.Blocking.{IsBlocking, IsLeast, empty_minutes}
 use Rattle.trip_model.specs.Network.{Network}
 use Rattle.trip_model.specs.Timetable.{TimetableView}
 use Rattle.deadhead_matrix.specs.Matrix.{MatrixView}
-use Rattle.deadhead_matrix.specs.Prices.{Plan}
+use Rattle.assignment_model.specs.Prices.{Plan}
 use Rattle.deadhead_matrix.specs.Fitting.{network_of}
 use Rattle.block_audit.specs.declared.cost.Above.TheVariants.{Nothing}
 use Rattle.block_audit.specs.declared.misfit.Misfit.{Misfit}

@@ -17,15 +17,14 @@ use crate::lines::{costs_text, misfits_text};
 use block_audit::laws::blocking_law;
 use block_audit::{Stated, misfits, stated_blocks, stated_cost};
 use block_build::empty_minutes;
-use deadhead_matrix::{Deadheads, Matrix, Pulls};
+use deadhead_matrix::Matrix;
 use desk_feed::{
-    Edited, FEED_PAPERS, FeedCommand, OnFeed, after_script, matrix_of, putting_after, refuse,
+    Edited, FeedCommand, OnFeed, Said, after_script, matrix_of, putting_after, refuse,
 };
 use desk_io::{Memory, Shelf, Sink, Steps, Text};
 use desk_keeper::Keeper;
 use desk_run::{Ending, Outcome, Read, perform};
 use desk_settings::{Settings, chosen_in};
-use edit_script::Line;
 use feed_schedule::schedule_of;
 use gtfs_tables::{Column, FeedFault, Paper, Table, table_in};
 use std::alloc::Global;
@@ -148,31 +147,15 @@ impl FeedCommand for AuditFeed {
 
     ghost asks = { λ _. audit_does };
 
-    fn papers(&self) -> &[Paper] {
-        &FEED_PAPERS
-    }
-
-    fn keeps(&self) -> bool {
-        false
-    }
-
-    fn outcome<L: Ledger>(
-        &self,
-        alloc: Global,
-        read: &Read,
-        settings: &Settings,
-        timetable: Timetable,
-        deadheads: &Deadheads,
-        pulls: Pulls,
-        lines: &[Line],
-        steps: &mut Steps<L>,
-    ) -> Result<Outcome, Memory> {
-        let (trips, chosen) = match read_trips(alloc, settings, read)? {
+    fn outcome<L: Ledger>(&self, said: Said, steps: &mut Steps<L>) -> Result<Outcome, Memory> {
+        let (trips, chosen) = match read_trips(said.alloc, said.settings, said.read)? {
             Auditable::Refused(outcome) => return Ok(outcome),
             Auditable::Trips(trips, chosen) => (trips, chosen),
         };
-        let matrix = matrix_of(alloc, &timetable, deadheads, pulls)?;
-        let edited = after_script(alloc, timetable, lines)?;
+        let alloc = said.alloc;
+        let pulls = said.pulls;
+        let matrix = matrix_of(alloc, &said.timetable, said.deadheads, pulls)?;
+        let edited = after_script(alloc, said.timetable, said.lines)?;
         audited(alloc, &edited, &matrix, &trips, &chosen, steps)
     }
 }
@@ -191,5 +174,5 @@ pub fn run_audit<S: Shelf, O: Sink, K: Keeper, L: Ledger>(
     ensures { let at = outside S.state S.history O.state O.history K.state K.history in
         Performs audit_asked (at shelf.old out.old keeper.old) (at shelf.new out.new keeper.new) result steps.old steps.new }
 {
-    perform(&OnFeed(AuditFeed), alloc, shelf, out, keeper, steps)
+    perform(&OnFeed::of(AuditFeed), alloc, shelf, out, keeper, steps)
 }

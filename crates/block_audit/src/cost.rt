@@ -1,13 +1,12 @@
-ghost use Rattle.std.specs.Prelude.{◌≡◌, ◌<◌, ◌^◌, true, length, All, unwrap_or};
+ghost use Rattle.std.specs.Prelude.{◌≡◌, length};
 ghost use Rattle.trip_model.specs.Blocking as blocking;
-ghost use Rattle.trip_model.specs.Blocking.{IsBlock, IsBlocking};
-ghost use Rattle.trip_model.specs.Network.{Fits};
-ghost use Rattle.trip_model.specs.Timetable.{slot_at};
+ghost use Rattle.trip_model.specs.Blocking.{IsBlocking};
 ghost use Rattle.deadhead_matrix.specs.Fitting.{network_of};
 ghost use Rattle.block_audit.specs.Above as spec;
 ghost use Rattle.block_audit.specs.Stated.{slots_by};
 
 use crate::stated::Stated;
+use block_build::block_minutes;
 use deadhead_matrix::Matrix;
 use deadhead_matrix::laws::deadhead_law;
 use trip_model::Timetable;
@@ -22,36 +21,6 @@ pub enum Above {
     Vehicles(u32),
     /// They have as few vehicles, and so many empty minutes more.
     Minutes(u32),
-}
-
-// The empty minutes from the trip of one slot to that of another which fits after it.
-fn minutes_between(timetable: &Timetable, matrix: &Matrix, before: u16, slot: u16) -> u32
-    requires before { before < length timetable.now.slots }
-    requires slot { slot < length timetable.now.slots }
-    requires places { length timetable.now.places ≡ length matrix.now.walks }
-    requires fits { Fits (network_of timetable.now matrix.now) before slot }
-    ensures { result ≡ unwrap_or ((network_of timetable.now matrix.now).empty before slot) 0 }
-{
-    let to = timetable.trip(before).to;
-    let from = timetable.trip(slot).from;
-    matrix.minutes(to, from).unwrap_or(0)
-}
-
-// The empty minutes of a block, which are fewer than 2 to the 32.
-fn block_minutes(timetable: &Timetable, matrix: &Matrix, block: &[u16]) -> u32
-    requires places { length timetable.now.places ≡ length matrix.now.walks }
-    requires block { IsBlock (network_of timetable.now matrix.now) block.now }
-    requires live { All (λ s. (slot_at timetable.now s).trip.live ≡ true) block.now }
-    requires few { blocking.block_minutes (network_of timetable.now matrix.now) block.now < 2 ^ 32 }
-    ensures { result ≡ blocking.block_minutes (network_of timetable.now matrix.now) block.now }
-{
-    let first = timetable.trip(block[0]);
-    let last = timetable.trip(block[block.len() - 1]);
-    let mut minutes = u32::from(matrix.pull_out(first.from));
-    for n in 1..block.len() {
-        minutes += minutes_between(timetable, matrix, block[n - 1], block[n]);
-    }
-    minutes + u32::from(matrix.pull_in(last.to))
 }
 
 /// The vehicles and the empty minutes of stated blocks that have no misfit, so that they are a blocking. The minutes are those

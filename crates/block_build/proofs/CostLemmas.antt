@@ -7,7 +7,7 @@ use Rattle.std.proofs.lemmas.Bool.{cases_Bool, eq-eqb, false≢true}
 use Rattle.std.proofs.lemmas.List.{length-append}
 use Rattle.std.proofs.lemmas.List.Sums.{sum_by-cons, sum_by-append, count_by-le-length, length-filter}
 use Rattle.std.proofs.lemmas.List.FromFn.{length-range_with_len}
-use Rattle.deadhead_matrix.specs.Prices.{IsDay}
+use Rattle.assignment_model.specs.Prices.{IsDay}
 use Rattle.trip_model.specs.Blocking.{times, StandsOnce, Follow, IsBlock, slots_in, IsBlocking, minutes_after, block_minutes, empty_minutes}
 use Rattle.trip_model.specs.Network.{Network}
 use Rattle.trip_model.proofs.Counting.{sum_by-standing, StandsOnce-filter_range, length-ones, times-cons}

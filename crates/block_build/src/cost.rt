@@ -25,8 +25,8 @@ fn minutes_between(timetable: &Timetable, matrix: &Matrix, before: u16, slot: u1
     matrix.minutes(to, from).unwrap_or(0)
 }
 
-// The empty minutes of a block, which are fewer than 2 to the 32.
-fn block_minutes(timetable: &Timetable, matrix: &Matrix, block: &[u16]) -> u32
+/// The empty minutes of a block, which are fewer than 2 to the 32: out of the depot, between its trips, and home.
+pub fn block_minutes(timetable: &Timetable, matrix: &Matrix, block: &[u16]) -> u32
     requires places { length timetable.now.places ≡ length matrix.now.walks }
     requires block { IsBlock (network_of timetable.now matrix.now) block.now }
     requires live { All (λ s. (slot_at timetable.now s).trip.live ≡ true) block.now }

@@ -10,7 +10,7 @@ use Rattle.desk_feed.specs.Feed.{FeedView, standing}
 use Rattle.desk_feed.specs.Judging.{IsGivenOf, said_in}
 use Rattle.desk_feed.specs.Schedule.{IsMatrixFor}
 use Rattle.claim_files.specs.Written.{AreOfPlan, IsAccepted}
-use Rattle.deadhead_matrix.specs.Prices.{Plan}
+use Rattle.assignment_model.specs.Prices.{Plan}
 use Rattle.desk_core.specs.Counts.{blocks_in}
 use Rattle.feed_names.specs.Laws.{TripsAreNamed}
 use Rattle.feed_desk.specs.Drawn.{HasFollowed}

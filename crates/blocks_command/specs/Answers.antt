@@ -7,7 +7,7 @@ use Rattle.edit_script.specs.declared.edit.Line.{Line}
 use Rattle.edit_script.specs.declared.edit.Line.TheVariants as line
 use Rattle.edit_script.specs.declared.fault.EditFault.{EditFault}
 use Rattle.deadhead_matrix.specs.Matrix.{MatrixView}
-use Rattle.deadhead_matrix.specs.Prices.{Plan}
+use Rattle.assignment_model.specs.Prices.{Plan}
 use Rattle.block_build.specs.Lines.{block_text, price_text}
 use Rattle.desk_core.specs.Counts.{blocks_in, minutes_in}
 use Rattle.desk_feed.specs.Numbers.{numbers_line}

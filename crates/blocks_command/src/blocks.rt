@@ -10,12 +10,11 @@ ghost use Rattle.feed_desk.specs.Plans.{most_to};
 use crate::answers::{Numbers, push_numbers};
 use block_build::{blocks_text, prices_text};
 use claim_files::laws::accepted_law;
-use deadhead_matrix::{Deadheads, Matrix, Pulls};
-use desk_feed::{FEED_PAPERS, FeedCommand, OnFeed, matrix_of};
+use deadhead_matrix::Matrix;
+use desk_feed::{FeedCommand, OnFeed, Said, matrix_of};
 use desk_io::{Memory, Shelf, Sink, Steps, Text};
 use desk_keeper::Keeper;
-use desk_run::{Outcome, Read, Writing, perform};
-use desk_settings::Settings;
+use desk_run::{Outcome, Writing, perform};
 use edit_script::Line;
 use feed_desk::{Followed, blocks_now, follow_script};
 use feed_names::laws::names_law;
@@ -77,29 +76,14 @@ impl FeedCommand for WriteBlocks {
 
     ghost asks = { λ _. blocks_does };
 
-    fn papers(&self) -> &[Paper] {
-        &FEED_PAPERS
-    }
-
-    fn keeps(&self) -> bool {
-        false
-    }
-
-    fn outcome<L: Ledger>(
-        &self,
-        alloc: Global,
-        _read: &Read,
-        settings: &Settings,
-        timetable: Timetable,
-        deadheads: &Deadheads,
-        pulls: Pulls,
-        lines: &[Line],
-        steps: &mut Steps<L>,
-    ) -> Result<Outcome, Memory> {
+    fn outcome<L: Ledger>(&self, said: Said, steps: &mut Steps<L>) -> Result<Outcome, Memory> {
         accepted_law();
         names_law();
-        let matrix = matrix_of(alloc, &timetable, deadheads, pulls)?;
-        planned(alloc, timetable, lines, matrix, settings.prefix(), steps)
+        let alloc = said.alloc;
+        let prefix = said.settings.prefix();
+        let pulls = said.pulls;
+        let matrix = matrix_of(alloc, &said.timetable, said.deadheads, pulls)?;
+        planned(alloc, said.timetable, said.lines, matrix, prefix, steps)
     }
 }
 
@@ -117,5 +101,5 @@ pub fn run_blocks<S: Shelf, O: Sink, K: Keeper, L: Ledger>(
     ensures { let at = outside S.state S.history O.state O.history K.state K.history in
         Performs blocks_asked (at shelf.old out.old keeper.old) (at shelf.new out.new keeper.new) result steps.old steps.new }
 {
-    perform(&OnFeed(WriteBlocks), alloc, shelf, out, keeper, steps)
+    perform(&OnFeed::of(WriteBlocks), alloc, shelf, out, keeper, steps)
 }

@@ -7,8 +7,8 @@ use Rattle.std.proofs.lemmas.Bool.{false≢true}
 use Rattle.std.proofs.lemmas.Option.{same_Some}
 use Rattle.deadhead_matrix.specs.Fitting.{empty_between, in_time, out_before, network_of}
 use Rattle.deadhead_matrix.specs.Matrix.{MatrixView, walk}
-use Rattle.deadhead_matrix.specs.Prices.{IsDay}
-use Rattle.deadhead_matrix.proofs.Duality.{fitting}
+use Rattle.assignment_model.specs.Prices.{IsDay}
+use Rattle.assignment_model.proofs.Duality.{fitting}
 use Rattle.price_check.specs.declared.claim.BlockRow.{BlockRow}
 use Rattle.price_check.specs.Claim.{begin_with, block_row}
 use Rattle.price_check.specs.Certificate.{AreShown}

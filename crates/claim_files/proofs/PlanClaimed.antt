@@ -4,7 +4,7 @@ use Rattle.std.specs.Prelude.{IsSome}
 use Rattle.std.proofs.lemmas.Bool.{eqb-true, or_parts}
 use Rattle.std.proofs.lemmas.List.FromFn.{fill_by_all}
 use Rattle.deadhead_matrix.specs.Matrix.{MatrixView}
-use Rattle.deadhead_matrix.specs.Prices.{Plan, price, IsCertified}
+use Rattle.assignment_model.specs.Prices.{Plan, price, IsCertified}
 use Rattle.deadhead_matrix.specs.Fitting.{network_of}
 use Rattle.price_check.specs.declared.claim.PriceRow.{PriceRow}
 use Rattle.price_check.specs.declared.verdict.Verdict.TheVariants.{Yes}

@@ -6,9 +6,9 @@ use Rattle.std.proofs.lemmas.List.{get_or_default, length-map}
 use Rattle.std.proofs.lemmas.List.FromFn.{get_or-map-range_with_len, length-map-range_with_len}
 use Rattle.block_build.specs.Files.{minutes_before}
 use Rattle.deadhead_matrix.specs.Matrix.{MatrixView}
-use Rattle.deadhead_matrix.specs.Prices.{Plan, IsDay}
+use Rattle.assignment_model.specs.Prices.{Plan, IsDay}
 use Rattle.deadhead_matrix.proofs.Days.{IsDay-deadhead}
-use Rattle.deadhead_matrix.proofs.GreatestPrice.{certified-most}
+use Rattle.assignment_model.proofs.GreatestPrice.{certified-most}
 use Rattle.deadhead_matrix.specs.Fitting.{network_of}
 use Rattle.price_check.specs.declared.claim.BlockRow.{BlockRow}
 use Rattle.price_check.specs.Claim.{Runs}

@@ -12,7 +12,7 @@ use Rattle.gtfs_tables.specs.declared.paper.Paper.TheVariants as paper
 use Rattle.gtfs_tables.specs.Reading.{◌>>=◌, each_record, filled_in, number_in, provided, text_in}
 use Rattle.gtfs_tables.proofs.ReadingLemmas.{text_in-utf8}
 use Rattle.block_build.specs.Files.{price_records}
-use Rattle.deadhead_matrix.specs.Prices.{price}
+use Rattle.assignment_model.specs.Prices.{price}
 use Rattle.price_check.specs.declared.claim.PriceRow.{PriceRow}
 use Rattle.price_check.specs.declared.claim.TheConstants.{MOST_PRICE}
 use Rattle.price_check.specs.Claim.{Runs}

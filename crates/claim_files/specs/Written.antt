@@ -4,7 +4,8 @@ use Rattle.std.specs.List.{flat_map, range_with_len}
 use Rattle.desk_io.specs.declared.shelf.Found.TheVariants.{File}
 use Rattle.block_build.specs.Files.{blocks_text, minutes_before, prices_text}
 use Rattle.deadhead_matrix.specs.Matrix.{MatrixView}
-use Rattle.deadhead_matrix.specs.Prices.{Plan, price, IsPlanFor}
+use Rattle.assignment_model.specs.Prices.{Plan, price}
+use Rattle.deadhead_matrix.specs.Plans.{IsPlanFor}
 use Rattle.deadhead_matrix.specs.Pulls.{IsPull}
 use Rattle.deadhead_matrix.specs.Fitting.{network_of}
 use Rattle.price_check.specs.declared.claim.BlockRow.{BlockRow}

@@ -1,7 +1,7 @@
 //! Laws of the definitions that the contracts cite. Each is the contract of a function that does nothing.
 ghost use Rattle.std.specs.Prelude.{◌≡◌, ℕ, List, length, Ok};
 ghost use Rattle.deadhead_matrix.specs.Matrix.{MatrixView};
-ghost use Rattle.deadhead_matrix.specs.Prices.{Plan};
+ghost use Rattle.assignment_model.specs.Prices.{Plan};
 ghost use Rattle.deadhead_matrix.specs.Fitting.{network_of};
 ghost use Rattle.desk_io.specs.declared.shelf.Found.{Found};
 ghost use Rattle.price_check.specs.Certificate.{IsCertificate};

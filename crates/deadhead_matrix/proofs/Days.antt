@@ -14,9 +14,9 @@ use Rattle.deadhead_matrix.specs.declared.pulls.Pull.{Pull}
 use Rattle.deadhead_matrix.specs.declared.pulls.TheConstants.{NO_PULL}
 use Rattle.deadhead_matrix.specs.Fitting.{in_time, empty_between, out_before, home_after, deadhead_network}
 use Rattle.deadhead_matrix.specs.Matrix.{MatrixView, walk}
-use Rattle.deadhead_matrix.specs.Prices.{IsDay}
+use Rattle.assignment_model.specs.Prices.{IsDay}
 use Rattle.deadhead_matrix.specs.Pulls.{IsPull, pull_at}
-use Rattle.deadhead_matrix.proofs.Duality.{fitting}
+use Rattle.assignment_model.proofs.Duality.{fitting}
 
 -- two moves with a walk of so many minutes between them, for which the time suffices
 record IsReached (m n : Option Move) (minutes : ℕ) (a b : Move) : Type 0 where

@@ -1,16 +1,11 @@
 pub mod ClassLemmas
 pub mod Closed
 pub mod Days
-pub mod Duality
-pub mod GreatestPrice
 pub mod LeftLemmas
-pub mod Looseness
 pub mod MatrixLemmas
 pub mod NamedLemmas
 pub mod OneClass
-pub mod PathLemmas
 pub mod PlanLemmas
-pub mod PriceSums
 pub mod SearchLemmas
 pub mod Standing
 pub mod TerminalWalks

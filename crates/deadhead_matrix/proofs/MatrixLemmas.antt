@@ -4,13 +4,14 @@ use Rattle.std.specs.List.{range_with_len}
 use Rattle.std.specs.Prelude.{IfSome, replicate}
 use Rattle.std.proofs.lemmas.Bool.{eq-eqb, ne_eqb, ltb-true}
 use Rattle.std.proofs.lemmas.List.{get_or-map, length-map, ext_get_or}
+use Rattle.std.proofs.lemmas.List.Elements.{All-map}
 use Rattle.std.proofs.lemmas.List.FromFn.{get_or-map-range_with_len, length-map-range_with_len}
 use Rattle.deadhead_matrix.specs.declared.entry.Entry.{Entry}
 use Rattle.deadhead_matrix.specs.declared.pulls.Pull.{Pull}
 use Rattle.deadhead_matrix.specs.declared.pulls.TheConstants.{NO_PULL}
 use Rattle.deadhead_matrix.specs.Walks.{IsWalk, walk_minutes, IsLeastWalk}
 use Rattle.deadhead_matrix.specs.Search.{far, dist_at, found_at, walks_in, AreLeastRows}
-use Rattle.deadhead_matrix.specs.Matrix.{walk, standing, empty_matrix, matrix_from, AreLeastWalks}
+use Rattle.deadhead_matrix.specs.Matrix.{MatrixView, walk, standing, empty_matrix, matrix_from, AreLeastWalks, IsSquare}
 
 -- as many walks as rows
 pub length-walks : (entries : List Entry) (rows : List (List ℕ)) (pulls : List Pull) → length (matrix_from entries rows pulls).walks ≡ length rows
@@ -76,3 +77,31 @@ pub matrix-standing : (entries : List Entry) (rows : List (List ℕ)) (pulls : L
 matrix-standing entries rows pulls are none zero =
     let walks = walks-standing rows pulls (subst (λ (es : List Entry). AreLeastRows es rows) none are) in
     (λ i. record { entries = none i; walks = walks i; pulls = zero i })
+
+-- each row of walks has as many places as there are rows
+pub IsSquare-from : (entries : List Entry) (rows : List (List ℕ)) (pulls : List Pull) → IsSquare (matrix_from entries rows pulls)
+IsSquare-from entries rows pulls =
+    All-map (λ walks. length walks ≡ length (matrix_from entries rows pulls).walks) (λ row. walks_in row (length rows)) rows
+    (λ a row a_in. length-map-range_with_len (found_at (get_or rows a row)) 0 (length rows) ∙ sym (length-walks entries rows pulls))
+
+-- a least walk takes one number of minutes
+one-walk : (entries : List Entry) (a b : ℕ) (one other : Option ℕ) → IsLeastWalk entries a b one → IsLeastWalk entries a b other → one ≡ other
+one-walk entries a b None None none none' = refl
+one-walk entries a b None (Some m) none least = absurd (none least.reached.0 least.reached.1)
+one-walk entries a b (Some m) None least none = absurd (none least.reached.0 least.reached.1)
+one-walk entries a b (Some m) (Some n) least least' =
+    let below = least.least least'.reached.0 least'.reached.1 in
+    let above = least'.least least.reached.0 least.reached.1 in
+    ap Some (omega (arith, below, above, least.reached.2, least'.reached.2))
+
+-- so matrices of the same entries, the same pulls and as many places are equal
+pub one-matrix : (one other : MatrixView) → one.entries ≡ other.entries → one.pulls ≡ other.pulls → length one.walks ≡ length other.walks
+    → IsSquare one → IsSquare other → AreLeastWalks one → AreLeastWalks other → one ≡ other
+one-matrix one other entries pulls count square square' least least' =
+    let width : (a : ℕ) → a < length one.walks → length (get_or one.walks a []) ≡ length one.walks = λ a h. square a [] h in
+    let width' : (a : ℕ) → a < length one.walks → length (get_or other.walks a []) ≡ length one.walks = λ a h. square' a [] (omega (arith, h, count)) ∙ sym count in
+    let rows : one.walks ≡ other.walks = ext_get_or [] one.walks other.walks count (λ a a_in. ext_get_or None (get_or one.walks a []) (get_or other.walks a []) (width a a_in ∙ sym (width' a a_in))
+    (λ b b_in. let b_one : b < length one.walks = omega (arith, b_in, width a a_in) in
+    one-walk one.entries a b (walk one a b) (walk other a b) (least a b a_in b_one)
+    (subst (λ (es : List Entry). IsLeastWalk es a b (walk other a b)) (sym entries) (least' a b (omega (arith, a_in, count)) (omega (arith, b_one, count)))))) in
+    λ i. record { entries = entries i; walks = rows i; pulls = pulls i }

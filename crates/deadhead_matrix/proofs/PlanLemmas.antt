@@ -10,10 +10,11 @@ use Rattle.trip_model.proofs.OrderLemmas.{StandsOnce-by_departure}
 use Rattle.trip_model.proofs.PlainLemmas.{AreMoves-trips}
 use Rattle.deadhead_matrix.specs.Fitting.{deadhead_network, network_of}
 use Rattle.deadhead_matrix.specs.Matrix.{MatrixView}
-use Rattle.deadhead_matrix.specs.Prices.{Plan, IsPlanFor}
+use Rattle.assignment_model.specs.Prices.{Plan}
+use Rattle.deadhead_matrix.specs.Plans.{IsPlanFor}
 use Rattle.deadhead_matrix.specs.Pulls.{IsPull}
 use Rattle.deadhead_matrix.proofs.Days.{AreDepartures-deadhead, IsDay-deadhead}
-use Rattle.deadhead_matrix.proofs.Duality.{IsLeast-certified}
+use Rattle.assignment_model.proofs.Duality.{IsLeast-certified}
 
 pub IsLeast-plan : (t : TimetableView) (matrix : MatrixView) (plan : Plan) → IsTimetable t → All IsPull matrix.pulls → IsPlanFor t matrix plan
     → IsLeast (network_of t matrix) (blocks_along plan.next (by_departure (trip_moves t.slots)))

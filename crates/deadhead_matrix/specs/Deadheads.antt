@@ -13,7 +13,7 @@ use Rattle.trip_model.specs.declared.limits.TheConstants.{MOST_PLACES}
 use Rattle.trip_model.specs.Place.{Place}
 use Rattle.trip_model.specs.Timetable.{TimetableView, place_names, number_of}
 use Rattle.deadhead_matrix.specs.declared.entry.Entry.{Entry}
-use Rattle.deadhead_matrix.specs.declared.limits.TheConstants.{MOST_DEADHEAD}
+use Rattle.assignment_model.specs.declared.limits.TheConstants.{MOST_DEADHEAD}
 use Rattle.deadhead_matrix.specs.declared.read.Columns.{Columns}
 use Rattle.deadhead_matrix.specs.Posts.{Class, classes_of, place_for}
 

@@ -10,7 +10,7 @@ use Rattle.gtfs_tables.specs.Reading.{◌>>=◌, column_in, field_at, text_in, f
 use Rattle.trip_model.specs.Place.{Place}
 use Rattle.trip_model.specs.Timetable.{TimetableView}
 use Rattle.deadhead_matrix.specs.declared.depot.Columns.{Columns}
-use Rattle.deadhead_matrix.specs.declared.limits.TheConstants.{MOST_DEADHEAD}
+use Rattle.assignment_model.specs.declared.limits.TheConstants.{MOST_DEADHEAD}
 use Rattle.deadhead_matrix.specs.declared.pulls.Pull.{Pull}
 use Rattle.deadhead_matrix.specs.declared.pulls.TheConstants.{NO_PULL}
 

@@ -4,9 +4,8 @@ pub mod Fitting
 pub mod Left
 pub mod Matrix
 pub mod Named
-pub mod Paths
+pub mod Plans
 pub mod Posts
-pub mod Prices
 pub mod Pulls
 pub mod Search
 pub mod Terminals

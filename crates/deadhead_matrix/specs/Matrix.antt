@@ -1,5 +1,5 @@
 -- What a matrix of deadheads is seen as.
-use Rattle.std.specs.Prelude.{ℕ, ◌<◌, ◌==◌, List, [], length, map, replicate, slice_index_or, Option, None, Some, if◌then◌else◌}
+use Rattle.std.specs.Prelude.{◌≡◌, ℕ, ◌<◌, ◌==◌, List, [], length, map, replicate, slice_index_or, All, Option, None, Some, if◌then◌else◌}
 use Rattle.std.specs.List.{range_with_len}
 use Rattle.deadhead_matrix.specs.declared.entry.Entry.{Entry}
 use Rattle.deadhead_matrix.specs.declared.pulls.Pull.{Pull}
@@ -20,6 +20,10 @@ walk matrix a b = slice_index_or (slice_index_or matrix.walks a []) b None
 -- between each two places the minutes are those of the least walk
 abbrev pub AreLeastWalks : MatrixView → Type 0
 AreLeastWalks matrix = (a b : ℕ) → a < length matrix.walks → b < length matrix.walks → IsLeastWalk matrix.entries a b (walk matrix a b)
+
+-- from each place there is a walk, or none, to as many places as there are
+abbrev pub IsSquare : MatrixView → Type 0
+IsSquare matrix = All (λ row. length row ≡ length matrix.walks) matrix.walks
 
 -- the matrix of entries, of how far, in rows of minutes, each place is from each, and of pulls
 abbrev pub matrix_from : List Entry → List (List ℕ) → List Pull → MatrixView

@@ -1,6 +1,6 @@
 -- Pulls: the minutes out of the depot to a place before the first trip of a block, and from a place home after its last.
 use Rattle.std.specs.Prelude.{ℕ, ◌≤◌, List, slice_index_or}
-use Rattle.deadhead_matrix.specs.declared.limits.TheConstants.{MOST_DEADHEAD}
+use Rattle.assignment_model.specs.declared.limits.TheConstants.{MOST_DEADHEAD}
 use Rattle.deadhead_matrix.specs.declared.pulls.Pull.{Pull}
 use Rattle.deadhead_matrix.specs.declared.pulls.TheConstants.{NO_PULL}
 

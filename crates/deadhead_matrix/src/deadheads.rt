@@ -1,7 +1,7 @@
 ghost use Rattle.std.specs.Prelude.{◌≡◌, ◌≢◌, ℕ, ◌<◌, ◌≤◌, [], ◌∷◌, ◌++◌, length, slice_index_or, slice_set, All, Err, IfOk};
 ghost use Rattle.gtfs_tables.specs.Reading.{Gives};
 ghost use Rattle.trip_model.specs.declared.limits.TheConstants.{MOST_PLACES};
-ghost use Rattle.deadhead_matrix.specs.declared.limits.TheConstants.{MOST_DEADHEAD};
+ghost use Rattle.assignment_model.specs.declared.limits.TheConstants.{MOST_DEADHEAD};
 ghost use Rattle.gtfs_tables.specs.Papers.{IsWithinLimit};
 ghost use Rattle.deadhead_matrix.specs.Deadheads.{deadheads_of, has_entry, with_entries, with_entry};
 ghost use Rattle.deadhead_matrix.specs.Left.{timetable_left};

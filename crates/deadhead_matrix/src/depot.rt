@@ -5,8 +5,8 @@ ghost use Rattle.gtfs_tables.specs.Reading.{Gives};
 ghost use Rattle.deadhead_matrix.specs.Depot as spec;
 ghost use Rattle.deadhead_matrix.specs.Pulls.{IsPull};
 
-use crate::limits::MOST_DEADHEAD;
 use crate::pulls::{NO_PULL, Pull};
+use assignment_model::MOST_DEADHEAD;
 use desk_io::Found;
 use gtfs_tables::{
     Column, Entries, FeedFault, Paper, RecordReader, Row, column_in, filled_in, number_in,

@@ -8,7 +8,7 @@
 //! to it.
 //!
 //! The contract that the crates above use: the entries are those of the file, or the first refusal that is due. `minutes` is
-//! the least walk of the entries. The blocks of a certified plan are least ([`laws::certified_law`]).
+//! the least walk of the entries. The blocks of a plan for a timetable and a matrix are least ([`laws::plan_law`]).
 //!
 //! `desk_feed` shows a use, in `src/matrix.rt`.
 //!
@@ -21,11 +21,7 @@
 //! - `Left`: the places that are left where the file is refused
 //! - `Depot`, `Pulls`: the pulls of places
 //! - `Fitting`: which trips a vehicle can make one after the other
-//!
-//! The laws also cite:
-//!
-//! - `Prices`: plans of next trips whose prices prove that they are least
-//! - `Paths`: the paths along which such a plan is repaired
+//! - `Plans`: plans for a timetable and a matrix
 //!
 //! `Search` has the terms of the search from one place for proofs alone.
 #![tactic(auto)]
@@ -37,7 +33,6 @@ mod entry;
 pub mod laws;
 mod limits;
 mod matrix;
-pub mod path_laws;
 mod posts;
 mod pulls;
 mod read;
@@ -48,7 +43,7 @@ mod ways;
 
 pub use deadheads::Deadheads;
 pub use entry::Entry;
-pub use limits::{LONGEST_WALK, MOST_DEADHEAD, VEHICLE_WEIGHT};
+pub use limits::LONGEST_WALK;
 pub use matrix::Matrix;
 pub use pulls::{NO_PULL, Pull, Pulls};
 pub use walks::Walks;

@@ -2,12 +2,13 @@ ghost use Rattle.std.specs.Prelude.{◌≡◌, ◌≢◌, ℕ, ◌<◌, ◌≤�
 ghost use Rattle.gtfs_tables.specs.Papers.{IsWithinLimit};
 ghost use Rattle.gtfs_tables.specs.Reading.{Gives};
 ghost use Rattle.trip_model.specs.declared.limits.TheConstants.{MOST_PLACES};
-ghost use Rattle.deadhead_matrix.specs.declared.limits.TheConstants.{LONGEST_WALK, MOST_DEADHEAD};
+ghost use Rattle.deadhead_matrix.specs.declared.limits.TheConstants.{LONGEST_WALK};
+ghost use Rattle.assignment_model.specs.declared.limits.TheConstants.{MOST_DEADHEAD};
 ghost use Rattle.deadhead_matrix.specs.declared.pulls.TheConstants.{NO_PULL};
 ghost use Rattle.deadhead_matrix.specs.Deadheads as spec;
 ghost use Rattle.deadhead_matrix.specs.Depot.{pulls_of};
 ghost use Rattle.deadhead_matrix.specs.Left.{timetable_left};
-ghost use Rattle.deadhead_matrix.specs.Matrix.{AreLeastWalks, empty_matrix, walk};
+ghost use Rattle.deadhead_matrix.specs.Matrix.{AreLeastWalks, IsSquare, empty_matrix, walk};
 ghost use Rattle.deadhead_matrix.specs.Named.{HasGained, IsNamed};
 ghost use Rattle.deadhead_matrix.specs.Pulls.{pull_at, IsPull};
 ghost use Rattle.deadhead_matrix.specs.Walks.{IsLeastWalk};
@@ -60,6 +61,7 @@ impl Matrix {
         ensures entries { IfOk result (λ matrix. matrix.entries ≡ deadheads.now) }
         ensures least { IfOk result AreLeastWalks }
         ensures places { IfOk result (λ matrix. length matrix.walks ≡ places) }
+        ensures square { IfOk result IsSquare }
         ensures pulls { IfOk result (λ matrix. matrix.pulls ≡ replicate places NO_PULL) }
         ensures standing { deadheads.now ≡ [] → IfOk result (λ matrix. matrix ≡ empty_matrix places) }
     {

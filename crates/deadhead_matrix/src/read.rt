@@ -2,16 +2,16 @@ ghost use Rattle.std.specs.Prelude.{◌≡◌, ◌≢◌, ◌≤◌, false, [], 
 ghost use Rattle.gtfs_tables.specs.Papers.{IsWithinLimit};
 ghost use Rattle.gtfs_tables.specs.Reading.{field_at, Gives};
 ghost use Rattle.trip_model.specs.Place.{has_slash};
-ghost use Rattle.deadhead_matrix.specs.declared.limits.TheConstants.{MOST_DEADHEAD};
+ghost use Rattle.assignment_model.specs.declared.limits.TheConstants.{MOST_DEADHEAD};
 ghost use Rattle.deadhead_matrix.specs.Deadheads as spec;
 ghost use Rattle.deadhead_matrix.specs.Left as left;
 ghost use Rattle.deadhead_matrix.specs.Named.{HasGained, IsNamed};
 ghost use Rattle.deadhead_matrix.specs.Posts.{classes_of};
 
 use crate::deadheads::Deadheads;
-use crate::limits::MOST_DEADHEAD;
 use crate::posts::{classes_of, places_of};
 use crate::unplaced::Unplaced;
+use assignment_model::MOST_DEADHEAD;
 use desk_io::{Found, Text};
 use gtfs_tables::{
     Column, FeedFault, Paper, RecordReader, Row, column_in, filled_in, judge_table, number_in,

@@ -10,7 +10,7 @@
 //! - `step_list` answers the minutes at which the value changes.
 //!
 //! [`deficits_of`] holds the trips of a timetable that run, [`fixed_of`] is the sum of their greatest values, and
-//! [`deficit_lines`] prints them.
+//! [`deficit_lines`] prints them, with the lines of [`push_steps`].
 //!
 //! The contract that the crate above uses: deficits are seen as the list of the changes of each place, 8,192 for each. Where
 //! they hold a list of moves, the value of each place at each minute is the deficit of that list ([`laws::held_law`]). A move
@@ -36,5 +36,5 @@ mod row;
 mod trips;
 
 pub use deficits::Deficits;
-pub use lines::deficit_lines;
+pub use lines::{deficit_lines, push_steps};
 pub use trips::{deficits_of, fixed_of};

@@ -15,7 +15,8 @@ use std::alloc::Global;
 use std::fmt::Write;
 use trip_model::Timetable;
 
-fn push_steps(alloc: Global, text: &mut String, steps: &[(u16, i32)]) -> Result<(), Memory>
+/// Appends a line for each of the steps of a place.
+pub fn push_steps(alloc: Global, text: &mut String, steps: &[(u16, i32)]) -> Result<(), Memory>
     ensures { OnOk result (string_bytes text.new ≡ string_bytes text.old ++ flat_map step_line steps.now) }
 {
     for step in steps {

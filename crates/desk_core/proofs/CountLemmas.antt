@@ -14,7 +14,7 @@ use Rattle.trip_model.specs.Plain.{move_at}
 use Rattle.trip_model.specs.declared.trip.Move.{Move}
 use Rattle.trip_model.proofs.OrderLemmas.{StandsOnce-by_departure}
 use Rattle.deadhead_matrix.specs.Fitting.{out_before, home_after}
-use Rattle.deadhead_matrix.specs.Prices.{IsDay}
+use Rattle.assignment_model.specs.Prices.{IsDay}
 use Rattle.deadhead_matrix.specs.declared.pulls.Pull.{Pull}
 use Rattle.pair_graph.specs.Pairs.{PairsView, pairs_network}
 use Rattle.desk_core.specs.Counts.{minutes_to, minutes_out}

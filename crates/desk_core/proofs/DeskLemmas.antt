@@ -6,8 +6,9 @@ use Rattle.std.proofs.Math.ListN.{length-set}
 use Rattle.std.proofs.lemmas.Bool.{ne_eqb}
 use Rattle.std.proofs.lemmas.List.{length-append, map-set, set-set}
 use Rattle.deadhead_matrix.specs.Matrix.{MatrixView}
-use Rattle.deadhead_matrix.specs.Paths.{IsAdded, IsTaken, with_slot}
-use Rattle.deadhead_matrix.specs.Prices.{Plan, IsCertified, IsPlanFor}
+use Rattle.assignment_model.specs.Paths.{IsAdded, IsTaken, with_slot}
+use Rattle.assignment_model.specs.Prices.{Plan, IsCertified}
+use Rattle.deadhead_matrix.specs.Plans.{IsPlanFor}
 use Rattle.deficit_steps.specs.Holds.{Holds}
 use Rattle.edit_script.specs.Changes.{IsSlotNamed, IsSlotOf, edited, provided, is_within, with_live, with_extra, extra_trip, shifted_at, cancelled_at, restored_at, extra_to, extra_from, extra_new}
 use Rattle.edit_script.specs.Edits.{EditsTrip}

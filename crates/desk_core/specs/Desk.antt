@@ -2,8 +2,9 @@
 use Rattle.std.specs.Prelude.{◌≡◌, ℕ, ◌+◌, ◌*◌, List, [], ◌∷◌, ◌++◌, length, Option, IfSome, Ok, Err, Result, ℤ, ⊤}
 use Rattle.std.specs.List.{AllZip}
 use Rattle.deadhead_matrix.specs.Matrix.{MatrixView}
-use Rattle.deadhead_matrix.specs.Paths.{IsTaken, IsAdded}
-use Rattle.deadhead_matrix.specs.Prices.{Plan, IsPlanFor}
+use Rattle.assignment_model.specs.Paths.{IsTaken, IsAdded}
+use Rattle.assignment_model.specs.Prices.{Plan}
+use Rattle.deadhead_matrix.specs.Plans.{IsPlanFor}
 use Rattle.deficit_steps.specs.Holds.{Holds}
 use Rattle.edit_script.specs.Script.{ScriptView, TakesMemory, stepped}
 use Rattle.edit_script.specs.declared.edit.Edit.{Edit}

@@ -1,8 +1,8 @@
 -- The repair of a plan in a slot, by the kind of the edit that changed the trip there.
 use Rattle.std.specs.Prelude.{◌≡◌, ℕ, ◌<◌, List, length, Option, None, Some, ⊤}
 use Rattle.deadhead_matrix.specs.Matrix.{MatrixView}
-use Rattle.deadhead_matrix.specs.Paths.{IsAdded, IsTaken, with_slot}
-use Rattle.deadhead_matrix.specs.Prices.{IsCertified, Plan}
+use Rattle.assignment_model.specs.Paths.{IsAdded, IsTaken, with_slot}
+use Rattle.assignment_model.specs.Prices.{IsCertified, Plan}
 use Rattle.edit_script.specs.declared.edit.Edit.{Edit}
 use Rattle.edit_script.specs.declared.edit.Edit.TheVariants.{Shift, Cancel, Restore, Extra, Undo, Redo, Show}
 use Rattle.pair_graph.specs.Pairs.{pairs_network, pairs_of}

@@ -1,5 +1,5 @@
 ghost use Rattle.std.specs.Prelude.{◌≡◌, ◌<◌, ◌≤◌, ◌&&◌, not, length, is_some, unwrap_or};
-ghost use Rattle.deadhead_matrix.specs.declared.limits.TheConstants.{MOST_DEADHEAD};
+ghost use Rattle.assignment_model.specs.declared.limits.TheConstants.{MOST_DEADHEAD};
 ghost use Rattle.desk_core.specs.Counts.{minutes_to, minutes_out};
 ghost use Rattle.pair_graph.specs.Pairs.{pairs_network};
 ghost use Rattle.trip_model.specs.declared.limits.TheConstants.{LAST_MINUTE};

@@ -1,5 +1,6 @@
 ghost use Rattle.std.specs.Prelude.{◌≡◌, ◌≢◌, ℕ, ◌+◌, ◌*◌, ◌≤◌, [], length, pos, IfErr, IfOk, IfSome, IsNone, OnErr, OnOk, ◌↔◌, Some};
-ghost use Rattle.deadhead_matrix.specs.Prices.{Plan as PlanView, IsPlanFor};
+ghost use Rattle.assignment_model.specs.Prices.{Plan as PlanView};
+ghost use Rattle.deadhead_matrix.specs.Plans.{IsPlanFor};
 ghost use Rattle.deficit_steps.specs.Holds.{Holds};
 ghost use Rattle.desk_core.specs.Counts.{blocks_in, minutes_in};
 ghost use Rattle.desk_core.specs.Desk.{ArePlansFor, IsDone, IsRefused, most_steps};

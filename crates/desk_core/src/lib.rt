@@ -20,7 +20,7 @@
 //! - `Desk`: what a desk is seen as, and what an edit does to it
 //! - `Counts`: its blocks and their empty minutes
 //! - `Standing`: moments
-//! - of `edit_script` `Script`; of `deadhead_matrix` `Prices` and `Paths`
+//! - of `edit_script` `Script`; of `assignment_model` `Prices` and `Paths`
 //! - of `plan_history` `History` and `Stands`
 //!
 //! `Follow` and `Repair` have terms for proofs alone.

@@ -1,5 +1,5 @@
 ghost use Rattle.std.specs.Prelude.{◌≡◌, ◌+◌, ◌*◌, ◌≤◌, ◌<◌, ◌++◌, ◌∷◌, [], length};
-ghost use Rattle.deadhead_matrix.specs.Prices.{IsPlanFor};
+ghost use Rattle.deadhead_matrix.specs.Plans.{IsPlanFor};
 ghost use Rattle.desk_core.specs.Repair.{IsRepairedIn, MayRepair};
 ghost use Rattle.undo_log.specs.Log.{latest_items};
 

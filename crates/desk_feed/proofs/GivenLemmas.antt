@@ -1,20 +1,18 @@
 -- What a command gives of an accepted feed is what it asks of a run.
 use Rattle.std.proofs.Common.{◌≡◌, List, Result, Ok, Err, sym, ap, subst, ◌∙◌}
 use Rattle.std.specs.Prelude.{IfOk}
-use Rattle.desk_settings.specs.Settings.{SettingsView}
 use Rattle.trip_model.specs.Timetable.{TimetableView}
-use Rattle.edit_script.specs.declared.edit.Line.{Line}
-use Rattle.deadhead_matrix.specs.declared.entry.Entry.{Entry}
-use Rattle.deadhead_matrix.specs.declared.pulls.Pull.{Pull}
 use Rattle.desk_run.specs.Commands.{IsGiven}
 use Rattle.desk_run.specs.Outcome.{OutcomeView}
 use Rattle.desk_run.specs.Reading.{ReadView}
+use Rattle.desk_feed.specs.declared.command.Said.{Said}
 use Rattle.desk_feed.specs.declared.feed.Feed.{Feed}
 use Rattle.desk_feed.specs.declared.judging.Judged.{Judged}
 use Rattle.desk_feed.specs.declared.judging.Judged.TheVariants.{Accepted}
 use Rattle.desk_feed.specs.declared.script.Edited.{Edited}
+use Rattle.desk_feed.specs.Commands.{said_to}
 use Rattle.desk_feed.specs.Edited.{IsEdited, refusing_first}
-use Rattle.desk_feed.specs.Feed.{FeedView, said_of, said_with}
+use Rattle.desk_feed.specs.Feed.{FeedView, said_of}
 use Rattle.desk_feed.specs.Judging.{Does, EndsBy, FeedAsked, IsGivenOf, Judges, ending_of, of_feed, refused_of, said_in}
 use Rattle.desk_feed.specs.Showing.{PutsBehind, TextAsked, showing, stands_with}
 
@@ -33,16 +31,15 @@ given-of asks read said says (Ok outcome) given = record {
 }
 
 -- a text behind the lines of refused records, of a timetable after its script
-pub text-given : {E : Type 0} (asks : TextAsked) (read : ReadView) (settings : SettingsView) (base : TimetableView) (entries : List Entry) (pulls : List Pull) (lines : List Line) (edited : Edited)
-    → IsEdited base lines edited → (result : Result OutcomeView E)
-    → IfOk result (PutsBehind asks edited.refused edited.ending (stands_with settings edited.script.timetable entries pulls))
-    → IfOk result (IsGivenOf (showing asks) read (said_with settings base entries pulls lines))
-text-given asks read settings base entries pulls lines edited is (Err e) put = tt
-text-given asks read settings base entries pulls lines edited is (Ok outcome) put =
-    let said = said_with settings base entries pulls lines in
+pub text-given : {E : Type 0} (asks : TextAsked) (said : Said) (edited : Edited) → IsEdited said.timetable said.lines.now edited → (result : Result OutcomeView E)
+    → IfOk result (PutsBehind asks edited.refused edited.ending (stands_with said.settings.now edited.script.timetable said.deadheads.now said.pulls))
+    → IfOk result (IsGivenOf (showing asks) said.read.now (said_to said))
+text-given asks lent edited is (Err e) put = tt
+text-given asks lent edited is (Ok outcome) put =
+    let said = said_to lent in
     let here : outcome ≡ refusing_first (refused_of said) put.text (ending_of said) = put.alone ∙ (λ i. refusing_first (is.refused i) put.text (is.ending i)) in
     record {
-      gives = record { text = put.text; shown = subst (λ (t : TimetableView). asks.Shows (stands_with settings t entries pulls) put.text) is.timetable put.shown; alone = here };
+      gives = record { text = put.text; shown = subst (λ (t : TimetableView). asks.Shows (stands_with said.settings t said.entries said.pulls) put.text) is.timetable put.shown; alone = here };
       ends = ap (λ (o : OutcomeView). o.ending) here;
       unkept = λ _. ap (λ (o : OutcomeView). o.lines) here;
     }

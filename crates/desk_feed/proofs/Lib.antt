@@ -1,5 +1,5 @@
 pub mod GivenLemmas
-pub mod OneNetwork
+pub mod OneMatrix
 pub mod PapersLemmas
 pub mod SaidLemmas
 pub mod ScriptLemmas

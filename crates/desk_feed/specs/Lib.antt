@@ -1,3 +1,4 @@
+pub mod Commands
 pub mod Edited
 pub mod Feed
 pub mod Judging

@@ -8,15 +8,17 @@ use Rattle.trip_model.specs.Timetable.{TimetableView}
 use Rattle.deadhead_matrix.specs.declared.entry.Entry.{Entry}
 use Rattle.deadhead_matrix.specs.declared.pulls.Pull.{Pull}
 use Rattle.deadhead_matrix.specs.Fitting.{network_of}
-use Rattle.deadhead_matrix.specs.Matrix.{MatrixView, AreLeastWalks}
-use Rattle.deadhead_matrix.specs.Prices.{Plan, IsPlanFor}
+use Rattle.deadhead_matrix.specs.Matrix.{MatrixView, AreLeastWalks, IsSquare}
+use Rattle.assignment_model.specs.Prices.{Plan}
+use Rattle.deadhead_matrix.specs.Plans.{IsPlanFor}
 use Rattle.desk_feed.specs.Feed.{FeedView}
 
--- the matrix has the least walks of the entries between so many places, and the pulls
+-- The matrix has the least walks of the entries between so many places, and the pulls. There is one such matrix.
 pub record IsMatrixOf (entries : List Entry) (pulls : List Pull) (places : ℕ) (matrix : MatrixView) : Type 0 where
   pub entries_are : matrix.entries ≡ entries
   pub pulls_are : matrix.pulls ≡ pulls
   pub count : length matrix.walks ≡ places
+  pub square : IsSquare matrix
   pub walks : AreLeastWalks matrix
 
 -- the matrix of what a feed says: no edit changes the places

@@ -1,9 +1,9 @@
 //! What a feed says, for every command that works on one.
 //!
-//! A command on a feed is a [`FeedCommand`]: what it asks, and the outcome that it gives of an accepted feed. One that puts a
-//! text of the timetable after the script is a [`TextCommand`], and [`AfterScript`] makes a `FeedCommand` of it. [`OnFeed`]
-//! makes of a `FeedCommand` the `Command` of a run. It reads the [`FEED_PAPERS`] first, and puts the first refusal of a feed
-//! that is not accepted. So no command judges a feed itself.
+//! A command on a feed is a [`FeedCommand`]: what it asks, and the outcome that it gives of what an accepted feed says
+//! ([`Said`]). One that puts a text of what stands after the script ([`Stands`]) is a [`TextCommand`], and [`AfterScript`] makes
+//! a `FeedCommand` of it. [`OnFeed`] makes of a `FeedCommand` the `Command` of a run. It reads the [`FEED_PAPERS`] first, and
+//! puts the first refusal of a feed that is not accepted. So no command judges a feed itself.
 //!
 //! What such commands need besides:
 //!
@@ -23,6 +23,7 @@
 //!
 //! - `Feed`: what the papers say, or their first refusal
 //! - `Judging`: what is made of that, and what a command asks that works on a feed
+//! - `Commands`: what a command is lent of a feed
 //! - `Showing`: what a command asks that puts a text
 //! - `Script`: the moments of a script, and what is printed of refused records
 //! - `Numbers`: the line of three numbers
@@ -39,7 +40,7 @@ mod matrix;
 mod numbers;
 mod script;
 
-pub use command::{AfterScript, FeedCommand, OnFeed, TextCommand};
+pub use command::{AfterScript, FeedCommand, OnFeed, Said, Stands, TextCommand};
 pub use feed::Feed;
 pub use judging::{FEED_PAPERS, Judged, judge_feed, refuse};
 pub use matrix::matrix_of;

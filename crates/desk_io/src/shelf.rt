@@ -1,6 +1,7 @@
 ghost use Rattle.std.specs.Prelude.{◌≡◌, List, [], ◌∷◌, ◌++◌, IfOk};
 ghost use Rattle.desk_io.specs.History.{Call, Read, Write};
 ghost use Rattle.desk_io.specs.Shelf.{ShelfState, Tells, FitsIn, Reads, Writes};
+ghost use Rattle.desk_io.specs.declared.shelf.ShelfFault.TheVariants as shelf_fault;
 
 use crate::{Bytes, Memory};
 use std::alloc::Global;
@@ -29,9 +30,6 @@ pub enum ShelfFault {
 }
 
 impl From<Memory> for ShelfFault {
-    ghost use Rattle.std.specs.Prelude.{◌≡◌};
-    ghost use Rattle.desk_io.specs.declared.shelf.ShelfFault.TheVariants as shelf_fault;
-
     ghost from_gives = { λ _ fault. fault ≡ shelf_fault.Memory };
 
     fn from(_: Memory) -> ShelfFault {

@@ -1,6 +1,7 @@
 ghost use Rattle.std.specs.Prelude.{◌≡◌, ◌≢◌, ◌≤◌, List, [], ◌∷◌, ◌++◌, length, IfOk, Err};
 ghost use Rattle.desk_io.specs.History.{Append, Call, Load};
 ghost use Rattle.desk_keeper.specs.Keeper.{KeeperState, Tells, Loads, Appends};
+ghost use Rattle.desk_keeper.specs.declared.keeper.KeeperFault.TheVariants as keeper_fault;
 
 use crate::Lines;
 use desk_io::{Memory, Text};
@@ -22,9 +23,6 @@ pub enum KeeperFault {
 }
 
 impl From<Memory> for KeeperFault {
-    ghost use Rattle.std.specs.Prelude.{◌≡◌};
-    ghost use Rattle.desk_keeper.specs.declared.keeper.KeeperFault.TheVariants as keeper_fault;
-
     ghost from_gives = { λ _ fault. fault ≡ keeper_fault.Memory };
 
     fn from(_: Memory) -> KeeperFault {

@@ -1,3 +1,6 @@
+ghost use Rattle.std.specs.Prelude.{◌≡◌};
+ghost use Rattle.desk_run.specs.declared.fault.RunFault.TheVariants as run_fault;
+
 use desk_io::Memory;
 
 /// Why a run did not come to its end.
@@ -14,9 +17,6 @@ pub enum RunFault {
 }
 
 impl From<Memory> for RunFault {
-    ghost use Rattle.std.specs.Prelude.{◌≡◌};
-    ghost use Rattle.desk_run.specs.declared.fault.RunFault.TheVariants as run_fault;
-
     ghost from_gives = { λ _ fault. fault ≡ run_fault.Memory };
 
     fn from(_: Memory) -> RunFault {

@@ -2,16 +2,13 @@ ghost use Rattle.desk_run.specs.Outside.{outside};
 ghost use Rattle.desk_run.specs.Performs.{Performs};
 ghost use Rattle.feed_commands.specs.Deficits.{deficits_asked};
 
-use deadhead_matrix::{Deadheads, Pulls};
 use deficit_steps::{deficit_lines, deficits_of};
-use desk_feed::{AfterScript, OnFeed, TextCommand};
+use desk_feed::{OnFeed, Stands, TextCommand};
 use desk_io::{Memory, Shelf, Sink, Steps, Text};
 use desk_keeper::Keeper;
 use desk_run::perform;
-use desk_settings::Settings;
 use std::alloc::Global;
 use std::sync::ledger::Ledger;
-use trip_model::Timetable;
 
 #[derive(Drop)]
 struct ShowDeficits;
@@ -21,17 +18,9 @@ impl TextCommand for ShowDeficits {
 
     ghost asks = { λ _. deficits_shown };
 
-    fn text<L: Ledger>(
-        &self,
-        alloc: Global,
-        _settings: &Settings,
-        timetable: &Timetable,
-        _deadheads: &Deadheads,
-        _pulls: Pulls,
-        steps: &mut Steps<L>,
-    ) -> Result<Text, Memory> {
-        let deficits = deficits_of(alloc, timetable, steps)?;
-        deficit_lines(alloc, timetable, &deficits)
+    fn text<L: Ledger>(&self, stands: Stands, steps: &mut Steps<L>) -> Result<Text, Memory> {
+        let deficits = deficits_of(stands.alloc, stands.timetable, steps)?;
+        deficit_lines(stands.alloc, stands.timetable, &deficits)
     }
 }
 
@@ -49,7 +38,7 @@ pub fn run_deficits<S: Shelf, O: Sink, K: Keeper, L: Ledger>(
         Performs deficits_asked (at shelf.old out.old keeper.old) (at shelf.new out.new keeper.new) result steps.old steps.new }
 {
     perform(
-        &OnFeed(AfterScript(ShowDeficits)),
+        &OnFeed::text(ShowDeficits),
         alloc,
         shelf,
         out,

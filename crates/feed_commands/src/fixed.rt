@@ -11,7 +11,7 @@ ghost use Rattle.feed_commands.specs.Fixed.{IsFixedText, fixed_asked};
 
 use block_build::{Blocks, block_lines, blocks_of};
 use deadhead_matrix::{Deadheads, Matrix, Pulls};
-use desk_feed::{AfterScript, OnFeed, TextCommand};
+use desk_feed::{OnFeed, Stands, TextCommand};
 use desk_io::{Memory, Shelf, Sink, Steps, Text};
 use desk_keeper::Keeper;
 use desk_run::perform;
@@ -63,16 +63,13 @@ impl TextCommand for ShowFixed {
 
     ghost asks = { λ _. fixed_shown };
 
-    fn text<L: Ledger>(
-        &self,
-        alloc: Global,
-        settings: &Settings,
-        timetable: &Timetable,
-        _deadheads: &Deadheads,
-        pulls: Pulls,
-        _steps: &mut Steps<L>,
-    ) -> Result<Text, Memory> {
-        fixed_text(alloc, settings, timetable, pulls)
+    fn text<L: Ledger>(&self, stands: Stands, _steps: &mut Steps<L>) -> Result<Text, Memory> {
+        fixed_text(
+            stands.alloc,
+            stands.settings,
+            stands.timetable,
+            stands.pulls,
+        )
     }
 }
 
@@ -88,12 +85,5 @@ pub fn run_fixed<S: Shelf, O: Sink, K: Keeper, L: Ledger>(
     ensures { let at = outside S.state S.history O.state O.history K.state K.history in
         Performs fixed_asked (at shelf.old out.old keeper.old) (at shelf.new out.new keeper.new) result steps.old steps.new }
 {
-    perform(
-        &OnFeed(AfterScript(ShowFixed)),
-        alloc,
-        shelf,
-        out,
-        keeper,
-        steps,
-    )
+    perform(&OnFeed::text(ShowFixed), alloc, shelf, out, keeper, steps)
 }

@@ -12,7 +12,8 @@ use Rattle.trip_model.specs.Timetable.{Slot, TimetableView, IsTimetable}
 use Rattle.trip_model.specs.declared.trip.Move.{Move}
 use Rattle.deadhead_matrix.specs.Fitting.{network_of}
 use Rattle.deadhead_matrix.specs.Matrix.{MatrixView}
-use Rattle.deadhead_matrix.specs.Prices.{Plan, IsPlanFor}
+use Rattle.assignment_model.specs.Prices.{Plan}
+use Rattle.deadhead_matrix.specs.Plans.{IsPlanFor}
 use Rattle.deadhead_matrix.specs.Pulls.{IsPull}
 use Rattle.fixed_fleet.specs.Rule.{first_in_first_out}
 use Rattle.edit_script.specs.Machine.{IsAt, machine, numbers_of}

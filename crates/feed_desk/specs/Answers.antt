@@ -3,7 +3,7 @@ use Rattle.std.specs.Prelude.{ℕ, zero, suc, ◌+◌, List, [], ◌++◌, Optio
 use Rattle.trip_model.specs.Timetable.{TimetableView}
 use Rattle.edit_script.specs.declared.edit.Line.{Line}
 use Rattle.edit_script.specs.declared.fault.EditFault.{EditFault}
-use Rattle.deadhead_matrix.specs.Prices.{Plan}
+use Rattle.assignment_model.specs.Prices.{Plan}
 use Rattle.desk_feed.specs.Script.{line_at, refusal_in, refusal_text, standing_at, step_at}
 
 -- what is put of a record, by its number and its line, the timetable and the plan after it, and why it is refused

@@ -8,7 +8,7 @@ use Rattle.edit_script.specs.declared.edit.Line.{Line}
 use Rattle.edit_script.specs.declared.edit.Line.TheVariants as line
 use Rattle.edit_script.specs.declared.fault.EditFault.{EditFault}
 use Rattle.deadhead_matrix.specs.Matrix.{MatrixView}
-use Rattle.deadhead_matrix.specs.Prices.{IsPlanFor}
+use Rattle.deadhead_matrix.specs.Plans.{IsPlanFor}
 use Rattle.desk_core.specs.Desk.{DeskView, IsDone}
 use Rattle.desk_feed.specs.Script.{line_at, refusal_in, some_refused, state_at, step_at}
 use Rattle.feed_desk.specs.Answers.{Answer, answers_by}

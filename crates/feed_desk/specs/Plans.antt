@@ -10,7 +10,7 @@ use Rattle.edit_script.specs.declared.edit.Line.{Line}
 use Rattle.edit_script.specs.declared.edit.Line.TheVariants as line
 use Rattle.edit_script.specs.declared.fault.EditFault.{EditFault}
 use Rattle.deadhead_matrix.specs.Matrix.{MatrixView}
-use Rattle.deadhead_matrix.specs.Prices.{Plan}
+use Rattle.assignment_model.specs.Prices.{Plan}
 use Rattle.desk_core.specs.Counts.{blocks_in}
 use Rattle.desk_core.specs.Desk as desk
 use Rattle.desk_feed.specs.Feed.{FeedView}

@@ -1,5 +1,6 @@
 ghost use Rattle.std.specs.Prelude.{◌≡◌, ◌≢◌, IfOk, string_bytes};
 ghost use Rattle.gtfs_tables.specs.Faults.{record_text_of, trip_text_of, fault_text_of, feed_line_of};
+ghost use Rattle.gtfs_tables.specs.declared.fault.FeedFault.TheVariants as feed_fault;
 
 use crate::{Column, Paper};
 use desk_io::{Memory, Text};
@@ -146,10 +147,7 @@ pub fn feed_line(alloc: Global, fault: &FeedFault) -> Result<Text, Memory>
 }
 
 impl From<Memory> for FeedFault {
-    ghost use Rattle.std.specs.Prelude.{◌≡◌};
-    ghost use Rattle.gtfs_tables.specs.declared.fault.FeedFault.TheVariants as fault;
-
-    ghost from_gives = { λ _ refused. refused ≡ fault.Memory };
+    ghost from_gives = { λ _ refused. refused ≡ feed_fault.Memory };
 
     fn from(_: Memory) -> FeedFault {
         FeedFault::Memory
@@ -157,10 +155,7 @@ impl From<Memory> for FeedFault {
 }
 
 impl<T: Drop> From<AllocFailed<T>> for FeedFault {
-    ghost use Rattle.std.specs.Prelude.{◌≡◌};
-    ghost use Rattle.gtfs_tables.specs.declared.fault.FeedFault.TheVariants as fault;
-
-    ghost from_gives = { λ _ refused. refused ≡ fault.Memory };
+    ghost from_gives = { λ _ refused. refused ≡ feed_fault.Memory };
 
     fn from(_: AllocFailed<T>) -> FeedFault {
         FeedFault::Memory

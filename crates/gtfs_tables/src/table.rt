@@ -2,6 +2,7 @@ ghost use Rattle.std.specs.Prelude.{◌≡◌, ◌+◌, ◌-◌, ◌<◌, ◌≤
 ghost use Rattle.gtfs_tables.specs.declared.paper.TheConstants.{MOST_BYTES};
 ghost use Rattle.gtfs_tables.specs.Records.{records_left, IsReading};
 ghost use Rattle.gtfs_tables.specs.Table.{body_of, column_of, table_of, IsFaultOf};
+ghost use Rattle.gtfs_tables.specs.declared.table.TableFault.TheVariants as table_fault;
 
 use crate::Row;
 use crate::records::{next_record, reader_over};
@@ -22,10 +23,7 @@ pub enum TableFault {
 }
 
 impl From<Memory> for TableFault {
-    ghost use Rattle.std.specs.Prelude.{◌≡◌};
-    ghost use Rattle.gtfs_tables.specs.declared.table.TableFault.{TableFault};
-
-    ghost from_gives = { λ _ e. e ≡ TableFault.Memory };
+    ghost from_gives = { λ _ fault. fault ≡ table_fault.Memory };
 
     fn from(_: Memory) -> TableFault {
         TableFault::Memory
@@ -33,10 +31,7 @@ impl From<Memory> for TableFault {
 }
 
 impl From<AllocError> for TableFault {
-    ghost use Rattle.std.specs.Prelude.{◌≡◌};
-    ghost use Rattle.gtfs_tables.specs.declared.table.TableFault.{TableFault};
-
-    ghost from_gives = { λ _ e. e ≡ TableFault.Memory };
+    ghost from_gives = { λ _ fault. fault ≡ table_fault.Memory };
 
     fn from(_: AllocError) -> TableFault {
         TableFault::Memory
@@ -44,10 +39,7 @@ impl From<AllocError> for TableFault {
 }
 
 impl<T: Drop> From<AllocFailed<T>> for TableFault {
-    ghost use Rattle.std.specs.Prelude.{◌≡◌};
-    ghost use Rattle.gtfs_tables.specs.declared.table.TableFault.{TableFault};
-
-    ghost from_gives = { λ _ e. e ≡ TableFault.Memory };
+    ghost from_gives = { λ _ fault. fault ≡ table_fault.Memory };
 
     fn from(_: AllocFailed<T>) -> TableFault {
         TableFault::Memory

@@ -4,7 +4,7 @@ use Rattle.trip_model.specs.Deficit.{deficit, live_moves}
 use Rattle.trip_model.specs.Maximum.{sum_of_maxima}
 use Rattle.trip_model.specs.Timetable.{TimetableView, place_names}
 use Rattle.deadhead_matrix.specs.Matrix.{MatrixView}
-use Rattle.deadhead_matrix.specs.Prices.{Plan}
+use Rattle.assignment_model.specs.Prices.{Plan}
 use Rattle.joined_deficits.specs.Boards.{boards_text}
 use Rattle.joined_deficits.specs.Joined.{joined_moves}
 use Rattle.joined_deficits.specs.Lines.{joined_text}

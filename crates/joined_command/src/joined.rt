@@ -6,20 +6,16 @@ ghost use Rattle.desk_run.specs.Performs.{Performs};
 ghost use Rattle.joined_deficits.specs.declared.limits.TheConstants.{MOST_MOVES};
 ghost use Rattle.trip_model.specs.Blocking.{IsBlocking};
 
-use deadhead_matrix::{Deadheads, Pulls};
-use desk_feed::{FEED_PAPERS, FeedCommand, OnFeed, matrix_of};
+use desk_feed::{FeedCommand, OnFeed, Said, matrix_of};
 use desk_io::{Memory, Shelf, Sink, Steps, Text};
 use desk_keeper::Keeper;
-use desk_run::{Outcome, Read, Writing, perform};
+use desk_run::{Outcome, Writing, perform};
 use desk_settings::Settings;
-use edit_script::Line;
 use feed_desk::{Drawn, draw_after};
-use gtfs_tables::Paper;
 use joined_deficits::laws::{entries_law, joined_law};
 use joined_deficits::{boards_text, joined_deficits, joined_lines, joined_moves};
 use std::alloc::Global;
 use std::sync::ledger::Ledger;
-use trip_model::Timetable;
 
 // The deficits of all moves of the blocks beside those of the trips alone.
 fn joined_text<L: Ledger>(
@@ -68,30 +64,13 @@ impl FeedCommand for WriteBoards {
 
     ghost asks = { λ _. joined_does };
 
-    fn papers(&self) -> &[Paper] {
-        &FEED_PAPERS
-    }
-
-    fn keeps(&self) -> bool {
-        false
-    }
-
-    fn outcome<L: Ledger>(
-        &self,
-        alloc: Global,
-        _read: &Read,
-        settings: &Settings,
-        timetable: Timetable,
-        deadheads: &Deadheads,
-        pulls: Pulls,
-        lines: &[Line],
-        steps: &mut Steps<L>,
-    ) -> Result<Outcome, Memory> {
+    fn outcome<L: Ledger>(&self, said: Said, steps: &mut Steps<L>) -> Result<Outcome, Memory> {
         entries_law();
         joined_law();
-        let matrix = matrix_of(alloc, &timetable, deadheads, pulls)?;
-        let drawn = draw_after(alloc, timetable, lines, matrix, steps)?;
-        boarded(alloc, settings, &drawn, steps)
+        let pulls = said.pulls;
+        let matrix = matrix_of(said.alloc, &said.timetable, said.deadheads, pulls)?;
+        let drawn = draw_after(said.alloc, said.timetable, said.lines, matrix, steps)?;
+        boarded(said.alloc, said.settings, &drawn, steps)
     }
 }
 
@@ -108,5 +87,5 @@ pub fn run_joined<S: Shelf, O: Sink, K: Keeper, L: Ledger>(
     ensures { let at = outside S.state S.history O.state O.history K.state K.history in
         Performs joined_asked (at shelf.old out.old keeper.old) (at shelf.new out.new keeper.new) result steps.old steps.new }
 {
-    perform(&OnFeed(WriteBoards), alloc, shelf, out, keeper, steps)
+    perform(&OnFeed::of(WriteBoards), alloc, shelf, out, keeper, steps)
 }

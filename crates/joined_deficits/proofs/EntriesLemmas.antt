@@ -14,7 +14,7 @@ use Rattle.gtfs_tables.specs.Reading.{◌>>=◌, provided, each_record, table_in
 use Rattle.gtfs_tables.specs.Table.{TableView}
 use Rattle.trip_model.specs.Timetable.{TimetableView}
 use Rattle.deadhead_matrix.specs.declared.entry.Entry.{Entry}
-use Rattle.deadhead_matrix.specs.declared.limits.TheConstants.{MOST_DEADHEAD}
+use Rattle.assignment_model.specs.declared.limits.TheConstants.{MOST_DEADHEAD}
 use Rattle.deadhead_matrix.specs.Deadheads.{ReadingView, begun, columns_in, minutes_in, deadhead_in, deadheads_of, has_entry, with_places, with_entry, with_entries, with_unplaced, with_deadhead}
 use Rattle.deadhead_matrix.specs.Posts.{classes_of}
 use Rattle.joined_deficits.specs.Joined.{TakeTime}

@@ -1,31 +1,18 @@
 ghost use Rattle.std.specs.Prelude.{◌≡◌, ◌<◌, ◌++◌, List, length, string_bytes, IfOk, OnOk};
-ghost use Rattle.std.specs.List.{flat_map};
 ghost use Rattle.trip_model.specs.declared.trip.Move.{Move};
 ghost use Rattle.trip_model.specs.Deficit.{deficit};
 ghost use Rattle.trip_model.specs.Timetable.{place_names};
 ghost use Rattle.deficit_steps.specs.Changes.{value};
 ghost use Rattle.deficit_steps.specs.Holds.{Holds};
-ghost use Rattle.deficit_steps.specs.Lines.{step_line};
 ghost use Rattle.joined_deficits.specs.Lines.{joined_place, joined_text};
 
 use crate::laws::text_law;
-use deficit_steps::Deficits;
+use deficit_steps::{Deficits, push_steps};
 use desk_io::{Memory, Text};
 use gtfs_tables::minute_text;
 use std::alloc::Global;
 use std::fmt::Write;
 use trip_model::Timetable;
-
-fn push_steps(alloc: Global, text: &mut String, steps: &[(u16, i32)]) -> Result<(), Memory>
-    ensures { OnOk result (string_bytes text.new ≡ string_bytes text.old ++ flat_map step_line steps.now) }
-{
-    for step in steps {
-        let minute = minute_text(alloc, step.0)?;
-        let value = step.1;
-        writeln!(text, " {} {value}", minute.as_str())?;
-    }
-    Ok(())
-}
 
 fn push_place(
     alloc: Global,

@@ -9,12 +9,10 @@ ghost use Rattle.journal_commands.specs.Keep.{keep_asked};
 
 use crate::journal::{journal_text, lines_loaded, script_loaded, text_script};
 use crate::replay::{Replay, Source};
-use deadhead_matrix::{Deadheads, Pulls};
-use desk_feed::{FEED_PAPERS, FeedCommand, OnFeed, ending_by, refuse};
+use desk_feed::{FeedCommand, OnFeed, Said, ending_by, refuse};
 use desk_io::{Memory, Shelf, Sink, Steps, Text};
 use desk_keeper::{Keeper, Lines};
-use desk_run::{Loaded, Outcome, Read, perform};
-use desk_settings::Settings;
+use desk_run::{Loaded, Outcome, perform};
 use edit_script::laws::{machine_law, read_back_law};
 use edit_script::{Line, Script, follow_records};
 use gtfs_tables::{FeedFault, MOST_RECORDS, Paper};
@@ -109,27 +107,9 @@ impl FeedCommand for KeepEdits {
 
     ghost asks = { λ _. keep_does };
 
-    fn papers(&self) -> &[Paper] {
-        &FEED_PAPERS
-    }
-
-    fn keeps(&self) -> bool {
-        true
-    }
-
-    fn outcome<L: Ledger>(
-        &self,
-        alloc: Global,
-        read: &Read,
-        _settings: &Settings,
-        timetable: Timetable,
-        _deadheads: &Deadheads,
-        _pulls: Pulls,
-        lines: &[Line],
-        _steps: &mut Steps<L>,
-    ) -> Result<Outcome, Memory> {
+    fn outcome<L: Ledger>(&self, said: Said, _steps: &mut Steps<L>) -> Result<Outcome, Memory> {
         read_back_law();
-        kept(alloc, timetable, read.journal(), lines)
+        kept(said.alloc, said.timetable, said.read.journal(), said.lines)
     }
 }
 
@@ -146,5 +126,5 @@ pub fn run_keep<S: Shelf, O: Sink, K: Keeper, L: Ledger>(
     ensures { let at = outside S.state S.history O.state O.history K.state K.history in
         Performs keep_asked (at shelf.old out.old keeper.old) (at shelf.new out.new keeper.new) result steps.old steps.new }
 {
-    perform(&OnFeed(KeepEdits), alloc, shelf, out, keeper, steps)
+    perform(&OnFeed::keep(KeepEdits), alloc, shelf, out, keeper, steps)
 }

@@ -1,8 +1,9 @@
 ghost use Rattle.std.specs.Prelude.{◌≡◌};
 
+use assignment_model::{MOST_DEADHEAD, VEHICLE_WEIGHT};
 use chart_text::COLUMN_MINUTES;
 use claim_files::MOST_SHOWN;
-use deadhead_matrix::{LONGEST_WALK, MOST_DEADHEAD, VEHICLE_WEIGHT};
+use deadhead_matrix::LONGEST_WALK;
 use desk_settings::{MOST_CLASS, MOST_PREFIX};
 use edit_script::{MOST_SHIFT, MOST_SHOWS};
 use feed_sample::MOST_SAMPLE;

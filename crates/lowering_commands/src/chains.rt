@@ -10,14 +10,13 @@ ghost use Rattle.desk_run.specs.Performs.{Performs};
 ghost use Rattle.lowering_commands.specs.Chains.{IsChainsText, chains_asked};
 ghost use Rattle.lowering_commands.specs.Step.{HasPut};
 
-use deadhead_matrix::{Deadheads, Matrix, Pulls};
+use deadhead_matrix::Matrix;
 use deficit_steps::laws::held_law;
 use deficit_steps::{Deficits, deficits_of};
-use desk_feed::{AfterScript, OnFeed, TextCommand, matrix_of};
+use desk_feed::{OnFeed, Stands, TextCommand, matrix_of};
 use desk_io::{Memory, Shelf, Sink, Steps, Text};
 use desk_keeper::Keeper;
 use desk_run::perform;
-use desk_settings::Settings;
 use dh_chains::laws::chain_law;
 use dh_chains::{add_chain, chain_line, next_chain};
 use std::alloc::Global;
@@ -101,16 +100,10 @@ impl TextCommand for ShowChains {
 
     ghost asks = { λ _. chains_shown };
 
-    fn text<L: Ledger>(
-        &self,
-        alloc: Global,
-        _settings: &Settings,
-        timetable: &Timetable,
-        deadheads: &Deadheads,
-        pulls: Pulls,
-        steps: &mut Steps<L>,
-    ) -> Result<Text, Memory> {
-        let matrix = matrix_of(alloc, timetable, deadheads, pulls)?;
+    fn text<L: Ledger>(&self, stands: Stands, steps: &mut Steps<L>) -> Result<Text, Memory> {
+        let timetable = stands.timetable;
+        let alloc = stands.alloc;
+        let matrix = matrix_of(alloc, timetable, stands.deadheads, stands.pulls)?;
         let mut deficits = deficits_of(alloc, timetable, steps)?;
         chains_text(alloc, timetable, &matrix, &mut deficits, steps)
     }
@@ -129,12 +122,5 @@ pub fn run_chains<S: Shelf, O: Sink, K: Keeper, L: Ledger>(
     ensures { let at = outside S.state S.history O.state O.history K.state K.history in
         Performs chains_asked (at shelf.old out.old keeper.old) (at shelf.new out.new keeper.new) result steps.old steps.new }
 {
-    perform(
-        &OnFeed(AfterScript(ShowChains)),
-        alloc,
-        shelf,
-        out,
-        keeper,
-        steps,
-    )
+    perform(&OnFeed::text(ShowChains), alloc, shelf, out, keeper, steps)
 }

@@ -6,13 +6,11 @@ ghost use Rattle.lowering_commands.specs.Shifts.{IsShiftsText, shift_line, shift
 ghost use Rattle.lowering_commands.specs.Step.{HasShifted};
 ghost use Rattle.shift_moves.specs.Lowering.{IsLowering};
 
-use deadhead_matrix::{Deadheads, Pulls};
 use deficit_steps::{deficits_of, fixed_of};
-use desk_feed::{AfterScript, OnFeed, TextCommand};
+use desk_feed::{OnFeed, Stands, TextCommand};
 use desk_io::{Memory, Shelf, Sink, Steps, Text};
 use desk_keeper::Keeper;
 use desk_run::perform;
-use desk_settings::Settings;
 use edit_script::shift_line;
 use shift_moves::{Shift, next_shift};
 use std::alloc::Global;
@@ -86,16 +84,8 @@ impl TextCommand for ShowShifts {
 
     ghost asks = { λ _. shifts_shown };
 
-    fn text<L: Ledger>(
-        &self,
-        alloc: Global,
-        _settings: &Settings,
-        timetable: &Timetable,
-        _deadheads: &Deadheads,
-        _pulls: Pulls,
-        steps: &mut Steps<L>,
-    ) -> Result<Text, Memory> {
-        shifts_text(alloc, timetable, steps)
+    fn text<L: Ledger>(&self, stands: Stands, steps: &mut Steps<L>) -> Result<Text, Memory> {
+        shifts_text(stands.alloc, stands.timetable, steps)
     }
 }
 
@@ -112,12 +102,5 @@ pub fn run_shifts<S: Shelf, O: Sink, K: Keeper, L: Ledger>(
     ensures { let at = outside S.state S.history O.state O.history K.state K.history in
         Performs shifts_asked (at shelf.old out.old keeper.old) (at shelf.new out.new keeper.new) result steps.old steps.new }
 {
-    perform(
-        &OnFeed(AfterScript(ShowShifts)),
-        alloc,
-        shelf,
-        out,
-        keeper,
-        steps,
-    )
+    perform(&OnFeed::text(ShowShifts), alloc, shelf, out, keeper, steps)
 }

@@ -1,6 +1,6 @@
 -- What the pairs of a timetable are seen as.
 use Rattle.std.specs.Prelude.{◌≡◌, ℕ, ◌+◌, ◌≤◌, List, [], length, slice_index_or, slice_set, Option, None, Some}
-use Rattle.deadhead_matrix.specs.declared.limits.TheConstants.{MOST_DEADHEAD, VEHICLE_WEIGHT}
+use Rattle.assignment_model.specs.declared.limits.TheConstants.{MOST_DEADHEAD, VEHICLE_WEIGHT}
 use Rattle.deadhead_matrix.specs.Fitting.{deadhead_network}
 use Rattle.deadhead_matrix.specs.Matrix.{MatrixView}
 use Rattle.deadhead_matrix.specs.Pulls.{pull_at}

@@ -1,5 +1,5 @@
 ghost use Rattle.std.specs.Prelude.{◌≡◌, ℕ, ◌<◌, length, Some};
-ghost use Rattle.deadhead_matrix.specs.Prices.{weight};
+ghost use Rattle.assignment_model.specs.Prices.{weight};
 ghost use Rattle.pair_graph.specs.Pairs.{pairs_network};
 ghost use Rattle.pair_graph.specs.Reach.{saved_until};
 ghost use Rattle.trip_model.specs.Plain.{move_at};

@@ -7,13 +7,13 @@
 //! [`Pairs::move_at`] is for one that lays out what it needs of the trips.
 //!
 //! The contract that the crates above use: a pair has a weight exactly where it fits, that of the network of deadheads. That
-//! network is one of one day, in which departures rise, as [`Pairs::slots`] says. So the laws of `deadhead_matrix` hold of
+//! network is one of one day, in which departures rise, as [`Pairs::slots`] says. So the laws of `assignment_model` hold of
 //! plans over these pairs.
 //!
-//! //! `feed_schedule` shows a use, in `src/schedule.rt`.
+//! `feed_schedule` shows a use, in `src/schedule.rt`.
 //!
 //! The contracts cite `Pairs` (what the pairs are seen as) and `Reach` (what a vehicle saves by the trips at one place). Of
-//! `deadhead_matrix` they cite `Fitting` and `Prices`, and of `trip_model` `Plain` and `Network`.
+//! `deadhead_matrix` they cite `Fitting`, of `assignment_model` `Prices`, and of `trip_model` `Plain` and `Network`.
 #![tactic(auto)]
 
 mod column;

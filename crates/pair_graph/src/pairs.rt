@@ -1,5 +1,5 @@
 ghost use Rattle.std.specs.Prelude.{◌≡◌, ◌+◌, ◌<◌, ◌≤◌, length, None, Some, IfSome, is_some};
-ghost use Rattle.deadhead_matrix.specs.Prices.{weight, IsDay};
+ghost use Rattle.assignment_model.specs.Prices.{weight, IsDay};
 ghost use Rattle.trip_model.specs.declared.limits.TheConstants.{MOST_SLOTS};
 ghost use Rattle.trip_model.specs.Network.{AreDepartures};
 ghost use Rattle.trip_model.specs.Order.{minute_left};
@@ -7,7 +7,8 @@ ghost use Rattle.trip_model.specs.Plain.{move_at, AreMoves, IsMove};
 ghost use Rattle.pair_graph.specs.Pairs.{pairs_of, pairs_network};
 
 use crate::{Column, Row};
-use deadhead_matrix::{Matrix, VEHICLE_WEIGHT};
+use assignment_model::VEHICLE_WEIGHT;
+use deadhead_matrix::Matrix;
 use desk_io::Steps;
 use std::marker::Model;
 use std::sync::ledger::Ledger;

@@ -10,7 +10,7 @@ use Rattle.trip_model.specs.Plain.{move_at, AreMoves, IsMove}
 use Rattle.trip_model.specs.declared.trip.Move.{Move}
 use Rattle.deadhead_matrix.specs.Matrix.{walk}
 use Rattle.deadhead_matrix.specs.Fitting.{empty_between}
-use Rattle.deadhead_matrix.specs.Prices.{weight}
+use Rattle.assignment_model.specs.Prices.{weight}
 use Rattle.pair_graph.specs.Pairs.{PairsView, pairs_network}
 use Rattle.pair_graph.specs.Reach.{saved_from, saved_until}
 use Rattle.pair_graph.specs.declared.reach.Reach.{Reach}
@@ -18,7 +18,7 @@ use Rattle.pair_search.specs.Order.{column_minute, column_post, no_column, IsOrd
 use Rattle.pair_search.specs.declared.order.Column.{Column}
 use Rattle.pair_search.specs.Groups.{group_at, AreGroups}
 use Rattle.pair_search.specs.declared.groups.Group.{Group}
-use Rattle.pair_search.specs.Side.{SideView, LineView, side_slots, side_slot, line_weight, pairs_minute, pairs_post, IsFit, FitsNone}
+use Rattle.pair_search.specs.Side.{SideView, LineView, side_slots, side_slot, line_weight, pairs_minute, pairs_post, IsFirstFit, IsReachOf}
 use Rattle.pair_search.proofs.SideLemmas.{all_weights, masked}
 
 -- the column of a trip that runs and is not left out stands at a post
@@ -151,7 +151,7 @@ module _ (line : LineView) (arranged : IsArranged line.side) where
       by true = (idle line.side.pairs line.row (side_slot line.side k) (none (move_at line.side.pairs.moves line.row) refl dead)).1
       by false = (idle line.side.pairs line.row (side_slot line.side k) (none (move_at line.side.pairs.moves line.row) refl dead)).0
 
-  -- a group of columns at one post, and how many of them stand before the minute from which on the row may be needed
+  -- a group of columns at one post
   module _ (g : ℕ) (inside : g < line.side.count) where
     in-group : (k : ℕ) → k < (group_at line.side.groups g).to → k < side_slots line.side
     in-group k lt = omega (arith, lt, arranged.groups.within g inside)
@@ -164,29 +164,33 @@ module _ (line : LineView) (arranged : IsArranged line.side) where
         let begin = (group_at line.side.groups g).from in
         post-within begin p (in-group begin (arranged.groups.after g inside)) (stand begin (omega arith) (arranged.groups.after g inside) ∙ e)
 
-    pub none-nowhere : (group_at line.side.groups g).post ≡ None → FitsNone line (group_at line.side.groups g)
-    none-nowhere e k after before = nowhere k (in-group k before) (stand k after before ∙ e)
+    pub IsReachOf-nowhere : (group_at line.side.groups g).post ≡ None → IsReachOf line (group_at line.side.groups g) None
+    IsReachOf-nowhere e k after before = nowhere k (in-group k before) (stand k after before ∙ e)
 
-    pub none-reached : (p : ℕ) → (group_at line.side.groups g).post ≡ Some p → AreSaved p None → FitsNone line (group_at line.side.groups g)
-    none-reached p e saved k after before = saved k (in-group k before) (stand k after before ∙ e)
+-- the first column of a group that a row fits is the first that needs it no sooner than it is ready
+pub IsFirstFit-found : (line : LineView) (group : Group) (r : Reach) (upto first : ℕ) → IsReachOf line group (Some r) → upto ≤ group.to → first ≤ upto → (first < upto → group.from ≤ first)
+    → ((k : ℕ) (d : Column) → group.from ≤ k → k < first → (get_or line.side.columns k d).minute < r.minute)
+    → ((k : ℕ) (d : Column) → group.from ≤ k → first ≤ k → k < upto → r.minute ≤ (get_or line.side.columns k d).minute) → IsFirstFit line group r.saved upto first
+IsFirstFit-found line group r upto first reach within le after before later = record {
+  within = le;
+  after = after;
+  early = λ k from lt. reach k from (omega (arith, lt, le, within)) ∙ ap (λ b. cond b (Some r.saved) None) (lt-leb r.minute (minute k) (before k none from lt));
+  fits = λ k from past lt. reach k from (omega (arith, lt, within)) ∙ ap (λ b. cond b (Some r.saved) None) (le-leb r.minute (minute k) (later k none from past lt));
+}
+  where
+    none : Column
+    none = no_column (side_slots line.side)
 
-    module _ (p : ℕ) (e : (group_at line.side.groups g).post ≡ Some p) (r : Reach) (saved : AreSaved p (Some r)) (early : ℕ)
-        (before : (k : ℕ) → (group_at line.side.groups g).from ≤ k → k < (group_at line.side.groups g).from + early → (column k).minute < r.minute) where
-      late : (k : ℕ) → (group_at line.side.groups g).from ≤ k → k < (group_at line.side.groups g).from + early → k < (group_at line.side.groups g).to → line_weight line k ≡ None
-      late k from lt to = saved k (in-group k to) (stand k from to ∙ e) ∙ ap (λ b. cond b (Some r.saved) None) (lt-leb r.minute (column k).minute (before k from lt))
+    minute : ℕ → ℕ
+    minute k = (get_or line.side.columns k none).minute
 
-      pub none-early : (group_at line.side.groups g).to ≤ (group_at line.side.groups g).from + early → FitsNone line (group_at line.side.groups g)
-      none-early all k from to = late k from (omega (arith, all, to)) to
-
-      pub IsFit-found : (group_at line.side.groups g).from + early < (group_at line.side.groups g).to
-          → ((k : ℕ) → (group_at line.side.groups g).from + early ≤ k → k < (group_at line.side.groups g).to → r.minute ≤ (column k).minute) → IsFit line (group_at line.side.groups g) (record { from = (group_at line.side.groups g).from + early; weight = r.saved })
-      IsFit-found some after = record {
-        after = omega arith;
-        within = some;
-        early = λ k from lt. late k from lt (omega (arith, lt, some));
-        fits = λ k from to.
-            saved k (in-group k to) (stand k (omega (arith, from)) to ∙ e) ∙ ap (λ b. cond b (Some r.saved) None) (le-leb r.minute (column k).minute (after k from to));
-      }
+-- the columns of a group weigh the same with a row, where they fit it
+pub weighs-same : (line : LineView) (group : Group) (r : Reach) → IsReachOf line group (Some r) → (j k : ℕ) → group.from ≤ j → j < group.to → line_weight line j ≡ Some k → k ≡ r.saved
+weighs-same line group r reach j k from to fit = by (nat_le r.minute (get_or line.side.columns j (no_column (side_slots line.side))).minute) (sym fit ∙ reach j from to)
+  where
+    by : (b : Bool) → Some k ≡ cond b (Some r.saved) None → k ≡ r.saved
+    by true e = same_Some k r.saved e
+    by false e = absurd (none-some k (sym e))
 
 -- the columns of a list between two places
 abbrev pub piece : List Column → ℕ → ℕ → List Column
@@ -199,45 +203,18 @@ piece-at columns from to k d after before =
 pub length-piece : (columns : List Column) (from to : ℕ) → to ≤ length columns → length (piece columns from to) ≡ to - from
 length-piece columns from to within = omega (arith, length-take (to - from) (drop from columns), length-drop from columns, within)
 
--- the minutes of a group rise
-pub rise-piece : (n : ℕ) (columns : List Column) (count : ℕ) (groups : List Group) (g : ℕ) (group : Group) → AreGroups n columns count groups → g < count → group ≡ group_at groups g → n ≤ length columns
-    → (i j : ℕ) (d : Column) → i ≤ j → j < length (piece columns group.from group.to) → (get_or (piece columns group.from group.to) i d).minute ≤ (get_or (piece columns group.from group.to) j d).minute
-rise-piece n columns count groups g group are inside is all i j d le lt =
-    let from = ap (λ (x : Group). x.from) is in
-    let to = ap (λ (x : Group). x.to) is in
-    let short : j < group.to - group.from = omega (arith, lt, length-piece columns group.from group.to (omega (arith, to, are.within g inside, all))) in
-    let at-i = ap (λ (x : Column). x.minute) (piece-at columns group.from group.to (group.from + i) d (omega arith) (omega (arith, short, le))) in
-    let at-j = ap (λ (x : Column). x.minute) (piece-at columns group.from group.to (group.from + j) d (omega arith) (omega (arith, short))) in
-    omega (
-      arith,
-      at-i,
-      at-j,
-      ap (λ m. (get_or (piece columns group.from group.to) m d).minute) (place-back group.from i),
-      ap (λ m. (get_or (piece columns group.from group.to) m d).minute) (place-back group.from j),
-      are.rise g (group.from + i) (group.from + j) d inside (omega (arith, from)) (omega (arith, le)) (omega (arith, short, to)),
-    )
-  where
-    place-back : (a b : ℕ) → a + b - a ≡ b
-    place-back a b = omega arith
+-- how early the columns between two places are
+pub early-piece : (columns : List Column) (from to early minute : ℕ) → from + early ≤ to
+    → ((k : ℕ) (d : Column) → k < early → (get_or (piece columns from to) k d).minute < minute) → (k : ℕ) (d : Column) → from ≤ k → k < from + early → (get_or columns k d).minute < minute
+early-piece columns from to early minute within before k d after lt =
+    omega (arith, ap (λ (x : Column). x.minute) (piece-at columns from to k d after (omega (arith, lt, within))), before (k - from) d (omega (arith, after, lt)))
 
--- how early the columns of a group are
-pub early-piece : (columns columns' : List Column) (from to early minute : ℕ) → columns ≡ columns' → from + early ≤ to
-    → ((k : ℕ) (d : Column) → k < early → (get_or (piece columns from to) k d).minute < minute) → (k : ℕ) (d : Column) → from ≤ k → k < from + early → (get_or columns' k d).minute < minute
-early-piece columns columns' from to early minute is within before k d after lt =
-    omega (
-      arith,
-      ap (λ xs. (get_or xs k d).minute) is,
-      ap (λ (x : Column). x.minute) (piece-at columns from to k d after (omega (arith, lt, within))),
-      before (k - from) d (omega (arith, after, lt)),
-    )
-
-pub late-piece : (columns columns' : List Column) (from to early minute : ℕ) → columns ≡ columns' → to ≤ length columns
+pub late-piece : (columns : List Column) (from to early minute : ℕ) → to ≤ length columns
     → ((k : ℕ) (d : Column) → early ≤ k → k < length (piece columns from to) → minute ≤ (get_or (piece columns from to) k d).minute) → (k : ℕ) (d : Column) → from + early ≤ k → k < to
-    → minute ≤ (get_or columns' k d).minute
-late-piece columns columns' from to early minute is all after k d le lt =
+    → minute ≤ (get_or columns k d).minute
+late-piece columns from to early minute all after k d le lt =
     omega (
       arith,
-      ap (λ xs. (get_or xs k d).minute) is,
       ap (λ (x : Column). x.minute) (piece-at columns from to k d (omega (arith, le)) lt),
       after (k - from) d (omega (arith, le)) (omega (arith, length-piece columns from to all, le, lt)),
     )

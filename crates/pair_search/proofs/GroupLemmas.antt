@@ -1,13 +1,13 @@
 -- Groups of columns follow on each other, and what is seen of one says nothing of the others.
-use Rattle.std.proofs.Common.{◌≡◌, ◌≢◌, ℕ, zero, suc, ◌+◌, ◌<◌, ◌≤◌, Bool, true, false, cond, nat_eq, List, length, get_or, replicate, set, Option, None, Some, refl, sym, ap, ◌∙◌, ⊎_elim, arith}
+use Rattle.std.proofs.Common.{◌≡◌, ◌≢◌, ℕ, zero, suc, ◌+◌, ◌<◌, ◌≤◌, Bool, true, false, cond, nat_eq, List, length, get_or, replicate, set, Option, None, Some, refl, sym, ap, subst, ◌∙◌, ⊎_elim, arith}
 use Rattle.std.specs.Option.{option_eq}
 use Rattle.std.proofs.lemmas.Bool.{both_ways, cases_eq, eqb-true, cases_lt, lt-ltb, le-ltb}
 use Rattle.std.proofs.lemmas.List.{get_or_past, get_or-replicate, get_or-set_same, get_or-set_other, length-set}
 use Rattle.pair_search.specs.declared.groups.Group.{Group}
 use Rattle.pair_search.specs.declared.order.Column.{Column}
-use Rattle.pair_search.specs.declared.scan.Seen.{Seen}
+use Rattle.pair_search.specs.declared.tree.Seen.{Seen}
 use Rattle.pair_search.specs.Groups.{begins, group_at, seen_at, AreGroups, AreApproached, AreNear, AreReached}
-use Rattle.pair_search.specs.Search.{at, is_done}
+use Rattle.pair_search.specs.Search.{at, is_done, as_columns}
 use Rattle.pair_search.proofs.LookLemmas.{stays}
 
 -- two posts that are found equal
@@ -126,7 +126,7 @@ AreGroups-more from to columns count groups group are begin end rises few room p
 
 -- columns of one group were approached
 module _ (n : ℕ) (columns : List Column) (count : ℕ) (groups : List Group) (are : AreGroups n columns count groups) (g first upto from cost near : ℕ) (enter : List ℕ) (done : List Bool)
-    (dist parent dist' parent' : List ℕ) (approached : AreApproached first upto from cost enter done dist parent dist' parent' near) (seen : List Seen) (now : Seen) (inside : g < count)
+    (dist parent dist' parent' : List ℕ) (approached : AreApproached first upto from cost enter (as_columns dist parent done) (as_columns dist' parent' done) near) (seen : List Seen) (now : Seen) (inside : g < count)
     (room : g < length seen) (after : (group_at groups g).from ≤ first) (within : upto ≤ (group_at groups g).to) where
   here : (r : ℕ) → r ≡ g → seen_at (set seen g now) r ≡ now
   here r e = ap (seen_at (set seen g now)) e ∙ get_or-set_same seen g now (record { near = 0; cost = 0; from = 0 }) room
@@ -228,3 +228,23 @@ module _ (count : ℕ) (groups : List Group) (done : List Bool) (dist : List ℕ
       let same = now-other r ne in
       omega (arith, ap (λ (s : Seen). s.cost) same, old r j lt (omega (arith, past, ap (λ (s : Seen). s.from) same)) after before undone))
       (cases_eq r g)
+
+-- what is said of lists is said of those that are equal to them
+pub AreNear-same : (count : ℕ) (groups : List Group) (done done' : List Bool) (dist dist' : List ℕ) (seen seen' : List Seen) → done ≡ done' → dist ≡ dist' → seen ≡ seen'
+    → AreNear count groups done dist seen → AreNear count groups done' dist' seen'
+AreNear-same count groups done done' dist dist' seen seen' dones dists seens near =
+    subst (λ xs. AreNear count groups xs dist' seen') dones (subst (λ xs. AreNear count groups done xs seen') dists (subst (λ xs. AreNear count groups done dist xs) seens near))
+
+pub AreReached-same : (count : ℕ) (groups : List Group) (enter : List ℕ) (done done' : List Bool) (dist dist' : List ℕ) (seen seen' : List Seen) → done ≡ done' → dist ≡ dist' → seen ≡ seen'
+    → AreReached count groups enter done dist seen → AreReached count groups enter done' dist' seen'
+AreReached-same count groups enter done done' dist dist' seen seen' dones dists seens reached =
+    subst (λ xs. AreReached count groups enter xs dist' seen') dones
+    (subst (λ xs. AreReached count groups enter done xs seen') dists (subst (λ xs. AreReached count groups enter done dist xs) seens reached))
+
+-- what is seen of one group leaves how many there are
+pub length-seen : (seen : List Seen) (g : ℕ) (now : Seen) → length (set seen g now) ≡ length seen
+length-seen seen g now = length-set seen g now
+
+-- of as many groups as there are nothing is seen
+pub seen-none : (m : ℕ) (seen : List Seen) (none : Seen) → seen ≡ replicate m none → (r : ℕ) → r < m → seen_at seen r ≡ none
+seen-none m seen none is r lt = ap (λ xs. seen_at xs r) is ∙ get_or-replicate {A = Seen} m r none (record { near = 0; cost = 0; from = 0 }) lt

@@ -5,7 +5,7 @@ use Rattle.std.proofs.lemmas.List.{get_or-set_same, get_or-set_other}
 use Rattle.std.proofs.lemmas.Option.{none-some, same_Some}
 use Rattle.trip_model.specs.Links.{next_of, before_of, AreApart}
 use Rattle.trip_model.proofs.BeforeLemmas.{next-before, before-next, next-within}
-use Rattle.deadhead_matrix.specs.Paths.{AreNextTrips}
+use Rattle.assignment_model.specs.Paths.{AreNextTrips}
 use Rattle.pair_search.specs.Inverse.{IsInverse}
 
 -- a row that is linked is told before its column

@@ -6,8 +6,8 @@ use Rattle.std.proofs.lemmas.Bool.{both_ways, cases_eq}
 use Rattle.std.proofs.lemmas.Option.{none-some, same_Some}
 use Rattle.trip_model.specs.Links.{next_of, before_of}
 use Rattle.trip_model.specs.Network.{Network, Fits, AreDepartures}
-use Rattle.deadhead_matrix.specs.Paths.{AreNextTrips, IsPath, IsLeftPath}
-use Rattle.deadhead_matrix.specs.Prices.{weight, Plan, price, weight_to, IsDay, IsLoose}
+use Rattle.assignment_model.specs.Paths.{AreNextTrips, IsPath, IsLeftPath}
+use Rattle.assignment_model.specs.Prices.{weight, Plan, price, weight_to, IsDay, IsLoose}
 use Rattle.pair_search.specs.Assignment.{AreWeights, IsMatched, Covers, MayBegin}
 
 -- weights but those of pairs that enter b

@@ -5,8 +5,8 @@ use Rattle.std.specs.List.{AllByRecursion}
 use Rattle.std.proofs.lemmas.Bool.{both_ways, cases_eq}
 use Rattle.std.proofs.lemmas.List.{get_or-set_same, get_or-set_other}
 use Rattle.std.proofs.lemmas.Option.{none-some, same_Some}
-use Rattle.deadhead_matrix.specs.Paths.{IsNoneOf, IsPassedOn, IsPath}
-use Rattle.deadhead_matrix.specs.Prices.{price}
+use Rattle.assignment_model.specs.Paths.{IsNoneOf, IsPassedOn, IsPath}
+use Rattle.assignment_model.specs.Prices.{price}
 use Rattle.trip_model.specs.Links.{next_of, before_of, AreApart}
 use Rattle.pair_search.specs.Assignment.{IsMatched}
 use Rattle.pair_search.specs.Relinking.{LeadsBack, IsTightBack, IsPassing, IsPassedTo, IsRowAfter, IsRelinked}
@@ -48,7 +48,7 @@ passed-on had had_by cur row to (r ∷ path) within none passed = (
 )
 
 -- the row at the place has what it had at first
-row-kept : (old cur : List (Option ℕ)) (parent rows : List ℕ) (top t : ℕ) (to : Option ℕ) → LeadsBack old parent rows top → IsRelinked old cur rows top t to
+pub row-kept : (old cur : List (Option ℕ)) (parent rows : List ℕ) (top t : ℕ) (to : Option ℕ) → LeadsBack old parent rows top → IsRelinked old cur rows top t to
     → next_of cur (at rows t) ≡ next_of old (at rows t)
 row-kept old cur parent rows top t to leads moved = moved.others (at rows t) (outside old parent rows top t t leads (omega arith) moved.path moved.after)
 

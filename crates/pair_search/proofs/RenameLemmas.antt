@@ -7,8 +7,8 @@ use Rattle.std.proofs.lemmas.List.{get_or_past}
 use Rattle.std.proofs.lemmas.Option.{none-some, same_Some}
 use Rattle.trip_model.specs.Links.{next_of, before_of, AreApart}
 use Rattle.trip_model.proofs.BeforeLemmas.{next-before, before-next}
-use Rattle.deadhead_matrix.specs.Paths.{IsPassedOn, IsPath}
-use Rattle.deadhead_matrix.specs.Prices.{price}
+use Rattle.assignment_model.specs.Paths.{IsPassedOn, IsPath}
+use Rattle.assignment_model.specs.Prices.{price}
 use Rattle.pair_search.specs.Assignment.{AreWeights, IsMatched, Covers, MayBegin}
 use Rattle.pair_search.specs.Order.{IsRenaming}
 use Rattle.pair_search.specs.Renamed.{AreRenamed}

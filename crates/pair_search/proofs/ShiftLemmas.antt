@@ -6,13 +6,13 @@ use Rattle.std.proofs.lemmas.List.{get_or-set_same, get_or-set_other, get_or_pas
 use Rattle.std.proofs.lemmas.Option.{none-some, same_Some}
 use Rattle.trip_model.specs.Links.{next_of, before_of}
 use Rattle.trip_model.proofs.BeforeLemmas.{next-before, before-next, next-within}
-use Rattle.deadhead_matrix.specs.Paths.{AreNextTrips}
-use Rattle.deadhead_matrix.specs.Prices.{price}
+use Rattle.assignment_model.specs.Paths.{AreNextTrips}
+use Rattle.assignment_model.specs.Prices.{price}
 use Rattle.pair_search.specs.declared.grow.End.{End}
 use Rattle.pair_search.specs.Assignment.{AreWeights, IsMatched, Covers, MayBegin}
 use Rattle.pair_search.specs.Inverse.{IsInverse}
 use Rattle.pair_search.specs.Relinking.{lost, IsShifted, LeadsBack, IsTightBack, IsPassing}
-use Rattle.pair_search.specs.Search.{at, is_done, Problem, problem, IsGiven, Tree, IsVia, IsTree, HasEnded}
+use Rattle.pair_search.specs.Search.{at, is_done, Problem, problem, IsGiven, TreeView, IsVia, IsTree, HasEnded}
 use Rattle.pair_search.proofs.InverseLemmas.{inverse-before}
 
 -- linked rows and columns are among so many
@@ -109,7 +109,7 @@ given-at w n out a b next before leave enter first raised few weights len len' i
     (subst (λ prices. IsGiven (problem w n a before prices enter)) (sym set-is) (IsGiven-begun w n out a b next before leave enter few weights len len' inverse begins))
 
 -- a search has ended over links that are matched but for its first row
-pub record IsOver (p : Problem) (s : Tree) (end : End) (out : ℕ → Bool) (b : Option ℕ) (next : List (Option ℕ)) : Type 0 where
+pub record IsOver (p : Problem) (s : TreeView) (end : End) (out : ℕ → Bool) (b : Option ℕ) (next : List (Option ℕ)) : Type 0 where
   pub given : IsGiven p
   pub tree : IsTree p s
   pub ended : HasEnded p s end
@@ -120,7 +120,7 @@ pub record IsOver (p : Problem) (s : Tree) (end : End) (out : ℕ → Bool) (b :
   pub slots : length next ≡ p.n
 
 -- the row that is linked to a column that is done, and its place
-place-of : (p : Problem) (s : Tree) (end : End) (out : ℕ → Bool) (b : Option ℕ) (next : List (Option ℕ)) → IsOver p s end out b next → (i j : ℕ) → next_of next i ≡ Some j
+place-of : (p : Problem) (s : TreeView) (end : End) (out : ℕ → Bool) (b : Option ℕ) (next : List (Option ℕ)) → IsOver p s end out b next → (i j : ℕ) → next_of next i ≡ Some j
     → is_done s.done j ≡ true → (t : ℕ) × (t < s.size) × (at s.rows t ≡ i) × (at s.dist j ≡ at s.far t)
 place-of p s end out b next o i j linked done =
     let before = o.inverse.told i j (next-within next i j linked) linked in
@@ -128,7 +128,7 @@ place-of p s end out b next o i j linked done =
     (at-tree.place, at-tree.within.1, same_Some (at s.rows at-tree.place) i (sym at-tree.linked ∙ before), at-tree.far)
 
 -- a row that is linked can lose what its column gains
-pub enough : (p : Problem) (s : Tree) (end : End) (out : ℕ → Bool) (b : Option ℕ) (next : List (Option ℕ)) → IsOver p s end out b next → (i j : ℕ) → next_of next i ≡ Some j
+pub enough : (p : Problem) (s : TreeView) (end : End) (out : ℕ → Bool) (b : Option ℕ) (next : List (Option ℕ)) → IsOver p s end out b next → (i j : ℕ) → next_of next i ≡ Some j
     → end.fall - at s.dist j ≤ at p.leave i
 enough p s end out b next o i j linked = ⊎_elim
     (λ (done : is_done s.done j ≡ true).
@@ -141,22 +141,22 @@ enough p s end out b next o i j linked = ⊎_elim
     (cases_Bool (is_done s.done j))
 
 -- a column that gains has no price above the greatest
-pub gain-low : (p : Problem) (s : Tree) (end : End) (out : ℕ → Bool) (b : Option ℕ) (next : List (Option ℕ)) → IsOver p s end out b next → (j : ℕ) → j < p.n → at s.dist j < end.fall
+pub gain-low : (p : Problem) (s : TreeView) (end : End) (out : ℕ → Bool) (b : Option ℕ) (next : List (Option ℕ)) → IsOver p s end out b next → (j : ℕ) → j < p.n → at s.dist j < end.fall
     → at p.enter j ≤ 67111744
 gain-low p s end out b next o j inside near =
     let from = o.tree.reached j inside (omega (arith, near, o.ended.low)) in
     o.given.enter_low (at s.rows (at s.parent j)) j from.weight from.fits
 
 -- what the row at a place of the tree is linked to
-row-linked : (p : Problem) (s : Tree) (end : End) (out : ℕ → Bool) (b : Option ℕ) (next : List (Option ℕ)) → IsOver p s end out b next → (t : ℕ) → 0 < t → t < s.size
+row-linked : (p : Problem) (s : TreeView) (end : End) (out : ℕ → Bool) (b : Option ℕ) (next : List (Option ℕ)) → IsOver p s end out b next → (t : ℕ) → 0 < t → t < s.size
     → (via : IsVia p s t) × (next_of next (at s.rows t) ≡ Some via.column)
 row-linked p s end out b next o t positive lt = let via = o.tree.via t positive lt in (via, (o.inverse.linked (at s.rows t) via.column via.linked).1)
 
-not-first : (p : Problem) (s : Tree) (end : End) (out : ℕ → Bool) (b : Option ℕ) (next : List (Option ℕ)) → IsOver p s end out b next → (i j : ℕ) → next_of next i ≡ Some j → i ≢ p.a
+not-first : (p : Problem) (s : TreeView) (end : End) (out : ℕ → Bool) (b : Option ℕ) (next : List (Option ℕ)) → IsOver p s end out b next → (i j : ℕ) → next_of next i ≡ Some j → i ≢ p.a
 not-first p s end out b next o i j linked = λ e. none-some j (sym (o.matched.first p.a refl) ∙ ap (next_of next) (sym e) ∙ linked)
 
 -- the row at a place of the tree loses what prices fall past it
-leave-at : (p : Problem) (s : Tree) (end : End) (out : ℕ → Bool) (b : Option ℕ) (next : List (Option ℕ)) (leave enter : List ℕ) → IsOver p s end out b next
+leave-at : (p : Problem) (s : TreeView) (end : End) (out : ℕ → Bool) (b : Option ℕ) (next : List (Option ℕ)) (leave enter : List ℕ) → IsOver p s end out b next
     → IsShifted p.n p.a next s.dist end.fall p.leave p.enter leave enter → (t : ℕ) → t < s.size → price leave (at s.rows t) ≡ price p.leave (at s.rows t) - (end.fall - at s.far t)
 leave-at p s end out b next leave enter o shifted t lt = ⊎_elim
     (λ (e : t ≡ 0).
@@ -172,7 +172,7 @@ leave-at p s end out b next leave enter o shifted t lt = ⊎_elim
     (cases_eq t 0)
 
 -- rows of the tree are not left out
-inside-at : (p : Problem) (s : Tree) (end : End) (out : ℕ → Bool) (b : Option ℕ) (next : List (Option ℕ)) → IsOver p s end out b next → (t : ℕ) → t < s.size → out (at s.rows t) ≡ false
+inside-at : (p : Problem) (s : TreeView) (end : End) (out : ℕ → Bool) (b : Option ℕ) (next : List (Option ℕ)) → IsOver p s end out b next → (t : ℕ) → t < s.size → out (at s.rows t) ≡ false
 inside-at p s end out b next o t lt = ⊎_elim
     (λ (e : t ≡ 0). ap out (ap (at s.rows) e ∙ o.tree.root.1) ∙ o.inside)
     (λ (ne : t ≡ 0 → ⊥).
@@ -185,7 +185,7 @@ inside-at p s end out b next o t lt = ⊎_elim
     by j to true e = absurd (none-some j (sym (o.matched.left (at s.rows t) e) ∙ to))
 
 -- pairs stay covered, and those of the first row are
-pub covers-over : (p : Problem) (s : Tree) (end : End) (out : ℕ → Bool) (b : Option ℕ) (next : List (Option ℕ)) (leave enter : List ℕ) → IsOver p s end out b next
+pub covers-over : (p : Problem) (s : TreeView) (end : End) (out : ℕ → Bool) (b : Option ℕ) (next : List (Option ℕ)) (leave enter : List ℕ) → IsOver p s end out b next
     → IsShifted p.n p.a next s.dist end.fall p.leave p.enter leave enter → Covers p.w out None leave enter
 covers-over p s end out b next leave enter o shifted i j k inside _ fits =
     let columns = (o.given.weights.within i j k fits).1 in
@@ -217,7 +217,7 @@ covers-over p s end out b next leave enter o shifted i j k inside _ fits =
         (cases_Bool (is_done s.done c))
 
 -- the tree leads back from where the search ended
-pub LeadsBack-over : (p : Problem) (s : Tree) (end : End) (out : ℕ → Bool) (b : Option ℕ) (next : List (Option ℕ)) → IsOver p s end out b next → length s.parent ≡ p.n → length s.rows ≡ p.n + 1
+pub LeadsBack-over : (p : Problem) (s : TreeView) (end : End) (out : ℕ → Bool) (b : Option ℕ) (next : List (Option ℕ)) → IsOver p s end out b next → length s.parent ≡ p.n → length s.rows ≡ p.n + 1
     → LeadsBack next s.parent s.rows end.from
 LeadsBack-over p s end out b next o parents rows = record {
   inside = omega (arith, o.ended.within, o.tree.count, rows);
@@ -241,7 +241,7 @@ LeadsBack-over p s end out b next o parents rows = record {
 }
 
 -- on the way back each column has the weight of the row from which it was reached
-tight-from : (p : Problem) (s : Tree) (end : End) (out : ℕ → Bool) (b : Option ℕ) (next : List (Option ℕ)) (leave enter : List ℕ) → IsOver p s end out b next
+tight-from : (p : Problem) (s : TreeView) (end : End) (out : ℕ → Bool) (b : Option ℕ) (next : List (Option ℕ)) (leave enter : List ℕ) → IsOver p s end out b next
     → IsShifted p.n p.a next s.dist end.fall p.leave p.enter leave enter → (j : ℕ) → j < p.n → at s.dist j ≤ end.fall
     → p.w (at s.rows (at s.parent j)) j ≡ Some (price leave (at s.rows (at s.parent j)) + price enter j)
 tight-from p s end out b next leave enter o shifted j inside near =
@@ -250,7 +250,7 @@ tight-from p s end out b next leave enter o shifted j inside near =
     omega (arith, from.exact, leave-at p s end out b next leave enter o shifted (at s.parent j) from.within, shifted.columns j inside, o.ended.rows (at s.parent j) from.within, o.tree.within (at s.parent j) from.within, o.ended.later) in
     from.fits ∙ ap Some sum
 
-pub IsTightBack-over : (p : Problem) (s : Tree) (end : End) (out : ℕ → Bool) (b : Option ℕ) (next : List (Option ℕ)) (leave enter : List ℕ) → IsOver p s end out b next
+pub IsTightBack-over : (p : Problem) (s : TreeView) (end : End) (out : ℕ → Bool) (b : Option ℕ) (next : List (Option ℕ)) (leave enter : List ℕ) → IsOver p s end out b next
     → IsShifted p.n p.a next s.dist end.fall p.leave p.enter leave enter → IsTightBack p.w out next leave enter s.parent s.rows end.from
 IsTightBack-over p s end out b next leave enter o shifted = record {
   inside = λ t le. inside-at p s end out b next o t (omega (arith, o.ended.within));
@@ -267,7 +267,7 @@ IsTightBack-over p s end out b next leave enter o shifted = record {
 }
 
 -- and links are matched but for the row where the search ended
-pub IsPassing-over : (p : Problem) (s : Tree) (end : End) (out : ℕ → Bool) (b : Option ℕ) (next : List (Option ℕ)) (leave enter : List ℕ) → IsOver p s end out b next → length enter ≡ p.n
+pub IsPassing-over : (p : Problem) (s : TreeView) (end : End) (out : ℕ → Bool) (b : Option ℕ) (next : List (Option ℕ)) (leave enter : List ℕ) → IsOver p s end out b next → length enter ≡ p.n
     → IsShifted p.n p.a next s.dist end.fall p.leave p.enter leave enter → IsPassing p.w out p.a b next leave enter (at s.rows end.from) end.to
 IsPassing-over p s end out b next leave enter o len shifted = record {
   once = o.matched.once;
@@ -301,7 +301,7 @@ IsPassing-over p s end out b next leave enter o len shifted = record {
     undone j inside none true e = let at-tree = o.tree.done j inside e in absurd (none (at s.rows at-tree.place) (o.inverse.linked (at s.rows at-tree.place) j at-tree.linked).1)
 
 -- the column at which a search ends was the next of none
-pub free-over : (p : Problem) (s : Tree) (end : End) (out : ℕ → Bool) (b : Option ℕ) (next : List (Option ℕ)) → IsOver p s end out b next → IfSome end.to (λ j. before_of next j ≡ None)
+pub free-over : (p : Problem) (s : TreeView) (end : End) (out : ℕ → Bool) (b : Option ℕ) (next : List (Option ℕ)) → IsOver p s end out b next → IfSome end.to (λ j. before_of next j ≡ None)
 free-over p s end out b next o = by end.to refl
   where
     by : (to : Option ℕ) → end.to ≡ to → IfSome to (λ j. before_of next j ≡ None)
@@ -309,7 +309,7 @@ free-over p s end out b next o = by end.to refl
     by (Some j) e = sym (inverse-before next p.before o.matched.once o.inverse j) ∙ (o.ended.column j e).3
 
 -- where a tree that began so has grown until the search ended
-pub IsOver-grown : (w : ℕ → ℕ → Option ℕ) (n : ℕ) (out : ℕ → Bool) (a : ℕ) (b : Option ℕ) (next before : List (Option ℕ)) (leave enter : List ℕ) (first : ℕ) (raised : List ℕ) (s : Tree) (end : End)
+pub IsOver-grown : (w : ℕ → ℕ → Option ℕ) (n : ℕ) (out : ℕ → Bool) (a : ℕ) (b : Option ℕ) (next before : List (Option ℕ)) (leave enter : List ℕ) (first : ℕ) (raised : List ℕ) (s : TreeView) (end : End)
     → n ≤ 4096 → AreWeights w n → length next ≡ n → length leave ≡ n → IsInverse (length next) next before → MayBegin w n out a b next leave enter → first ≡ a → raised ≡ set leave a 67111744
     → IsTree (problem w n first before raised enter) s → HasEnded (problem w n first before raised enter) s end → IsOver (problem w n first before raised enter) s end out b next
 IsOver-grown w n out a b next before leave enter first raised s end few weights len len' inverse begins same set-is tree ended = record {

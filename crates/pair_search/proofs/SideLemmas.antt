@@ -4,15 +4,21 @@ use Rattle.std.specs.Prelude.{if◌then◌else◌}
 use Rattle.std.proofs.lemmas.Bool.{cases_eq, eq-eqb, ne_eqb}
 use Rattle.std.proofs.lemmas.Option.{none-some, same_Some}
 use Rattle.trip_model.specs.Links.{leads_to}
-use Rattle.deadhead_matrix.specs.Prices.{weight}
+use Rattle.assignment_model.specs.Prices.{weight}
 use Rattle.pair_graph.specs.Pairs.{PairsView, pairs_network}
 use Rattle.pair_search.specs.Assignment.{AreWeights}
-use Rattle.pair_search.specs.Side.{SideView, side_weight}
+use Rattle.pair_search.specs.Arranged.{weight_from}
+use Rattle.pair_search.specs.Side.{SideView, side_weight, IsSideOf}
 use Rattle.pair_search.proofs.LooseLemmas.{IsWithout, AreWeights-turned, AreWeights-without}
 
 -- the weights of all pairs, from the side
 abbrev pub all_weights : PairsView → Bool → ℕ → ℕ → Option ℕ
 all_weights pairs turned i j = if turned then weight (pairs_network pairs) j i else weight (pairs_network pairs) i j
+
+-- the weights of pairs from one side are those that are computed
+pub weight-side : (pairs : PairsView) (turned : Bool) (without : Option ℕ) (side : SideView) → IsSideOf pairs turned without side → side_weight side ≡ weight_from pairs turned without
+unfolding side_weight
+weight-side pairs turned without side is = ap (λ (s : SideView). weight_from s.pairs s.turned s.without) is
 
 -- one that is left out leads to nothing else
 leads : (b : Option ℕ) (j : ℕ) → ((b ≡ Some j) × (leads_to j b ≡ true)) ⊎ ((b ≢ Some j) × (leads_to j b ≡ false))

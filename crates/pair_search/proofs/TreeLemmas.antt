@@ -7,7 +7,12 @@ use Rattle.std.proofs.lemmas.List.Sums.{sum_by-set}
 use Rattle.std.proofs.Math.Nat.{le_antisymm}
 use Rattle.trip_model.specs.Links.{next_of}
 use Rattle.pair_search.specs.declared.grow.End.{End}
-use Rattle.pair_search.specs.Search.{at, is_done, AreLooked, Problem, IsInside, IsGiven, Tree, tree_of, IsVia, IsIn, IsFrom, IsTree, IsNext, IsBest}
+use Rattle.pair_search.specs.Search.{at, is_done, as_columns, AreLooked, Problem, IsInside, IsGiven, TreeView, IsVia, IsIn, IsFrom, IsTree, IsNext, IsBest}
+
+-- a tree of these lists
+abbrev pub tree_with : List ℕ → List ℕ → List Bool → List ℕ → List ℕ → ℕ → ℕ → TreeView
+tree_with dist parent done rows far size reach =
+    record { dist = dist; parent = parent; done = done; rows = rows; far = far; size = size; reach = reach }
 
 -- one column more is done
 count-done : (done : List Bool) (column : ℕ) → column < length done → is_done done column ≡ false → count_by not (set done column true) + 1 ≡ count_by not done
@@ -16,31 +21,31 @@ count-done done column inside undone =
     omega (arith, sum_by-set (λ b. cond (not b) 1 0) done column true false inside, was)
 
 -- the columns were looked at from a row that comes in
-pub record IsVisit (p : Problem) (s : Tree) (row column : ℕ) (dist parent : List ℕ) : Type 0 where
+pub record IsVisit (p : Problem) (s : TreeView) (row column : ℕ) (dist parent : List ℕ) : Type 0 where
   pub next : IsNext p s row column
   pub done : length s.done ≡ p.n
   pub rows : length s.rows ≡ p.n + 1
   pub far : length s.far ≡ p.n + 1
-  pub looked : AreLooked (p.w row) p.n s.size (at s.dist column + at p.leave row) p.enter (set s.done column true) s.dist s.parent dist parent
+  pub looked : AreLooked (p.w row) p.n s.size (at s.dist column + at p.leave row) p.enter (as_columns s.dist s.parent (set s.done column true)) (as_columns dist parent (set s.done column true))
 
 -- the tree with the row
-abbrev visited : Tree → ℕ → ℕ → List ℕ → List ℕ → Tree
+abbrev visited : TreeView → ℕ → ℕ → List ℕ → List ℕ → TreeView
 visited s row column dist parent =
-    tree_of dist parent (set s.done column true) (set s.rows s.size row) (set s.far s.size (at s.dist column)) (s.size + 1) (at s.dist column)
+    tree_with dist parent (set s.done column true) (set s.rows s.size row) (set s.far s.size (at s.dist column)) (s.size + 1) (at s.dist column)
 
 -- there is room for one row more
-pub tree-room : (p : Problem) (s : Tree) (column : ℕ) → IsTree p s → column < length s.done → is_done s.done column ≡ false → s.size ≤ p.n
+pub tree-room : (p : Problem) (s : TreeView) (column : ℕ) → IsTree p s → column < length s.done → is_done s.done column ≡ false → s.size ≤ p.n
 tree-room p s column tree inside undone = omega (arith, tree.count, count-done s.done column inside undone)
 
-room : (p : Problem) (s : Tree) (row column : ℕ) (dist parent : List ℕ) → IsTree p s → IsVisit p s row column dist parent → s.size < p.n + 1
+room : (p : Problem) (s : TreeView) (row column : ℕ) (dist parent : List ℕ) → IsTree p s → IsVisit p s row column dist parent → s.size < p.n + 1
 room p s row column dist parent tree v = omega (arith, tree-room p s column tree (omega (arith, v.next.within, v.done)) v.next.undone)
 
-rows-new : (p : Problem) (s : Tree) (row column : ℕ) (dist parent : List ℕ) → IsTree p s → IsVisit p s row column dist parent
+rows-new : (p : Problem) (s : TreeView) (row column : ℕ) (dist parent : List ℕ) → IsTree p s → IsVisit p s row column dist parent
     → (t : ℕ) → t ≡ s.size → at (set s.rows s.size row) t ≡ row
 rows-new p s row column dist parent tree v t e =
     ap (at (set s.rows s.size row)) e ∙ get_or-set_same s.rows s.size row 0 (omega (arith, room p s row column dist parent tree v, v.rows))
 
-far-new : (p : Problem) (s : Tree) (row column : ℕ) (dist parent : List ℕ) → IsTree p s → IsVisit p s row column dist parent
+far-new : (p : Problem) (s : TreeView) (row column : ℕ) (dist parent : List ℕ) → IsTree p s → IsVisit p s row column dist parent
     → (t : ℕ) → t ≡ s.size → at (set s.far s.size (at s.dist column)) t ≡ at s.dist column
 far-new p s row column dist parent tree v t e =
     ap (at (set s.far s.size (at s.dist column))) e ∙ get_or-set_same s.far s.size (at s.dist column) 0 (omega (arith, room p s row column dist parent tree v, v.far))
@@ -48,20 +53,20 @@ far-new p s row column dist parent tree v t e =
 at-old : (xs : List ℕ) (size x t : ℕ) → t < size → at (set xs size x) t ≡ at xs t
 at-old xs size x t lt = get_or-set_other xs size t x 0 (λ e. absurd (omega (arith, lt, e)))
 
-done-new : (p : Problem) (s : Tree) (row column : ℕ) (dist parent : List ℕ) → IsVisit p s row column dist parent
+done-new : (p : Problem) (s : TreeView) (row column : ℕ) (dist parent : List ℕ) → IsVisit p s row column dist parent
     → (j : ℕ) → j ≡ column → is_done (set s.done column true) j ≡ true
 done-new p s row column dist parent v j e =
     ap (is_done (set s.done column true)) e ∙ get_or-set_same s.done column true false (omega (arith, v.next.within, v.done))
 
-done-old : (s : Tree) (column j : ℕ) → j ≢ column → is_done (set s.done column true) j ≡ is_done s.done j
+done-old : (s : TreeView) (column j : ℕ) → j ≢ column → is_done (set s.done column true) j ≡ is_done s.done j
 done-old s column j ne = get_or-set_other s.done column j true false ne
 
 -- a column that was done is not the one by which a row comes in
-apart-done : (p : Problem) (s : Tree) (row column : ℕ) → IsNext p s row column → (j : ℕ) → is_done s.done j ≡ true → j ≢ column
+apart-done : (p : Problem) (s : TreeView) (row column : ℕ) → IsNext p s row column → (j : ℕ) → is_done s.done j ≡ true → j ≢ column
 apart-done p s row column next j done = λ e. both_ways (is_done s.done column) next.undone (ap (is_done s.done) (sym e) ∙ done)
 
 -- columns that are done are as far as before, and reached as before
-keeps : (p : Problem) (s : Tree) (row column : ℕ) (dist parent : List ℕ) → IsVisit p s row column dist parent
+keeps : (p : Problem) (s : TreeView) (row column : ℕ) (dist parent : List ℕ) → IsVisit p s row column dist parent
     → (j : ℕ) → is_done (set s.done column true) j ≡ true → (at dist j ≡ at s.dist j) × (at parent j ≡ at s.parent j)
 keeps p s row column dist parent v j done = ⊎_elim
     (λ (lt : at dist j < at s.dist j). absurd (both_ways (is_done (set s.done column true) j) (v.looked.reached j lt).undone done))
@@ -69,11 +74,11 @@ keeps p s row column dist parent v j done = ⊎_elim
     (cases_lt (at dist j) (at s.dist j))
 
 -- the row that comes in may be in the tree
-inside-row : (p : Problem) (s : Tree) (row column : ℕ) → IsNext p s row column → IsInside p row
+inside-row : (p : Problem) (s : TreeView) (row column : ℕ) → IsNext p s row column → IsInside p row
 inside-row p s row column next = inr (column, next.linked)
 
 -- none that was done is farther than the row that comes in
-done-near : (p : Problem) (s : Tree) (row column : ℕ) (dist parent : List ℕ) → IsTree p s → IsVisit p s row column dist parent
+done-near : (p : Problem) (s : TreeView) (row column : ℕ) (dist parent : List ℕ) → IsTree p s → IsVisit p s row column dist parent
     → (j : ℕ) → j < p.n → is_done (set s.done column true) j ≡ true → at s.dist j ≤ at s.dist column
 done-near p s row column dist parent tree v j lt done = ⊎_elim
     (λ (e : j ≡ column). let same : at s.dist j ≡ at s.dist column = ap (at s.dist) e in omega (arith, same))
@@ -82,7 +87,7 @@ done-near p s row column dist parent tree v j lt done = ⊎_elim
     omega (arith, old.far, tree.within old.place old.within.1, tree.later column v.next.within v.next.undone))
     (cases_eq j column)
 
-visit-via : (p : Problem) (s : Tree) (row column : ℕ) (dist parent : List ℕ) → IsTree p s → IsVisit p s row column dist parent
+visit-via : (p : Problem) (s : TreeView) (row column : ℕ) (dist parent : List ℕ) → IsTree p s → IsVisit p s row column dist parent
     → (t : ℕ) → 0 < t → t < s.size + 1 → IsVia p (visited s row column dist parent) t
 visit-via p s row column dist parent tree v t positive lt = ⊎_elim
     (λ (old : t < s.size).
@@ -110,7 +115,7 @@ visit-via p s row column dist parent tree v t positive lt = ⊎_elim
     })
     (cases_lt t s.size)
 
-visit-apart : (p : Problem) (s : Tree) (row column : ℕ) (dist parent : List ℕ) → IsGiven p → IsTree p s → IsVisit p s row column dist parent
+visit-apart : (p : Problem) (s : TreeView) (row column : ℕ) (dist parent : List ℕ) → IsGiven p → IsTree p s → IsVisit p s row column dist parent
     → (r t : ℕ) → r < t → t < s.size + 1 → at (set s.rows s.size row) r ≢ at (set s.rows s.size row) t
 visit-apart p s row column dist parent given tree v r t less lt = ⊎_elim
     (λ (old : t < s.size). λ same. tree.apart r t less old (sym (at-old s.rows s.size row r (omega arith)) ∙ same ∙ at-old s.rows s.size row t old))
@@ -127,7 +132,7 @@ visit-apart p s row column dist parent given tree v r t less lt = ⊎_elim
     (cases_eq r 0))
     (cases_lt t s.size)
 
-visit-covered : (p : Problem) (s : Tree) (row column : ℕ) (dist parent : List ℕ) → IsGiven p → IsTree p s → IsVisit p s row column dist parent
+visit-covered : (p : Problem) (s : TreeView) (row column : ℕ) (dist parent : List ℕ) → IsGiven p → IsTree p s → IsVisit p s row column dist parent
     → (t j k : ℕ) → t < s.size + 1 → p.w (at (set s.rows s.size row) t) j ≡ Some k
     → at dist j + k ≤ at (set s.far s.size (at s.dist column)) t + at p.leave (at (set s.rows s.size row) t) + at p.enter j
 visit-covered p s row column dist parent given tree v t j k lt fits = ⊎_elim
@@ -151,7 +156,7 @@ visit-covered p s row column dist parent given tree v t j k lt fits = ⊎_elim
     (cases_Bool (is_done (set s.done column true) j)))
     (cases_lt t s.size)
 
-visit-later : (p : Problem) (s : Tree) (row column : ℕ) (dist parent : List ℕ) → IsGiven p → IsVisit p s row column dist parent
+visit-later : (p : Problem) (s : TreeView) (row column : ℕ) (dist parent : List ℕ) → IsGiven p → IsVisit p s row column dist parent
     → (j : ℕ) → j < p.n → is_done (set s.done column true) j ≡ false → at s.dist column ≤ at dist j
 visit-later p s row column dist parent given v j lt undone =
     let ne : j ≢ column = λ e. both_ways (is_done (set s.done column true) j) undone (done-new p s row column dist parent v j e) in
@@ -162,7 +167,7 @@ visit-later p s row column dist parent given v j lt undone =
     (λ (le : at s.dist j ≤ at dist j). omega (arith, le, v.next.least j lt (sym (done-old s column j ne) ∙ undone)))
     (cases_lt (at dist j) (at s.dist j))
 
-visit-done : (p : Problem) (s : Tree) (row column : ℕ) (dist parent : List ℕ) → IsTree p s → IsVisit p s row column dist parent
+visit-done : (p : Problem) (s : TreeView) (row column : ℕ) (dist parent : List ℕ) → IsTree p s → IsVisit p s row column dist parent
     → (j : ℕ) → j < p.n → is_done (set s.done column true) j ≡ true → IsIn p (visited s row column dist parent) j
 visit-done p s row column dist parent tree v j lt done =
     let kept = keeps p s row column dist parent v j done in
@@ -183,7 +188,7 @@ visit-done p s row column dist parent tree v j lt done =
     })
     (cases_eq j column)
 
-visit-reached : (p : Problem) (s : Tree) (row column : ℕ) (dist parent : List ℕ) → IsTree p s → IsVisit p s row column dist parent
+visit-reached : (p : Problem) (s : TreeView) (row column : ℕ) (dist parent : List ℕ) → IsTree p s → IsVisit p s row column dist parent
     → (j : ℕ) → j < p.n → at dist j < 67111745 → IsFrom p (visited s row column dist parent) j
 visit-reached p s row column dist parent tree v j lt near = ⊎_elim
     (λ (less : at dist j < at s.dist j).
@@ -212,8 +217,8 @@ visit-reached p s row column dist parent tree v j lt near = ⊎_elim
     (cases_lt (at dist j) (at s.dist j))
 
 -- the tree with a row more
-pub IsTree-visit : (p : Problem) (s : Tree) (row column : ℕ) (dist parent : List ℕ) → IsGiven p → IsTree p s → IsVisit p s row column dist parent
-    → IsTree p (tree_of dist parent (set s.done column true) (set s.rows s.size row) (set s.far s.size (at s.dist column)) (s.size + 1) (at s.dist column))
+pub IsTree-visit : (p : Problem) (s : TreeView) (row column : ℕ) (dist parent : List ℕ) → IsGiven p → IsTree p s → IsVisit p s row column dist parent
+    → IsTree p (tree_with dist parent (set s.done column true) (set s.rows s.size row) (set s.far s.size (at s.dist column)) (s.size + 1) (at s.dist column))
 IsTree-visit p s row column dist parent given tree v = record {
   root = (omega arith, at-old s.rows s.size row 0 tree.root.0 ∙ tree.root.1, at-old s.far s.size (at s.dist column) 0 tree.root.0 ∙ tree.root.2);
   within = λ t lt. ⊎_elim
@@ -230,7 +235,7 @@ IsTree-visit p s row column dist parent given tree v = record {
 }
 
 -- of the best row and the one that came in the sooner is the best
-pub IsBest-more : (p : Problem) (s s' : Tree) (row far : ℕ) (best end : End) → IsBest p s best → s.size < length s.rows → s.size < length s.far
+pub IsBest-more : (p : Problem) (s s' : TreeView) (row far : ℕ) (best end : End) → IsBest p s best → s.size < length s.rows → s.size < length s.far
     → s'.rows ≡ set s.rows s.size row → s'.far ≡ set s.far s.size far → s'.size ≡ s.size + 1 → s'.reach ≡ far → far < best.fall
     → (end ≡ best) ⊎ (end ≡ record { from = s.size; to = None; fall = far + at p.leave row }) → end.fall ≤ best.fall → end.fall ≤ far + at p.leave row → IsBest p s' end
 IsBest-more p s s' row far best end is in-rows in-far rows fars size reach near one sooner soon = record {
@@ -275,7 +280,7 @@ IsBest-more p s s' row far best end is in-rows in-far rows fars size reach near 
 -- the tree of the first row alone
 pub IsTree-begun : (p : Problem) (dist0 parent0 dist parent : List ℕ) (done : List Bool) (rows far : List ℕ) → IsGiven p → at p.leave p.a ≡ 67111744
     → dist0 ≡ replicate p.n 67111745 → done ≡ replicate p.n false → at rows 0 ≡ p.a → at far 0 ≡ 0
-    → AreLooked (p.w p.a) p.n 0 67111744 p.enter done dist0 parent0 dist parent → IsTree p (tree_of dist parent done rows far 1 0)
+    → AreLooked (p.w p.a) p.n 0 67111744 p.enter (as_columns dist0 parent0 done) (as_columns dist parent done) → IsTree p (tree_with dist parent done rows far 1 0)
 IsTree-begun p dist0 parent0 dist parent done rows far given price dists dones row near looked = record {
   root = (omega arith, row, near);
   within = λ t lt. let e : t ≡ 0 = omega arith in let f : at far t ≡ 0 = ap (at far) e ∙ near in omega (arith, f);

@@ -35,6 +35,18 @@ pub steps-row : (w : ℕ → Option ℕ) (n : ℕ) (columns : List Column) (coun
 steps-row w n columns count groups are dist dist' was now v =
     omega (arith, steps-groups w n columns count groups are count (omega arith) dist dist' was now v, begins-past n count groups count (omega arith))
 
+-- a look at a group where none is visited
+pub IsVisited-none : (w : ℕ → Option ℕ) (group : Group) (dist : List ℕ) (was now : ℕ) → now ≡ was + 1 → IsVisited w group dist dist was now
+IsVisited-none w group dist was now one = record {
+  first = group.from;
+  upto = 0;
+  after = omega arith;
+  within = omega arith;
+  fits = λ j after before. absurd (omega (arith, before));
+  others = λ j out. refl;
+  steps = omega (arith, one);
+}
+
 -- a row visits one more group
 pub AreVisited-more : (w : ℕ → Option ℕ) (groups : List Group) (r : ℕ) (dist mid dist' : List ℕ) (was paid now : ℕ)
     → AreVisited w groups r dist mid was paid → IsVisited w (group_at groups r) mid dist' paid now → AreVisited w groups (r + 1) dist dist' was now

@@ -1,7 +1,7 @@
 -- Rows that are assigned to columns, with a price for each row and each column.
 use Rattle.std.specs.Prelude.{◌≡◌, ◌≢◌, ℕ, ◌+◌, ◌<◌, ◌≤◌, Bool, true, false, List, Option, None, Some}
 use Rattle.pair_search.specs.declared.limits.TheConstants.{GREATEST_PRICE}
-use Rattle.deadhead_matrix.specs.Prices.{price}
+use Rattle.assignment_model.specs.Prices.{price}
 use Rattle.trip_model.specs.Links.{next_of, AreApart}
 
 -- what pairs of a row and a column weigh, of so many each; None where the two do not fit

@@ -1,12 +1,18 @@
 -- Groups of columns, and what a search has seen of them.
-use Rattle.std.specs.Prelude.{◌≡◌, ℕ, ◌+◌, ◌<◌, ◌≤◌, nat_lt, Bool, false, List, length, slice_index_or, None, Some, if◌then◌else◌}
+use Rattle.std.specs.Prelude.{◌≡◌, ℕ, ◌+◌, ◌<◌, ◌≤◌, nat_lt, Bool, false, List, length, slice_index_or, Option, None, Some, if◌then◌else◌}
 use Rattle.trip_model.specs.declared.limits.TheConstants.{MOST_SLOTS}
 use Rattle.pair_search.specs.declared.groups.Group.{Group}
 use Rattle.pair_search.specs.declared.limits.TheConstants.{GREATEST_PRICE}
 use Rattle.pair_search.specs.declared.order.Column.{Column}
 use Rattle.pair_search.specs.declared.scan.Nearby.{Nearby}
-use Rattle.pair_search.specs.declared.scan.Seen.{Seen}
-use Rattle.pair_search.specs.Search.{at, is_done}
+use Rattle.pair_search.specs.declared.tree.Seen.{Seen}
+use Rattle.pair_search.specs.declared.tree.Tree.{Tree}
+use Rattle.pair_search.specs.Search.{at, is_done, Columns}
+use Rattle.pair_search.specs.declared.orders.Order.{Order}
+use Rattle.pair_search.specs.Arranged.{arranged, slots_of}
+use Rattle.pair_search.specs.Order.{IsOrder}
+use Rattle.pair_search.specs.Side.{SideView, pairs_minute, pairs_post}
+use Rattle.pair_graph.specs.Pairs.{PairsView}
 
 -- a group of a list; past its end one without columns
 abbrev pub group_at : List Group → ℕ → Group
@@ -29,6 +35,13 @@ pub record AreGroups (n : ℕ) (columns : List Column) (count : ℕ) (groups : L
   pub rise : (r h k : ℕ) (d : Column) → r < count → (group_at groups r).from ≤ h → h ≤ k → k < (group_at groups r).to
       → (slice_index_or columns h d).minute ≤ (slice_index_or columns k d).minute
 
+-- The columns of one side of pairs are in order and in groups. Their order is the one that is computed: by post, then by minute,
+-- then by slot.
+pub record IsOrderOf (pairs : PairsView) (turned : Bool) (without : Option ℕ) (order : Order) : Type 0 where
+  pub columns : IsOrder (length pairs.moves) (pairs_minute pairs turned) (pairs_post pairs turned without) order.columns.items order.places.items
+  pub slots : slots_of order.columns.items ≡ arranged pairs turned without
+  pub groups : AreGroups (length pairs.moves) order.columns.items order.count order.groups.items
+
 -- what was seen at a place of a list
 abbrev pub seen_at : List Seen → ℕ → Seen
 seen_at seen r = slice_index_or seen r (record { near = 0; cost = 0; from = 0 })
@@ -42,23 +55,30 @@ abbrev pub AreReached : ℕ → List Group → List ℕ → List Bool → List �
 AreReached count groups enter done dist seen = (r j : ℕ) → r < count → (seen_at seen r).from ≤ j → (group_at groups r).from ≤ j → j < (group_at groups r).to → is_done done j ≡ false
     → at dist j + GREATEST_PRICE ≤ (seen_at seen r).cost + at enter j
 
+-- what a tree has seen of the groups of a side is so
+pub record IsSeen (side : SideView) (enter : List ℕ) (tree : Tree) : Type 0 where
+  pub room : side.count ≤ length tree.seen.items
+  pub near : AreNear side.count side.groups tree.done.items tree.dist.items tree.seen.items
+  pub reached : AreReached side.count side.groups enter tree.done.items tree.dist.items tree.seen.items
+
 -- Columns between two places were approached at a cost from a place of the tree. Each that is not done is no farther than
 -- before and than the cost with its price. If it is nearer than before, it was reached so. None of these is nearer than `near`.
-pub record AreApproached (first upto from cost : ℕ) (enter : List ℕ) (done : List Bool) (dist parent dist' parent' : List ℕ) (near : ℕ) : Type 0 where
-  pub covered : (j : ℕ) → first ≤ j → j < upto → is_done done j ≡ false → at dist' j + GREATEST_PRICE ≤ cost + at enter j
-  pub nearer : (j : ℕ) → at dist' j ≤ at dist j
-  pub same : (j : ℕ) → at dist j ≤ at dist' j → at parent' j ≡ at parent j
-  pub between : (j : ℕ) → at dist' j < at dist j → (first ≤ j) × (j < upto)
-  pub undone : (j : ℕ) → at dist' j < at dist j → is_done done j ≡ false
-  pub by : (j : ℕ) → at dist' j < at dist j → at parent' j ≡ from
-  pub exact : (j : ℕ) → at dist' j < at dist j → at dist' j + GREATEST_PRICE ≡ cost + at enter j
-  pub least : (j : ℕ) → at dist' j < at dist j → near ≤ at dist' j
+pub record AreApproached (first upto from cost : ℕ) (enter : List ℕ) (was now : Columns) (near : ℕ) : Type 0 where
+  pub covered : (j : ℕ) → first ≤ j → j < upto → is_done was.done j ≡ false → at now.dist j + GREATEST_PRICE ≤ cost + at enter j
+  pub nearer : (j : ℕ) → at now.dist j ≤ at was.dist j
+  pub same : (j : ℕ) → at was.dist j ≤ at now.dist j → at now.parent j ≡ at was.parent j
+  pub between : (j : ℕ) → at now.dist j < at was.dist j → (first ≤ j) × (j < upto)
+  pub undone : (j : ℕ) → at now.dist j < at was.dist j → is_done was.done j ≡ false
+  pub by : (j : ℕ) → at now.dist j < at was.dist j → at now.parent j ≡ from
+  pub exact : (j : ℕ) → at now.dist j < at was.dist j → at now.dist j + GREATEST_PRICE ≡ cost + at enter j
+  pub least : (j : ℕ) → at now.dist j < at was.dist j → near ≤ at now.dist j
 
--- a column that is not done is nearer than those before
-pub record IsNearer (done : List Bool) (dist : List ℕ) (best now : Nearby) : Type 0 where
+-- a column from a place on that is not done is nearer than those before
+pub record IsNearer (from : ℕ) (done : List Bool) (dist : List ℕ) (best now : Nearby) : Type 0 where
   pub column : ℕ
   pub is : now.column ≡ Some column
   pub within : column < length dist
   pub undone : is_done done column ≡ false
   pub far : at dist column ≡ now.distance
   pub nearer : now.distance < best.distance
+  pub first : (h : ℕ) → from ≤ h → h < column → is_done done h ≡ false → now.distance < at dist h

@@ -1,7 +1,9 @@
+pub mod Arranged
 pub mod Assignment
+pub mod Determined
+pub mod Fronts
 pub mod Groups
 pub mod Inverse
-pub mod Lists
 pub mod Order
 pub mod Relinking
 pub mod Renamed

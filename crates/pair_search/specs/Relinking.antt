@@ -1,8 +1,8 @@
 -- The way back along which rows are linked anew where a search has ended, and the shift of prices before it.
 use Rattle.std.specs.Prelude.{◌≡◌, ◌≢◌, ℕ, ◌+◌, ◌-◌, ◌<◌, ◌≤◌, Bool, true, false, List, [], ◌∷◌, length, Option, None, Some, IsSome, IfSome}
 use Rattle.std.specs.List.{AllByRecursion}
-use Rattle.deadhead_matrix.specs.Paths.{IsNoneOf, NoneTwice, IsPassedOn}
-use Rattle.deadhead_matrix.specs.Prices.{price}
+use Rattle.assignment_model.specs.Paths.{IsNoneOf, NoneTwice, IsPassedOn}
+use Rattle.assignment_model.specs.Prices.{price}
 use Rattle.trip_model.specs.Links.{next_of, before_of, AreApart}
 use Rattle.pair_search.specs.Search.{at}
 

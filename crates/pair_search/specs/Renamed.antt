@@ -1,6 +1,6 @@
 -- Links and prices by the slots of columns, and by their places in an order.
 use Rattle.std.specs.Prelude.{◌≡◌, ℕ, ◌<◌, List, length, Option, Some}
-use Rattle.deadhead_matrix.specs.Prices.{price}
+use Rattle.assignment_model.specs.Prices.{price}
 use Rattle.trip_model.specs.Links.{next_of}
 
 -- rows are linked to the same columns, by slots and by places, and each column has one price

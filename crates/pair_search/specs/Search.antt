@@ -5,7 +5,9 @@ use Rattle.pair_search.specs.declared.limits.TheConstants.{GREATEST_PRICE, FAR}
 use Rattle.trip_model.specs.declared.limits.TheConstants.{MOST_SLOTS}
 use Rattle.trip_model.specs.Links.{next_of, AreApart}
 use Rattle.pair_search.specs.declared.grow.End.{End}
+use Rattle.pair_search.specs.declared.tree.Tree.{Tree}
 use Rattle.pair_search.specs.Assignment.{AreWeights}
+use Rattle.pair_search.specs.Side.{SideView, side_slots, place_weight}
 
 -- a number of a list; 0 past its end
 abbrev pub at : List ℕ → ℕ → ℕ
@@ -15,21 +17,35 @@ at xs i = slice_index_or xs i 0
 abbrev pub is_done : List Bool → ℕ → Bool
 is_done done j = slice_index_or done j false
 
+-- of the columns: how far they are, from which place of the tree they were reached, and which are done
+pub record Columns : Type 0 where
+  pub dist : List ℕ
+  pub parent : List ℕ
+  pub done : List Bool
+
+abbrev pub as_columns : List ℕ → List ℕ → List Bool → Columns
+as_columns dist parent done = record { dist = dist; parent = parent; done = done }
+
+-- the columns of a tree
+abbrev pub columns_of : Tree → Columns
+columns_of tree = as_columns tree.dist.items tree.parent.items tree.done.items
+
 -- the column was reached from a place of the tree. It is as far as that, plus the row's price and its own, less the weight
-pub record IsReached (w : ℕ → Option ℕ) (from start : ℕ) (enter : List ℕ) (done : List Bool) (dist parent : List ℕ) (j : ℕ) : Type 0 where
-  pub undone : is_done done j ≡ false
-  pub by : at parent j ≡ from
+pub record IsReached (w : ℕ → Option ℕ) (from start : ℕ) (enter : List ℕ) (now : Columns) (j : ℕ) : Type 0 where
+  pub undone : is_done now.done j ≡ false
+  pub by : at now.parent j ≡ from
   pub weight : ℕ
   pub fits : w j ≡ Some weight
-  pub exact : at dist j + weight ≡ start + at enter j
+  pub exact : at now.dist j + weight ≡ start + at enter j
 
 -- the columns below a number were looked at from a place of the tree. Each that is not done is no farther than before and than
 -- by the row there. If it is nearer than before, it was reached from there
-pub record AreLooked (w : ℕ → Option ℕ) (upto from start : ℕ) (enter : List ℕ) (done : List Bool) (dist parent dist' parent' : List ℕ) : Type 0 where
-  pub covered : (j k : ℕ) → j < upto → is_done done j ≡ false → w j ≡ Some k → at dist' j + k ≤ start + at enter j
-  pub nearer : (j : ℕ) → at dist' j ≤ at dist j
-  pub same : (j : ℕ) → at dist j ≤ at dist' j → at parent' j ≡ at parent j
-  pub reached : (j : ℕ) → at dist' j < at dist j → IsReached w from start enter done dist' parent' j
+pub record AreLooked (w : ℕ → Option ℕ) (upto from start : ℕ) (enter : List ℕ) (was now : Columns) : Type 0 where
+  pub done : now.done ≡ was.done
+  pub covered : (j k : ℕ) → j < upto → is_done was.done j ≡ false → w j ≡ Some k → at now.dist j + k ≤ start + at enter j
+  pub nearer : (j : ℕ) → at now.dist j ≤ at was.dist j
+  pub same : (j : ℕ) → at was.dist j ≤ at now.dist j → at now.parent j ≡ at was.parent j
+  pub reached : (j : ℕ) → at now.dist j < at was.dist j → IsReached w from start enter now j
 
 -- of the columns that are not done none is nearer than this one, and it is nearer than a bound
 pub record IsNearest (done : List Bool) (dist : List ℕ) (bound j : ℕ) : Type 0 where
@@ -51,6 +67,10 @@ pub record Problem : Type 0 where
 abbrev pub problem : (ℕ → ℕ → Option ℕ) → ℕ → ℕ → List (Option ℕ) → List ℕ → List ℕ → Problem
 problem w n a before leave enter = record { w = w; n = n; a = a; before = before; leave = leave; enter = enter }
 
+-- the same of a side, by the places of its columns
+abbrev pub problem_of : SideView → ℕ → List (Option ℕ) → List ℕ → List ℕ → Problem
+problem_of side = problem (place_weight side) (side_slots side)
+
 -- the row is the one from which the search goes out, or it is linked
 abbrev pub IsInside : Problem → ℕ → Type 0
 IsInside p i = (i ≡ p.a) ⊎ ((j : ℕ) × (next_of p.before j ≡ Some i))
@@ -70,7 +90,7 @@ pub record IsGiven (p : Problem) : Type 0 where
 
 -- of the columns: how far they are, from which place of the tree they were reached, and which are done. Of the rows of the
 -- tree: their order, how far they are, and how many. And how far the search has gone
-pub record Tree : Type 0 where
+pub record TreeView : Type 0 where
   pub dist : List ℕ
   pub parent : List ℕ
   pub done : List Bool
@@ -79,12 +99,13 @@ pub record Tree : Type 0 where
   pub size : ℕ
   pub reach : ℕ
 
-abbrev pub tree_of : List ℕ → List ℕ → List Bool → List ℕ → List ℕ → ℕ → ℕ → Tree
-tree_of dist parent done rows far size reach =
-    record { dist = dist; parent = parent; done = done; rows = rows; far = far; size = size; reach = reach }
+-- a tree with so many rows, whose search has gone so far
+abbrev pub tree_of : Tree → ℕ → ℕ → TreeView
+tree_of tree size reach =
+    record { dist = tree.dist.items; parent = tree.parent.items; done = tree.done.items; rows = tree.rows.items; far = tree.far.items; size = size; reach = reach }
 
 -- the row at a place of the tree came in by the column that it is linked to
-pub record IsVia (p : Problem) (s : Tree) (t : ℕ) : Type 0 where
+pub record IsVia (p : Problem) (s : TreeView) (t : ℕ) : Type 0 where
   pub column : ℕ
   pub linked : next_of p.before column ≡ Some (at s.rows t)
   pub done : is_done s.done column ≡ true
@@ -92,14 +113,14 @@ pub record IsVia (p : Problem) (s : Tree) (t : ℕ) : Type 0 where
   pub parent : at s.parent column < t
 
 -- the row that is linked to a column that is done is at a place of the tree
-pub record IsIn (p : Problem) (s : Tree) (j : ℕ) : Type 0 where
+pub record IsIn (p : Problem) (s : TreeView) (j : ℕ) : Type 0 where
   pub place : ℕ
   pub within : (0 < place) × (place < s.size)
   pub linked : next_of p.before j ≡ Some (at s.rows place)
   pub far : at s.dist j ≡ at s.far place
 
 -- the column was reached from a row of the tree
-pub record IsFrom (p : Problem) (s : Tree) (j : ℕ) : Type 0 where
+pub record IsFrom (p : Problem) (s : TreeView) (j : ℕ) : Type 0 where
   pub within : at s.parent j < s.size
   pub weight : ℕ
   pub fits : p.w (at s.rows (at s.parent j)) j ≡ Some weight
@@ -108,7 +129,7 @@ pub record IsFrom (p : Problem) (s : Tree) (j : ℕ) : Type 0 where
 -- The tree of a search that has come so far. Its rows are distinct, none is farther than `reach`, and each but the first came
 -- in by the column that it is linked to. Columns that are not done are not nearer than `reach`. Every column is as far as along
 -- some row, and no farther than along any.
-pub record IsTree (p : Problem) (s : Tree) : Type 0 where
+pub record IsTree (p : Problem) (s : TreeView) : Type 0 where
   pub root : (0 < s.size) × (at s.rows 0 ≡ p.a) × (at s.far 0 ≡ 0)
   pub within : (t : ℕ) → t < s.size → at s.far t ≤ s.reach
   pub via : (t : ℕ) → 0 < t → t < s.size → IsVia p s t
@@ -120,7 +141,7 @@ pub record IsTree (p : Problem) (s : Tree) : Type 0 where
   pub count : s.size + count_by not s.done ≡ p.n + 1
 
 -- a row comes in next: it is linked to a nearest column that is not done
-pub record IsNext (p : Problem) (s : Tree) (row column : ℕ) : Type 0 where
+pub record IsNext (p : Problem) (s : TreeView) (row column : ℕ) : Type 0 where
   pub within : column < p.n
   pub undone : is_done s.done column ≡ false
   pub near : at s.dist column < FAR
@@ -129,7 +150,7 @@ pub record IsNext (p : Problem) (s : Tree) (row column : ℕ) : Type 0 where
 
 -- No row of the tree loses its price sooner than the one where the search would end. That row loses it when prices fall so far,
 -- and then has no link.
-pub record IsBest (p : Problem) (s : Tree) (end : End) : Type 0 where
+pub record IsBest (p : Problem) (s : TreeView) (end : End) : Type 0 where
   pub alone : end.to ≡ None
   pub within : end.from < s.size
   pub least : (t : ℕ) → t < s.size → end.fall ≤ at s.far t + at p.leave (at s.rows t)
@@ -139,7 +160,7 @@ pub record IsBest (p : Problem) (s : Tree) (end : End) : Type 0 where
 
 -- How the search has ended: prices fall so far. The row at a place of the tree is then linked to a column that was linked to
 -- none, or to none itself.
-pub record HasEnded (p : Problem) (s : Tree) (end : End) : Type 0 where
+pub record HasEnded (p : Problem) (s : TreeView) (end : End) : Type 0 where
   pub within : end.from < s.size
   pub later : s.reach ≤ end.fall
   pub low : end.fall ≤ GREATEST_PRICE
@@ -149,8 +170,8 @@ pub record HasEnded (p : Problem) (s : Tree) (end : End) : Type 0 where
   pub column : (j : ℕ) → end.to ≡ Some j → (j < p.n) × (at s.dist j ≡ end.fall) × (at s.parent j ≡ end.from) × (next_of p.before j ≡ None)
 
 -- a tree has grown until the search ended
-pub record IsGrown (p : Problem) (dist parent : List ℕ) (done : List Bool) (rows far : List ℕ) (end : End) : Type 0 where
+pub record IsGrown (p : Problem) (now : Tree) (end : End) : Type 0 where
   pub size : ℕ
   pub reach : ℕ
-  pub tree : IsTree p (tree_of dist parent done rows far size reach)
-  pub ended : HasEnded p (tree_of dist parent done rows far size reach) end
+  pub tree : IsTree p (tree_of now size reach)
+  pub ended : HasEnded p (tree_of now size reach) end

@@ -1,13 +1,14 @@
 -- The pairs of trips, seen from the side that they leave or from the side that they enter.
-use Rattle.std.specs.Prelude.{◌≡◌, ℕ, ◌<◌, ◌≤◌, Bool, true, false, List, length, Option, None, Some, IfNone, IfSome, if◌then◌else◌}
-use Rattle.deadhead_matrix.specs.Prices.{weight}
+use Rattle.std.specs.Prelude.{◌≡◌, ℕ, ◌<◌, ◌≤◌, Bool, true, false, List, length, slice_index_or, Option, None, Some, IfNone, IfSome, if◌then◌else◌}
+use Rattle.assignment_model.specs.Prices.{weight}
 use Rattle.trip_model.specs.Links.{leads_to}
 use Rattle.trip_model.specs.Plain.{move_at}
 use Rattle.pair_graph.specs.Pairs.{PairsView, RowView, pairs_network}
 use Rattle.pair_search.specs.declared.order.Column.{Column}
 use Rattle.pair_search.specs.declared.groups.Group.{Group}
-use Rattle.pair_search.specs.declared.line.Fit.{Fit}
-use Rattle.pair_search.specs.Order.{column_minute, column_post, slot_at, place_of}
+use Rattle.pair_graph.specs.Reach.{saved_from}
+use Rattle.pair_graph.specs.declared.reach.Reach.{Reach}
+use Rattle.pair_search.specs.Order.{column_minute, column_post, no_column, slot_at, place_of}
 
 -- pairs; whether entering sides are the rows; the column that is left out, if one is. Then the columns in an order, with the
 -- place of each, and their groups, with how many there are
@@ -19,6 +20,18 @@ pub record SideView : Type 0 where
   pub places : List ℕ
   pub groups : List Group
   pub count : ℕ
+
+-- the pairs from one side, with a column left out
+abbrev pub IsSideOf : PairsView → Bool → Option ℕ → SideView → Type 0
+IsSideOf pairs turned without side = side ≡ record {
+  pairs = pairs;
+  turned = turned;
+  without = without;
+  columns = side.columns;
+  places = side.places;
+  groups = side.groups;
+  count = side.count;
+}
 
 -- how many rows there are, and as many columns
 abbrev pub side_slots : SideView → ℕ
@@ -58,16 +71,16 @@ pub record LineView : Type 0 where
 abbrev pub line_weight : LineView → ℕ → Option ℕ
 line_weight line = place_weight line.side line.row
 
--- Of a group of columns those from a place on weigh the same with a row, and those before it do not fit.
-pub record IsFit (line : LineView) (group : Group) (fit : Fit) : Type 0 where
-  pub after : group.from ≤ fit.from
-  pub within : fit.from < group.to
-  pub early : (k : ℕ) → group.from ≤ k → k < fit.from → line_weight line k ≡ None
-  pub fits : (k : ℕ) → fit.from ≤ k → k < group.to → line_weight line k ≡ Some fit.weight
+-- what a row weighs with the columns of a group: the same with each that it is in time for
+abbrev pub IsReachOf : LineView → Group → Option Reach → Type 0
+IsReachOf line group reach = (k : ℕ) → group.from ≤ k → k < group.to → line_weight line k ≡ saved_from reach (slice_index_or line.side.columns k (no_column (side_slots line.side))).minute
 
--- no column of a group fits a row
-abbrev pub FitsNone : LineView → Group → Type 0
-FitsNone line group = (k : ℕ) → group.from ≤ k → k < group.to → line_weight line k ≡ None
+-- Of the columns of a group before a place those from one on weigh the same with a row, and those before it do not fit.
+pub record IsFirstFit (line : LineView) (group : Group) (saved upto first : ℕ) : Type 0 where
+  pub within : first ≤ upto
+  pub after : first < upto → group.from ≤ first
+  pub early : (k : ℕ) → group.from ≤ k → k < first → line_weight line k ≡ None
+  pub fits : (k : ℕ) → group.from ≤ k → first ≤ k → k < upto → line_weight line k ≡ Some saved
 
 -- what the pairs of a row share is held from the side that is its own, and where nothing is, its trip does not run
 pub record IsHeld (side : SideView) (row : ℕ) (leaving entering : Option RowView) : Type 0 where

@@ -1,6 +1,6 @@
 -- A search from the other side, over the inverse of links.
 use Rattle.std.specs.Prelude.{ℕ, false, List, length, Option, None}
-use Rattle.deadhead_matrix.specs.Paths.{IsPath}
+use Rattle.assignment_model.specs.Paths.{IsPath}
 use Rattle.trip_model.specs.Links.{next_of, before_of}
 use Rattle.pair_search.specs.Assignment.{IsMatched, Covers, MayBegin}
 use Rattle.pair_search.specs.Inverse.{IsInverse}

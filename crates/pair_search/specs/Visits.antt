@@ -1,10 +1,11 @@
 -- The pairs that a search visits, and the steps that these are.
-use Rattle.std.specs.Prelude.{◌≡◌, ◌≢◌, ℕ, ◌+◌, ◌-◌, ◌<◌, ◌≤◌, ◌⊎◌, max, zero, suc, List, replicate, Option, None}
+use Rattle.std.specs.Prelude.{◌≡◌, ◌≢◌, ℕ, ◌+◌, ◌-◌, ◌<◌, ◌≤◌, ◌⊎◌, max, zero, suc, Bool, List, replicate, Option, None}
 use Rattle.pair_search.specs.declared.limits.TheConstants.{FAR}
 use Rattle.pair_search.specs.declared.groups.Group.{Group}
-use Rattle.pair_search.specs.Groups.{group_at}
+use Rattle.pair_graph.specs.Pairs.{PairsView}
+use Rattle.pair_search.specs.Groups.{group_at, AreGroups}
 use Rattle.pair_search.specs.Search.{at}
-use Rattle.pair_search.specs.Side.{SideView, side_slots, place_weight}
+use Rattle.pair_search.specs.Side.{SideView, side_slots, place_weight, IsSideOf}
 
 -- A row visits those columns of a group that stand between two places: each once, and each fits it. A visit is a step. Where
 -- none is visited, the look at the group is one. The other columns are as far as before.
@@ -39,3 +40,10 @@ pub record VisitsOnce (w : ℕ → ℕ → Option ℕ) (groups : List Group) (co
 abbrev pub SearchesOnce : SideView → ℕ → ℕ → Type 0
 SearchesOnce side was now = (rows : List ℕ) × (dist : List ℕ)
     × VisitsOnce (place_weight side) side.groups side.count rows (replicate (side_slots side) FAR) dist was now
+
+-- a search over one side of pairs, whose columns are in groups, visits no pair twice
+pub record SearchesSideOnce (pairs : PairsView) (turned : Bool) (without : Option ℕ) (was now : ℕ) : Type 0 where
+  pub side : SideView
+  pub is : IsSideOf pairs turned without side
+  pub groups : AreGroups (side_slots side) side.columns side.count side.groups
+  pub once : SearchesOnce side was now

@@ -32,7 +32,7 @@ fn group_end(columns: &[Column], from: usize) -> usize
 }
 
 /// Finds the groups of columns, and answers how many there are.
-pub fn find_groups(columns: &[Column], groups: &mut [Group]) -> usize
+pub(crate) fn find_groups(columns: &[Column], groups: &mut [Group]) -> usize
     requires room { length groups.old ≡ length columns.now }
     requires few { length columns.now ≤ MOST_SLOTS }
     ensures { AreGroups (length columns.now) columns.now result groups.new }

@@ -1,14 +1,18 @@
-ghost use Rattle.std.specs.Prelude.{◌≡◌, ℕ, ◌+◌, ◌*◌, ◌<◌, ◌≤◌, ◌⊎◌, List, length, slice_set, replicate, Option, None, Some};
+ghost use Rattle.std.specs.Prelude.{◌≡◌, ℕ, ◌+◌, ◌*◌, ◌<◌, ◌≤◌, ◌⊎◌, min, nat_lt, true, List, length, vec_len, slice_set, replicate, Option, None, Some, if◌then◌else◌};
+ghost use Rattle.trip_model.specs.Links.{next_of, before_of};
 ghost use Rattle.trip_model.specs.declared.limits.TheConstants.{MOST_SLOTS};
 ghost use Rattle.pair_search.specs.declared.limits.TheConstants.{FAR};
-ghost use Rattle.pair_search.specs.Groups.{AreNear, AreReached};
-ghost use Rattle.pair_search.specs.Search.{at, problem, tree_of, IsGiven, IsTree, IsNext, IsGrown};
+ghost use Rattle.pair_search.specs.Determined.{Front, first_front, grown};
+ghost use Rattle.pair_search.specs.Fronts.{Shows};
+ghost use Rattle.pair_search.specs.Groups.{IsSeen};
+ghost use Rattle.pair_search.specs.Search.{at, as_columns, problem_of, tree_of, AreLooked, IsGiven, IsTree, IsNext, IsGrown};
 ghost use Rattle.pair_search.specs.Side.{side_slots, place_weight};
 ghost use Rattle.pair_search.specs.Visits.{AreVisited, RowsVisit, VisitsOnce};
 
-use crate::limits::{FAR, GREATEST_PRICE};
-use crate::scan::{Seen, UNSEEN, look_from, nearest};
+use crate::limits::GREATEST_PRICE;
+use crate::scan::nearest;
 use crate::side::Side;
+use crate::tree::Tree;
 use desk_io::Steps;
 use std::sync::ledger::Ledger;
 
@@ -20,137 +24,14 @@ pub(crate) struct End {
     pub fall: u64,
 }
 
-/// Begins the tree of a search with its first row, to which it gives the greatest price: so it covers every pair.
-pub(crate) fn begin<L: Ledger>(
-    side: &Side<'_>,
-    a: u16,
-    leave: &mut [u64],
-    enter: &[u64],
-    seen: &mut [Seen],
-    dist: &mut [u64],
-    parent: &mut [u16],
-    done: &mut [bool],
-    rows: &mut [u16],
-    far: &mut [u64],
-    steps: &mut Steps<L>,
-)
-    requires few { side_slots side.now ≤ MOST_SLOTS }
-    requires start { a < side_slots side.now }
-    requires leave { length leave.old ≡ side_slots side.now }
-    requires enter { length enter.now ≡ side_slots side.now }
-    requires dist { length dist.old ≡ side_slots side.now }
-    requires parent { length parent.old ≡ side_slots side.now }
-    requires done { length done.old ≡ side_slots side.now }
-    requires rows { length rows.old ≡ side_slots side.now + 1 }
-    requires far { length far.old ≡ side_slots side.now + 1 }
-    requires room { length seen.old ≡ side_slots side.now }
-    requires enter_low { (j k : ℕ) → place_weight side.now a j ≡ Some k → at enter.now j ≤ GREATEST_PRICE }
-    requires most { (j k : ℕ) → place_weight side.now a j ≡ Some k → k ≤ GREATEST_PRICE }
-    ensures leave { leave.new ≡ slice_set leave.old a GREATEST_PRICE }
-    ensures rows { at rows.new 0 ≡ a }
-    ensures near { AreNear side.now.count side.now.groups done.new dist.new seen.new }
-    ensures reached { AreReached side.now.count side.now.groups enter.now done.new dist.new seen.new }
-    ensures tree { (before : List (Option ℕ))
-        → IsGiven (problem (place_weight side.now) (side_slots side.now) a before leave.new enter.now)
-        → IsTree (problem (place_weight side.now) (side_slots side.now) a before leave.new enter.now)
-        (tree_of dist.new parent.new done.new rows.new far.new 1 0) }
-    ensures visited { AreVisited (place_weight side.now a) side.now.groups side.now.count (replicate (side_slots side.now) FAR) dist.new steps.old steps.new }
-    ensures counted { steps.new ≤ steps.old + side_slots side.now }
-{
-    // Its clause says how the columns are in groups.
-    let groups = side.groups();
-    leave[a as usize] = GREATEST_PRICE;
-    dist.fill(FAR);
-    done.fill(false);
-    seen[..groups].fill(UNSEEN);
-    rows[0] = a;
-    far[0] = 0;
-    let line = side.line(a);
-    look_from(
-        &line,
-        0,
-        GREATEST_PRICE,
-        enter,
-        done,
-        seen,
-        dist,
-        parent,
-        steps,
-    );
-}
-
-// A row comes into the tree by a column, and all columns are looked at from it.
-fn visit<L: Ledger>(
-    side: &Side<'_>,
-    row: u16,
-    column: u16,
-    place: u16,
-    leave: &[u64],
-    enter: &[u64],
-    seen: &mut [Seen],
-    dist: &mut [u64],
-    parent: &mut [u16],
-    done: &mut [bool],
-    rows: &mut [u16],
-    far: &mut [u64],
-    steps: &mut Steps<L>,
-)
-    requires few { side_slots side.now ≤ MOST_SLOTS }
-    requires row { row < side_slots side.now }
-    requires column { column < side_slots side.now }
-    requires place { place ≤ side_slots side.now }
-    requires leave { length leave.now ≡ side_slots side.now }
-    requires enter { length enter.now ≡ side_slots side.now }
-    requires dist { length dist.old ≡ side_slots side.now }
-    requires parent { length parent.old ≡ side_slots side.now }
-    requires done { length done.old ≡ side_slots side.now }
-    requires rows { length rows.old ≡ side_slots side.now + 1 }
-    requires far { length far.old ≡ side_slots side.now + 1 }
-    requires room { length seen.old ≡ side_slots side.now }
-    requires close { at dist.old column ≤ GREATEST_PRICE }
-    requires near { AreNear side.now.count side.now.groups done.old dist.old seen.old }
-    requires reached { AreReached side.now.count side.now.groups enter.now done.old dist.old seen.old }
-    requires leave_low { at leave.now row ≤ GREATEST_PRICE }
-    requires enter_low { (j k : ℕ) → place_weight side.now row j ≡ Some k → at enter.now j ≤ GREATEST_PRICE }
-    requires covers { (j k : ℕ) → place_weight side.now row j ≡ Some k → k ≤ at leave.now row + at enter.now j }
-    ensures tree { (a reach : ℕ) (before : List (Option ℕ))
-        → IsGiven (problem (place_weight side.now) (side_slots side.now) a before leave.now enter.now)
-        → IsTree (problem (place_weight side.now) (side_slots side.now) a before leave.now enter.now)
-        (tree_of dist.old parent.old done.old rows.old far.old place reach)
-        → IsNext (problem (place_weight side.now) (side_slots side.now) a before leave.now enter.now)
-        (tree_of dist.old parent.old done.old rows.old far.old place reach) row column
-        → IsTree (problem (place_weight side.now) (side_slots side.now) a before leave.now enter.now)
-        (tree_of dist.new parent.new done.new rows.new far.new (place + 1) (at dist.old column)) }
-    ensures near { AreNear side.now.count side.now.groups done.new dist.new seen.new }
-    ensures reached { AreReached side.now.count side.now.groups enter.now done.new dist.new seen.new }
-    ensures rows { rows.new ≡ slice_set rows.old place row }
-    ensures far { far.new ≡ slice_set far.old place (at dist.old column) }
-    ensures visited { AreVisited (place_weight side.now row) side.now.groups side.now.count dist.old dist.new steps.old steps.new }
-    ensures counted { steps.new ≤ steps.old + side_slots side.now }
-{
-    let distance = dist[column as usize];
-    done[column as usize] = true;
-    rows[place as usize] = row;
-    far[place as usize] = distance;
-    let line = side.line(row);
-    look_from(
-        &line,
-        place,
-        distance + leave[row as usize],
-        enter,
-        done,
-        seen,
-        dist,
-        parent,
-        steps,
-    );
-}
-
 // Of two ends at rows the one at which prices have fallen less.
 fn sooner(best: End, from: u16, fall: u64) -> End
     ensures one { (result ≡ best) ⊎ (result ≡ record { from = from; to = None; fall = fall }) }
     ensures best { result.fall ≤ best.fall }
     ensures other { result.fall ≤ fall }
+    ensures from { result.from ≡ (if nat_lt fall best.fall then from else best.from) }
+    ensures to { best.to ≡ None → result.to ≡ None }
+    ensures fall { result.fall ≡ min best.fall fall }
 {
     if fall < best.fall {
         return End {
@@ -162,60 +43,129 @@ fn sooner(best: End, from: u16, fall: u64) -> End
     best
 }
 
-/// Grows the tree of a search from its first row, row by row by the nearest column, until it ends.
-pub(crate) fn grow<L: Ledger>(
-    side: &Side<'_>,
-    before: &[Option<u16>],
-    leave: &[u64],
-    enter: &[u64],
-    seen: &mut [Seen],
-    dist: &mut [u64],
-    parent: &mut [u16],
-    done: &mut [bool],
-    rows: &mut [u16],
-    far: &mut [u64],
-    steps: &mut Steps<L>,
-) -> End
-    requires before { length before.now ≡ side_slots side.now }
-    requires leave { length leave.now ≡ side_slots side.now }
-    requires enter { length enter.now ≡ side_slots side.now }
-    requires dist { length dist.old ≡ side_slots side.now }
-    requires parent { length parent.old ≡ side_slots side.now }
-    requires done { length done.old ≡ side_slots side.now }
-    requires rows { length rows.old ≡ side_slots side.now + 1 }
-    requires far { length far.old ≡ side_slots side.now + 1 }
-    requires room { length seen.old ≡ side_slots side.now }
-    requires near { AreNear side.now.count side.now.groups done.old dist.old seen.old }
-    requires reached { AreReached side.now.count side.now.groups enter.now done.old dist.old seen.old }
-    requires given { IsGiven (problem (place_weight side.now) (side_slots side.now) (at rows.old 0) before.now leave.now enter.now) }
-    requires begun { IsTree (problem (place_weight side.now) (side_slots side.now) (at rows.old 0) before.now leave.now enter.now)
-        (tree_of dist.old parent.old done.old rows.old far.old 1 0) }
-    ensures grown { IsGrown (problem (place_weight side.now) (side_slots side.now) (at rows.old 0) before.now leave.now enter.now)
-        dist.new parent.new done.new rows.new far.new result }
-    ensures visited { (first : List ℕ) (was : ℕ) → RowsVisit (place_weight side.now) side.now.groups side.now.count rows.old 1 first dist.old was steps.old
-        → VisitsOnce (place_weight side.now) side.now.groups side.now.count rows.new first dist.new was steps.new }
-    ensures counted { steps.new ≤ steps.old + side_slots side.now * side_slots side.now }
-{
-    let mut size = 1;
-    let mut best = End {
-        from: 0,
-        to: None,
-        fall: leave[rows[0] as usize],
-    };
-    while let Some(column) = nearest(side, done, dist, seen, best.fall) {
-        let distance = dist[column as usize];
-        let Some(row) = before[column as usize] else {
-            return End {
-                from: parent[column as usize],
-                to: Some(column),
-                fall: distance,
-            };
-        };
-        visit(
-            side, row, column, size, leave, enter, seen, dist, parent, done, rows, far, steps,
-        );
-        best = sooner(best, size, distance + leave[row as usize]);
-        size += 1;
+impl Tree {
+    /// Begins with the first row, to which it gives the greatest price: so it covers every pair.
+    pub(crate) fn begin<L: Ledger>(
+        &mut self,
+        side: &Side<'_>,
+        a: u16,
+        leave: &mut [u64],
+        enter: &[u64],
+        steps: &mut Steps<L>,
+    )
+        requires few { side_slots side.now ≤ MOST_SLOTS }
+        requires start { a < side_slots side.now }
+        requires leave { length leave.old ≡ side_slots side.now }
+        requires enter { length enter.now ≡ side_slots side.now }
+        requires enter_low { (j k : ℕ) → place_weight side.now a j ≡ Some k → at enter.now j ≤ GREATEST_PRICE }
+        requires most { (j k : ℕ) → place_weight side.now a j ≡ Some k → k ≤ GREATEST_PRICE }
+        ensures slots { vec_len self.new.dist ≡ side_slots side.now }
+        ensures leave { leave.new ≡ slice_set leave.old a GREATEST_PRICE }
+        ensures first { at self.new.rows.items 0 ≡ a }
+        ensures seen { IsSeen side.now enter.now self.new }
+        ensures tree { (before : List (Option ℕ)) → IsGiven (problem_of side.now a before leave.new enter.now)
+            → IsTree (problem_of side.now a before leave.new enter.now) (tree_of self.new 1 0) }
+        ensures shown { Shows self.new 0 None GREATEST_PRICE (first_front (place_weight side.now) a enter.now (side_slots side.now)) }
+        ensures visited { AreVisited (place_weight side.now a) side.now.groups side.now.count (replicate (side_slots side.now) FAR) self.new.dist.items steps.old steps.new }
+        ensures counted { steps.new ≤ steps.old + side_slots side.now }
+    {
+        leave[a as usize] = GREATEST_PRICE;
+        self.clear(side.groups(), side.slots());
+        self.rows[0] = a;
+        self.far[0] = 0;
+        self.look_from(&side.line(a), 0, GREATEST_PRICE, enter, steps);
     }
-    best
+
+    // A row comes into the tree by a column, and all columns are looked at from it.
+    fn visit<L: Ledger>(
+        &mut self,
+        side: &Side<'_>,
+        row: u16,
+        column: u16,
+        place: u16,
+        leave: &[u64],
+        enter: &[u64],
+        steps: &mut Steps<L>,
+    )
+        requires row { row < side_slots side.now }
+        requires column { column < side_slots side.now }
+        requires place { place ≤ side_slots side.now }
+        requires leave { length leave.now ≡ side_slots side.now }
+        requires enter { length enter.now ≡ side_slots side.now }
+        requires slots { vec_len self.old.dist ≡ side_slots side.now }
+        requires seen { IsSeen side.now enter.now self.old }
+        requires close { at self.old.dist.items column ≤ GREATEST_PRICE }
+        requires leave_low { at leave.now row ≤ GREATEST_PRICE }
+        requires enter_low { (j k : ℕ) → place_weight side.now row j ≡ Some k → at enter.now j ≤ GREATEST_PRICE }
+        requires covers { (j k : ℕ) → place_weight side.now row j ≡ Some k → k ≤ at leave.now row + at enter.now j }
+        ensures slots { vec_len self.new.dist ≡ vec_len self.old.dist }
+        ensures rows { self.new.rows.items ≡ slice_set self.old.rows.items place row }
+        ensures far { self.new.far.items ≡ slice_set self.old.far.items place (at self.old.dist.items column) }
+        ensures seen { IsSeen side.now enter.now self.new }
+        ensures tree { (a reach : ℕ) (before : List (Option ℕ)) → IsGiven (problem_of side.now a before leave.now enter.now)
+            → IsTree (problem_of side.now a before leave.now enter.now) (tree_of self.old place reach)
+            → IsNext (problem_of side.now a before leave.now enter.now) (tree_of self.old place reach) row column
+            → IsTree (problem_of side.now a before leave.now enter.now) (tree_of self.new (place + 1) (at self.old.dist.items column)) }
+        ensures done { self.new.done.items ≡ slice_set self.old.done.items column true }
+        ensures looked { AreLooked (place_weight side.now row) (side_slots side.now) place (at self.old.dist.items column + at leave.now row) enter.now
+            (as_columns self.old.dist.items self.old.parent.items (slice_set self.old.done.items column true))
+            (as_columns self.new.dist.items self.new.parent.items (slice_set self.old.done.items column true)) }
+        ensures visited { AreVisited (place_weight side.now row) side.now.groups side.now.count self.old.dist.items self.new.dist.items steps.old steps.new }
+        ensures counted { steps.new ≤ steps.old + side_slots side.now }
+    {
+        let distance = self.dist[column as usize];
+        self.done[column as usize] = true;
+        self.rows[place as usize] = row;
+        self.far[place as usize] = distance;
+        let start = distance + leave[row as usize];
+        self.look_from(&side.line(row), place, start, enter, steps);
+    }
+
+    /// Grows from the first row, row by row by the nearest column, until the search ends.
+    pub(crate) fn grow<L: Ledger>(
+        &mut self,
+        side: &Side<'_>,
+        before: &[Option<u16>],
+        leave: &[u64],
+        enter: &[u64],
+        steps: &mut Steps<L>,
+    ) -> End
+        requires before { length before.now ≡ side_slots side.now }
+        requires leave { length leave.now ≡ side_slots side.now }
+        requires enter { length enter.now ≡ side_slots side.now }
+        requires slots { vec_len self.old.dist ≡ side_slots side.now }
+        requires seen { IsSeen side.now enter.now self.old }
+        requires given { IsGiven (problem_of side.now (at self.old.rows.items 0) before.now leave.now enter.now) }
+        requires begun { IsTree (problem_of side.now (at self.old.rows.items 0) before.now leave.now enter.now) (tree_of self.old 1 0) }
+        ensures slots { vec_len self.new.dist ≡ vec_len self.old.dist }
+        ensures grown { IsGrown (problem_of side.now (at self.old.rows.items 0) before.now leave.now enter.now) self.new result }
+        ensures shown { (next : List (Option ℕ)) (front : Front) → ((j : ℕ) → before_of next j ≡ next_of before.now j)
+            → Shows self.old 0 None (at leave.now (at self.old.rows.items 0)) front
+            → Shows self.new result.from result.to result.fall
+            (grown (place_weight side.now) (record { next = next; leave = leave.now; enter = enter.now }) (side_slots side.now) front) }
+        ensures visited { (first : List ℕ) (was : ℕ) → RowsVisit (place_weight side.now) side.now.groups side.now.count self.old.rows.items 1 first self.old.dist.items was steps.old
+            → VisitsOnce (place_weight side.now) side.now.groups side.now.count self.new.rows.items first self.new.dist.items was steps.new }
+        ensures counted { steps.new ≤ steps.old + side_slots side.now * side_slots side.now }
+    {
+        let mut size = 1;
+        let mut best = End {
+            from: 0,
+            to: None,
+            fall: leave[self.rows[0] as usize],
+        };
+        while let Some(column) = nearest(side, &self.done, &self.dist, &mut self.seen, best.fall) {
+            let distance = self.dist[column as usize];
+            let Some(row) = before[column as usize] else {
+                return End {
+                    from: self.parent[column as usize],
+                    to: Some(column),
+                    fall: distance,
+                };
+            };
+            self.visit(side, row, column, size, leave, enter, steps);
+            best = sooner(best, size, distance + leave[row as usize]);
+            size += 1;
+        }
+        best
+    }
 }

@@ -1,5 +1,5 @@
 ghost use Rattle.std.specs.Prelude.{◌≡◌, ◌≤◌, length};
-ghost use Rattle.deadhead_matrix.specs.Paths.{AreNextTrips};
+ghost use Rattle.assignment_model.specs.Paths.{AreNextTrips};
 ghost use Rattle.pair_search.specs.Inverse.{IsInverse};
 ghost use Rattle.trip_model.specs.declared.limits.TheConstants.{MOST_SLOTS};
 

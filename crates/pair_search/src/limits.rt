@@ -1,4 +1,4 @@
-use deadhead_matrix::{MOST_DEADHEAD, VEHICLE_WEIGHT};
+use assignment_model::{MOST_DEADHEAD, VEHICLE_WEIGHT};
 
 /// No weight and no price is greater: a vehicle and the longest ways home and out.
 pub(crate) const GREATEST_PRICE: u64 = VEHICLE_WEIGHT + 2 * MOST_DEADHEAD as u64;

@@ -1,10 +1,10 @@
-ghost use Rattle.std.specs.Prelude.{◌≡◌, ℕ, ◌<◌, ◌≤◌, Some, length, slice_index_or, IfNone, IfSome};
+ghost use Rattle.std.specs.Prelude.{◌≡◌, ℕ, ◌<◌, ◌≤◌, Some, length, slice_index_or};
 ghost use Rattle.pair_graph.specs.Reach.{saved_from};
 ghost use Rattle.pair_search.specs.Groups.{group_at};
-ghost use Rattle.pair_search.specs.Side.{side_slots, line_weight, IsFit, FitsNone};
+ghost use Rattle.pair_search.specs.Side.{side_slots, line_weight, IsFirstFit, IsReachOf};
 ghost use Rattle.pair_search.specs.Order.{no_column};
 
-use crate::order::columns_before;
+use crate::order::first_from;
 use crate::side::Side;
 use pair_graph::{Column, Reach, Row};
 use std::marker::Model;
@@ -17,13 +17,6 @@ pub(crate) struct Line<'a> {
     pub(crate) row: u16,
     pub(crate) leaving: Option<Row<'a>>,
     pub(crate) entering: Option<Column<'a>>,
-}
-
-/// The columns of a group that a row fits: those from a place on. They weigh the same.
-#[derive(Clone, Copy)]
-pub(crate) struct Fit {
-    pub from: u16,
-    pub weight: u64,
 }
 
 impl<'a> Model for Line<'a> {
@@ -61,25 +54,27 @@ impl<'a> Line<'a> {
         })
     }
 
-    /// The columns of a group that the row fits, if it can fit any.
-    pub(crate) fn fit(&self, group: usize) -> Option<Fit>
+    /// What the row weighs with each column of a group that it is in time for, and from which minute on.
+    pub(crate) fn reach_of(&self, group: usize) -> Option<Reach>
         requires { group < self.now.side.count }
-        ensures some { IfSome result (IsFit self.now (group_at self.now.side.groups group)) }
-        ensures none { IfNone result (FitsNone self.now (group_at self.now.side.groups group)) }
+        ensures { IsReachOf self.now (group_at self.now.side.groups group) result }
     {
         let side = self.side;
         // Its clauses say that moves are of one day.
         let _slots = side.pairs.slots();
         let group = side.group(group);
-        let reach = self.reach(group.post?)?;
-        let columns = &side.columns[group.from as usize..group.to as usize];
-        let early = columns_before(columns, reach.minute);
-        if early == columns.len() {
-            return None;
-        }
-        Some(Fit {
-            from: group.from + early as u16,
-            weight: reach.saved,
-        })
+        self.reach(group.post?)
+    }
+
+    /// The first column of a group before a place that the row fits; that place where it fits none of them.
+    pub(crate) fn first_fit(&self, group: usize, reach: Reach, upto: u16) -> u16
+        requires group { group < self.now.side.count }
+        requires reach { IsReachOf self.now (group_at self.now.side.groups group) (Some reach) }
+        requires upto { upto ≤ (group_at self.now.side.groups group).to }
+        ensures { IsFirstFit self.now (group_at self.now.side.groups group) reach.saved upto result }
+    {
+        let side = self.side;
+        let group = side.group(group);
+        first_from(side.columns, group.from, upto, reach.minute)
     }
 }

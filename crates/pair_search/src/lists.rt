@@ -1,80 +1,79 @@
-ghost use Rattle.std.specs.Prelude.{IfOk};
-ghost use Rattle.pair_search.specs.Lists.{AreLists, AreOrders};
+ghost use Rattle.std.specs.Prelude.{◌≡◌, ◌≤◌, vec_len, vec_capacity, replicate, None};
+ghost use Rattle.trip_model.specs.declared.limits.TheConstants.{MOST_SLOTS};
 
-use crate::groups::Group;
-use crate::limits::FAR;
-use crate::order::Column;
-use crate::scan::{Seen, UNSEEN};
+use crate::tree::Tree;
 use desk_io::Memory;
 use std::alloc::Global;
 use trip_model::MOST_SLOTS;
 
-/// The lists of a search, each for as many slots as there may be.
+/// The lists of a search by the places of columns: links and prices, for each place the row that is linked to it, and the tree.
+#[derive(Drop)]
+pub(crate) struct Placed {
+    pub(crate) links: Vec<Option<u16>>,
+    pub(crate) enter: Vec<u64>,
+    pub(crate) before: Vec<Option<u16>>,
+    pub(crate) tree: Tree,
+    ghost room_links: { MOST_SLOTS ≤ vec_capacity links },
+    ghost room_enter: { MOST_SLOTS ≤ vec_capacity enter },
+    ghost room_before: { MOST_SLOTS ≤ vec_capacity before },
+}
+
+impl Placed {
+    fn open(alloc: Global) -> Result<Placed, Memory> {
+        let slots = usize::from(MOST_SLOTS);
+        Ok(Placed {
+            links: vec![in alloc; None; slots]?,
+            enter: vec![in alloc; 0; slots]?,
+            before: vec![in alloc; None; slots]?,
+            tree: Tree::open(alloc)?,
+        })
+    }
+
+    /// Lists for so many columns, without links and prices.
+    pub(crate) fn set_slots(&mut self, slots: u16)
+        requires { slots ≤ MOST_SLOTS }
+        ensures links { self.new.links.items ≡ replicate slots None }
+        ensures enter { self.new.enter.items ≡ replicate slots 0 }
+        ensures before { vec_len self.new.before ≡ slots }
+    {
+        let slots = usize::from(slots);
+        self.links.clear();
+        let _ = self.links.resize(slots, None);
+        self.enter.clear();
+        let _ = self.enter.resize(slots, 0);
+        let _ = self.before.resize(slots, None);
+    }
+}
+
+/// The memory of searches, for as many slots as there may be.
 #[derive(Drop)]
 pub struct Lists {
-    pub(crate) placed: Vec<Option<u16>>,
-    pub(crate) entering: Vec<u64>,
-    pub(crate) before: Vec<Option<u16>>,
-    pub(crate) seen: Vec<Seen>,
-    pub(crate) dist: Vec<u64>,
-    pub(crate) parent: Vec<u16>,
-    pub(crate) done: Vec<bool>,
-    pub(crate) rows: Vec<u16>,
-    pub(crate) far: Vec<u64>,
+    pub(crate) next: Vec<Option<u16>>,
+    pub(crate) turned: Vec<Option<u16>>,
+    pub(crate) placed: Placed,
+    ghost room_next: { MOST_SLOTS ≤ vec_capacity next },
+    ghost room_turned: { MOST_SLOTS ≤ vec_capacity turned },
 }
 
 impl Lists {
     /// Takes the memory of all lists.
-    pub fn open(alloc: Global) -> Result<Lists, Memory>
-        ensures { IfOk result AreLists }
-    {
+    pub fn open(alloc: Global) -> Result<Lists, Memory> {
         let slots = usize::from(MOST_SLOTS);
         Ok(Lists {
-            placed: vec![in alloc; None; slots]?,
-            entering: vec![in alloc; 0; slots]?,
-            before: vec![in alloc; None; slots]?,
-            seen: vec![in alloc; UNSEEN; slots]?,
-            dist: vec![in alloc; FAR; slots]?,
-            parent: vec![in alloc; 0; slots]?,
-            done: vec![in alloc; false; slots]?,
-            rows: vec![in alloc; 0; slots + 1]?,
-            far: vec![in alloc; 0; slots + 1]?,
+            next: vec![in alloc; None; slots]?,
+            turned: vec![in alloc; None; slots]?,
+            placed: Placed::open(alloc)?,
         })
     }
-}
 
-/// Orders of the columns of a search, for as many slots as there may be: one in groups, and one by departure.
-#[derive(Drop)]
-pub struct Order {
-    pub columns: Vec<Column>,
-    pub places: Vec<u16>,
-    pub groups: Vec<Group>,
-    pub departures: Vec<Column>,
-    pub turns: Vec<u16>,
-}
-
-impl Order {
-    /// Takes the memory of all lists.
-    pub fn open(alloc: Global) -> Result<Order, Memory>
-        ensures { IfOk result AreOrders }
+    /// Lists of links for so many slots.
+    pub(crate) fn set_slots(&mut self, slots: u16)
+        requires { slots ≤ MOST_SLOTS }
+        ensures next { vec_len self.new.next ≡ slots }
+        ensures turned { vec_len self.new.turned ≡ slots }
     {
-        let slots = usize::from(MOST_SLOTS);
-        let column = Column {
-            post: None,
-            minute: 0,
-            slot: 0,
-        };
-        let group = Group {
-            post: None,
-            from: 0,
-            to: 0,
-        };
-        Ok(Order {
-            columns: vec![in alloc; column; slots]?,
-            places: vec![in alloc; 0; slots]?,
-            groups: vec![in alloc; group; slots]?,
-            departures: vec![in alloc; column; slots]?,
-            turns: vec![in alloc; 0; slots]?,
-        })
+        let slots = usize::from(slots);
+        let _ = self.next.resize(slots, None);
+        let _ = self.turned.resize(slots, None);
     }
 }

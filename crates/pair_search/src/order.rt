@@ -1,10 +1,14 @@
 ghost use Rattle.std.specs.Prelude.{◌≡◌, ℕ, ◌<◌, ◌≤◌, nat_lt, false, Option, None, length, slice_index_or, IfSome};
 ghost use Rattle.std.specs.List.Sorted.{IsNonDecreasingBy};
 ghost use Rattle.trip_model.specs.declared.limits.TheConstants.{LAST_MINUTE, MOST_SLOTS};
+ghost use Rattle.pair_search.specs.Arranged.{arranged, departing, slots_of, AreInOrder};
+ghost use Rattle.pair_search.specs.Groups.{IsOrderOf};
 ghost use Rattle.pair_search.specs.Order as spec;
 ghost use Rattle.pair_search.specs.Order.{slot_at, place_of, IsOrder, IsRenaming};
 ghost use Rattle.pair_search.specs.Side.{pairs_minute, pairs_post};
 
+use crate::groups::find_groups;
+use crate::orders::{Departures, EMPTY, NOWHERE, Order};
 use pair_graph::Pairs;
 use trip_model::{LAST_MINUTE, Move};
 
@@ -96,16 +100,17 @@ fn sort(columns: &mut [Column], places: &mut [u16])
     requires places { length places.old ≡ length columns.old }
     requires few { length columns.old ≤ MOST_SLOTS }
     requires slots { (j : ℕ) (d : _) → j < length columns.old → (slice_index_or columns.old j d).slot ≡ j }
-    ensures { (minute : ℕ → ℕ) (post : ℕ → Option ℕ) → ((j : ℕ) (d : _) → j < length columns.old → (slice_index_or columns.old j d).minute ≡ minute j)
+    ensures numbered { (minute : ℕ → ℕ) (post : ℕ → Option ℕ) → ((j : ℕ) (d : _) → j < length columns.old → (slice_index_or columns.old j d).minute ≡ minute j)
         → ((j : ℕ) (d : _) → j < length columns.old → (slice_index_or columns.old j d).post ≡ post j)
         → IsOrder (length columns.old) minute post columns.new places.new }
+    ensures sorted { AreInOrder (length columns.old) columns.new }
 {
     columns.sort_unstable();
     number_places(columns, places);
 }
 
-/// Puts the columns of a search into order: those of one post together, in the order of their minutes.
-pub fn arrange(
+// Puts the columns of a search into order: those of one post together, in the order of their minutes.
+fn arrange(
     pairs: &Pairs<'_>,
     turned: bool,
     without: Option<u16>,
@@ -114,7 +119,8 @@ pub fn arrange(
 )
     requires columns { length columns.old ≡ length pairs.now.moves }
     requires places { length places.old ≡ length pairs.now.moves }
-    ensures { IsOrder (length pairs.now.moves) (pairs_minute pairs.now turned) (pairs_post pairs.now turned without) columns.new places.new }
+    ensures order { IsOrder (length pairs.now.moves) (pairs_minute pairs.now turned) (pairs_post pairs.now turned without) columns.new places.new }
+    ensures slots { slots_of columns.new ≡ arranged pairs.now turned without }
 {
     // Its clause says how many there may be.
     let _slots = pairs.slots();
@@ -122,12 +128,13 @@ pub fn arrange(
     sort(columns, places);
 }
 
-/// Puts the slots into the order in which their trips depart.
-pub fn arrange_departures(pairs: &Pairs<'_>, columns: &mut [Column], places: &mut [u16])
+// Puts the slots into the order in which their trips depart.
+fn arrange_departures(pairs: &Pairs<'_>, columns: &mut [Column], places: &mut [u16])
     requires columns { length columns.old ≡ length pairs.now.moves }
     requires places { length places.old ≡ length pairs.now.moves }
     ensures count { length columns.new ≡ length pairs.now.moves }
     ensures renaming { IsRenaming (length pairs.now.moves) (slot_at (length pairs.now.moves) columns.new) (place_of (length pairs.now.moves) places.new) }
+    ensures slots { slots_of columns.new ≡ departing pairs.now }
 {
     // Its clause says how many there may be.
     let _slots = pairs.slots();
@@ -135,8 +142,38 @@ pub fn arrange_departures(pairs: &Pairs<'_>, columns: &mut [Column], places: &mu
     sort(columns, places);
 }
 
-/// How many columns at the front need a row sooner than at a minute.
-pub(crate) fn columns_before(columns: &[Column], minute: u16) -> usize
+impl Order {
+    /// Puts the columns of one side of pairs into order, and finds their groups. Of one post they are in the order of their minutes,
+    /// and of one minute in that of their slots.
+    pub fn arrange(&mut self, pairs: &Pairs<'_>, turned: bool, without: Option<u16>)
+        ensures { IsOrderOf pairs.now turned without self.new }
+    {
+        let slots = usize::from(pairs.slots());
+        let _ = self.columns.resize(slots, NOWHERE);
+        let _ = self.places.resize(slots, 0);
+        let _ = self.groups.resize(slots, EMPTY);
+        arrange(pairs, turned, without, &mut self.columns, &mut self.places);
+        self.count = find_groups(&self.columns, &mut self.groups);
+    }
+}
+
+impl Departures {
+    /// Puts the slots into the order in which their trips depart. Those of one minute are in the order of their numbers.
+    pub fn arrange(&mut self, pairs: &Pairs<'_>) -> &[Column]
+        ensures count { length result.now ≡ length pairs.now.moves }
+        ensures renaming { (place : ℕ → ℕ) × IsRenaming (length pairs.now.moves) (slot_at (length pairs.now.moves) result.now) place }
+        ensures slots { slots_of result.now ≡ departing pairs.now }
+    {
+        let slots = usize::from(pairs.slots());
+        let _ = self.columns.resize(slots, NOWHERE);
+        let _ = self.places.resize(slots, 0);
+        arrange_departures(pairs, &mut self.columns, &mut self.places);
+        self.columns.as_slice()
+    }
+}
+
+// How many columns at the front need a row sooner than at a minute.
+fn columns_before(columns: &[Column], minute: u16) -> usize
     requires { IsNonDecreasingBy (λ c. c.minute) columns.now }
     ensures within { result ≤ length columns.now }
     ensures before { (k : ℕ) (d : _) → k < result → (slice_index_or columns.now k d).minute < minute }
@@ -147,4 +184,20 @@ pub(crate) fn columns_before(columns: &[Column], minute: u16) -> usize
             ensures { result ≡ nat_lt column.now.minute minute }
         { column.minute < minute },
     )
+}
+
+/// The first column between two places that needs a row no sooner than at a minute; the second place where none does. The last
+/// column needs it latest, so one comparison tells whether there is any.
+pub(crate) fn first_from(columns: &[Column], from: u16, upto: u16, minute: u16) -> u16
+    requires within { upto ≤ length columns.now }
+    requires rise { (h k : ℕ) (d : _) → from ≤ h → h ≤ k → k < upto → (slice_index_or columns.now h d).minute ≤ (slice_index_or columns.now k d).minute }
+    ensures within { result ≤ upto }
+    ensures after { result < upto → from ≤ result }
+    ensures before { (k : ℕ) (d : _) → from ≤ k → k < result → (slice_index_or columns.now k d).minute < minute }
+    ensures later { (k : ℕ) (d : _) → from ≤ k → result ≤ k → k < upto → minute ≤ (slice_index_or columns.now k d).minute }
+{
+    if upto <= from || columns[upto as usize - 1].minute < minute {
+        return upto;
+    }
+    from + columns_before(&columns[from as usize..upto as usize], minute) as u16
 }

@@ -1,7 +1,8 @@
-ghost use Rattle.std.specs.Prelude.{◌≡◌, ℕ, ◌≤◌, Bool, List, length, Option, None, Some, IfSome};
-ghost use Rattle.deadhead_matrix.specs.Paths.{IsPath};
+ghost use Rattle.std.specs.Prelude.{◌≡◌, ℕ, ◌<◌, ◌≤◌, Bool, List, length, Option, None, Some, IfSome};
+ghost use Rattle.assignment_model.specs.Paths.{IsPath};
 ghost use Rattle.trip_model.specs.Links.{next_of, before_of};
 ghost use Rattle.pair_search.specs.Assignment.{IsMatched};
+ghost use Rattle.pair_search.specs.Determined.{linked_back};
 ghost use Rattle.pair_search.specs.Relinking.{LeadsBack, IsTightBack, IsPassing};
 ghost use Rattle.pair_search.specs.Search.{at};
 
@@ -16,6 +17,9 @@ pub(crate) fn relink(end: End, parent: &[u16], rows: &[u16], next: &mut [Option<
         → IsTightBack w out next.old leave enter parent.now rows.now end.from
         → IsPassing w out (at rows.now 0) b next.old leave enter (at rows.now end.from) end.to
         → IsMatched w out None b next.new leave enter }
+    ensures linked { (from : List ℕ) (most : ℕ) → end.from < most
+        → ((t j : ℕ) → t ≤ end.from → next_of next.old (at rows.now t) ≡ Some j → at rows.now (at parent.now j) ≡ at from j)
+        → next.new ≡ linked_back from most next.old (at rows.now end.from) end.to }
 {
     let mut place = end.from;
     let mut to = end.to;

@@ -1,31 +1,16 @@
-ghost use Rattle.std.specs.Prelude.{◌≡◌, ℕ, ◌+◌, ◌-◌, ◌*◌, ◌<◌, ◌≤◌, ◌⊎◌, false, List, length, Some, IfSome, IfNone};
-ghost use Rattle.trip_model.specs.declared.limits.TheConstants.{MOST_SLOTS};
-ghost use Rattle.pair_search.specs.Groups.{group_at, AreApproached, AreNear, AreReached, IsNearer};
-ghost use Rattle.pair_search.specs.Search.{at, is_done, AreLooked, IsNearest};
+ghost use Rattle.std.specs.Prelude.{◌≡◌, ℕ, ◌+◌, ◌-◌, ◌*◌, ◌<◌, ◌≤◌, ◌⊎◌, false, List, length, vec_len, Some, IfSome, IfNone};
+ghost use Rattle.pair_search.specs.Determined.{first_nearest};
+ghost use Rattle.pair_search.specs.Groups.{group_at, AreApproached, AreNear, AreReached, IsNearer, IsSeen};
+ghost use Rattle.pair_search.specs.Search.{at, is_done, as_columns, columns_of, AreLooked, Columns, IsNearest};
 ghost use Rattle.pair_search.specs.Side.{side_slots, line_weight};
 ghost use Rattle.pair_search.specs.Visits.{AreVisited, IsVisited};
 
 use crate::limits::{FAR, GREATEST_PRICE};
 use crate::line::Line;
 use crate::side::Side;
+use crate::tree::{Seen, Tree};
 use desk_io::Steps;
 use std::sync::ledger::Ledger;
-
-/// What a search has seen of a group of columns. None that is not done is nearer than `near`, and those from a place on were
-/// reached at a cost.
-#[derive(Clone, Copy)]
-pub(crate) struct Seen {
-    pub near: u64,
-    pub cost: u64,
-    pub from: u16,
-}
-
-/// What is seen of a group before a search: no column is near, and none was reached.
-pub(crate) const UNSEEN: Seen = Seen {
-    near: FAR,
-    cost: u64::MAX,
-    from: u16::MAX,
-};
 
 // Approaches the columns between two places at a cost, from a place of the tree: each is visited once, which is a step. It
 // answers how far the nearest is that came nearer by this.
@@ -48,7 +33,7 @@ fn approach<L: Ledger>(
     requires cost { cost ≤ 3 * GREATEST_PRICE }
     requires low { (j : ℕ) → first ≤ j → j < upto → at enter.now j ≤ GREATEST_PRICE }
     requires enough { (j : ℕ) → first ≤ j → j < upto → GREATEST_PRICE ≤ cost + at enter.now j }
-    ensures approached { AreApproached first upto from cost enter.now done.now dist.old parent.old dist.new parent.new result }
+    ensures approached { AreApproached first upto from cost enter.now (as_columns dist.old parent.old done.now) (as_columns dist.new parent.new done.now) result }
     ensures counted { visits.new ≡ visits.old + (upto - first) }
 {
     let mut near = FAR;
@@ -89,97 +74,13 @@ fn renewed(was: Seen, near: u64, cost: u64, from: u16) -> Seen
     Seen { near, ..was }
 }
 
-// Looks at a group of columns from a place of the tree, which is so far with the price of its row. Those that were reached at
-// no more from another place are not visited again. Where none is visited, the look is a step.
-fn look<L: Ledger>(
-    line: &Line<'_>,
-    group: usize,
-    from: u16,
-    start: u64,
-    enter: &[u64],
-    done: &[bool],
-    seen: &mut [Seen],
-    dist: &mut [u64],
-    parent: &mut [u16],
-    steps: &mut Steps<L>,
-)
-    requires slots { length dist.old ≡ side_slots line.now.side }
-    requires enter { length enter.now ≡ length dist.old }
-    requires done { length done.now ≡ length dist.old }
-    requires parent { length parent.old ≡ length dist.old }
-    requires room { length seen.old ≡ length dist.old }
-    requires group { group < line.now.side.count }
-    requires near { AreNear line.now.side.count line.now.side.groups done.now dist.old seen.old }
-    requires reached { AreReached line.now.side.count line.now.side.groups enter.now done.now dist.old seen.old }
-    requires start { start ≤ 2 * GREATEST_PRICE }
-    requires low { (j k : ℕ) → line_weight line.now j ≡ Some k → at enter.now j ≤ GREATEST_PRICE }
-    requires covers { (j k : ℕ) → line_weight line.now j ≡ Some k → k ≤ start + at enter.now j }
-    ensures looked { (dist0 parent0 : List ℕ)
-        → AreLooked (line_weight line.now) (group_at line.now.side.groups group).from from start enter.now done.now dist0 parent0 dist.old parent.old
-        → AreLooked (line_weight line.now) (group_at line.now.side.groups group).to from start enter.now done.now dist0 parent0 dist.new parent.new }
-    ensures near { AreNear line.now.side.count line.now.side.groups done.now dist.new seen.new }
-    ensures reached { AreReached line.now.side.count line.now.side.groups enter.now done.now dist.new seen.new }
-    ensures visited { IsVisited (line_weight line.now) (group_at line.now.side.groups group) dist.old dist.new steps.old steps.new }
-{
-    let side = line.side;
-    let to = side.group(group).to;
-    let Some(fit) = line.fit(group) else {
-        steps.tick();
-        return;
-    };
-    let was = seen[group];
-    let cost = start + GREATEST_PRICE - fit.weight;
-    let upto = cut(was, cost, to);
-    if fit.from >= upto {
-        steps.tick();
-        return;
-    }
-    let near = approach(fit.from, upto, from, cost, enter, done, dist, parent, steps);
-    seen[group] = renewed(was, near, cost, fit.from);
-}
-
-// Looks at all columns from a place of the tree, which is so far with the price of its row.
-pub(crate) fn look_from<L: Ledger>(
-    line: &Line<'_>,
-    from: u16,
-    start: u64,
-    enter: &[u64],
-    done: &[bool],
-    seen: &mut [Seen],
-    dist: &mut [u64],
-    parent: &mut [u16],
-    steps: &mut Steps<L>,
-)
-    requires slots { length dist.old ≡ side_slots line.now.side }
-    requires enter { length enter.now ≡ length dist.old }
-    requires done { length done.now ≡ length dist.old }
-    requires parent { length parent.old ≡ length dist.old }
-    requires room { length seen.old ≡ length dist.old }
-    requires near { AreNear line.now.side.count line.now.side.groups done.now dist.old seen.old }
-    requires reached { AreReached line.now.side.count line.now.side.groups enter.now done.now dist.old seen.old }
-    requires start { start ≤ 2 * GREATEST_PRICE }
-    requires low { (j k : ℕ) → line_weight line.now j ≡ Some k → at enter.now j ≤ GREATEST_PRICE }
-    requires covers { (j k : ℕ) → line_weight line.now j ≡ Some k → k ≤ start + at enter.now j }
-    ensures looked { AreLooked (line_weight line.now) (length dist.old) from start enter.now done.now dist.old parent.old dist.new parent.new }
-    ensures near { AreNear line.now.side.count line.now.side.groups done.now dist.new seen.new }
-    ensures reached { AreReached line.now.side.count line.now.side.groups enter.now done.now dist.new seen.new }
-    ensures visited { AreVisited (line_weight line.now) line.now.side.groups line.now.side.count dist.old dist.new steps.old steps.new }
-    ensures counted { steps.new ≤ steps.old + length dist.old }
-{
-    let side = line.side;
-    for group in 0..side.groups() {
-        look(
-            line, group, from, start, enter, done, seen, dist, parent, steps,
-        );
-    }
-}
-
 // The nearest column between two places that is not done, if one is near.
 fn nearest_between(done: &[bool], dist: &[u64], first: u16, upto: u16) -> Option<u16>
     requires done { length done.now ≡ length dist.now }
     requires within { upto ≤ length dist.now }
     ensures some { IfSome result (λ j. (j < length dist.now) × (is_done done.now j ≡ false) × (at dist.now j < FAR)) }
     ensures least { IfSome result (λ j. (h : ℕ) → first ≤ h → h < upto → is_done done.now h ≡ false → at dist.now j ≤ at dist.now h) }
+    ensures first { IfSome result (λ j. (h : ℕ) → first ≤ h → h < j → is_done done.now h ≡ false → at dist.now j < at dist.now h) }
     ensures none { IfNone result ((h : ℕ) → first ≤ h → h < upto → is_done done.now h ≡ false → FAR ≤ at dist.now h) }
 {
     let mut best = None;
@@ -213,6 +114,89 @@ pub(crate) struct Nearby {
     pub distance: u64,
 }
 
+impl Tree {
+    // Looks at a group of columns from a place of the tree, which is so far with the price of its row. Those that were reached at
+    // no more from another place are not visited again. Where none is visited, the look is a step.
+    fn look<L: Ledger>(
+        &mut self,
+        line: &Line<'_>,
+        group: usize,
+        from: u16,
+        start: u64,
+        enter: &[u64],
+        steps: &mut Steps<L>,
+    )
+        requires slots { vec_len self.old.dist ≡ side_slots line.now.side }
+        requires enter { length enter.now ≡ side_slots line.now.side }
+        requires group { group < line.now.side.count }
+        requires seen { IsSeen line.now.side enter.now self.old }
+        requires start { start ≤ 2 * GREATEST_PRICE }
+        requires low { (j k : ℕ) → line_weight line.now j ≡ Some k → at enter.now j ≤ GREATEST_PRICE }
+        requires covers { (j k : ℕ) → line_weight line.now j ≡ Some k → k ≤ start + at enter.now j }
+        ensures slots { vec_len self.new.dist ≡ vec_len self.old.dist }
+        ensures rows { (self.new.rows.items ≡ self.old.rows.items) × (self.new.far.items ≡ self.old.far.items) }
+        ensures looked { (was : Columns)
+            → AreLooked (line_weight line.now) (group_at line.now.side.groups group).from from start enter.now was (columns_of self.old)
+            → AreLooked (line_weight line.now) (group_at line.now.side.groups group).to from start enter.now was (columns_of self.new) }
+        ensures seen { IsSeen line.now.side enter.now self.new }
+        ensures visited { IsVisited (line_weight line.now) (group_at line.now.side.groups group) self.old.dist.items self.new.dist.items steps.old steps.new }
+    {
+        let Some(reach) = line.reach_of(group) else {
+            steps.tick();
+            return;
+        };
+        let was = self.seen[group];
+        // Where the row would save more than this sum, it fits no column of the group.
+        let cost = (start + GREATEST_PRICE).saturating_sub(reach.saved);
+        let upto = cut(was, cost, line.side.group(group).to);
+        let first = line.first_fit(group, reach, upto);
+        if first >= upto {
+            steps.tick();
+            return;
+        }
+        let near = approach(
+            first,
+            upto,
+            from,
+            cost,
+            enter,
+            &self.done,
+            &mut self.dist,
+            &mut self.parent,
+            steps,
+        );
+        self.seen[group] = renewed(was, near, cost, first);
+    }
+
+    // Looks at all columns from a place of the tree, which is so far with the price of its row.
+    pub(crate) fn look_from<L: Ledger>(
+        &mut self,
+        line: &Line<'_>,
+        from: u16,
+        start: u64,
+        enter: &[u64],
+        steps: &mut Steps<L>,
+    )
+        requires slots { vec_len self.old.dist ≡ side_slots line.now.side }
+        requires enter { length enter.now ≡ side_slots line.now.side }
+        requires seen { IsSeen line.now.side enter.now self.old }
+        requires start { start ≤ 2 * GREATEST_PRICE }
+        requires low { (j k : ℕ) → line_weight line.now j ≡ Some k → at enter.now j ≤ GREATEST_PRICE }
+        requires covers { (j k : ℕ) → line_weight line.now j ≡ Some k → k ≤ start + at enter.now j }
+        ensures slots { vec_len self.new.dist ≡ vec_len self.old.dist }
+        ensures rows { (self.new.rows.items ≡ self.old.rows.items) × (self.new.far.items ≡ self.old.far.items) }
+        ensures looked { AreLooked (line_weight line.now) (side_slots line.now.side) from start enter.now (columns_of self.old) (columns_of self.new) }
+        ensures seen { IsSeen line.now.side enter.now self.new }
+        ensures visited { AreVisited (line_weight line.now) line.now.side.groups line.now.side.count self.old.dist.items self.new.dist.items steps.old steps.new }
+        ensures counted { steps.new ≤ steps.old + side_slots line.now.side }
+    {
+        let side = line.side;
+        for group in 0..side.groups() {
+            self.look(line, group, from, start, enter, steps);
+        }
+    }
+}
+
 // The nearest column of those so far and of a group. That is looked through only where it may have a nearer one.
 fn nearest_of(
     side: &Side<'_>,
@@ -224,7 +208,7 @@ fn nearest_of(
 ) -> Nearby
     requires slots { length dist.now ≡ side_slots side.now }
     requires done { length done.now ≡ length dist.now }
-    requires room { length seen.old ≡ length dist.now }
+    requires room { side.now.count ≤ length seen.old }
     requires group { group < side.now.count }
     requires near { AreNear side.now.count side.now.groups done.now dist.now seen.old }
     requires low { best.distance ≤ FAR }
@@ -234,7 +218,7 @@ fn nearest_of(
     ensures low { result.distance ≤ best.distance }
     ensures least { (j : ℕ) → (group_at side.now.groups group).from ≤ j → j < (group_at side.now.groups group).to → is_done done.now j ≡ false
         → result.distance ≤ at dist.now j }
-    ensures one { (result ≡ best) ⊎ IsNearer done.now dist.now best result }
+    ensures one { (result ≡ best) ⊎ IsNearer (group_at side.now.groups group).from done.now dist.now best result }
 {
     let columns = side.group(group);
     let was = seen[group];
@@ -263,7 +247,7 @@ pub(crate) fn nearest(
 ) -> Option<u16>
     requires slots { length dist.now ≡ side_slots side.now }
     requires done { length done.now ≡ length dist.now }
-    requires room { length seen.old ≡ length dist.now }
+    requires room { side.now.count ≤ length seen.old }
     requires near { AreNear side.now.count side.now.groups done.now dist.now seen.old }
     requires bound { bound ≤ FAR }
     ensures near { AreNear side.now.count side.now.groups done.now dist.now seen.new }
@@ -271,6 +255,8 @@ pub(crate) fn nearest(
         → AreReached side.now.count side.now.groups enter done.now dist.now seen.new }
     ensures some { IfSome result (IsNearest done.now dist.now bound) }
     ensures none { IfNone result ((j : ℕ) → j < length dist.now → is_done done.now j ≡ false → bound ≤ at dist.now j) }
+    ensures first { IfSome result (λ j. (h : ℕ) → h < j → is_done done.now h ≡ false → at dist.now j < at dist.now h) }
+    ensures picked { result ≡ first_nearest (length dist.now) done.now dist.now bound }
 {
     let mut best = Nearby {
         column: None,

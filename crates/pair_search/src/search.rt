@@ -1,24 +1,25 @@
 ghost use Rattle.std.specs.Prelude.{◌≡◌, ℕ, ◌+◌, ◌*◌, ◌≤◌, Bool, false, length, Option, None, vec_len, vec_capacity, replicate};
-ghost use Rattle.deadhead_matrix.specs.Paths.{AreNextTrips, IsPath};
+ghost use Rattle.assignment_model.specs.Paths.{AreNextTrips, IsPath};
+ghost use Rattle.assignment_model.specs.Prices.{Plan};
 ghost use Rattle.trip_model.specs.declared.limits.TheConstants.{MOST_SLOTS};
 ghost use Rattle.trip_model.specs.Links.{next_of, before_of};
+ghost use Rattle.pair_search.specs.Arranged.{slots_of, found_by, bare, all_found, turned_plan};
 ghost use Rattle.pair_search.specs.Assignment.{AreWeights, IsMatched, Covers, MayBegin};
+ghost use Rattle.pair_search.specs.Determined.{found, found_each};
 ghost use Rattle.pair_search.specs.Turned.{MayBeginTurned, IsFoundTurned};
-ghost use Rattle.pair_search.specs.Lists.{AreLists};
 ghost use Rattle.pair_search.specs.Side.{side_slots, side_weight, place_weight};
 ghost use Rattle.pair_search.specs.Order.{slot_at, IsRenaming};
 ghost use Rattle.pair_search.specs.Visits.{SearchesOnce};
 
-use crate::grow::{begin, grow};
 use crate::invert::invert;
 use crate::links::{read_links, write_links};
-use crate::lists::Lists;
+use crate::lists::{Lists, Placed};
 use crate::order::Column;
 use crate::relink::relink;
 use crate::rename::{link_columns, link_places, price_columns, price_places};
-use crate::scan::Seen;
 use crate::shift::shift;
 use crate::side::Side;
+use crate::tree::Tree;
 use desk_io::Steps;
 use std::sync::ledger::Ledger;
 use trip_model::Links;
@@ -31,12 +32,7 @@ fn search<L: Ledger>(
     leave: &mut [u64],
     enter: &mut [u64],
     before: &mut [Option<u16>],
-    seen: &mut [Seen],
-    dist: &mut [u64],
-    parent: &mut [u16],
-    done: &mut [bool],
-    rows: &mut [u16],
-    far: &mut [u64],
+    tree: &mut Tree,
     steps: &mut Steps<L>,
 )
     requires few { side_slots side.now ≤ MOST_SLOTS }
@@ -45,227 +41,22 @@ fn search<L: Ledger>(
     requires leave { length leave.old ≡ side_slots side.now }
     requires enter { length enter.old ≡ side_slots side.now }
     requires before { length before.old ≡ side_slots side.now }
-    requires dist { length dist.old ≡ side_slots side.now }
-    requires parent { length parent.old ≡ side_slots side.now }
-    requires done { length done.old ≡ side_slots side.now }
-    requires rows { length rows.old ≡ side_slots side.now + 1 }
-    requires far { length far.old ≡ side_slots side.now + 1 }
-    requires seen { length seen.old ≡ side_slots side.now }
     requires begins { (out : ℕ → Bool) × (b : Option ℕ) × MayBegin (place_weight side.now) (side_slots side.now) out a b next.old leave.old enter.old }
     ensures path { IsPath (next_of next.old) (before_of next.old) (next_of next.new) a }
     ensures matched { (out : ℕ → Bool) (b : Option ℕ) → MayBegin (place_weight side.now) (side_slots side.now) out a b next.old leave.old enter.old
         → IsMatched (place_weight side.now) out None b next.new leave.new enter.new }
     ensures covers { (out : ℕ → Bool) (b : Option ℕ) → MayBegin (place_weight side.now) (side_slots side.now) out a b next.old leave.old enter.old
         → Covers (place_weight side.now) out None leave.new enter.new }
+    ensures plan { ◌≡◌ {A = Plan} (record { next = next.new; leave = leave.new; enter = enter.new })
+        (found (place_weight side.now) a (record { next = next.old; leave = leave.old; enter = enter.old })) }
     ensures visited { SearchesOnce side.now steps.old steps.new }
     ensures counted { steps.new ≤ steps.old + side_slots side.now * side_slots side.now + side_slots side.now }
 {
     invert(next, before);
-    begin(
-        side, a, leave, enter, seen, dist, parent, done, rows, far, steps,
-    );
-    let end = grow(
-        side, before, leave, enter, seen, dist, parent, done, rows, far, steps,
-    );
-    shift(a, end.fall, next, dist, leave, enter);
-    relink(end, parent, rows, next);
-}
-
-// The same over the slots of columns, with lists for as many as there may be.
-fn search_within<L: Ledger>(
-    side: &Side<'_>,
-    a: u16,
-    next: &mut [Option<u16>],
-    leave: &mut [u64],
-    enter: &mut [u64],
-    placed: &mut Vec<Option<u16>>,
-    entering: &mut Vec<u64>,
-    before: &mut Vec<Option<u16>>,
-    seen: &mut Vec<Seen>,
-    dist: &mut Vec<u64>,
-    parent: &mut Vec<u16>,
-    done: &mut Vec<bool>,
-    rows: &mut Vec<u16>,
-    far: &mut Vec<u64>,
-    steps: &mut Steps<L>,
-)
-    requires few { side_slots side.now ≤ MOST_SLOTS }
-    requires sound { AreWeights (side_weight side.now) (side_slots side.now) }
-    requires next { length next.old ≡ side_slots side.now }
-    requires leave { length leave.old ≡ side_slots side.now }
-    requires enter { length enter.old ≡ side_slots side.now }
-    requires placed { vec_len placed.old ≡ MOST_SLOTS }
-    requires entering { vec_len entering.old ≡ MOST_SLOTS }
-    requires before { vec_len before.old ≡ MOST_SLOTS }
-    requires seen { vec_len seen.old ≡ MOST_SLOTS }
-    requires dist { vec_len dist.old ≡ MOST_SLOTS }
-    requires parent { vec_len parent.old ≡ MOST_SLOTS }
-    requires done { vec_len done.old ≡ MOST_SLOTS }
-    requires rows { vec_len rows.old ≡ MOST_SLOTS + 1 }
-    requires far { vec_len far.old ≡ MOST_SLOTS + 1 }
-    requires begins { (out : ℕ → Bool) × (b : Option ℕ) × MayBegin (side_weight side.now) (side_slots side.now) out a b next.old leave.old enter.old }
-    ensures placed { vec_len placed.new ≡ vec_len placed.old }
-    ensures entering { vec_len entering.new ≡ vec_len entering.old }
-    ensures before { vec_len before.new ≡ vec_len before.old }
-    ensures seen { vec_len seen.new ≡ vec_len seen.old }
-    ensures dist { vec_len dist.new ≡ vec_len dist.old }
-    ensures parent { vec_len parent.new ≡ vec_len parent.old }
-    ensures done { vec_len done.new ≡ vec_len done.old }
-    ensures rows { vec_len rows.new ≡ vec_len rows.old }
-    ensures far { vec_len far.new ≡ vec_len far.old }
-    ensures path { IsPath (next_of next.old) (before_of next.old) (next_of next.new) a }
-    ensures matched { (out : ℕ → Bool) (b : Option ℕ) → MayBegin (side_weight side.now) (side_slots side.now) out a b next.old leave.old enter.old
-        → IsMatched (side_weight side.now) out None b next.new leave.new enter.new }
-    ensures covers { (out : ℕ → Bool) (b : Option ℕ) → MayBegin (side_weight side.now) (side_slots side.now) out a b next.old leave.old enter.old
-        → Covers (side_weight side.now) out None leave.new enter.new }
-    ensures visited { SearchesOnce side.now steps.old steps.new }
-    ensures counted { steps.new ≤ steps.old + side_slots side.now * side_slots side.now + side_slots side.now }
-{
-    let slots = side.slots() as usize;
-    let placed = &mut placed[..slots];
-    let entering = &mut entering[..slots];
-    link_places(side, next, placed);
-    price_places(side, enter, entering);
-    search(
-        side,
-        a,
-        placed,
-        leave,
-        entering,
-        &mut before[..slots],
-        &mut seen[..slots],
-        &mut dist[..slots],
-        &mut parent[..slots],
-        &mut done[..slots],
-        &mut rows[..slots + 1],
-        &mut far[..slots + 1],
-        steps,
-    );
-    link_columns(side, placed, next);
-    price_columns(side, entering, enter);
-}
-
-// The same with the lists that a search needs.
-fn search_with<L: Ledger>(
-    side: &Side<'_>,
-    a: u16,
-    next: &mut [Option<u16>],
-    leave: &mut [u64],
-    enter: &mut [u64],
-    lists: &mut Lists,
-    steps: &mut Steps<L>,
-)
-    requires few { side_slots side.now ≤ MOST_SLOTS }
-    requires sound { AreWeights (side_weight side.now) (side_slots side.now) }
-    requires next { length next.old ≡ side_slots side.now }
-    requires leave { length leave.old ≡ side_slots side.now }
-    requires enter { length enter.old ≡ side_slots side.now }
-    requires lists { AreLists lists.old }
-    requires begins { (out : ℕ → Bool) × (b : Option ℕ) × MayBegin (side_weight side.now) (side_slots side.now) out a b next.old leave.old enter.old }
-    ensures lists { AreLists lists.new }
-    ensures path { IsPath (next_of next.old) (before_of next.old) (next_of next.new) a }
-    ensures matched { (out : ℕ → Bool) (b : Option ℕ) → MayBegin (side_weight side.now) (side_slots side.now) out a b next.old leave.old enter.old
-        → IsMatched (side_weight side.now) out None b next.new leave.new enter.new }
-    ensures covers { (out : ℕ → Bool) (b : Option ℕ) → MayBegin (side_weight side.now) (side_slots side.now) out a b next.old leave.old enter.old
-        → Covers (side_weight side.now) out None leave.new enter.new }
-    ensures visited { SearchesOnce side.now steps.old steps.new }
-    ensures counted { steps.new ≤ steps.old + side_slots side.now * side_slots side.now + side_slots side.now }
-{
-    search_within(
-        side,
-        a,
-        next,
-        leave,
-        enter,
-        &mut lists.placed,
-        &mut lists.entering,
-        &mut lists.before,
-        &mut lists.seen,
-        &mut lists.dist,
-        &mut lists.parent,
-        &mut lists.done,
-        &mut lists.rows,
-        &mut lists.far,
-        steps,
-    );
-}
-
-/// Searches over links whose slots are the rows.
-pub fn search_links<L: Ledger>(
-    side: &Side<'_>,
-    a: u16,
-    links: &mut Links,
-    leave: &mut Vec<u64>,
-    enter: &mut Vec<u64>,
-    next: &mut Vec<Option<u16>>,
-    lists: &mut Lists,
-    steps: &mut Steps<L>,
-)
-    requires links { length links.old ≡ side_slots side.now }
-    requires leave { vec_len leave.old ≡ side_slots side.now }
-    requires enter { vec_len enter.old ≡ side_slots side.now }
-    requires next { vec_len next.old ≡ MOST_SLOTS }
-    requires lists { AreLists lists.old }
-    requires begins { (out : ℕ → Bool) × (b : Option ℕ) × MayBegin (side_weight side.now) (side_slots side.now) out a b links.old leave.old.items enter.old.items }
-    ensures links { length links.new ≡ length links.old }
-    ensures leave { (vec_len leave.new ≡ vec_len leave.old) × (vec_capacity leave.new ≡ vec_capacity leave.old) }
-    ensures enter { (vec_len enter.new ≡ vec_len enter.old) × (vec_capacity enter.new ≡ vec_capacity enter.old) }
-    ensures next { vec_len next.new ≡ vec_len next.old }
-    ensures lists { AreLists lists.new }
-    ensures path { IsPath (next_of links.old) (before_of links.old) (next_of links.new) a }
-    ensures matched { (out : ℕ → Bool) (b : Option ℕ) → MayBegin (side_weight side.now) (side_slots side.now) out a b links.old leave.old.items enter.old.items
-        → IsMatched (side_weight side.now) out None b links.new leave.new.items enter.new.items }
-    ensures covers { (out : ℕ → Bool) (b : Option ℕ) → MayBegin (side_weight side.now) (side_slots side.now) out a b links.old leave.old.items enter.old.items
-        → Covers (side_weight side.now) out None leave.new.items enter.new.items }
-    ensures visited { SearchesOnce side.now steps.old steps.new }
-    ensures counted { steps.new ≤ steps.old + side_slots side.now * side_slots side.now + side_slots side.now }
-{
-    let slots = side.slots() as usize;
-    let next = &mut next[..slots];
-    read_links(links, next);
-    search_with(side, a, next, leave, enter, lists, steps);
-    write_links(next, links);
-}
-
-/// Searches over links whose slots are the columns: what is before each is linked anew.
-pub fn search_befores<L: Ledger>(
-    side: &Side<'_>,
-    b: u16,
-    links: &mut Links,
-    leave: &mut Vec<u64>,
-    enter: &mut Vec<u64>,
-    next: &mut Vec<Option<u16>>,
-    turned: &mut Vec<Option<u16>>,
-    lists: &mut Lists,
-    steps: &mut Steps<L>,
-)
-    requires links { length links.old ≡ side_slots side.now }
-    requires leave { vec_len leave.old ≡ side_slots side.now }
-    requires enter { vec_len enter.old ≡ side_slots side.now }
-    requires next { vec_len next.old ≡ MOST_SLOTS }
-    requires turned { vec_len turned.old ≡ MOST_SLOTS }
-    requires lists { AreLists lists.old }
-    requires apart { AreNextTrips links.old }
-    requires begins { (a : Option ℕ) × MayBeginTurned (side_weight side.now) (side_slots side.now) b a links.old leave.old.items enter.old.items }
-    ensures links { length links.new ≡ length links.old }
-    ensures leave { (vec_len leave.new ≡ vec_len leave.old) × (vec_capacity leave.new ≡ vec_capacity leave.old) }
-    ensures enter { (vec_len enter.new ≡ vec_len enter.old) × (vec_capacity enter.new ≡ vec_capacity enter.old) }
-    ensures next { vec_len next.new ≡ vec_len next.old }
-    ensures turned { vec_len turned.new ≡ vec_len turned.old }
-    ensures lists { AreLists lists.new }
-    ensures found { (a : Option ℕ) → MayBeginTurned (side_weight side.now) (side_slots side.now) b a links.old leave.old.items enter.old.items
-        → IsFoundTurned (side_weight side.now) b a links.old links.new leave.new.items enter.new.items }
-    ensures visited { SearchesOnce side.now steps.old steps.new }
-    ensures counted { steps.new ≤ steps.old + side_slots side.now * side_slots side.now + side_slots side.now }
-{
-    let slots = side.slots() as usize;
-    let next = &mut next[..slots];
-    let turned = &mut turned[..slots];
-    read_links(links, turned);
-    invert(turned, next);
-    search_with(side, b, next, enter, leave, lists, steps);
-    invert(next, turned);
-    write_links(turned, links);
+    tree.begin(side, a, leave, enter, steps);
+    let end = tree.grow(side, before, leave, enter, steps);
+    shift(a, end.fall, next, &tree.dist, leave, enter);
+    relink(end, &tree.parent, &tree.rows, next);
 }
 
 // Adds one row after the other to links that link none, each by a search over the rows added so far: the one that stands last
@@ -277,12 +68,7 @@ fn link_rows<L: Ledger>(
     leave: &mut [u64],
     enter: &mut [u64],
     before: &mut [Option<u16>],
-    seen: &mut [Seen],
-    dist: &mut [u64],
-    parent: &mut [u16],
-    done: &mut [bool],
-    rows: &mut [u16],
-    far: &mut [u64],
+    tree: &mut Tree,
     steps: &mut Steps<L>,
 )
     requires few { side_slots side.now ≤ MOST_SLOTS }
@@ -293,94 +79,175 @@ fn link_rows<L: Ledger>(
     requires leave { leave.old ≡ replicate (side_slots side.now) 0 }
     requires enter { enter.old ≡ replicate (side_slots side.now) 0 }
     requires before { length before.old ≡ side_slots side.now }
-    requires dist { length dist.old ≡ side_slots side.now }
-    requires parent { length parent.old ≡ side_slots side.now }
-    requires done { length done.old ≡ side_slots side.now }
-    requires rows { length rows.old ≡ side_slots side.now + 1 }
-    requires far { length far.old ≡ side_slots side.now + 1 }
-    requires seen { length seen.old ≡ side_slots side.now }
     ensures matched { IsMatched (place_weight side.now) (λ _. false) None None next.new leave.new enter.new }
     ensures covers { Covers (place_weight side.now) (λ _. false) None leave.new enter.new }
+    ensures plan { ◌≡◌ {A = Plan} (record { next = next.new; leave = leave.new; enter = enter.new })
+        (found_each (place_weight side.now) (slots_of departures.now) (bare (side_slots side.now))) }
     ensures counted { steps.new ≤ steps.old + side_slots side.now * (side_slots side.now * side_slots side.now + side_slots side.now) }
 {
     let slots = side.slots();
     for added in 0..slots {
         let last = slots - 1 - added;
         let a = departures[last as usize].slot;
-        search(
-            side, a, next, leave, enter, before, seen, dist, parent, done, rows, far, steps,
-        );
+        search(side, a, next, leave, enter, before, tree, steps);
     }
 }
 
-// The same over the slots of columns, with lists for as many as there may be. Links and prices are named by slots when all rows
-// have been added.
-fn link_rows_within<L: Ledger>(
+impl Placed {
+    // Searches by the places of columns, for links and prices by their slots.
+    fn search<L: Ledger>(
+        &mut self,
+        side: &Side<'_>,
+        a: u16,
+        next: &mut [Option<u16>],
+        leave: &mut [u64],
+        enter: &mut [u64],
+        steps: &mut Steps<L>,
+    )
+        requires few { side_slots side.now ≤ MOST_SLOTS }
+        requires sound { AreWeights (side_weight side.now) (side_slots side.now) }
+        requires next { length next.old ≡ side_slots side.now }
+        requires leave { length leave.old ≡ side_slots side.now }
+        requires enter { length enter.old ≡ side_slots side.now }
+        requires begins { (out : ℕ → Bool) × (b : Option ℕ) × MayBegin (side_weight side.now) (side_slots side.now) out a b next.old leave.old enter.old }
+        ensures path { IsPath (next_of next.old) (before_of next.old) (next_of next.new) a }
+        ensures matched { (out : ℕ → Bool) (b : Option ℕ) → MayBegin (side_weight side.now) (side_slots side.now) out a b next.old leave.old enter.old
+            → IsMatched (side_weight side.now) out None b next.new leave.new enter.new }
+        ensures covers { (out : ℕ → Bool) (b : Option ℕ) → MayBegin (side_weight side.now) (side_slots side.now) out a b next.old leave.old enter.old
+            → Covers (side_weight side.now) out None leave.new enter.new }
+        ensures plan { ◌≡◌ {A = Plan} (record { next = next.new; leave = leave.new; enter = enter.new })
+            (found_by (slots_of side.now.columns) (side_weight side.now) a (record { next = next.old; leave = leave.old; enter = enter.old })) }
+        ensures visited { SearchesOnce side.now steps.old steps.new }
+        ensures counted { steps.new ≤ steps.old + side_slots side.now * side_slots side.now + side_slots side.now }
+    {
+        self.set_slots(side.slots());
+        let placed = self.links.as_mut_slice();
+        let entering = self.enter.as_mut_slice();
+        let before = self.before.as_mut_slice();
+        link_places(side, next, placed);
+        price_places(side, enter, entering);
+        search(
+            side,
+            a,
+            placed,
+            leave,
+            entering,
+            before,
+            &mut self.tree,
+            steps,
+        );
+        link_columns(side, placed, next);
+        price_columns(side, entering, enter);
+    }
+
+    // Links all rows by the places of columns. Links and prices are named by slots when all rows have been added.
+    fn link_all<L: Ledger>(
+        &mut self,
+        side: &Side<'_>,
+        departures: &[Column],
+        next: &mut [Option<u16>],
+        leave: &mut [u64],
+        enter: &mut [u64],
+        steps: &mut Steps<L>,
+    )
+        requires renaming { (turn : ℕ → ℕ) × IsRenaming (side_slots side.now) (slot_at (side_slots side.now) departures.now) turn }
+        requires all { length departures.now ≡ side_slots side.now }
+        requires next { length next.old ≡ side_slots side.now }
+        requires leave { leave.old ≡ replicate (side_slots side.now) 0 }
+        requires enter { length enter.old ≡ side_slots side.now }
+        ensures matched { IsMatched (side_weight side.now) (λ _. false) None None next.new leave.new enter.new }
+        ensures covers { Covers (side_weight side.now) (λ _. false) None leave.new enter.new }
+        ensures plan { ◌≡◌ {A = Plan} (record { next = next.new; leave = leave.new; enter = enter.new })
+            (all_found (slots_of side.now.columns) (side_weight side.now) (slots_of departures.now)) }
+        ensures counted { steps.new ≤ steps.old + side_slots side.now * (side_slots side.now * side_slots side.now + side_slots side.now) }
+    {
+        self.set_slots(side.slots());
+        let placed = self.links.as_mut_slice();
+        let entering = self.enter.as_mut_slice();
+        let before = self.before.as_mut_slice();
+        link_rows(
+            side,
+            departures,
+            placed,
+            leave,
+            entering,
+            before,
+            &mut self.tree,
+            steps,
+        );
+        link_columns(side, placed, next);
+        price_columns(side, entering, enter);
+    }
+}
+
+/// Searches over links whose slots are the rows.
+pub fn search_links<L: Ledger>(
     side: &Side<'_>,
-    departures: &[Column],
-    next: &mut [Option<u16>],
-    leave: &mut [u64],
-    enter: &mut [u64],
-    placed: &mut Vec<Option<u16>>,
-    entering: &mut Vec<u64>,
-    before: &mut Vec<Option<u16>>,
-    seen: &mut Vec<Seen>,
-    dist: &mut Vec<u64>,
-    parent: &mut Vec<u16>,
-    done: &mut Vec<bool>,
-    rows: &mut Vec<u16>,
-    far: &mut Vec<u64>,
+    a: u16,
+    links: &mut Links,
+    leave: &mut Vec<u64>,
+    enter: &mut Vec<u64>,
+    lists: &mut Lists,
     steps: &mut Steps<L>,
 )
-    requires renaming { (turn : ℕ → ℕ) × IsRenaming (side_slots side.now) (slot_at (side_slots side.now) departures.now) turn }
-    requires all { length departures.now ≡ side_slots side.now }
-    requires next { length next.old ≡ side_slots side.now }
-    requires leave { leave.old ≡ replicate (side_slots side.now) 0 }
-    requires enter { length enter.old ≡ side_slots side.now }
-    requires placed { vec_len placed.old ≡ MOST_SLOTS }
-    requires entering { vec_len entering.old ≡ MOST_SLOTS }
-    requires before { vec_len before.old ≡ MOST_SLOTS }
-    requires seen { vec_len seen.old ≡ MOST_SLOTS }
-    requires dist { vec_len dist.old ≡ MOST_SLOTS }
-    requires parent { vec_len parent.old ≡ MOST_SLOTS }
-    requires done { vec_len done.old ≡ MOST_SLOTS }
-    requires rows { vec_len rows.old ≡ MOST_SLOTS + 1 }
-    requires far { vec_len far.old ≡ MOST_SLOTS + 1 }
-    ensures placed { vec_len placed.new ≡ vec_len placed.old }
-    ensures entering { vec_len entering.new ≡ vec_len entering.old }
-    ensures before { vec_len before.new ≡ vec_len before.old }
-    ensures seen { vec_len seen.new ≡ vec_len seen.old }
-    ensures dist { vec_len dist.new ≡ vec_len dist.old }
-    ensures parent { vec_len parent.new ≡ vec_len parent.old }
-    ensures done { vec_len done.new ≡ vec_len done.old }
-    ensures rows { vec_len rows.new ≡ vec_len rows.old }
-    ensures far { vec_len far.new ≡ vec_len far.old }
-    ensures matched { IsMatched (side_weight side.now) (λ _. false) None None next.new leave.new enter.new }
-    ensures covers { Covers (side_weight side.now) (λ _. false) None leave.new enter.new }
-    ensures counted { steps.new ≤ steps.old + side_slots side.now * (side_slots side.now * side_slots side.now + side_slots side.now) }
+    requires links { length links.old ≡ side_slots side.now }
+    requires leave { vec_len leave.old ≡ side_slots side.now }
+    requires enter { vec_len enter.old ≡ side_slots side.now }
+    requires begins { (out : ℕ → Bool) × (b : Option ℕ) × MayBegin (side_weight side.now) (side_slots side.now) out a b links.old leave.old.items enter.old.items }
+    ensures links { length links.new ≡ length links.old }
+    ensures leave { (vec_len leave.new ≡ vec_len leave.old) × (vec_capacity leave.new ≡ vec_capacity leave.old) }
+    ensures enter { (vec_len enter.new ≡ vec_len enter.old) × (vec_capacity enter.new ≡ vec_capacity enter.old) }
+    ensures path { IsPath (next_of links.old) (before_of links.old) (next_of links.new) a }
+    ensures matched { (out : ℕ → Bool) (b : Option ℕ) → MayBegin (side_weight side.now) (side_slots side.now) out a b links.old leave.old.items enter.old.items
+        → IsMatched (side_weight side.now) out None b links.new leave.new.items enter.new.items }
+    ensures covers { (out : ℕ → Bool) (b : Option ℕ) → MayBegin (side_weight side.now) (side_slots side.now) out a b links.old leave.old.items enter.old.items
+        → Covers (side_weight side.now) out None leave.new.items enter.new.items }
+    ensures plan { ◌≡◌ {A = Plan} (record { next = links.new; leave = leave.new.items; enter = enter.new.items })
+        (found_by (slots_of side.now.columns) (side_weight side.now) a (record { next = links.old; leave = leave.old.items; enter = enter.old.items })) }
+    ensures visited { SearchesOnce side.now steps.old steps.new }
+    ensures counted { steps.new ≤ steps.old + side_slots side.now * side_slots side.now + side_slots side.now }
 {
-    let slots = side.slots() as usize;
-    let placed = &mut placed[..slots];
-    let entering = &mut entering[..slots];
-    placed.fill(None);
-    entering.fill(0);
-    link_rows(
-        side,
-        departures,
-        placed,
-        leave,
-        entering,
-        &mut before[..slots],
-        &mut seen[..slots],
-        &mut dist[..slots],
-        &mut parent[..slots],
-        &mut done[..slots],
-        &mut rows[..slots + 1],
-        &mut far[..slots + 1],
-        steps,
-    );
-    link_columns(side, placed, next);
-    price_columns(side, entering, enter);
+    lists.set_slots(side.slots());
+    let next = lists.next.as_mut_slice();
+    read_links(links, next);
+    lists.placed.search(side, a, next, leave, enter, steps);
+    write_links(next, links);
+}
+
+/// Searches over links whose slots are the columns: what is before each is linked anew.
+pub fn search_befores<L: Ledger>(
+    side: &Side<'_>,
+    b: u16,
+    links: &mut Links,
+    leave: &mut Vec<u64>,
+    enter: &mut Vec<u64>,
+    lists: &mut Lists,
+    steps: &mut Steps<L>,
+)
+    requires links { length links.old ≡ side_slots side.now }
+    requires leave { vec_len leave.old ≡ side_slots side.now }
+    requires enter { vec_len enter.old ≡ side_slots side.now }
+    requires apart { AreNextTrips links.old }
+    requires begins { (a : Option ℕ) × MayBeginTurned (side_weight side.now) (side_slots side.now) b a links.old leave.old.items enter.old.items }
+    ensures links { length links.new ≡ length links.old }
+    ensures leave { (vec_len leave.new ≡ vec_len leave.old) × (vec_capacity leave.new ≡ vec_capacity leave.old) }
+    ensures enter { (vec_len enter.new ≡ vec_len enter.old) × (vec_capacity enter.new ≡ vec_capacity enter.old) }
+    ensures found { (a : Option ℕ) → MayBeginTurned (side_weight side.now) (side_slots side.now) b a links.old leave.old.items enter.old.items
+        → IsFoundTurned (side_weight side.now) b a links.old links.new leave.new.items enter.new.items }
+    ensures plan { ◌≡◌ {A = Plan} (record { next = links.new; leave = leave.new.items; enter = enter.new.items })
+        (turned_plan (found_by (slots_of side.now.columns) (side_weight side.now) b
+        (turned_plan (record { next = links.old; leave = leave.old.items; enter = enter.old.items })))) }
+    ensures visited { SearchesOnce side.now steps.old steps.new }
+    ensures counted { steps.new ≤ steps.old + side_slots side.now * side_slots side.now + side_slots side.now }
+{
+    lists.set_slots(side.slots());
+    let next = lists.next.as_mut_slice();
+    let turned = lists.turned.as_mut_slice();
+    read_links(links, turned);
+    invert(turned, next);
+    lists.placed.search(side, b, next, enter, leave, steps);
+    invert(next, turned);
+    write_links(turned, links);
 }
 
 /// Adds one row after the other to links that link none, each by a search over the rows added so far: the one that stands
@@ -391,7 +258,6 @@ pub fn link_all<L: Ledger>(
     links: &mut Links,
     leave: &mut Vec<u64>,
     enter: &mut Vec<u64>,
-    next: &mut Vec<Option<u16>>,
     lists: &mut Lists,
     steps: &mut Steps<L>,
 )
@@ -400,35 +266,19 @@ pub fn link_all<L: Ledger>(
     requires enter { enter.old.items ≡ replicate (side_slots side.now) 0 }
     requires renaming { (turn : ℕ → ℕ) × IsRenaming (side_slots side.now) (slot_at (side_slots side.now) departures.now) turn }
     requires all { length departures.now ≡ side_slots side.now }
-    requires next { vec_len next.old ≡ MOST_SLOTS }
-    requires lists { AreLists lists.old }
     ensures links { length links.new ≡ side_slots side.now }
     ensures leave { (vec_len leave.new ≡ side_slots side.now) × (vec_capacity leave.new ≡ vec_capacity leave.old) }
     ensures enter { (vec_len enter.new ≡ side_slots side.now) × (vec_capacity enter.new ≡ vec_capacity enter.old) }
-    ensures next { vec_len next.new ≡ vec_len next.old }
-    ensures lists { AreLists lists.new }
     ensures matched { IsMatched (side_weight side.now) (λ _. false) None None links.new leave.new.items enter.new.items }
     ensures covers { Covers (side_weight side.now) (λ _. false) None leave.new.items enter.new.items }
+    ensures plan { ◌≡◌ {A = Plan} (record { next = links.new; leave = leave.new.items; enter = enter.new.items })
+        (all_found (slots_of side.now.columns) (side_weight side.now) (slots_of departures.now)) }
     ensures counted { steps.new ≤ steps.old + side_slots side.now * (side_slots side.now * side_slots side.now + side_slots side.now) }
 {
-    let slots = side.slots() as usize;
-    let next = &mut next[..slots];
-    link_rows_within(
-        side,
-        departures,
-        next,
-        leave,
-        enter,
-        &mut lists.placed,
-        &mut lists.entering,
-        &mut lists.before,
-        &mut lists.seen,
-        &mut lists.dist,
-        &mut lists.parent,
-        &mut lists.done,
-        &mut lists.rows,
-        &mut lists.far,
-        steps,
-    );
+    lists.set_slots(side.slots());
+    let next = lists.next.as_mut_slice();
+    lists
+        .placed
+        .link_all(side, departures, next, leave, enter, steps);
     write_links(next, links);
 }

@@ -1,13 +1,15 @@
 ghost use Rattle.std.specs.Prelude.{◌≡◌, ◌<◌, ◌≤◌, length};
+ghost use Rattle.pair_search.specs.Arranged.{arranged, slots_of};
 ghost use Rattle.pair_search.specs.Assignment.{AreWeights};
-ghost use Rattle.pair_search.specs.Groups.{group_at, AreGroups};
-ghost use Rattle.pair_search.specs.Order.{IsOrder, IsRenaming};
-ghost use Rattle.pair_search.specs.Side.{side_slots, side_slot, side_place, side_weight, pairs_minute, pairs_post};
+ghost use Rattle.pair_search.specs.Groups.{group_at, AreGroups, IsOrderOf};
+ghost use Rattle.pair_search.specs.Order.{IsRenaming};
+ghost use Rattle.pair_search.specs.Side.{side_slots, side_slot, side_place, side_weight, IsSideOf};
 ghost use Rattle.trip_model.specs.declared.limits.TheConstants.{MOST_SLOTS};
 
 use crate::groups::Group;
 use crate::line::Line;
 use crate::order::Column;
+use crate::orders::Order;
 use pair_graph::Pairs;
 use std::marker::Model;
 
@@ -44,23 +46,21 @@ impl<'a> Side<'a> {
         pairs: &'a Pairs<'a>,
         turned: bool,
         without: Option<u16>,
-        columns: &'a [Column],
-        places: &'a [u16],
-        groups: &'a [Group],
-        count: usize,
+        order: &'a Order,
     ) -> Side<'a>
-        requires order { IsOrder (length pairs.now.moves) (pairs_minute pairs.now turned) (pairs_post pairs.now turned without) columns.now places.now }
-        requires groups { AreGroups (length pairs.now.moves) columns.now count groups.now }
-        ensures { result ≡ record { pairs = pairs.now; turned = turned; without = without; columns = columns.now; places = places.now; groups = groups.now; count = count } }
+        requires { IsOrderOf pairs.now turned without order.now }
+        ensures pairs { IsSideOf pairs.now turned without result }
+        ensures slots { slots_of result.columns ≡ arranged pairs.now turned without }
+        ensures groups { AreGroups (side_slots result) result.columns result.count result.groups }
     {
         Side {
             pairs,
             turned,
             without,
-            columns,
-            places,
-            groups,
-            count,
+            columns: &order.columns,
+            places: &order.places,
+            groups: &order.groups,
+            count: order.count,
         }
     }
 
@@ -70,6 +70,7 @@ impl<'a> Side<'a> {
         ensures few { result ≤ MOST_SLOTS }
         ensures sound { AreWeights (side_weight self.now) result }
         ensures renaming { IsRenaming (side_slots self.now) (side_slot self.now) (side_place self.now) }
+        ensures lengths { (length self.now.columns ≡ side_slots self.now) × (length self.now.places ≡ side_slots self.now) }
     {
         self.pairs.slots()
     }

@@ -15,7 +15,7 @@ use Rattle.desk_feed.specs.Feed.{FeedView, standing}
 use Rattle.desk_feed.specs.Judging.{IsGivenOf, refused_of}
 use Rattle.desk_feed.specs.Schedule.{IsMatrixFor}
 use Rattle.plan_commands.specs.Check.{Proves, check_does, checked, claim_in, claim_outcome, verdict_outcome}
-use Rattle.plan_commands.proofs.ScheduleLemmas.{outcome-same}
+use Rattle.desk_feed.proofs.OneMatrix.{matrix-same}
 
 -- a verdict is put alone: no file is written, and no lines are appended
 pub put-alone : (refused : List ℕ) (timetable : TimetableView) (matrix : MatrixView) (claim : Result ClaimedView ClaimFault)
@@ -35,10 +35,8 @@ module _ (read : ReadView) (said : FeedView) (timetable : TimetableView) (matrix
   check-given (Err e) refused refused_is moves places claim claim_is proved done = tt
   check-given (Ok outcome) refused refused_is moves places claim claim_is proved done =
       let here : outcome ≡ checked read said matrix = done ∙ (λ i. claim_outcome (refused_is i) (stands i) matrix (claim_is i)) in
-      let run : AreMoves (length said.base.places) (trip_moves (standing said).slots) =
-      subst (λ (t : TimetableView). AreMoves (length said.base.places) (trip_moves t.slots)) stands (subst (λ ps. AreMoves (length ps) (trip_moves timetable.slots)) places moves) in
       record {
         gives = record { matrix = matrix; matrix_is = is; done = here; proved = subst (λ (t : TimetableView). Proves t matrix (claim_in read said)) stands (subst (Proves timetable matrix) claim_is proved) };
-        ends = λ other other_is. ap (λ (o : OutcomeView). o.ending) (here ∙ outcome-same said.entries said.pulls (length said.base.places) matrix other is other_is (refused_of said) (standing said) run (claim_in read said));
+        ends = λ other other_is. ap (λ (o : OutcomeView). o.ending) (here ∙ ap (checked read said) (matrix-same said.entries said.pulls (length said.base.places) matrix other is other_is));
         unkept = λ _. ap (λ (o : OutcomeView). o.lines) here ∙ (put-alone (refused_of said) (standing said) matrix (claim_in read said)).1;
       }

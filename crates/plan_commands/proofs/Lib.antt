@@ -1,4 +1,3 @@
 pub mod Charted
 pub mod ClaimPapers
 pub mod Given
-pub mod ScheduleLemmas

@@ -4,18 +4,13 @@ ghost use Rattle.desk_run.specs.Performs.{Performs};
 ghost use Rattle.plan_commands.specs.Chart.{chart_asked, chart_text};
 
 use chart_text::{block_chart, deficit_chart};
-use deadhead_matrix::{Deadheads, Pulls};
-use desk_feed::{FEED_PAPERS, FeedCommand, OnFeed, matrix_of, putting_after};
+use desk_feed::{FeedCommand, OnFeed, Said, matrix_of, putting_after};
 use desk_io::{Memory, Shelf, Sink, Steps, Text};
 use desk_keeper::Keeper;
-use desk_run::{Outcome, Read, perform};
-use desk_settings::Settings;
-use edit_script::Line;
+use desk_run::{Outcome, perform};
 use feed_desk::{Drawn, draw_after};
-use gtfs_tables::Paper;
 use std::alloc::Global;
 use std::sync::ledger::Ledger;
-use trip_model::Timetable;
 
 // The charts of the deficits and of the blocks after a script.
 fn charts(alloc: Global, drawn: &Drawn, prefix: &str) -> Result<Text, Memory>
@@ -36,29 +31,12 @@ impl FeedCommand for ShowChart {
 
     ghost asks = { λ _. chart_does };
 
-    fn papers(&self) -> &[Paper] {
-        &FEED_PAPERS
-    }
-
-    fn keeps(&self) -> bool {
-        false
-    }
-
-    fn outcome<L: Ledger>(
-        &self,
-        alloc: Global,
-        _read: &Read,
-        settings: &Settings,
-        timetable: Timetable,
-        deadheads: &Deadheads,
-        pulls: Pulls,
-        lines: &[Line],
-        steps: &mut Steps<L>,
-    ) -> Result<Outcome, Memory> {
-        let matrix = matrix_of(alloc, &timetable, deadheads, pulls)?;
-        let drawn = draw_after(alloc, timetable, lines, matrix, steps)?;
-        let text = charts(alloc, &drawn, settings.prefix())?;
-        putting_after(alloc, &drawn.refused, &text, drawn.ending)
+    fn outcome<L: Ledger>(&self, said: Said, steps: &mut Steps<L>) -> Result<Outcome, Memory> {
+        let pulls = said.pulls;
+        let matrix = matrix_of(said.alloc, &said.timetable, said.deadheads, pulls)?;
+        let drawn = draw_after(said.alloc, said.timetable, said.lines, matrix, steps)?;
+        let text = charts(said.alloc, &drawn, said.settings.prefix())?;
+        putting_after(said.alloc, &drawn.refused, &text, drawn.ending)
     }
 }
 
@@ -75,5 +53,5 @@ pub fn run_chart<S: Shelf, O: Sink, K: Keeper, L: Ledger>(
     ensures { let at = outside S.state S.history O.state O.history K.state K.history in
         Performs chart_asked (at shelf.old out.old keeper.old) (at shelf.new out.new keeper.new) result steps.old steps.new }
 {
-    perform(&OnFeed(ShowChart), alloc, shelf, out, keeper, steps)
+    perform(&OnFeed::of(ShowChart), alloc, shelf, out, keeper, steps)
 }

@@ -10,13 +10,11 @@ ghost use Rattle.plan_commands.specs.Check.{Proves, check_asked, claim_outcome, 
 
 use claim_files::laws::{rows_law, told_law};
 use claim_files::{ClaimFault, claim_line, read_claimed, reason_line};
-use deadhead_matrix::{Deadheads, Matrix, Pulls};
-use desk_feed::{FeedCommand, OnFeed, after_script, matrix_of, putting_after};
+use deadhead_matrix::Matrix;
+use desk_feed::{FeedCommand, OnFeed, Said, after_script, matrix_of, putting_after};
 use desk_io::{Found, Memory, Shelf, Sink, Steps, Text};
 use desk_keeper::Keeper;
-use desk_run::{Ending, Outcome, Read, perform};
-use desk_settings::Settings;
-use edit_script::Line;
+use desk_run::{Ending, Outcome, perform};
 use gtfs_tables::Paper;
 use price_check::laws::{certificate_law, least_law};
 use price_check::{Claimed, Verdict, check};
@@ -108,30 +106,14 @@ impl FeedCommand for CheckClaim {
 
     ghost asks = { λ _. check_does };
 
-    fn papers(&self) -> &[Paper] {
-        &CLAIM_PAPERS
-    }
-
-    fn keeps(&self) -> bool {
-        false
-    }
-
-    fn outcome<L: Ledger>(
-        &self,
-        alloc: Global,
-        read: &Read,
-        _settings: &Settings,
-        timetable: Timetable,
-        deadheads: &Deadheads,
-        pulls: Pulls,
-        lines: &[Line],
-        _steps: &mut Steps<L>,
-    ) -> Result<Outcome, Memory> {
-        let matrix = matrix_of(alloc, &timetable, deadheads, pulls)?;
-        let edited = after_script(alloc, timetable, lines)?;
+    fn outcome<L: Ledger>(&self, said: Said, _steps: &mut Steps<L>) -> Result<Outcome, Memory> {
+        let blocks = said.read.found(Paper::Blocks);
+        let prices = said.read.found(Paper::Prices);
+        let alloc = said.alloc;
+        let pulls = said.pulls;
+        let matrix = matrix_of(alloc, &said.timetable, said.deadheads, pulls)?;
+        let edited = after_script(alloc, said.timetable, said.lines)?;
         let timetable = edited.script.timetable();
-        let blocks = read.found(Paper::Blocks);
-        let prices = read.found(Paper::Prices);
         checked(alloc, &edited.refused, timetable, &matrix, blocks, prices)
     }
 }
@@ -148,5 +130,6 @@ pub fn run_check<S: Shelf, O: Sink, K: Keeper, L: Ledger>(
     ensures { let at = outside S.state S.history O.state O.history K.state K.history in
         Performs check_asked (at shelf.old out.old keeper.old) (at shelf.new out.new keeper.new) result steps.old steps.new }
 {
-    perform(&OnFeed(CheckClaim), alloc, shelf, out, keeper, steps)
+    let command = OnFeed::with(CheckClaim, &CLAIM_PAPERS);
+    perform(&command, alloc, shelf, out, keeper, steps)
 }

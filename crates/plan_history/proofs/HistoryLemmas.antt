@@ -1,8 +1,8 @@
 -- A history after an edit, an undo and a redo.
 use Rattle.std.proofs.Common.{◌≡◌, ℕ, ◌+◌, ◌-◌, ◌<◌, ◌≤◌, ◌==◌, Bool, true, false, cond, List, [], ◌∷◌, ◌++◌, length, drop, take, Option, None, Some, refl, sym, ap, subst, ◌∙◌, arith, length-append}
 use Rattle.std.specs.Prelude.{slice_get}
-use Rattle.deadhead_matrix.specs.Paths.{with_slot}
-use Rattle.deadhead_matrix.specs.Prices.{Plan, IsCertified, IsDay}
+use Rattle.assignment_model.specs.Paths.{with_slot}
+use Rattle.assignment_model.specs.Prices.{Plan, IsCertified, IsDay}
 use Rattle.trip_model.specs.Network.{Network, AreDepartures}
 use Rattle.undo_log.specs.Log.{LogView, latest_items, last_item}
 use Rattle.undo_log.proofs.LastItem.{take_last_item}

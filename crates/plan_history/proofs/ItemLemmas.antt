@@ -5,7 +5,7 @@ use Rattle.std.specs.List.{All}
 use Rattle.std.proofs.lemmas.Bool.{cases_lt}
 use Rattle.std.proofs.lemmas.List.Elements.{All-append}
 use Rattle.std.proofs.lemmas.Option.{none-some, same_Some}
-use Rattle.deadhead_matrix.specs.Prices.{Plan}
+use Rattle.assignment_model.specs.Prices.{Plan}
 use Rattle.price_assign.specs.Plans.{with_slots}
 use Rattle.trip_model.specs.Links.{next_of}
 use Rattle.plan_history.specs.Items.{with_stand, stood_before, stood_after, written, HasRoomFor, undone_by, redone_by, IsWhole, IsItem}

@@ -1,6 +1,6 @@
 -- To which plans items lead, with one more item or without the oldest.
 use Rattle.std.proofs.Common.{◌≡◌, ℕ, zero, suc, List, [], ◌∷◌, ◌++◌, length, drop, refl, sym, ap, subst, ◌∙◌}
-use Rattle.deadhead_matrix.specs.Prices.{Plan}
+use Rattle.assignment_model.specs.Prices.{Plan}
 use Rattle.plan_history.specs.Items.{led, plans_along, AreAlong}
 use Rattle.plan_history.specs.declared.item.Item.{Item}
 

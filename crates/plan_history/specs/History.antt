@@ -1,7 +1,7 @@
 -- What a history of plans is seen as.
 use Rattle.std.specs.Prelude.{ℕ, List, Option}
-use Rattle.deadhead_matrix.specs.Paths.{IsTaken, IsAdded}
-use Rattle.deadhead_matrix.specs.Prices.{Plan}
+use Rattle.assignment_model.specs.Paths.{IsTaken, IsAdded}
+use Rattle.assignment_model.specs.Prices.{Plan}
 
 -- The plan, the plan before each kept edit, and the plan after each undone one. The last of each list is next to the plan.
 -- `room` says for how many changes of the next edit there is memory.

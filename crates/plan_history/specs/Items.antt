@@ -1,6 +1,6 @@
 -- What an item writes over a plan, and to which plans the items of a log lead.
 use Rattle.std.specs.Prelude.{◌≡◌, ℕ, ◌<◌, ◌≤◌, List, [], ◌∷◌, ◌++◌, length, Option, None, Some, IfSome, ⊤}
-use Rattle.deadhead_matrix.specs.Prices.{Plan}
+use Rattle.assignment_model.specs.Prices.{Plan}
 use Rattle.price_assign.specs.Plans.{with_slots, with_entry}
 use Rattle.trip_model.specs.Links.{next_of}
 use Rattle.trip_model.specs.declared.limits.TheConstants.{MOST_SLOTS}

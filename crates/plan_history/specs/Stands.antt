@@ -2,7 +2,7 @@
 use Rattle.std.specs.Prelude.{ℕ, ◌==◌, nat_eq, ◌&&◌, Bool, false, List, [], ◌∷◌, length, map, flat_map, slice_get, Option, None, Some, if◌then◌else◌}
 use Rattle.std.specs.List.{range_with_len}
 use Rattle.std.specs.Option.{option_eq}
-use Rattle.deadhead_matrix.specs.Prices.{Plan, price}
+use Rattle.assignment_model.specs.Prices.{Plan, price}
 use Rattle.trip_model.specs.Links.{next_of}
 use Rattle.plan_history.specs.declared.stand.Stand.{Stand}
 use Rattle.plan_history.specs.declared.stand.Changed.{Changed}

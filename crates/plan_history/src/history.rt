@@ -1,9 +1,11 @@
 ghost use Rattle.std.specs.Prelude.{◌≡◌, ◌≢◌, ◌↔◌, ◌+◌, ◌*◌, ◌<◌, ◌≤◌, ◌++◌, ◌∷◌, [], length, Some, IfOk, OnOk, OnErr, IsNone, IfSome};
-ghost use Rattle.deadhead_matrix.specs.Paths.{with_slot, IsTaken, IsAdded};
-ghost use Rattle.deadhead_matrix.specs.Prices.{Plan as PlanView, IsCertified};
+ghost use Rattle.assignment_model.specs.Paths.{with_slot, IsTaken, IsAdded};
+ghost use Rattle.assignment_model.specs.Prices.{Plan as PlanView, IsCertified};
 ghost use Rattle.pair_graph.specs.Pairs.{pairs_network};
 ghost use Rattle.plan_history.specs.History.{HistoryView, IsReplaced};
 ghost use Rattle.plan_history.specs.Stands.{differences};
+ghost use Rattle.price_assign.specs.Found.{solved};
+ghost use Rattle.price_repair.specs.Repaired.{plan_taken, plan_added, plan_replaced};
 ghost use Rattle.price_repair.specs.Without.{IsCertifiedWith, IsCertifiedWithout};
 ghost use Rattle.undo_log.specs.Log.{latest_items, last_item};
 ghost use Rattle.undo_log.specs.declared.log.TheConstants.{UNDO_DEPTH};
@@ -107,6 +109,7 @@ impl PlanHistory {
         requires later { self.old.later ≡ [] }
         ensures slots { length self.new.plan.next ≡ length pairs.now.moves }
         ensures certified { IsCertified (pairs_network pairs.now) self.new.plan }
+        ensures plan { self.new.plan ≡ solved pairs.now }
         ensures earlier { self.new.earlier ≡ [] }
         ensures later { self.new.later ≡ [] }
         ensures counted { let n = length pairs.now.moves in steps.new ≤ steps.old + n * n * n + n * n }
@@ -139,6 +142,7 @@ impl PlanHistory {
         ensures slots { length self.new.plan.next ≡ length pairs.now.moves }
         ensures certified { IsCertified (pairs_network pairs.now) self.new.plan }
         ensures taken { IsTaken self.old.plan.next self.new.plan.next slot }
+        ensures plan { self.new.plan ≡ plan_taken pairs.now slot self.old.plan }
         ensures earlier { self.new.earlier ≡ latest_items (self.old.earlier ++ self.old.plan ∷ []) }
         ensures later { self.new.later ≡ [] }
         ensures counted { let n = length pairs.now.moves in steps.new ≤ steps.old + 2 * n * n + 2 * n }
@@ -166,6 +170,7 @@ impl PlanHistory {
         ensures slots { length self.new.plan.next ≡ length pairs.now.moves }
         ensures certified { IsCertified (pairs_network pairs.now) self.new.plan }
         ensures added { IsAdded self.old.plan.next self.new.plan.next slot }
+        ensures plan { self.new.plan ≡ plan_added pairs.now slot self.old.plan }
         ensures earlier { self.new.earlier ≡ latest_items (self.old.earlier ++ self.old.plan ∷ []) }
         ensures later { self.new.later ≡ [] }
         ensures counted { let n = length pairs.now.moves in steps.new ≤ steps.old + 2 * n * n + 2 * n }
@@ -202,6 +207,7 @@ impl PlanHistory {
         ensures slots { length self.new.plan.next ≡ length pairs.now.moves }
         ensures certified { IsCertified (pairs_network pairs.now) self.new.plan }
         ensures replaced { IsReplaced self.old.plan.next self.new.plan.next slot }
+        ensures plan { self.new.plan ≡ plan_replaced without.now pairs.now slot self.old.plan }
         ensures earlier { self.new.earlier ≡ latest_items (self.old.earlier ++ self.old.plan ∷ []) }
         ensures later { self.new.later ≡ [] }
         ensures counted { let n = length pairs.now.moves in steps.new ≤ steps.old + 4 * n * n + 4 * n }

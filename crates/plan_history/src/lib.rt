@@ -22,7 +22,7 @@
 //! - `History`: what a history is seen as
 //! - `Stands`: what a plan has for a slot, and the slots for which two plans differ
 //! - of `undo_log` `Log`
-//! - of `price_repair` and `deadhead_matrix` what a repair asks and gives
+//! - of `price_repair` and `assignment_model` what a repair asks and gives
 //!
 //! `Items` is for proofs. It says what an item writes over a plan, and to which plans items lead. So it says how the two lists
 //! of plans are computed.

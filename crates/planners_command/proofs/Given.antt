@@ -4,19 +4,15 @@ use Rattle.std.specs.Prelude.{IfOk}
 use Rattle.std.proofs.lemmas.List.{append_assoc}
 use Rattle.gtfs_tables.specs.declared.fault.FeedFault.{FeedFault}
 use Rattle.trip_model.specs.Timetable.{TimetableView}
-use Rattle.deadhead_matrix.specs.declared.entry.Entry.{Entry}
-use Rattle.deadhead_matrix.specs.declared.pulls.Pull.{Pull}
 use Rattle.deadhead_matrix.specs.Matrix.{MatrixView}
-use Rattle.desk_settings.specs.Settings.{SettingsView}
-use Rattle.edit_script.specs.declared.edit.Line.{Line}
 use Rattle.desk_run.specs.Outcome.{OutcomeView}
 use Rattle.desk_run.specs.Reading.{ReadView}
 use Rattle.desk_run.specs.declared.status.Ending.{Ending}
-use Rattle.desk_feed.specs.Feed.{FeedView, said_with}
-use Rattle.desk_feed.specs.Judging.{IsGivenOf, refusing}
-use Rattle.desk_feed.specs.Schedule.{IsMatrixOf}
+use Rattle.desk_feed.specs.Feed.{FeedView, standing}
+use Rattle.desk_feed.specs.Judging.{IsGivenOf, refused_of, refusing}
+use Rattle.desk_feed.specs.Schedule.{IsMatrixFor}
 use Rattle.desk_feed.specs.declared.script.Edited.{Edited}
-use Rattle.desk_feed.specs.Edited.{IsEdited, refused_text, refusing_first, standing_after}
+use Rattle.desk_feed.specs.Edited.{IsEdited, refusing_first}
 use Rattle.planner_desk.specs.declared.edit.PlannerLine.{PlannerLine}
 use Rattle.planner_desk.specs.declared.standing.Standing.{Standing}
 use Rattle.planner_desk.specs.Standing.{timetable_of}
@@ -44,29 +40,27 @@ given-of read said outcome gives = record {
 }
 
 -- a script of planners that was read, and one that is refused
-pub lines-given : {E : Type 0} (read : ReadView) (settings : SettingsView) (base : TimetableView) (entries : List Entry) (pulls : List Pull) (script : List Line) (lines : List PlannerLine) → lines_in read ≡ Ok lines → (result : Result OutcomeView E)
-    → IfOk result (λ outcome. (settings : SettingsView) → IsPlanners (said_with settings base entries pulls script) lines outcome) → IfOk result (IsGivenOf planners_does read (said_with settings base entries pulls script))
-lines-given read settings base entries pulls script lines is (Err e) planned = tt
-lines-given read settings base entries pulls script lines is (Ok outcome) planned =
-    let said = said_with settings base entries pulls script in
-    given-of read said outcome (subst (λ due. GivesBy said due outcome) (sym is) (planned settings))
+pub lines-given : {E : Type 0} (read : ReadView) (said : FeedView) (lines : List PlannerLine) → lines_in read ≡ Ok lines → (result : Result OutcomeView E)
+    → IfOk result (IsPlanners said lines) → IfOk result (IsGivenOf planners_does read said)
+lines-given read said lines is (Err e) planned = tt
+lines-given read said lines is (Ok outcome) planned = given-of read said outcome (subst (λ due. GivesBy said due outcome) (sym is) planned)
 
 pub refused-given : {E : Type 0} (read : ReadView) (said : FeedView) (refused : FeedFault) → lines_in read ≡ Err refused → (result : Result OutcomeView E) → IfOk result (λ outcome. outcome ≡ refusing refused) → IfOk result (IsGivenOf planners_does read said)
 refused-given read said refused is (Err e) put = tt
 refused-given read said refused is (Ok outcome) put = given-of read said outcome (subst (λ due. GivesBy said due outcome) (sym is) put)
 
 -- what is put over a timetable after the script is put of the feed
-pub planners-of : {E : Type 0} (base : TimetableView) (entries : List Entry) (pulls : List Pull) (script : List Line) (lines : List PlannerLine) (matrix : MatrixView) (edited : Edited)
-    → IsMatrixOf entries pulls (length base.places) matrix → IsEdited base script edited → ArePlanners (standing_after base script) lines
+pub planners-of : {E : Type 0} (said : FeedView) (lines : List PlannerLine) (matrix : MatrixView) (edited : Edited)
+    → IsMatrixFor said matrix → IsEdited said.base said.lines edited → ArePlanners (standing said) lines
     → (result : Result OutcomeView E) → IfOk result (IsPlanned edited.refused edited.ending edited.script.timetable matrix lines)
-    → IfOk result (λ outcome. (settings : SettingsView) → IsPlanners (said_with settings base entries pulls script) lines outcome)
-planners-of base entries pulls script lines matrix edited matrix_is is are (Err e) planned = tt
-planners-of base entries pulls script lines matrix edited matrix_is is are (Ok outcome) planned = λ settings. record {
+    → IfOk result (IsPlanners said lines)
+planners-of said lines matrix edited matrix_is is are (Err e) planned = tt
+planners-of said lines matrix edited matrix_is is are (Ok outcome) planned = record {
   are = are;
   matrix = matrix;
   matrix_is = matrix_is;
-  planned = subst (λ end. IsPlanned (refused_text base script) end (standing_after base script) matrix lines outcome) is.ending
-      (subst (λ refused. IsPlanned refused edited.ending (standing_after base script) matrix lines outcome) is.refused
+  planned = subst (λ end. IsPlanned (refused_of said) end (standing said) matrix lines outcome) is.ending
+      (subst (λ refused. IsPlanned refused edited.ending (standing said) matrix lines outcome) is.refused
       (subst (λ (t : TimetableView). IsPlanned edited.refused edited.ending t matrix lines outcome) is.timetable planned));
 }
 

@@ -11,7 +11,7 @@ use Rattle.trip_model.specs.Plain.{made, plain_network, trip_moves, AreMoves}
 use Rattle.trip_model.specs.Timetable.{Slot, TimetableView, IsTimetable}
 use Rattle.deadhead_matrix.specs.Fitting.{network_of}
 use Rattle.deadhead_matrix.specs.Matrix.{MatrixView}
-use Rattle.deadhead_matrix.specs.Prices.{Plan}
+use Rattle.assignment_model.specs.Prices.{Plan}
 use Rattle.fixed_fleet.specs.Rule.{first_in_first_out}
 use Rattle.desk_feed.specs.Schedule.{IsScheduled}
 use Rattle.desk_feed.specs.Numbers.{numbers_line}

@@ -7,7 +7,7 @@ use Rattle.trip_model.specs.Plain.{plain_network, trip_moves}
 use Rattle.trip_model.specs.Timetable.{TimetableView}
 use Rattle.deadhead_matrix.specs.Fitting.{network_of}
 use Rattle.deadhead_matrix.specs.Matrix.{MatrixView}
-use Rattle.deadhead_matrix.specs.Prices.{Plan}
+use Rattle.assignment_model.specs.Prices.{Plan}
 use Rattle.desk_feed.specs.Numbers.{numbers_line}
 use Rattle.desk_feed.specs.Schedule.{IsScheduled}
 

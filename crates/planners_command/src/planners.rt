@@ -1,11 +1,10 @@
 ghost use Rattle.std.specs.Prelude.{◌≡◌, ◌+◌, ◌≤◌, length, IfOk, OnOk, string_bytes, ◌*◌, ◌++◌, pos};
-ghost use Rattle.desk_feed.specs.Edited.{standing_after};
-ghost use Rattle.desk_feed.specs.Feed.{said_with};
+ghost use Rattle.desk_feed.specs.Commands.{said_to};
+ghost use Rattle.desk_feed.specs.Feed.{standing};
 ghost use Rattle.desk_feed.specs.Schedule.{most_steps};
 ghost use Rattle.desk_feed.specs.Script.{IsScript};
 ghost use Rattle.desk_run.specs.Outside.{outside};
 ghost use Rattle.desk_run.specs.Performs.{Performs};
-ghost use Rattle.desk_settings.specs.Settings.{SettingsView};
 ghost use Rattle.planners_command.specs.Moments.{timetable_after};
 ghost use Rattle.planners_command.specs.Planners as spec;
 ghost use Rattle.planners_command.specs.Planners.{IsPlanned, IsPlanners, planners_asked};
@@ -15,16 +14,15 @@ ghost use Rattle.planners_command.specs.Stepped.{HasNumbers};
 use crate::answers::{answer_all, push_standing};
 use crate::reading::read_lines;
 use block_build::empty_minutes;
-use deadhead_matrix::{Deadheads, Matrix, Pulls};
+use deadhead_matrix::Matrix;
 use deficit_steps::fixed_of;
 use desk_feed::{
-    Edited, FeedCommand, OnFeed, after_script, matrix_of, push_numbers_line, putting_after, refuse,
+    Edited, FeedCommand, OnFeed, Said, after_script, matrix_of, push_numbers_line, putting_after,
+    refuse,
 };
 use desk_io::{Memory, Shelf, Sink, Steps, Text};
 use desk_keeper::Keeper;
-use desk_run::{Ending, Outcome, Read, perform};
-use desk_settings::Settings;
-use edit_script::Line;
+use desk_run::{Ending, Outcome, perform};
 use feed_schedule::schedule_of;
 use fixed_fleet::laws::plain_blocks_law;
 use gtfs_tables::{FeedFault, Paper};
@@ -109,29 +107,25 @@ fn planned<L: Ledger>(
     putting_after(alloc, &edited.refused, &Text::wrap(text), ending)
 }
 
-// What is put of what a feed says and of the lines of planners. The settings are not looked at.
+// What is put of what a feed says and of the lines of planners.
 fn planned_on<L: Ledger>(
-    alloc: Global,
-    timetable: Timetable,
-    deadheads: &Deadheads,
-    pulls: Pulls,
-    script: &[Line],
+    said: Said,
     lines: &[PlannerLine],
     steps: &mut Steps<L>,
 ) -> Result<Outcome, Memory>
-    requires pulls { length pulls ≡ length timetable.places }
-    requires script { IsScript script.now }
+    requires pulls { length said.pulls ≡ length said.timetable.places }
+    requires script { IsScript said.lines.now }
     requires lines { IsPlannerScript lines.now }
-    ensures planned { IfOk result (λ outcome. (settings : SettingsView)
-        → IsPlanners (said_with settings timetable deadheads.now pulls script.now) lines.now outcome) }
-    ensures counted { steps.new ≤ steps.old + most_steps (length (timetable_after (standing_after timetable script.now) lines.now).slots) }
+    ensures planned { IfOk result (IsPlanners (said_to said.entry) lines.now) }
+    ensures counted { steps.new ≤ steps.old + most_steps (length (timetable_after (standing (said_to said.entry)) lines.now).slots) }
 {
     machine_law();
     undo_law();
     folding_law();
-    let matrix = matrix_of(alloc, &timetable, deadheads, pulls)?;
-    let edited = after_script(alloc, timetable, script)?;
-    planned(alloc, &edited, &matrix, lines, steps)
+    let pulls = said.pulls;
+    let matrix = matrix_of(said.alloc, &said.timetable, said.deadheads, pulls)?;
+    let edited = after_script(said.alloc, said.timetable, said.lines)?;
+    planned(said.alloc, &edited, &matrix, lines, steps)
 }
 
 #[derive(Drop)]
@@ -142,29 +136,11 @@ impl FeedCommand for FollowPlanners {
 
     ghost asks = { λ _. planners_does };
 
-    fn papers(&self) -> &[Paper] {
-        &PLANNER_PAPERS
-    }
-
-    fn keeps(&self) -> bool {
-        false
-    }
-
-    fn outcome<L: Ledger>(
-        &self,
-        alloc: Global,
-        read: &Read,
-        _settings: &Settings,
-        timetable: Timetable,
-        deadheads: &Deadheads,
-        pulls: Pulls,
-        lines: &[Line],
-        steps: &mut Steps<L>,
-    ) -> Result<Outcome, Memory> {
-        match read_lines(alloc, read) {
-            Ok(asked) => planned_on(alloc, timetable, deadheads, pulls, lines, &asked, steps),
+    fn outcome<L: Ledger>(&self, said: Said, steps: &mut Steps<L>) -> Result<Outcome, Memory> {
+        match read_lines(said.alloc, said.read) {
+            Ok(lines) => planned_on(said, &lines, steps),
             Err(FeedFault::Memory) => Err(Memory),
-            Err(refused) => refuse(alloc, &refused),
+            Err(refused) => refuse(said.alloc, &refused),
         }
     }
 }
@@ -182,5 +158,6 @@ pub fn run_planners<S: Shelf, O: Sink, K: Keeper, L: Ledger>(
     ensures { let at = outside S.state S.history O.state O.history K.state K.history in
         Performs planners_asked (at shelf.old out.old keeper.old) (at shelf.new out.new keeper.new) result steps.old steps.new }
 {
-    perform(&OnFeed(FollowPlanners), alloc, shelf, out, keeper, steps)
+    let command = OnFeed::with(FollowPlanners, &PLANNER_PAPERS);
+    perform(&command, alloc, shelf, out, keeper, steps)
 }

@@ -2,15 +2,17 @@
 use Rattle.std.proofs.Common.{◌≡◌, ℕ, true, false, List, length, Option, None, Some, refl, sym, ap, subst, ◌∙◌, arith}
 use Rattle.std.proofs.lemmas.Option.{none-some}
 use Rattle.trip_model.specs.Network.{AreDepartures}
-use Rattle.deadhead_matrix.specs.Prices.{Plan, IsCertified, IsDay, IsLoose}
-use Rattle.deadhead_matrix.proofs.Looseness.{IsCertified-loose}
+use Rattle.assignment_model.specs.Prices.{Plan, IsCertified, IsDay, IsLoose}
+use Rattle.assignment_model.proofs.Looseness.{IsCertified-loose}
 use Rattle.pair_graph.specs.Pairs.{PairsView, pairs_network}
 use Rattle.pair_search.specs.Assignment.{IsMatched, Covers, MayBegin}
 use Rattle.pair_search.specs.declared.groups.Group.{Group}
 use Rattle.pair_search.specs.declared.order.Column.{Column}
-use Rattle.pair_search.specs.Side.{SideView, side_slots, side_weight}
+use Rattle.pair_search.specs.Arranged.{arranged, departing, weight_from, found_by, all_found, turned_plan}
+use Rattle.pair_search.specs.Side.{SideView, side_slots, side_weight, IsSideOf}
 use Rattle.pair_search.specs.Turned.{MayBeginTurned, IsFoundTurned}
-use Rattle.pair_search.proofs.SideLemmas.{IsWithout-side}
+use Rattle.pair_search.proofs.SideLemmas.{IsWithout-side, weight-side}
+use Rattle.price_assign.specs.Found.{found_left, found_right, solved}
 use Rattle.price_assign.proofs.RightLemmas.{MayBegin-right, IsLoose-right}
 use Rattle.pair_search.proofs.LooseLemmas.{MayBegin-left, IsLoose-matched, lives-after}
 
@@ -67,3 +69,25 @@ pub IsLoose-entering : (pairs : PairsView) (columns : List Column) (places : Lis
 IsLoose-entering pairs columns places groups count departs side plan new a b is clock loose leaves enters found =
     IsLoose-right (pairs_network pairs) departs plan new a b (side_weight (entering pairs a columns places groups count)) clock (IsWithout-side (entering pairs a columns places groups count)) loose leaves enters
     (subst (λ (s : SideView). IsFoundTurned (side_weight s) b a plan.next new.next new.leave new.enter) is found)
+
+-- what a search over the columns of a side finds is computed from the pairs
+pub found-left : (pairs : PairsView) (side : SideView) (order : List ℕ) (plan new : Plan) (a : ℕ) (b : Option ℕ) → IsSideOf pairs false b side → order ≡ arranged pairs false b
+    → new ≡ found_by order (side_weight side) a plan → new ≡ found_left pairs a b plan
+unfolding found_left
+found-left pairs side order plan new a b is by found =
+    found ∙ ap (λ o. found_by o (side_weight side) a plan) by ∙ ap (λ (w : ℕ → ℕ → Option ℕ). found_by (arranged pairs false b) w a plan) (weight-side pairs false b side is)
+
+pub found-right : (pairs : PairsView) (side : SideView) (order : List ℕ) (plan new : Plan) (b : ℕ) (a : Option ℕ) → IsSideOf pairs true a side → order ≡ arranged pairs true a
+    → new ≡ turned_plan (found_by order (side_weight side) b (turned_plan plan)) → new ≡ found_right pairs b a plan
+unfolding found_right
+found-right pairs side order plan new b a is by found =
+    found ∙ ap (λ o. turned_plan (found_by o (side_weight side) b (turned_plan plan))) by
+    ∙ ap (λ (w : ℕ → ℕ → Option ℕ). turned_plan (found_by (arranged pairs true a) w b (turned_plan plan))) (weight-side pairs true a side is)
+
+-- and so is what searches from all rows find
+pub solved-is : (pairs : PairsView) (side : SideView) (order rows : List ℕ) (new : Plan) → IsSideOf pairs false None side → order ≡ arranged pairs false None → rows ≡ departing pairs
+    → new ≡ all_found order (side_weight side) rows → new ≡ solved pairs
+unfolding solved
+solved-is pairs side order rows new is by turn found =
+    found ∙ ap (λ o. all_found o (side_weight side) rows) by ∙ ap (λ (w : ℕ → ℕ → Option ℕ). all_found (arranged pairs false None) w rows) (weight-side pairs false None side is)
+    ∙ ap (all_found (arranged pairs false None) (weight_from pairs false None)) turn

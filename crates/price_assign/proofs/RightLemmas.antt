@@ -6,8 +6,8 @@ use Rattle.std.proofs.lemmas.Option.{none-some, same_Some}
 use Rattle.trip_model.specs.Links.{next_of, before_of, AreApart}
 use Rattle.trip_model.specs.Network.{Network, Fits, AreDepartures}
 use Rattle.trip_model.proofs.BeforeLemmas.{next-within}
-use Rattle.deadhead_matrix.specs.Paths.{IsPath, IsRightPath}
-use Rattle.deadhead_matrix.specs.Prices.{weight, Plan, price, IsDay, IsLoose}
+use Rattle.assignment_model.specs.Paths.{IsPath, IsRightPath}
+use Rattle.assignment_model.specs.Prices.{weight, Plan, price, IsDay, IsLoose}
 use Rattle.pair_search.specs.Inverse.{IsInverse}
 use Rattle.pair_search.specs.Turned.{MayBeginTurned, IsFoundTurned}
 use Rattle.pair_search.proofs.InverseLemmas.{inverse-before}

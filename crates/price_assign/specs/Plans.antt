@@ -1,6 +1,6 @@
 -- Plans with other slots, and with another entry.
 use Rattle.std.specs.Prelude.{ℕ, ◌-◌, List, ◌++◌, length, take, replicate, slice_set, Option, None}
-use Rattle.deadhead_matrix.specs.Prices.{Plan}
+use Rattle.assignment_model.specs.Prices.{Plan}
 
 -- a list cut to so many slots, or with this in those that it lacks
 abbrev pub resized : {T : Type 0} → List T → ℕ → T → List T

@@ -6,12 +6,13 @@
 //! each by a search along a shortest augmenting path of the assignment problem.
 //!
 //! The contract that the crates above use: after `solve` the plan is certified, within a count of steps. A search takes a loose
-//! plan to one with one side less left out, along the path of its definition.
+//! plan to one with one side less left out, along the path of its definition, and visits no pair twice.
 //!
 //! `feed_schedule` shows a use, in `src/schedule.rt`.
 //!
-//! The contracts cite `Plans` (plans with other slots, or another entry), and of `deadhead_matrix` `Prices` and `Paths`. The search
-//! is that of `pair_search`.
+//! The contracts cite `Found` (the plans that are found, computed from the pairs) and `Plans` (plans with other slots, or another
+//! entry). They cite `Prices` and `Paths` of `assignment_model`, and `Visits` of `pair_search`. The search is that of
+//! `pair_search`.
 #![tactic(auto)]
 
 mod plan;

@@ -1,17 +1,15 @@
-ghost use Rattle.std.specs.Prelude.{◌≡◌, ◌+◌, ◌*◌, ◌<◌, ◌≤◌, [], length, vec_len, Option, None, Some, IfOk, IfSome};
-ghost use Rattle.deadhead_matrix.specs.Paths.{IsLeftPath, IsRightPath};
-ghost use Rattle.deadhead_matrix.specs.Prices.{IsCertified, IsLoose};
+ghost use Rattle.std.specs.Prelude.{◌≡◌, ◌+◌, ◌*◌, ◌<◌, ◌≤◌, [], length, true, false, Option, None, Some, IfOk};
+ghost use Rattle.assignment_model.specs.Paths.{IsLeftPath, IsRightPath};
+ghost use Rattle.assignment_model.specs.Prices.{IsCertified, IsLoose};
 ghost use Rattle.pair_graph.specs.Pairs.{pairs_network};
-ghost use Rattle.pair_search.specs.Lists.{AreLists};
+ghost use Rattle.pair_search.specs.Visits.{SearchesSideOnce};
+ghost use Rattle.price_assign.specs.Found.{found_left, found_right, solved};
 ghost use Rattle.price_assign.specs.Plans.{with_slots, with_entry};
 ghost use Rattle.trip_model.specs.declared.limits.TheConstants.{MOST_SLOTS};
 
 use desk_io::{Memory, Steps};
 use pair_graph::Pairs;
-use pair_search::{
-    Column, Group, Lists, Side, arrange, arrange_departures, find_groups, link_all, search_befores,
-    search_links,
-};
+use pair_search::{Departures, Lists, Order, Side, link_all, search_befores, search_links};
 use std::alloc::Global;
 use std::marker::Model;
 use std::sync::ledger::Ledger;
@@ -35,7 +33,7 @@ impl Drop for Plan {
 }
 
 impl Model for Plan {
-    ghost use Rattle.deadhead_matrix.specs.Prices as prices;
+    ghost use Rattle.assignment_model.specs.Prices as prices;
     ghost use Rattle.std.specs.Prelude.{◌≡◌, ◌≤◌, length, vec_len, vec_capacity};
     ghost use Rattle.trip_model.specs.declared.limits.TheConstants.{MOST_SLOTS};
 
@@ -108,44 +106,28 @@ impl Plan {
         pairs: &Pairs<'_>,
         a: u16,
         b: Option<u16>,
-        next: &mut Vec<Option<u16>>,
-        columns: &mut Vec<Column>,
-        places: &mut Vec<u16>,
-        groups: &mut Vec<Group>,
+        order: &mut Order,
         lists: &mut Lists,
         steps: &mut Steps<L>,
     )
         requires slots { length self.old.next ≡ length pairs.now.moves }
         requires loose { IsLoose (pairs_network pairs.now) self.old (Some a) b }
-        requires next { vec_len next.old ≡ MOST_SLOTS }
-        requires columns { vec_len columns.old ≡ MOST_SLOTS }
-        requires places { vec_len places.old ≡ MOST_SLOTS }
-        requires groups { vec_len groups.old ≡ MOST_SLOTS }
-        requires lists { AreLists lists.old }
-        ensures next { vec_len next.new ≡ MOST_SLOTS }
-        ensures columns { vec_len columns.new ≡ MOST_SLOTS }
-        ensures places { vec_len places.new ≡ MOST_SLOTS }
-        ensures groups { vec_len groups.new ≡ MOST_SLOTS }
-        ensures lists { AreLists lists.new }
         ensures loose { IsLoose (pairs_network pairs.now) self.new None b }
         ensures path { IsLeftPath self.old.next self.new.next a }
+        ensures plan { self.new ≡ found_left pairs.now a b self.old }
+        ensures visited { SearchesSideOnce pairs.now false b steps.old steps.new }
         ensures counted { steps.new ≤ steps.old + length pairs.now.moves * length pairs.now.moves + length pairs.now.moves }
     {
         // Its clauses say that the network is one of one day, along which departures rise.
-        let slots = pairs.slots() as usize;
-        let columns = &mut columns[..slots];
-        let places = &mut places[..slots];
-        let groups = &mut groups[..slots];
-        arrange(pairs, false, b, columns, places);
-        let count = find_groups(columns, groups);
-        let side = Side::of(pairs, false, b, columns, places, groups, count);
+        let _slots = pairs.slots();
+        order.arrange(pairs, false, b);
+        let side = Side::of(pairs, false, b, order);
         search_links(
             &side,
             a,
             &mut self.links,
             &mut self.leave,
             &mut self.enter,
-            next,
             lists,
             steps,
         );
@@ -157,48 +139,28 @@ impl Plan {
         pairs: &Pairs<'_>,
         b: u16,
         a: Option<u16>,
-        next: &mut Vec<Option<u16>>,
-        turned: &mut Vec<Option<u16>>,
-        columns: &mut Vec<Column>,
-        places: &mut Vec<u16>,
-        groups: &mut Vec<Group>,
+        order: &mut Order,
         lists: &mut Lists,
         steps: &mut Steps<L>,
     )
         requires slots { length self.old.next ≡ length pairs.now.moves }
         requires loose { IsLoose (pairs_network pairs.now) self.old a (Some b) }
-        requires next { vec_len next.old ≡ MOST_SLOTS }
-        requires turned { vec_len turned.old ≡ MOST_SLOTS }
-        requires columns { vec_len columns.old ≡ MOST_SLOTS }
-        requires places { vec_len places.old ≡ MOST_SLOTS }
-        requires groups { vec_len groups.old ≡ MOST_SLOTS }
-        requires lists { AreLists lists.old }
-        ensures next { vec_len next.new ≡ MOST_SLOTS }
-        ensures turned { vec_len turned.new ≡ MOST_SLOTS }
-        ensures columns { vec_len columns.new ≡ MOST_SLOTS }
-        ensures places { vec_len places.new ≡ MOST_SLOTS }
-        ensures groups { vec_len groups.new ≡ MOST_SLOTS }
-        ensures lists { AreLists lists.new }
         ensures loose { IsLoose (pairs_network pairs.now) self.new a None }
         ensures path { IsRightPath self.old.next self.new.next b }
+        ensures plan { self.new ≡ found_right pairs.now b a self.old }
+        ensures visited { SearchesSideOnce pairs.now true a steps.old steps.new }
         ensures counted { steps.new ≤ steps.old + length pairs.now.moves * length pairs.now.moves + length pairs.now.moves }
     {
         // Its clauses say that the network is one of one day, along which departures rise.
-        let slots = pairs.slots() as usize;
-        let columns = &mut columns[..slots];
-        let places = &mut places[..slots];
-        let groups = &mut groups[..slots];
-        arrange(pairs, true, a, columns, places);
-        let count = find_groups(columns, groups);
-        let side = Side::of(pairs, true, a, columns, places, groups, count);
+        let _slots = pairs.slots();
+        order.arrange(pairs, true, a);
+        let side = Side::of(pairs, true, a, order);
         search_befores(
             &side,
             b,
             &mut self.links,
             &mut self.leave,
             &mut self.enter,
-            next,
-            turned,
             lists,
             steps,
         );
@@ -208,54 +170,29 @@ impl Plan {
     pub(crate) fn solve<L: Ledger>(
         &mut self,
         pairs: &Pairs<'_>,
-        next: &mut Vec<Option<u16>>,
-        columns: &mut Vec<Column>,
-        places: &mut Vec<u16>,
-        groups: &mut Vec<Group>,
-        departures: &mut Vec<Column>,
-        turns: &mut Vec<u16>,
+        departures: &mut Departures,
+        order: &mut Order,
         lists: &mut Lists,
         steps: &mut Steps<L>,
     )
-        requires next { vec_len next.old ≡ MOST_SLOTS }
-        requires columns { vec_len columns.old ≡ MOST_SLOTS }
-        requires places { vec_len places.old ≡ MOST_SLOTS }
-        requires groups { vec_len groups.old ≡ MOST_SLOTS }
-        requires departures { vec_len departures.old ≡ MOST_SLOTS }
-        requires turns { vec_len turns.old ≡ MOST_SLOTS }
-        requires lists { AreLists lists.old }
-        ensures next { vec_len next.new ≡ MOST_SLOTS }
-        ensures columns { vec_len columns.new ≡ MOST_SLOTS }
-        ensures places { vec_len places.new ≡ MOST_SLOTS }
-        ensures groups { vec_len groups.new ≡ MOST_SLOTS }
-        ensures departures { vec_len departures.new ≡ MOST_SLOTS }
-        ensures turns { vec_len turns.new ≡ MOST_SLOTS }
-        ensures lists { AreLists lists.new }
         ensures slots { length self.new.next ≡ length pairs.now.moves }
         ensures certified { IsCertified (pairs_network pairs.now) self.new }
+        ensures plan { self.new ≡ solved pairs.now }
         ensures counted { steps.new ≤ steps.old + length pairs.now.moves * (length pairs.now.moves * length pairs.now.moves + length pairs.now.moves) }
     {
         // Its clauses say that the network is one of one day, along which departures rise.
         let slots = pairs.slots();
         self.set_slots(0);
         self.set_slots(slots);
-        let slots = usize::from(slots);
-        let departures = &mut departures[..slots];
-        let turns = &mut turns[..slots];
-        arrange_departures(pairs, departures, turns);
-        let columns = &mut columns[..slots];
-        let places = &mut places[..slots];
-        let groups = &mut groups[..slots];
-        arrange(pairs, false, None, columns, places);
-        let count = find_groups(columns, groups);
-        let side = Side::of(pairs, false, None, columns, places, groups, count);
+        let departures = departures.arrange(pairs);
+        order.arrange(pairs, false, None);
+        let side = Side::of(pairs, false, None, order);
         link_all(
             &side,
             departures,
             &mut self.links,
             &mut self.leave,
             &mut self.enter,
-            next,
             lists,
             steps,
         );

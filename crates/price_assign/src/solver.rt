@@ -1,24 +1,24 @@
-ghost use Rattle.std.specs.Prelude.{◌≡◌, ◌+◌, ◌*◌, ◌<◌, ◌≤◌, [], length, Option, None, Some, IfOk, IfSome};
-ghost use Rattle.deadhead_matrix.specs.Paths.{IsLeftPath, IsRightPath};
-ghost use Rattle.deadhead_matrix.specs.Prices.{IsCertified, IsLoose};
+ghost use Rattle.std.specs.Prelude.{◌≡◌, ◌+◌, ◌*◌, ◌<◌, ◌≤◌, [], length, true, false, Option, None, Some, IfOk, IfSome};
+ghost use Rattle.assignment_model.specs.Paths.{IsLeftPath, IsRightPath};
+ghost use Rattle.assignment_model.specs.Prices.{IsCertified, IsLoose};
 ghost use Rattle.pair_graph.specs.Pairs.{pairs_network};
+ghost use Rattle.pair_search.specs.Visits.{SearchesSideOnce};
+ghost use Rattle.price_assign.specs.Found.{found_left, found_right, solved};
 ghost use Rattle.price_assign.specs.Plans.{with_slots, with_entry};
 ghost use Rattle.trip_model.specs.declared.limits.TheConstants.{MOST_SLOTS};
 
 use crate::Plan;
 use desk_io::{Memory, Steps};
 use pair_graph::Pairs;
-use pair_search::{Lists, Order};
+use pair_search::{Departures, Lists, Order};
 use std::alloc::Global;
 use std::marker::Model;
 use std::sync::ledger::Ledger;
-use trip_model::MOST_SLOTS;
 
 /// A plan, with the memory for making and repairing one of as many slots as there may be.
 pub struct Solver {
     plan: Plan,
-    next: Vec<Option<u16>>,
-    turned: Vec<Option<u16>>,
+    departures: Departures,
     order: Order,
     lists: Lists,
 }
@@ -27,8 +27,7 @@ impl Drop for Solver {
     fn drop(self) {
         let Self {
             plan: _,
-            next: _,
-            turned: _,
+            departures: _,
             order: _,
             lists: _,
         } = self;
@@ -36,17 +35,11 @@ impl Drop for Solver {
 }
 
 impl Model for Solver {
-    ghost use Rattle.deadhead_matrix.specs.Prices as prices;
-    ghost use Rattle.std.specs.Prelude.{◌≡◌, vec_len};
-    ghost use Rattle.trip_model.specs.declared.limits.TheConstants.{MOST_SLOTS};
+    ghost use Rattle.assignment_model.specs.Prices as prices;
 
     ghost Value = { prices.Plan };
 
-    ghost use Rattle.pair_search.specs.Lists.{AreLists, AreOrders};
-
     ghost view = { λ s. s.plan };
-
-    ghost invariant = { λ s. (vec_len s.next ≡ MOST_SLOTS) × (vec_len s.turned ≡ MOST_SLOTS) × AreOrders s.order × AreLists s.lists };
 }
 
 impl Solver {
@@ -56,8 +49,7 @@ impl Solver {
     {
         Ok(Solver {
             plan: Plan::open(alloc)?,
-            next: vec![in alloc; None; usize::from(MOST_SLOTS)]?,
-            turned: vec![in alloc; None; usize::from(MOST_SLOTS)]?,
+            departures: Departures::open(alloc)?,
             order: Order::open(alloc)?,
             lists: Lists::open(alloc)?,
         })
@@ -91,16 +83,13 @@ impl Solver {
     pub fn solve<L: Ledger>(&mut self, pairs: &Pairs<'_>, steps: &mut Steps<L>)
         ensures slots { length self.new.next ≡ length pairs.now.moves }
         ensures certified { IsCertified (pairs_network pairs.now) self.new }
+        ensures plan { self.new ≡ solved pairs.now }
         ensures counted { let n = length pairs.now.moves in steps.new ≤ steps.old + n * n * n + n * n }
     {
         self.plan.solve(
             pairs,
-            &mut self.next,
-            &mut self.order.columns,
-            &mut self.order.places,
-            &mut self.order.groups,
-            &mut self.order.departures,
-            &mut self.order.turns,
+            &mut self.departures,
+            &mut self.order,
             &mut self.lists,
             steps,
         );
@@ -119,19 +108,12 @@ impl Solver {
         requires loose { IsLoose (pairs_network pairs.now) self.old (Some a) b }
         ensures loose { IsLoose (pairs_network pairs.now) self.new None b }
         ensures path { IsLeftPath self.old.next self.new.next a }
+        ensures plan { self.new ≡ found_left pairs.now a b self.old }
+        ensures visited { SearchesSideOnce pairs.now false b steps.old steps.new }
         ensures counted { let n = length pairs.now.moves in steps.new ≤ steps.old + n * n + n }
     {
-        self.plan.search_left(
-            pairs,
-            a,
-            b,
-            &mut self.next,
-            &mut self.order.columns,
-            &mut self.order.places,
-            &mut self.order.groups,
-            &mut self.lists,
-            steps,
-        );
+        self.plan
+            .search_left(pairs, a, b, &mut self.order, &mut self.lists, steps);
     }
 
     /// Adds the entering side of `b`, as [`Solver::search_left`] adds a leaving one. A search goes out from `b` over the pairs
@@ -147,19 +129,11 @@ impl Solver {
         requires loose { IsLoose (pairs_network pairs.now) self.old a (Some b) }
         ensures loose { IsLoose (pairs_network pairs.now) self.new a None }
         ensures path { IsRightPath self.old.next self.new.next b }
+        ensures plan { self.new ≡ found_right pairs.now b a self.old }
+        ensures visited { SearchesSideOnce pairs.now true a steps.old steps.new }
         ensures counted { let n = length pairs.now.moves in steps.new ≤ steps.old + n * n + n }
     {
-        self.plan.search_right(
-            pairs,
-            b,
-            a,
-            &mut self.next,
-            &mut self.turned,
-            &mut self.order.columns,
-            &mut self.order.places,
-            &mut self.order.groups,
-            &mut self.lists,
-            steps,
-        );
+        self.plan
+            .search_right(pairs, b, a, &mut self.order, &mut self.lists, steps);
     }
 }

@@ -12,8 +12,8 @@ use Rattle.std.proofs.lemmas.Option.{none-some}
 use Rattle.trip_model.specs.Links.{next_of, AreLinks}
 use Rattle.trip_model.specs.Network.{Network, Fits, AreDepartures}
 use Rattle.trip_model.proofs.Counting.{sum_below, sum_below-same, sum_by-below}
-use Rattle.deadhead_matrix.specs.Prices.{weight, weight_to, link_weights, price, IsCertified}
-use Rattle.deadhead_matrix.proofs.Duality.{sum_by-range}
+use Rattle.assignment_model.specs.Prices.{weight, weight_to, link_weights, price, IsCertified}
+use Rattle.assignment_model.proofs.Duality.{sum_by-range}
 use Rattle.price_check.specs.declared.claim.BlockRow.{BlockRow}
 use Rattle.price_check.specs.declared.claim.PriceRow.{PriceRow}
 use Rattle.price_check.specs.declared.verdict.Reason.{Reason}

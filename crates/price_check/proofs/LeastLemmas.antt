@@ -13,10 +13,10 @@ use Rattle.trip_model.specs.Plain.{move_at, move_of_slot, trip_moves}
 use Rattle.trip_model.specs.Timetable.{TimetableView, IsTimetable}
 use Rattle.trip_model.proofs.PlainLemmas.{AreMoves-trips}
 use Rattle.deadhead_matrix.specs.Matrix.{MatrixView}
-use Rattle.deadhead_matrix.specs.Prices.{IsDay}
+use Rattle.assignment_model.specs.Prices.{IsDay}
 use Rattle.deadhead_matrix.specs.Pulls.{IsPull}
 use Rattle.deadhead_matrix.proofs.Days.{IsDay-deadhead}
-use Rattle.deadhead_matrix.proofs.Duality.{IsLeast-certified}
+use Rattle.assignment_model.proofs.Duality.{IsLeast-certified}
 use Rattle.deadhead_matrix.specs.Fitting.{network_of}
 use Rattle.trip_model.specs.Links.{next_of, leads_to, is_first, along, block_from, blocks_along}
 use Rattle.trip_model.proofs.Chains.{GoesOn, block_from-is}

@@ -11,8 +11,8 @@ use Rattle.std.proofs.lemmas.Option.{none-some, same_Some}
 use Rattle.trip_model.specs.Blocking.{times}
 use Rattle.trip_model.specs.Network.{Network, Fits}
 use Rattle.trip_model.proofs.Counting.{sum_below, sum_below-same, times-cons}
-use Rattle.deadhead_matrix.specs.Prices.{weight_to}
-use Rattle.deadhead_matrix.proofs.Duality.{sum_by-range}
+use Rattle.assignment_model.specs.Prices.{weight_to}
+use Rattle.assignment_model.proofs.Duality.{sum_by-range}
 use Rattle.price_check.specs.declared.claim.BlockRow.{BlockRow}
 use Rattle.price_check.specs.declared.claim.PriceRow.{PriceRow}
 use Rattle.price_check.specs.Claim.{block_slots, price_slots, block_row, price_row, slot_on}

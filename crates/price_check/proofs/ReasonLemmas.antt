@@ -12,7 +12,7 @@ use Rattle.trip_model.specs.Order.{minute_left}
 use Rattle.trip_model.specs.Plain.{move_at, trip_moves}
 use Rattle.trip_model.specs.Timetable.{TimetableView, IsTimetable, slot_at}
 use Rattle.deadhead_matrix.specs.Matrix.{MatrixView}
-use Rattle.deadhead_matrix.specs.Prices.{weight}
+use Rattle.assignment_model.specs.Prices.{weight}
 use Rattle.deadhead_matrix.specs.Fitting.{network_of}
 use Rattle.price_check.specs.declared.claim.BlockRow.{BlockRow}
 use Rattle.price_check.specs.declared.claim.PriceRow.{PriceRow}

@@ -4,7 +4,7 @@ use Rattle.std.specs.List.{filter_map, range_with_len}
 use Rattle.std.specs.Option.{option_eq}
 use Rattle.trip_model.specs.Blocking.{StandsOnce, IsBlocking}
 use Rattle.trip_model.specs.Network.{Network}
-use Rattle.deadhead_matrix.specs.Prices.{Plan, IsCertified}
+use Rattle.assignment_model.specs.Prices.{Plan, IsCertified}
 use Rattle.price_check.specs.declared.claim.BlockRow.{BlockRow}
 use Rattle.price_check.specs.declared.claim.PriceRow.{PriceRow}
 use Rattle.price_check.specs.Claim.{ClaimedView, AreKnown, block_slots, price_slots, block_row, slot_before, blocks_in}

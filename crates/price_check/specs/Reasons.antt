@@ -15,7 +15,7 @@ use Rattle.trip_model.specs.Blocking.{empty_minutes}
 use Rattle.trip_model.specs.Network.{Network}
 use Rattle.trip_model.specs.Timetable.{TimetableView, slot_at}
 use Rattle.deadhead_matrix.specs.Matrix.{MatrixView}
-use Rattle.deadhead_matrix.specs.Prices.{weight}
+use Rattle.assignment_model.specs.Prices.{weight}
 use Rattle.deadhead_matrix.specs.Fitting.{network_of}
 use Rattle.price_check.specs.Claim.{ClaimedView, block_slots, price_slots, named, block_row, price_row, slot_before, blocks_in}
 

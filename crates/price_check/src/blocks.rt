@@ -1,6 +1,7 @@
 ghost use Rattle.std.specs.Prelude.{◌≡◌, ◌+◌, ◌<◌, ◌*◌, ◌≤◌, not, length, drop};
 ghost use Rattle.std.specs.Result.{result_err};
-ghost use Rattle.deadhead_matrix.specs.declared.limits.TheConstants.{LONGEST_WALK, MOST_DEADHEAD, VEHICLE_WEIGHT};
+ghost use Rattle.deadhead_matrix.specs.declared.limits.TheConstants.{LONGEST_WALK};
+ghost use Rattle.assignment_model.specs.declared.limits.TheConstants.{MOST_DEADHEAD, VEHICLE_WEIGHT};
 ghost use Rattle.deadhead_matrix.specs.Fitting.{network_of};
 ghost use Rattle.trip_model.specs.Blocking.{empty_minutes};
 ghost use Rattle.price_check.specs.Claim as claim;

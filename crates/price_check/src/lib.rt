@@ -13,7 +13,7 @@
 //!
 //! - `Claim`: the records, and the blocks that they make
 //! - `Reasons`: the seven reasons, and the first of them that holds
-//! - of `trip_model` and `deadhead_matrix` the networks, blocks, weights and certified plans
+//! - of `trip_model`, `assignment_model` and `deadhead_matrix` the networks, blocks, weights and certified plans
 //!
 //! The laws also cite `Certificate`, the plan that a claim gives, and what it proves. `Onward` has the terms of the ways on
 //! from a trip, for proofs alone.

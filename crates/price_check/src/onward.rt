@@ -1,10 +1,12 @@
 ghost use Rattle.std.specs.Prelude.{◌≡◌, ◌+◌, ◌*◌, ◌≤◌, length, IfSome};
-ghost use Rattle.deadhead_matrix.specs.declared.limits.TheConstants.{LONGEST_WALK, MOST_DEADHEAD, VEHICLE_WEIGHT};
-ghost use Rattle.deadhead_matrix.specs.Prices.{weight};
+ghost use Rattle.deadhead_matrix.specs.declared.limits.TheConstants.{LONGEST_WALK};
+ghost use Rattle.assignment_model.specs.declared.limits.TheConstants.{MOST_DEADHEAD, VEHICLE_WEIGHT};
+ghost use Rattle.assignment_model.specs.Prices.{weight};
 ghost use Rattle.deadhead_matrix.specs.Fitting.{network_of};
 ghost use Rattle.price_check.specs.Claim.{Runs};
 
-use deadhead_matrix::{Matrix, VEHICLE_WEIGHT, Walks};
+use assignment_model::VEHICLE_WEIGHT;
+use deadhead_matrix::{Matrix, Walks};
 use std::marker::Model;
 use trip_model::Timetable;
 

@@ -10,10 +10,10 @@ use Rattle.trip_model.specs.Order.{minute_left}
 use Rattle.trip_model.specs.Plain.{move_at, AreMoves}
 use Rattle.trip_model.proofs.BeforeLemmas.{next-before}
 use Rattle.trip_model.proofs.Counting.{runs-within}
-use Rattle.deadhead_matrix.specs.Paths.{IsLeftPath, IsRightPath, IsAlone, with_slot, IsAdded}
-use Rattle.deadhead_matrix.specs.Prices.{Plan, price, weight_to, IsLoose}
+use Rattle.assignment_model.specs.Paths.{IsLeftPath, IsRightPath, IsAlone, with_slot, IsAdded}
+use Rattle.assignment_model.specs.Prices.{Plan, price, weight_to, IsLoose}
 use Rattle.deadhead_matrix.proofs.Days.{AreDepartures-deadhead}
-use Rattle.deadhead_matrix.proofs.Looseness.{IsLoose-certified}
+use Rattle.assignment_model.proofs.Looseness.{IsLoose-certified}
 use Rattle.pair_graph.specs.Pairs.{PairsView, pairs_network}
 use Rattle.pair_graph.proofs.PairsLemmas.{AreMoves-without}
 use Rattle.price_assign.specs.Plans.{resized, with_slots}

@@ -10,10 +10,10 @@ use Rattle.trip_model.specs.Order.{minute_left}
 use Rattle.trip_model.specs.Plain.{move_at}
 use Rattle.trip_model.proofs.BeforeLemmas.{next-before, before-next}
 use Rattle.trip_model.proofs.Counting.{runs-within}
-use Rattle.deadhead_matrix.specs.Paths.{without_link, cut_at, AreAlike, IsLeftFrom, IsRightFrom, IsTaken}
-use Rattle.deadhead_matrix.specs.Prices.{Plan, price, weight_to, IsCertified, IsLoose}
+use Rattle.assignment_model.specs.Paths.{without_link, cut_at, AreAlike, IsLeftFrom, IsRightFrom, IsTaken}
+use Rattle.assignment_model.specs.Prices.{Plan, price, weight_to, IsCertified, IsLoose}
 use Rattle.deadhead_matrix.proofs.Days.{AreDepartures-deadhead}
-use Rattle.deadhead_matrix.proofs.Looseness.{IsLoose-certified}
+use Rattle.assignment_model.proofs.Looseness.{IsLoose-certified}
 use Rattle.pair_graph.specs.Pairs.{PairsView, pairs_network}
 use Rattle.pair_search.proofs.LooseLemmas.{weight-fits}
 use Rattle.price_repair.specs.Cut.{plan_without}

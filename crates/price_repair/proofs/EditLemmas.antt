@@ -10,7 +10,7 @@ use Rattle.trip_model.specs.Plain.{move_at, move_of_slot, trip_moves}
 use Rattle.trip_model.specs.Timetable.{Slot, TimetableView, slot_at, with_trip, IsTimetable}
 use Rattle.trip_model.specs.Trip.{move_of}
 use Rattle.deadhead_matrix.specs.Matrix.{MatrixView}
-use Rattle.deadhead_matrix.specs.Prices.{Plan, IsCertified}
+use Rattle.assignment_model.specs.Prices.{Plan, IsCertified}
 use Rattle.deadhead_matrix.specs.Fitting.{network_of}
 use Rattle.pair_graph.specs.Pairs.{PairsView, pairs_of, pairs_network}
 use Rattle.pair_graph.proofs.PairsLemmas.{AreMoves-pairs}

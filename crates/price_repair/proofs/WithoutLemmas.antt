@@ -10,9 +10,9 @@ use Rattle.trip_model.specs.Plain.{move_at}
 use Rattle.trip_model.proofs.Counting.{runs-within}
 use Rattle.deadhead_matrix.specs.Fitting.{empty_between, out_before, home_after}
 use Rattle.deadhead_matrix.specs.Matrix.{MatrixView, walk}
-use Rattle.deadhead_matrix.specs.Paths.{AreNextTrips}
-use Rattle.deadhead_matrix.specs.Prices.{weight, Plan, IsCertified, IsLoose}
-use Rattle.deadhead_matrix.proofs.Looseness.{IsCertified-loose}
+use Rattle.assignment_model.specs.Paths.{AreNextTrips}
+use Rattle.assignment_model.specs.Prices.{weight, Plan, IsCertified, IsLoose}
+use Rattle.assignment_model.proofs.Looseness.{IsCertified-loose}
 use Rattle.pair_graph.specs.Pairs.{PairsView, pairs_network}
 use Rattle.price_repair.specs.Without.{pairs_without}
 

@@ -1,7 +1,7 @@
 -- A plan with a trip cut out.
 use Rattle.std.specs.Prelude.{ℕ, slice_set}
-use Rattle.deadhead_matrix.specs.Paths.{cut_at}
-use Rattle.deadhead_matrix.specs.Prices.{Plan}
+use Rattle.assignment_model.specs.Paths.{cut_at}
+use Rattle.assignment_model.specs.Prices.{Plan}
 
 -- the plan without the links out of a slot and into it, and without its prices; every other price stays
 abbrev pub plan_without : Plan → ℕ → Plan

@@ -1,2 +1,3 @@
 pub mod Cut
+pub mod Repaired
 pub mod Without

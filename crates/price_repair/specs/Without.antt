@@ -1,6 +1,6 @@
 -- Pairs of trips with a trip more or less, for which a plan is certified before it is repaired.
 use Rattle.std.specs.Prelude.{◌≡◌, ℕ, true, length, Some}
-use Rattle.deadhead_matrix.specs.Prices.{Plan, IsCertified}
+use Rattle.assignment_model.specs.Prices.{Plan, IsCertified}
 use Rattle.pair_graph.specs.Pairs.{PairsView, moves_without, pairs_network}
 use Rattle.trip_model.specs.Plain.{AreMoves}
 

@@ -1,7 +1,8 @@
 ghost use Rattle.std.specs.Prelude.{◌≡◌, ◌+◌, ◌*◌, ◌≤◌, length};
-ghost use Rattle.deadhead_matrix.specs.Paths.{with_slot, IsAdded};
-ghost use Rattle.deadhead_matrix.specs.Prices.{IsCertified};
+ghost use Rattle.assignment_model.specs.Paths.{with_slot, IsAdded};
+ghost use Rattle.assignment_model.specs.Prices.{IsCertified};
 ghost use Rattle.pair_graph.specs.Pairs.{pairs_network};
+ghost use Rattle.price_repair.specs.Repaired.{plan_added};
 ghost use Rattle.price_repair.specs.Without.{IsCertifiedWithout};
 
 use crate::sides::{add_entering, add_leaving};
@@ -19,6 +20,7 @@ pub fn after_add<L: Ledger>(solver: &mut Solver, pairs: &Pairs<'_>, slot: u16, s
     ensures slots { length solver.new.next ≡ length pairs.now.moves }
     ensures certified { IsCertified (pairs_network pairs.now) solver.new }
     ensures added { IsAdded solver.old.next solver.new.next slot }
+    ensures plan { solver.new ≡ plan_added pairs.now slot solver.old }
     ensures counted { let n = length pairs.now.moves in steps.new ≤ steps.old + 2 * n * n + 2 * n }
 {
     let slots = pairs.slots();

@@ -1,7 +1,7 @@
 //! Laws of the definitions that the contracts cite. Each is the contract of a function that does nothing.
 ghost use Rattle.std.specs.Prelude.{◌≡◌, ℕ, ◌++◌, [], ◌∷◌, ◌<◌, true, false, length, None, Some};
 ghost use Rattle.deadhead_matrix.specs.Matrix.{MatrixView};
-ghost use Rattle.deadhead_matrix.specs.Prices.{Plan, IsCertified};
+ghost use Rattle.assignment_model.specs.Prices.{Plan, IsCertified};
 ghost use Rattle.deadhead_matrix.specs.Fitting.{network_of};
 ghost use Rattle.pair_graph.specs.Pairs.{pairs_of, pairs_network};
 ghost use Rattle.price_repair.specs.Without.{IsCertifiedWith, IsCertifiedWithout};

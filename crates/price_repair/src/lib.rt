@@ -10,8 +10,9 @@
 //!
 //! `plan_history` shows a use, in `src/history.rt`.
 //!
-//! The contracts cite `Without` (plans for pairs with a trip more or less), of `deadhead_matrix` `Prices` and `Paths`, and of
-//! `pair_graph` `Pairs`. `Cut` (the plan between a take and its searches) is for proofs alone.
+//! The contracts cite `Without` (plans for pairs with a trip more or less) and `Repaired` (plans after repairs, computed from the
+//! plan before). They cite `Prices` and `Paths` of `assignment_model`, and `Pairs` of `pair_graph`. `Cut` has the plan between a
+//! take and its searches.
 #![tactic(auto)]
 
 mod add;

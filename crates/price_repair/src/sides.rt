@@ -1,7 +1,8 @@
 ghost use Rattle.std.specs.Prelude.{◌≡◌, ◌+◌, ◌*◌, ◌≤◌, length, None};
-ghost use Rattle.deadhead_matrix.specs.Paths.{IsLeftFrom, IsRightFrom};
-ghost use Rattle.deadhead_matrix.specs.Prices.{IsCertified, IsLoose};
+ghost use Rattle.assignment_model.specs.Paths.{IsLeftFrom, IsRightFrom};
+ghost use Rattle.assignment_model.specs.Prices.{IsCertified, IsLoose};
 ghost use Rattle.pair_graph.specs.Pairs.{pairs_network};
+ghost use Rattle.price_repair.specs.Repaired.{left_added, right_added};
 
 use desk_io::Steps;
 use pair_graph::Pairs;
@@ -21,6 +22,7 @@ pub(crate) fn add_leaving<L: Ledger>(
     ensures slots { length solver.new.next ≡ length pairs.now.moves }
     ensures loose { IsLoose (pairs_network pairs.now) solver.new None b }
     ensures path { IsLeftFrom solver.old.next solver.new.next a }
+    ensures plan { solver.new ≡ left_added pairs.now a b solver.old }
     ensures counted { let n = length pairs.now.moves in steps.new ≤ steps.old + n * n + n }
 {
     if let Some(a) = a {
@@ -40,6 +42,7 @@ pub(crate) fn add_entering<L: Ledger>(
     ensures slots { length solver.new.next ≡ length pairs.now.moves }
     ensures certified { IsCertified (pairs_network pairs.now) solver.new }
     ensures path { IsRightFrom solver.old.next solver.new.next b }
+    ensures plan { solver.new ≡ right_added pairs.now b solver.old }
     ensures counted { let n = length pairs.now.moves in steps.new ≤ steps.old + n * n + n }
 {
     // Its clauses say that the network is one of one day, along which departures rise.

@@ -1,8 +1,9 @@
 ghost use Rattle.std.specs.Prelude.{◌≡◌, ◌+◌, ◌*◌, ◌<◌, ◌≤◌, length};
-ghost use Rattle.deadhead_matrix.specs.Paths.{IsTaken};
-ghost use Rattle.deadhead_matrix.specs.Prices.{IsCertified};
+ghost use Rattle.assignment_model.specs.Paths.{IsTaken};
+ghost use Rattle.assignment_model.specs.Prices.{IsCertified};
 ghost use Rattle.pair_graph.specs.Pairs.{pairs_network};
 ghost use Rattle.price_repair.specs.Cut.{plan_without};
+ghost use Rattle.price_repair.specs.Repaired.{plan_taken};
 ghost use Rattle.price_repair.specs.Without.{IsCertifiedWith};
 ghost use Rattle.trip_model.specs.Links.{before_of};
 
@@ -27,6 +28,7 @@ pub fn after_take<L: Ledger>(
     ensures slots { length solver.new.next ≡ length pairs.now.moves }
     ensures certified { IsCertified (pairs_network pairs.now) solver.new }
     ensures taken { IsTaken solver.old.next solver.new.next slot }
+    ensures plan { solver.new ≡ plan_taken pairs.now slot solver.old }
     ensures counted { let n = length pairs.now.moves in steps.new ≤ steps.old + 2 * n * n + 2 * n }
 {
     // Its clauses say that the network is one of one day, along which departures rise.

@@ -5,7 +5,7 @@ use Rattle.trip_model.specs.Blocking.{empty_minutes}
 use Rattle.trip_model.specs.Fleet.{deficit_sum}
 use Rattle.trip_model.specs.Timetable.{TimetableView}
 use Rattle.deadhead_matrix.specs.Matrix.{MatrixView}
-use Rattle.deadhead_matrix.specs.Prices.{Plan}
+use Rattle.assignment_model.specs.Prices.{Plan}
 use Rattle.deadhead_matrix.specs.Fitting.{network_of}
 use Rattle.claim_files.specs.Written.{IsAccepted}
 use Rattle.desk_run.specs.Commands.{Asked}

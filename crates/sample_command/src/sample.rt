@@ -52,7 +52,7 @@ impl Command for Sample {
         steps: &mut Steps<L>,
     ) -> Result<Outcome, Memory> {
         let read = read_sample(alloc, self.trips)?;
-        OnFeed(Summarize { trips: self.trips }).outcome(alloc, &read, steps)
+        OnFeed::of(Summarize { trips: self.trips }).outcome(alloc, &read, steps)
     }
 }
 

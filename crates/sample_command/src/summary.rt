@@ -10,16 +10,14 @@ ghost use Rattle.sample_command.specs.Summed.{IsSummedOf};
 use block_build::{Blocks, blocks_text, prices_text};
 use claim_files::laws::accepted_law;
 use claim_files::{ClaimFault, read_claimed};
-use deadhead_matrix::{Deadheads, Matrix, Pulls};
+use deadhead_matrix::Matrix;
 use deficit_steps::fixed_of;
-use desk_feed::{Edited, FEED_PAPERS, FeedCommand, after_script, matrix_of, putting_after};
+use desk_feed::{Edited, FeedCommand, Said, after_script, matrix_of, putting_after};
 use desk_io::{Bytes, Found, Memory, Steps, Text};
-use desk_run::{Outcome, Read};
-use desk_settings::Settings;
-use edit_script::Line;
+use desk_run::Outcome;
 use feed_names::laws::names_law;
 use feed_schedule::schedule_of;
-use gtfs_tables::{MOST_BYTES, Paper};
+use gtfs_tables::MOST_BYTES;
 use price_assign::Plan;
 use price_check::{Claimed, Verdict, check};
 use std::alloc::Global;
@@ -147,35 +145,13 @@ impl FeedCommand for Summarize {
 
     ghost asks = { λ c. summary_does c.trips };
 
-    fn papers(&self) -> &[Paper] {
-        &FEED_PAPERS
-    }
-
-    fn keeps(&self) -> bool {
-        false
-    }
-
-    fn outcome<L: Ledger>(
-        &self,
-        alloc: Global,
-        _read: &Read,
-        settings: &Settings,
-        timetable: Timetable,
-        deadheads: &Deadheads,
-        pulls: Pulls,
-        lines: &[Line],
-        steps: &mut Steps<L>,
-    ) -> Result<Outcome, Memory> {
+    fn outcome<L: Ledger>(&self, said: Said, steps: &mut Steps<L>) -> Result<Outcome, Memory> {
         names_law();
-        let matrix = matrix_of(alloc, &timetable, deadheads, pulls)?;
-        let edited = after_script(alloc, timetable, lines)?;
-        summed(
-            alloc,
-            self.trips,
-            settings.prefix(),
-            &edited,
-            &matrix,
-            steps,
-        )
+        let alloc = said.alloc;
+        let prefix = said.settings.prefix();
+        let pulls = said.pulls;
+        let matrix = matrix_of(alloc, &said.timetable, said.deadheads, pulls)?;
+        let edited = after_script(alloc, said.timetable, said.lines)?;
+        summed(alloc, self.trips, prefix, &edited, &matrix, steps)
     }
 }

@@ -1,3 +1,4 @@
 pub mod Counting
 pub mod Holding
 pub mod Sizes
+pub mod Untouched

@@ -1,4 +1,4 @@
-ghost use Rattle.std.specs.Prelude.{◌≡◌, ℕ, ◌+◌, ◌-◌, ◌*◌, ◌<◌, ◌≤◌, true, length, ℤ, pos, neg_ℤ, unsigned_abs, IfNone, IfSome, List};
+ghost use Rattle.std.specs.Prelude.{◌≡◌, ℕ, ◌+◌, ◌-◌, ◌*◌, ◌<◌, ◌≤◌, ◌⊎◌, true, false, length, ℤ, pos, neg_ℤ, unsigned_abs, IfNone, IfSome, List};
 ghost use Rattle.deficit_steps.specs.Holds.{Holds};
 ghost use Rattle.shift_moves.specs.Lowering.{IsFirst, IsLowering};
 ghost use Rattle.shift_moves.specs.Trial.{IsFirstInSlot, IsRoom, tried};
@@ -8,7 +8,7 @@ ghost use Rattle.trip_model.specs.Timetable.{slot_at};
 ghost use Rattle.trip_model.specs.Trip.{IsValidTrip};
 ghost use Rattle.trip_model.specs.declared.limits.TheConstants.{MOST_TOLERANCE};
 
-use crate::trial::is_lowering;
+use crate::trial::{Least, is_lowering, least_sizes};
 use deficit_steps::Deficits;
 use desk_io::Steps;
 use std::sync::ledger::Ledger;
@@ -56,12 +56,22 @@ fn later(size: u16) -> i16
     size as i16
 }
 
-// The lowering shift of the trip of a slot by so many minutes, earlier before later.
+// Whether a size is neither too small nor too great.
+fn lies_within(least: u16, size: u16, most: u16) -> bool
+    ensures within { result ≡ true → size ≤ most }
+    ensures without { result ≡ false → (size < least) ⊎ (most < size) }
+{
+    least <= size && size <= most
+}
+
+// The lowering shift of the trip of a slot by so many minutes, earlier before later. One that is too small to lower the sum is
+// not tried.
 fn shift_of_size<L: Ledger>(
     timetable: &Timetable,
     deficits: &mut Deficits,
     slot: u16,
     room: Room,
+    least: Least,
     size: u16,
     steps: &mut Steps<L>,
 ) -> Option<i16>
@@ -70,6 +80,8 @@ fn shift_of_size<L: Ledger>(
     requires slot { slot < length timetable.now.slots }
     requires live { (slot_at timetable.now slot).trip.live ≡ true }
     requires room { IsRoom (slot_at timetable.now slot).trip room.earlier room.later }
+    requires least_earlier { (n : ℕ) → n < least.earlier → ¬ IsLowering timetable.now slot (neg_ℤ (pos n)) }
+    requires least_later { (n : ℕ) → n < least.later → ¬ IsLowering timetable.now slot (pos n) }
     requires some { 0 < size }
     requires few { size ≤ 2 * MOST_TOLERANCE }
     ensures lowering { IfSome result (IsLowering timetable.now slot) }
@@ -82,12 +94,12 @@ fn shift_of_size<L: Ledger>(
         ≤ steps.old + 112 * tried room.earlier room.later size }
 {
     let by = earlier(size);
-    let may = size <= room.earlier;
+    let may = lies_within(least.earlier, size, room.earlier);
     if is_lowering(timetable, deficits, slot, by, may, steps) {
         return Some(by);
     }
     let by = later(size);
-    let may = size <= room.later;
+    let may = lies_within(least.later, size, room.later);
     if is_lowering(timetable, deficits, slot, by, may, steps) {
         return Some(by);
     }
@@ -114,8 +126,9 @@ fn shift_of_slot<L: Ledger>(
         return None;
     }
     let room = room_of(&trip);
-    for size in 1..room.earlier.max(room.later) + 1 {
-        if let Some(by) = shift_of_size(timetable, deficits, slot, room, size, steps) {
+    let least = least_sizes(timetable, deficits, slot);
+    for size in least.earlier.min(least.later).max(1)..room.earlier.max(room.later) + 1 {
+        if let Some(by) = shift_of_size(timetable, deficits, slot, room, least, size, steps) {
             return Some(by);
         }
     }
@@ -126,8 +139,9 @@ fn shift_of_slot<L: Ledger>(
 /// tolerances and not to before midnight. Shifts are ordered by slot, then by the number of minutes, and of one number earlier
 /// before later. None where there is none.
 ///
-/// Each shift is tried on the deficits and taken back, so that they are in the end what they were. That is four changes of at
-/// most 28 steps, for each number of minutes within two tolerances. It takes no memory.
+/// A shift is tried on the deficits and taken back, so that they are in the end what they were. That is four changes of at most
+/// 28 steps, for each number of minutes within two tolerances. A shift is not tried where it keeps the departure before the
+/// greatest deficit of its place, and the arrival after that of its own. It takes no memory.
 pub fn next_shift<L: Ledger>(
     timetable: &Timetable,
     deficits: &mut Deficits,

@@ -1,4 +1,4 @@
-ghost use Rattle.std.specs.Prelude.{◌≡◌, ◌≢◌, ℕ, ◌+◌, ◌<◌, ◌≤◌, true, false, List, ◌∷◌, ◌++◌, length, ℤ, pos, ◌<ℤ◌, ◌↔◌};
+ghost use Rattle.std.specs.Prelude.{◌≡◌, ◌≢◌, ℕ, ◌+◌, ◌<◌, ◌≤◌, true, false, List, ◌∷◌, ◌++◌, length, ℤ, pos, neg_ℤ, ◌<ℤ◌, ◌↔◌};
 ghost use Rattle.deficit_steps.specs.Changes.{IsDeficits, changes_of, value};
 ghost use Rattle.deficit_steps.specs.Holds.{Holds};
 ghost use Rattle.shift_moves.specs.Lowering.{IsLowering};
@@ -9,6 +9,7 @@ ghost use Rattle.trip_model.specs.Timetable.{slot_at};
 ghost use Rattle.trip_model.specs.Trip.{MayShift};
 ghost use Rattle.trip_model.specs.declared.trip.Move.{Move as ModelMove};
 ghost use Rattle.trip_model.specs.Fleet.{deficit_sum, with_shift};
+ghost use Rattle.trip_model.specs.declared.limits.TheConstants.{LAST_MINUTE};
 
 use deficit_steps::Deficits;
 use deficit_steps::laws::held_law;
@@ -99,7 +100,61 @@ fn lowers<L: Ledger>(
     after < before
 }
 
-// Whether the shift of the trip of a slot by so many minutes lowers the sum; `may` says whether it may be made at all.
+/// From how many minutes earlier on, and from how many later on, a shift of a trip can lower the sum.
+#[derive(Clone, Copy)]
+pub(crate) struct Least {
+    pub earlier: u16,
+    pub later: u16,
+}
+
+// From how many minutes earlier on an arrival falls at a minute or before it, where it was after that.
+fn least_earlier(arrives: u16, high: u16) -> u16
+    ensures { (size : ℕ) → size < result → arrives ≤ high + size → arrives ≤ high }
+{
+    if high < arrives {
+        arrives - high
+    } else {
+        u16::MAX
+    }
+}
+
+// From how many minutes later on a departure falls after a minute, where it was not after that.
+fn least_later(leaves: u16, high: u16) -> u16
+    requires { high ≤ LAST_MINUTE }
+    ensures { (size : ℕ) → size < result → leaves ≤ high → leaves + size ≤ high }
+{
+    if leaves <= high {
+        high - leaves + 1
+    } else {
+        u16::MAX
+    }
+}
+
+/// From how many minutes on a shift of the trip of a slot can lower the sum. A trip that leaves later lowers the deficit of its
+/// place in the minutes between. So these must have the first one of the greatest deficit. The same holds of the place where
+/// it arrives, if it arrives earlier.
+pub(crate) fn least_sizes(timetable: &Timetable, deficits: &Deficits, slot: u16) -> Least
+    requires held { Holds deficits.now (live_moves timetable.now.slots) }
+    requires rows { length deficits.now ≡ length timetable.now.places }
+    requires slot { slot < length timetable.now.slots }
+    requires live { (slot_at timetable.now slot).trip.live ≡ true }
+    ensures earlier { (size : ℕ) → size < result.earlier → ¬ IsLowering timetable.now slot (neg_ℤ (pos size)) }
+    ensures later { (size : ℕ) → size < result.later → ¬ IsLowering timetable.now slot (pos size) }
+{
+    held_law();
+    // Their clauses say that the timetable and the deficits are valid.
+    let _slots = timetable.slots();
+    let _places = deficits.places();
+    let stands = timetable.trip(slot).as_move();
+    let (_, left) = deficits.max(stands.from);
+    let (_, came) = deficits.max(stands.to);
+    Least {
+        earlier: least_earlier(stands.arrives, came),
+        later: least_later(stands.leaves, left),
+    }
+}
+
+// Whether the shift of the trip of a slot by so many minutes lowers the sum; `may` says whether it can at all.
 pub(crate) fn is_lowering<L: Ledger>(
     timetable: &Timetable,
     deficits: &mut Deficits,
@@ -114,7 +169,7 @@ pub(crate) fn is_lowering<L: Ledger>(
     requires live { (slot_at timetable.now slot).trip.live ≡ true }
     requires moved { by ≢ pos 0 }
     requires may { may ≡ true → MayShift (slot_at timetable.now slot).trip by }
-    requires may_not { may ≡ false → ¬ MayShift (slot_at timetable.now slot).trip by }
+    requires may_not { may ≡ false → ¬ IsLowering timetable.now slot by }
     ensures yes { result ≡ true → IsLowering timetable.now slot by }
     ensures no { result ≡ false → ¬ IsLowering timetable.now slot by }
     ensures unchanged { deficits.new ≡ deficits.old }

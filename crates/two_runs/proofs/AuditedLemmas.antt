@@ -45,14 +45,13 @@ use Rattle.desk_feed.specs.Feed.{FeedView, said_by, said_with, standing}
 use Rattle.desk_feed.specs.Judging.{Does, ending_of, refused_of}
 use Rattle.desk_feed.specs.Schedule.{IsScheduled}
 use Rattle.desk_feed.specs.Script.{ending_by, first_records}
-use Rattle.desk_feed.proofs.OneNetwork.{network-same}
+use Rattle.desk_feed.proofs.OneMatrix.{matrix-same}
 use Rattle.desk_feed.proofs.ScriptLemmas.{first-none, refused-none, some-none, standing-places}
 use Rattle.feed_desk.proofs.DrawnLemmas.{drawn-scheduled, drawn-valid}
 use Rattle.write_command.specs.Write.{IsWritten}
 use Rattle.audit_command.specs.Audit.{AuditsBy, AuditsOf, IsAudited, IsCosted, IsJudged}
 use Rattle.audit_command.specs.Lines.{above_line, cost_line, costs_text}
 use Rattle.two_runs.specs.Audited.{IsWholeAfter, least_text}
-use Rattle.two_runs.proofs.ConfirmedLemmas.{MakesMoves}
 use Rattle.two_runs.proofs.DeadheadsOver.{with_slots}
 
 -- the text of the cost of blocks that are least, beside that of least ones
@@ -93,7 +92,7 @@ stated-plan states settings trips_bytes stop_times_bytes trips stop_times read n
     states settings trips_bytes stop_times_bytes trips stop_times read now matrix next settings.prefix feed valid whole readable least table again table_read base_read)
 
 -- A feed whose timetable was read, between the places of another that knows more, and what was written of it after its script.
-module _ (states : WrittenFeedStatesPlan) (makes : MakesMoves) (settings : SettingsView) (read more : TimetableView) (entries : List Entry) (pulls : List Pull) (lines : List Line) (trips_bytes stop_times_bytes : List ℕ) (trips stop_times : TableView) (outcome : OutcomeView)
+module _ (states : WrittenFeedStatesPlan) (settings : SettingsView) (read more : TimetableView) (entries : List Entry) (pulls : List Pull) (lines : List Line) (trips_bytes stop_times_bytes : List ℕ) (trips stop_times : TableView) (outcome : OutcomeView)
     (feed : IsFeed settings trips_bytes stop_times_bytes trips stop_times read)
     (written : IsWritten (said_with settings (with_slots read.slots more) entries pulls lines) trips stop_times outcome)
     (whole : IsWholeAfter (said_with settings (with_slots read.slots more) entries pulls lines) stop_times) where
@@ -139,10 +138,6 @@ module _ (states : WrittenFeedStatesPlan) (makes : MakesMoves) (settings : Setti
   same_moves : trip_moves again.slots ≡ trip_moves now.slots
   same_moves = same-moves read now (of-feed settings (File trips_bytes) (File stop_times_bytes) read feed.read).runs is_whole
 
-  moves : AreMoves (length more.places) (trip_moves again.slots)
-  moves = subst (AreMoves (length more.places)) (sym same_moves)
-      (subst (λ places. AreMoves (length places) (trip_moves now.slots)) (standing-places said.base lines (length lines)) (makes now valid))
-
   -- no script, no change
   standing_again : standing said_again ≡ base_again
   standing_again = ap (λ records. timetable_at base_again (machine base_again records)) (first-none [])
@@ -183,7 +178,7 @@ module _ (states : WrittenFeedStatesPlan) (makes : MakesMoves) (settings : Setti
         let chosen = chosen_in settings table in
         let stated = stated_in table base_again chosen in
         let network : network_of base_again written.matrix ≡ network_of base_again audited.matrix =
-        network-same entries pulls (length more.places) written.matrix audited.matrix written.matrix_is audited.matrix_is (trip_moves again.slots) moves in
+        ap (network_of base_again) (matrix-same entries pulls (length more.places) written.matrix audited.matrix written.matrix_is audited.matrix_is) in
         let least = subst (λ network. IsLeast network (slots_by stated)) network plan.stated.least in
         let quiet =
         subst (λ (t : TimetableView). IsJudged (refused_of said_again) (ending_of said_again) t audited.matrix (stated_in table t chosen) (misfits_in t audited.matrix (stated_in table t chosen)) audit) standing_again audited.judged in

@@ -17,11 +17,10 @@ use Rattle.feed_read.specs.Base.{base_of}
 use Rattle.deadhead_matrix.specs.Deadheads.{deadheads_of}
 use Rattle.deadhead_matrix.specs.Depot.{pulls_of}
 use Rattle.deadhead_matrix.specs.Matrix.{MatrixView}
-use Rattle.deadhead_matrix.specs.Prices.{Plan}
+use Rattle.assignment_model.specs.Prices.{Plan}
 use Rattle.block_build.specs.Files.{blocks_text, prices_text}
 use Rattle.claim_files.specs.Claims.{claimed_of}
 use Rattle.claim_files.specs.Written.{IsAccepted}
-use Rattle.trip_model.specs.Plain.{trip_moves, AreMoves}
 use Rattle.trip_model.specs.Timetable.{TimetableView, IsTimetable}
 use Rattle.desk_run.specs.Becomes.{with_writings}
 use Rattle.desk_run.specs.Commands.{IsGiven}
@@ -39,9 +38,9 @@ use Rattle.blocks_command.specs.Answers.{answer_text}
 use Rattle.blocks_command.specs.Blocks.{IsPlan, blocks_asked}
 use Rattle.desk_feed.specs.Feed.{FeedView, feed_papers, kept_on, lines_by, said_by, said_with, standing}
 use Rattle.desk_feed.specs.Judging.{Does, refused_of, said_in}
-use Rattle.plan_commands.specs.Check.{IsChecked, check_asked, claim_in, claim_outcome, claim_papers, verdict_outcome, yes_line}
+use Rattle.plan_commands.specs.Check.{IsChecked, check_asked, checked, claim_in, claim_outcome, claim_papers, verdict_outcome, yes_line}
 use Rattle.desk_feed.proofs.ScriptLemmas.{standing-places}
-use Rattle.plan_commands.proofs.ScheduleLemmas.{outcome-same}
+use Rattle.desk_feed.proofs.OneMatrix.{matrix-same}
 use Rattle.two_runs.specs.Confirmed.{IsConfirmed, IsShort, StandAgain}
 use Rattle.two_runs.proofs.TwoFiles.{first-stands, found-short, is_name, others-stand, second-stands, with_two, with_two_told}
 
@@ -98,11 +97,7 @@ planned_said read outcome given low = by (said_in read) refl given.gives
 abbrev with_texts : List ℕ → List ℕ → Option Files → Option Files
 with_texts blocks prices = with_two_told (file_name_of paper.Blocks) blocks (file_name_of paper.Prices) prices
 
--- what is needed of the laws
-abbrev pub MakesMoves : Type 0
-MakesMoves = (timetable : TimetableView) → IsTimetable timetable → AreMoves (length timetable.places) (trip_moves timetable.slots)
-
-module _ (makes : MakesMoves) (seen again : Option ReadView) (before left later after : World) (first second : ℕ) (one : HasEnded blocks_asked seen before left first) (two : HasEnded check_asked again later after second) (all : first ≤ EDITS_REFUSED) where
+module _ (seen again : Option ReadView) (before left later after : World) (first second : ℕ) (one : HasEnded blocks_asked seen before left first) (two : HasEnded check_asked again later after second) (all : first ≤ EDITS_REFUSED) where
   abbrev planned : (said : FeedView) × (said_in one.chosen.read ≡ Ok said) × IsPlan said one.chosen.outcome
   planned = planned_said one.chosen.read one.chosen.outcome one.chosen.given (omega (arith, all, one.answered))
 
@@ -165,13 +160,10 @@ module _ (makes : MakesMoves) (seen again : Option ReadView) (before left later 
     abbrev minutes : ℕ
     minutes = minutes_in (standing said) plan.matrix last_plan
 
-    moves : AreMoves (length said.base.places) (trip_moves (standing said).slots)
-    moves = subst (λ places. AreMoves (length places) (trip_moves (standing said).slots)) (standing-places said.base said.lines (length said.lines)) (makes (standing said) last_planned.valid)
-
     yes : two.chosen.outcome ≡ putting (refused_of said ++ yes_line vehicles minutes) ending.Done
     yes =
         judged.done
-        ∙ outcome-same said.entries said.pulls (length said.base.places) judged.matrix plan.matrix judged.matrix_is plan.matrix_is (refused_of said) (standing said) moves (claim_in two.chosen.read said)
+        ∙ ap (checked two.chosen.read said) (matrix-same said.entries said.pulls (length said.base.places) judged.matrix plan.matrix judged.matrix_is plan.matrix_is)
         ∙ ap (claim_outcome (refused_of said) (standing said) plan.matrix) claim
         ∙ ap (verdict_outcome (refused_of said) (standing said) accepted.0) accepted.2
 

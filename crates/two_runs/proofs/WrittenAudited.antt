@@ -30,7 +30,6 @@ use Rattle.write_command.specs.Write.{IsWritten, stop_times_in, stop_times_name,
 use Rattle.audit_command.specs.Audit.{AuditsBy, audit_asked}
 use Rattle.two_runs.specs.Audited.{CanBeAudited, FindsLeast, IsLaid, IsReadable, IsWholeAfter}
 use Rattle.two_runs.proofs.AuditedLemmas.{TellsLeast, finds-least, read_again, table_again}
-use Rattle.two_runs.proofs.ConfirmedLemmas.{MakesMoves}
 use Rattle.two_runs.proofs.LaidLemmas.{HasParts, HasWritten, file-of, found-fits, has-parts, is-table, laid-alike, says-again, stop_times-stand, trips-stand, with_both, with_texts, written-files, written-said}
 use Rattle.two_runs.proofs.TwoFiles.{found-short}
 
@@ -42,7 +41,7 @@ found-readable files name bytes stands is =
 unmarked : (files : Files) (name bytes : List ℕ) → get files name ≡ Some bytes → IsReadable files name → strip_bom bytes ≡ bytes
 unmarked files name bytes stands is = subst (λ stands. IfSome stands (λ bytes. strip_bom bytes ≡ bytes)) stands is.unmarked
 
-module _ (states : WrittenFeedStatesPlan) (makes : MakesMoves) (files laid : Files) (first second : TableView) (outcome audit : OutcomeView) where
+module _ (states : WrittenFeedStatesPlan) (files laid : Files) (first second : TableView) (outcome audit : OutcomeView) where
   abbrev before : Paper → Found
   before = found_of (pages_in feed_papers files)
 
@@ -82,9 +81,9 @@ module _ (states : WrittenFeedStatesPlan) (makes : MakesMoves) (files laid : Fil
       let stop_times_unmarked = unmarked both stop_times_name stop_times_text stop_times_stand stop_times_readable in
       let trips_found : after paper.Trips ≡ File trips_text = ap (found_as MOST_BYTES) is.trips ∙ found-readable both trips_name trips_text trips_stand trips_readable in
       let stop_times_found : after paper.StopTimes ≡ File stop_times_text = ap (found_as MOST_BYTES) is.stop_times ∙ found-readable both stop_times_name stop_times_text stop_times_stand stop_times_readable in
-      let read = read_again states makes parts.settings parts.read parts.more parts.entries parts.pulls parts.lines trips.bytes stop_times.bytes first second outcome feed written whole trips_unmarked stop_times_unmarked in
-      let table = table_again states makes parts.settings parts.read parts.more parts.entries parts.pulls parts.lines trips.bytes stop_times.bytes first second outcome feed written whole trips_unmarked stop_times_unmarked in
-      finds-least states makes parts.settings parts.read parts.more parts.entries parts.pulls parts.lines trips.bytes stop_times.bytes first second outcome feed written whole trips_unmarked stop_times_unmarked after
+      let read = read_again states parts.settings parts.read parts.more parts.entries parts.pulls parts.lines trips.bytes stop_times.bytes first second outcome feed written whole trips_unmarked stop_times_unmarked in
+      let table = table_again states parts.settings parts.read parts.more parts.entries parts.pulls parts.lines trips.bytes stop_times.bytes first second outcome feed written whole trips_unmarked stop_times_unmarked in
+      finds-least states parts.settings parts.read parts.more parts.entries parts.pulls parts.lines trips.bytes stop_times.bytes first second outcome feed written whole trips_unmarked stop_times_unmarked after
       (says-again after before said (laid-alike files trips_text stop_times_text laid is) parts _ ((λ i. base_of parts.settings (trips_found i) (stop_times_found i)) ∙ read) refl (ap (found_as MOST_BYTES) is.edits))
       (ap (table_in paper.Trips) trips_found ∙ ap (or_refused paper.Trips) table)
       audit does
@@ -94,7 +93,7 @@ module _ (states : WrittenFeedStatesPlan) (makes : MakesMoves) (files laid : Fil
       let parts = has-parts before said says in
       subst TellsOf (sym parts.said_is) (tells-parts said parts first_is second_is)
 
-module _ (states : WrittenFeedStatesPlan) (makes : MakesMoves) (seen heard : Option ReadView) (before middle again after : World) (first second : ℕ) (one : HasEnded write_asked seen before middle first) (two : HasEnded audit_asked heard again after second) (all : first ≤ EDITS_REFUSED) where
+module _ (states : WrittenFeedStatesPlan) (seen heard : Option ReadView) (before middle again after : World) (first second : ℕ) (one : HasEnded write_asked seen before middle first) (two : HasEnded audit_asked heard again after second) (all : first ≤ EDITS_REFUSED) where
   abbrev said : (said : FeedView) × (said_in one.chosen.read ≡ Ok said) × HasWritten said (trips_in one.chosen.read) (stop_times_in one.chosen.read) one.chosen.outcome
   said = written-said one.chosen.read one.chosen.outcome one.chosen.given (omega (arith, all, one.answered))
 
@@ -134,7 +133,7 @@ module _ (states : WrittenFeedStatesPlan) (makes : MakesMoves) (seen heard : Opt
         let first_is = sym (ap (λ pages. table_in paper.Trips (found_of pages paper.Trips)) read_first) ∙ has.first_is in
         let second_is = sym (ap (λ pages. table_in paper.StopTimes (found_of pages paper.StopTimes)) read_first) ∙ has.second_is in
         let told =
-        tells states makes files laid has.first has.second one.chosen.outcome two.chosen.outcome said.0 says first_is second_is has.written (can.whole said.0 has.second says second_is)
+        tells states files laid has.first has.second one.chosen.outcome two.chosen.outcome said.0 says first_is second_is has.written (can.whole said.0 has.second says second_is)
         (subst (λ written. IsLaid written laid) both is) (subst (λ written. IsReadable written trips_name) both can.trips) (subst (λ written. IsReadable written stop_times_name) both can.stop_times) audited in
         record {
           vehicles = told.vehicles;

@@ -6,7 +6,6 @@ use desk_io::{Shelf, Sink, Steps};
 use desk_keeper::Keeper;
 use std::alloc::Global;
 use std::sync::ledger::Ledger;
-use trip_model::laws::plain_law;
 use write_command::run_write;
 use written_laws::laws::plan_law;
 
@@ -26,7 +25,6 @@ pub fn run_write_and_audit<S: Shelf, A: Shelf, O: Sink, K: Keeper, L: Ledger>(
         WritesAndAudits (before shelf.old out.old keeper.old) (S.state shelf.new) (S.history shelf.new) (A.state laid.old) (A.history laid.old) (after laid.new out.new keeper.new)
         result.0 result.1 steps.old steps.new }
 {
-    plain_law();
     plan_law();
     let first = run_write(alloc, shelf, out, keeper, steps);
     let second = run_audit(alloc, laid, out, keeper, steps);

@@ -11,16 +11,13 @@ use desk_keeper::Keeper;
 use plan_commands::run_check;
 use std::alloc::Global;
 use std::sync::ledger::Ledger;
-use trip_model::laws::plain_law;
 
 /// A law: a `check` says yes to what `blocks` wrote, with the same vehicles and empty minutes. It may run at any later time, on
 /// another shelf, with another sink. Each paper that it reads has to be as `blocks` left it.
 pub fn later_law()
     ensures { (before left later after : Outside) (first second n m k l : ℕ) → Performs blocks_asked before left first n m
         → Performs check_asked later after second k l → Confirms before.world left.world later.world after.world first second }
-{
-    plain_law();
-}
+{}
 
 /// `blocks`, and then `check` over the same shelf, which confirms it. It answers both statuses.
 pub fn run_blocks_and_check<S: Shelf, O: Sink, K: Keeper, L: Ledger>(

@@ -15,7 +15,7 @@ use Rattle.desk_settings.specs.Settings.{SettingsView, is_classed}
 use Rattle.trip_model.specs.Timetable.{TimetableView}
 use Rattle.feed_read.specs.Base.{base_of}
 use Rattle.deadhead_matrix.specs.Matrix.{MatrixView}
-use Rattle.deadhead_matrix.specs.Prices.{Plan}
+use Rattle.assignment_model.specs.Prices.{Plan}
 use Rattle.block_writer.specs.StopTimes.{stop_time_columns, stop_times_written}
 use Rattle.block_writer.specs.Texts.{AreTexts, IsRefusedPaper, IsTextPaper}
 use Rattle.block_writer.specs.Trips.{trips_written}

@@ -1,24 +1,22 @@
 ghost use Rattle.std.specs.Prelude.{◌≡◌, ◌+◌, ◌<◌, ◌≤◌, length, All, IfOk};
 ghost use Rattle.block_writer.specs.Texts.{AreTexts};
-ghost use Rattle.desk_feed.specs.Feed.{HasPapers, said_with};
-ghost use Rattle.desk_feed.specs.Schedule.{most_steps};
+ghost use Rattle.desk_feed.specs.Commands.{said_to};
+ghost use Rattle.desk_feed.specs.Feed.{HasPapers};
 ghost use Rattle.desk_feed.specs.Script.{IsScript};
 ghost use Rattle.desk_run.specs.Outside.{outside};
 ghost use Rattle.desk_run.specs.Performs.{Performs};
-ghost use Rattle.feed_desk.specs.Plans.{most_to};
+ghost use Rattle.feed_desk.specs.Plans.{most_steps_of};
 ghost use Rattle.write_command.specs.Write.{Writes, files_of, stop_times_in, trips_in, write_asked};
 ghost use Rattle.write_command.specs.Writable.{IsWritable, IsWrittenOf};
 
 use crate::judging::trip_columns;
 use block_build::Blocks;
 use block_writer::{read_texts, stop_times_text, trips_text};
-use deadhead_matrix::{Deadheads, Pulls};
-use desk_feed::{FEED_PAPERS, FeedCommand, OnFeed, matrix_of, refuse};
+use desk_feed::{FeedCommand, OnFeed, Said, matrix_of, refuse};
 use desk_io::{Bytes, Memory, Shelf, Sink, Steps, Text};
 use desk_keeper::Keeper;
 use desk_run::{Outcome, Read, Writing, perform};
 use desk_settings::{Settings, chosen_in};
-use edit_script::Line;
 use feed_desk::{Drawn, draw_after};
 use gtfs_tables::{FeedFault, Paper, Table};
 use std::alloc::Global;
@@ -110,29 +108,24 @@ fn written(
 }
 
 // What is written and put of what a feed says.
-fn written_of<L: Ledger>(
-    alloc: Global,
-    read: &Read,
-    settings: &Settings,
-    timetable: Timetable,
-    deadheads: &Deadheads,
-    pulls: Pulls,
-    lines: &[Line],
-    steps: &mut Steps<L>,
-) -> Result<Outcome, Memory>
-    requires papers { HasPapers read.now.pages }
-    requires pulls { length pulls ≡ length timetable.places }
-    requires script { IsScript lines.now }
-    ensures writes { IfOk result (Writes read.now (said_with settings.now timetable deadheads.now pulls lines.now)) }
-    ensures counted { steps.new ≤ steps.old + (most_steps (length timetable.slots) + most_to timetable lines.now (length lines.now)) }
+fn written_of<L: Ledger>(said: Said, steps: &mut Steps<L>) -> Result<Outcome, Memory>
+    requires papers { HasPapers said.read.now.pages }
+    requires pulls { length said.pulls ≡ length said.timetable.places }
+    requires script { IsScript said.lines.now }
+    ensures writes { IfOk result (Writes said.entry.read.now (said_to said.entry)) }
+    ensures counted { steps.new ≤ steps.old + most_steps_of (said_to said.entry) }
 {
-    let slots = timetable.slots();
-    let matrix = matrix_of(alloc, &timetable, deadheads, pulls)?;
-    let drawn = draw_after(alloc, timetable, lines, matrix, steps)?;
+    let slots = said.timetable.slots();
+    let alloc = said.alloc;
+    let pulls = said.pulls;
+    let matrix = matrix_of(alloc, &said.timetable, said.deadheads, pulls)?;
+    let drawn = draw_after(alloc, said.timetable, said.lines, matrix, steps)?;
     let stands = drawn.desk.timetable();
-    match writable_of(alloc, settings, read, stands, slots)? {
+    match writable_of(alloc, said.settings, said.read, stands, slots)? {
         Writable::Refused(outcome) => Ok(outcome),
-        Writable::Texts(trips, stop_times) => written(alloc, settings, &drawn, &trips, stop_times),
+        Writable::Texts(trips, stop_times) => {
+            written(alloc, said.settings, &drawn, &trips, stop_times)
+        }
     }
 }
 
@@ -144,28 +137,8 @@ impl FeedCommand for WriteFeed {
 
     ghost asks = { λ _. write_does };
 
-    fn papers(&self) -> &[Paper] {
-        &FEED_PAPERS
-    }
-
-    fn keeps(&self) -> bool {
-        false
-    }
-
-    fn outcome<L: Ledger>(
-        &self,
-        alloc: Global,
-        read: &Read,
-        settings: &Settings,
-        timetable: Timetable,
-        deadheads: &Deadheads,
-        pulls: Pulls,
-        lines: &[Line],
-        steps: &mut Steps<L>,
-    ) -> Result<Outcome, Memory> {
-        written_of(
-            alloc, read, settings, timetable, deadheads, pulls, lines, steps,
-        )
+    fn outcome<L: Ledger>(&self, said: Said, steps: &mut Steps<L>) -> Result<Outcome, Memory> {
+        written_of(said, steps)
     }
 }
 
@@ -182,5 +155,5 @@ pub fn run_write<S: Shelf, O: Sink, K: Keeper, L: Ledger>(
     ensures { let at = outside S.state S.history O.state O.history K.state K.history in
         Performs write_asked (at shelf.old out.old keeper.old) (at shelf.new out.new keeper.new) result steps.old steps.new }
 {
-    perform(&OnFeed(WriteFeed), alloc, shelf, out, keeper, steps)
+    perform(&OnFeed::of(WriteFeed), alloc, shelf, out, keeper, steps)
 }

@@ -1,5 +1,5 @@
 use Rattle.std.proofs.Common.{sym, ap, subst, ◌∙◌}
-use Rattle.deadhead_matrix.specs.Prices.{Plan}
+use Rattle.assignment_model.specs.Prices.{Plan}
 use Rattle.trip_model.specs.Links.{AreLinks}
 use Rattle.trip_model.specs.Plain.{timely_network, trip_moves}
 use Rattle.desk_feed.proofs.TimelyLinks.{timely-links}

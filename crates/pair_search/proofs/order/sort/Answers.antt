@@ -1,6 +1,7 @@
 use Rattle.std.proofs.Common.{◌≡◌, ℕ, ◌<◌, length, refl, sym, subst, arith}
 use Rattle.pair_search.specs.Order.{slot_at, place_of}
 use Rattle.pair_search.proofs.OrderLemmas.{AreColumns-own, AreColumns-listed, AreColumns-sorted, IsOrder-sorted}
+use Rattle.pair_search.proofs.ArrangedLemmas.{AreInOrder-sorted}
 use Rattle.pair_search.proofs.order.sort.Goals as goal
 
 pub number_places-requires-clause-within : goal.number_places-requires-clause-within
@@ -13,10 +14,16 @@ number_places-requires-clause-apart c =
     let are = AreColumns-sorted (length c.args.columns.now) _ _ c.args.columns.now c.sort_unstable.new.self c.sort_unstable.ensures.permutation (AreColumns-own c.args.columns.now c.requires.slots) in
     subst (λ m. (h k : ℕ) → h < m → k < m → slot_at m c.sort_unstable.new.self h ≡ slot_at m c.sort_unstable.new.self k → h ≡ k) (sym c.requires.places) are.apart
 
-pub returns : goal.returns
-returns c = λ minute post minutes posts.
+pub returns-clause-numbered : goal.returns-clause-numbered
+returns-clause-numbered c = λ minute post minutes posts.
     let n = length c.args.columns.now in
     IsOrder-sorted n minute post c.sort_unstable.new.self c.number_places.new.places
     (AreColumns-sorted n minute post c.args.columns.now c.sort_unstable.new.self c.sort_unstable.ensures.permutation (AreColumns-listed n minute post c.args.columns.now refl c.requires.slots minutes posts))
     (omega (arith, c.number_places.auto.places, c.requires.places))
     (subst (λ m. (k : ℕ) → k < m → place_of m c.number_places.new.places (slot_at m c.sort_unstable.new.self k) ≡ k) c.requires.places c.number_places.ensures)
+
+pub returns-clause-sorted : goal.returns-clause-sorted
+returns-clause-sorted c =
+    let n = length c.args.columns.now in
+    let are = AreColumns-sorted n _ _ c.args.columns.now c.sort_unstable.new.self c.sort_unstable.ensures.permutation (AreColumns-own c.args.columns.now c.requires.slots) in
+    AreInOrder-sorted n c.sort_unstable.new.self are.count are.apart c.sort_unstable.ensures.sorted

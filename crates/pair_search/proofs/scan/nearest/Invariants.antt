@@ -12,5 +12,6 @@ invariant-loop-group l = record {
   low : l.best.distance ≤ l.bound;
   least : (j : ℕ) → j < begins (side_slots l.side) l.side.count l.side.groups l.group → is_done l.done j ≡ false → l.best.distance ≤ at l.dist j;
   some : IfSome l.best.column (λ j. (j < length l.dist) × (is_done l.done j ≡ false) × (at l.dist j ≡ l.best.distance) × (l.best.distance < l.bound));
+  ahead : IfSome l.best.column (λ j. (h : ℕ) → h < j → is_done l.done h ≡ false → l.best.distance < at l.dist h);
   none : IfNone l.best.column (l.best.distance ≡ l.bound);
 }

@@ -1,9 +1,15 @@
-use Rattle.std.proofs.Common.{◌≡◌, ℕ, ◌+◌, ◌-◌, None, subst, arith}
+use Rattle.std.proofs.Common.{◌≡◌, ℕ, ◌+◌, ◌-◌, ◌≤◌, ◌∙◌, List, drop, get_or, None, sym, ap, subst, arith}
+use Rattle.std.proofs.lemmas.List.{drop_all, get_or_default}
+use Rattle.pair_search.specs.Arranged.{slots_of, bare}
 use Rattle.pair_search.specs.Assignment.{IsMatched, Covers}
-use Rattle.pair_search.specs.Order.{stands_before}
+use Rattle.pair_search.specs.Determined.{found, found_each}
+use Rattle.pair_search.specs.Order.{no_column, slot_at, stands_before}
 use Rattle.pair_search.specs.Side.{side_slots, place_weight}
 use Rattle.pair_search.specs.declared.order.Column.{Column}
 use Rattle.pair_search.proofs.AddLemmas.{IsMatched-none, IsMatched-all, MayBegin-added, covers-none, Covers-all}
+use Rattle.pair_search.proofs.ArrangedLemmas.{slots-length, slots-at}
+use Rattle.pair_search.proofs.LentLemmas.{plan-same}
+use Rattle.pair_search.proofs.PlacedLemmas.{found_each-more}
 use Rattle.pair_search.proofs.search.link_rows.Goals as goal
 
 pub loop-added-init : goal.loop-added-init
@@ -19,6 +25,9 @@ loop-added-init g c =
           IsMatched-none (place_weight side) n (stands_before turn (n - 0)) c.args.next.now c.args.leave.now c.args.enter.now c.requires.next c.requires.leave c.requires.enter;
       covers = subst (λ m. Covers (place_weight side) (stands_before turn m) None c.args.leave.now c.args.enter.now) all
           (covers-none (place_weight side) n turn c.args.leave.now c.args.enter.now c.requires.sound c.requires.renaming.1.place_within);
+      plan = plan-same (found_each (place_weight side) (drop (n - 0) (slots_of c.args.departures.now)) (bare n)) _ c.args.next.now _ c.args.leave.now _ c.args.enter.now
+          c.requires.next c.requires.leave c.requires.enter
+          (sym (ap (λ rows. found_each (place_weight side) rows (bare n)) (drop_all (n - 0) (slots_of c.args.departures.now) (omega (arith, slots-length c.args.departures.now, c.requires.all)))));
       counted = omega arith;
     }
 
@@ -42,11 +51,24 @@ loop-added-preserved g c =
     MayBegin-added (place_weight side) (side_slots side) c.args.departures.now none loop.invariant.turn loop.added (c.slots-slots.result - 1 - loop.added) loop.next loop.leave loop.enter
     c.requires.all loop.invariant.renaming (omega (arith, c.loop-added-test.true, c.slots-slots.ensures.count)) loop.invariant.matched loop.invariant.covers in
     let done = c.search.ensures in
+    let n = side_slots side in
+    let w = place_weight side in
+    let rows : List ℕ = slots_of c.args.departures.now in
+    let last = n - (loop.added + 1) in
+    let below : loop.added + 1 ≤ n = omega (arith, c.loop-added-test.true, c.slots-slots.ensures.count) in
+    let read = c.slots-slots.result - 1 - loop.added in
+    let row : get_or rows last n ≡ (get_or c.args.departures.now read none).slot =
+    slots-at n c.args.departures.now last
+    ∙ ap (slot_at n c.args.departures.now) (omega (arith, below, c.slots-slots.ensures.count))
+    ∙ ap (λ (x : Column). x.slot) (get_or_default c.args.departures.now read (no_column n) none (omega (arith, below, c.slots-slots.ensures.count, c.requires.all))) in
     record {
       turn = loop.invariant.turn;
       renaming = loop.invariant.renaming;
       matched = done.matched (stands_before loop.invariant.turn (side_slots side - (loop.added + 1))) None begins;
       covers = done.covers (stands_before loop.invariant.turn (side_slots side - (loop.added + 1))) None begins;
+      plan = done.plan
+          ∙ ap (found w _) (loop.invariant.plan ∙ ap (λ k. found_each w (drop k rows) (bare n)) (omega (arith, below)))
+          ∙ found_each-more w rows (bare n) last _ n (omega (arith, below, slots-length c.args.departures.now, c.requires.all)) row;
       counted = omega (arith, done.counted, loop.invariant.counted);
     }
 
@@ -65,3 +87,10 @@ returns-clause-covers g c =
     let none : side_slots side - loop.added ≡ 0 = omega (arith, c.loop-added-test.false, c.slots-slots.ensures.count) in
     Covers-all (place_weight side) loop.invariant.turn loop.leave loop.enter
     (subst (λ m. Covers (place_weight side) (stands_before loop.invariant.turn m) None loop.leave loop.enter) none loop.invariant.covers)
+
+pub returns-clause-plan : goal.returns-clause-plan
+returns-clause-plan g c =
+    let side = c.args.side.now in
+    let loop = c.loop-added in
+    let none : side_slots side - loop.added ≡ 0 = omega (arith, c.loop-added-test.false, c.slots-slots.ensures.count) in
+    loop.invariant.plan ∙ ap (λ k. found_each (place_weight side) (drop k (slots_of c.args.departures.now)) (bare (side_slots side))) none

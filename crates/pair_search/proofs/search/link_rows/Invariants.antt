@@ -1,5 +1,8 @@
-use Rattle.std.proofs.Common.{ℕ, ◌+◌, ◌-◌, ◌*◌, ◌≤◌, None}
+use Rattle.std.proofs.Common.{◌≡◌, ℕ, ◌+◌, ◌-◌, ◌*◌, ◌≤◌, drop, None}
+use Rattle.assignment_model.specs.Prices.{Plan}
+use Rattle.pair_search.specs.Arranged.{slots_of, bare}
 use Rattle.pair_search.specs.Assignment.{IsMatched, Covers}
+use Rattle.pair_search.specs.Determined.{found_each}
 use Rattle.pair_search.specs.Order.{slot_at, stands_before, IsRenaming}
 use Rattle.pair_search.specs.Side.{side_slots, place_weight}
 use Rattle.pair_search.proofs.search.link_rows.Given as goal
@@ -10,5 +13,7 @@ invariant-loop-added g l = record {
   renaming : IsRenaming (side_slots l.side) (slot_at (side_slots l.side) l.departures) turn;
   matched : IsMatched (place_weight l.side) (stands_before turn (side_slots l.side - l.added)) None None l.next l.leave l.enter;
   covers : Covers (place_weight l.side) (stands_before turn (side_slots l.side - l.added)) None l.leave l.enter;
+  plan : ◌≡◌ {A = Plan} (record { next = l.next; leave = l.leave; enter = l.enter })
+      (found_each (place_weight l.side) (drop (side_slots l.side - l.added) (slots_of l.departures)) (bare (side_slots l.side)));
   counted : l.steps ≤ l.initial.steps + l.added * (side_slots l.side * side_slots l.side + side_slots l.side);
 }

@@ -1,6 +1,6 @@
 use Rattle.std.proofs.Common.{◌≡◌, ℕ, sym, ap, subst, List, length, ◌∙◌}
 use Rattle.std.specs.List.{All}
-use Rattle.deadhead_matrix.specs.Prices.{Plan}
+use Rattle.assignment_model.specs.Prices.{Plan}
 use Rattle.plan_history.specs.Items.{redone_by, HasRoomFor, stood_after}
 use Rattle.plan_history.specs.declared.stand.Changed.{Changed}
 use Rattle.plan_history.proofs.ItemLemmas.{RoomFor-after}

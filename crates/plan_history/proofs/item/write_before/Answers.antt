@@ -1,5 +1,5 @@
 use Rattle.std.proofs.Common.{ap, length, arith, ◌∙◌, ◌≡◌, take, ◌+◌}
-use Rattle.deadhead_matrix.specs.Prices.{Plan}
+use Rattle.assignment_model.specs.Prices.{Plan}
 use Rattle.plan_history.specs.Items.{written, stood_before}
 use Rattle.plan_history.proofs.WriteLemmas.{written_next, length-written}
 use Rattle.plan_history.proofs.item.write_before.Goals as goal

@@ -1,7 +1,7 @@
 use Rattle.std.proofs.Common.{◌≡◌, ℕ, ◌∙◌, sym, ap, subst, set, Option, None, Some, List}
 use Rattle.std.proofs.lemmas.List.{map-set, set-set}
 use Rattle.deadhead_matrix.specs.Matrix.{MatrixView}
-use Rattle.deadhead_matrix.specs.Prices.{IsCertified}
+use Rattle.assignment_model.specs.Prices.{IsCertified}
 use Rattle.pair_graph.specs.Pairs.{PairsView, pairs_of, pairs_network}
 use Rattle.price_repair.specs.Without.{IsCertifiedWith}
 use Rattle.trip_model.specs.Plain.{trip_moves, move_of_slot}

@@ -1,7 +1,7 @@
 use Rattle.std.proofs.Common.{◌≡◌, ◌+◌, length, ap, ◌∙◌, sym, arith}
 use Rattle.std.proofs.lemmas.List.{get_or_read}
 use Rattle.trip_model.proofs.Counting.{sum_below}
-use Rattle.deadhead_matrix.proofs.Duality.{sum_by-range}
+use Rattle.assignment_model.proofs.Duality.{sum_by-range}
 use Rattle.deadhead_matrix.specs.Fitting.{network_of}
 use Rattle.price_check.specs.Reasons.{link_weight, weight_before}
 use Rattle.price_check.proofs.CostLemmas.{sum_below-more}

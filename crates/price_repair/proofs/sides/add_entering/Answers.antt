@@ -1,5 +1,5 @@
 use Rattle.std.proofs.Common.{None, subst, ◌∙◌}
-use Rattle.deadhead_matrix.specs.Prices.{IsLoose}
+use Rattle.assignment_model.specs.Prices.{IsLoose}
 use Rattle.pair_graph.specs.Pairs.{pairs_network}
 use Rattle.price_repair.proofs.WithoutLemmas.{IsCertified-pairs}
 use Rattle.price_repair.proofs.sides.add_entering.Goals as goal

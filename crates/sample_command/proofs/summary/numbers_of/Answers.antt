@@ -1,5 +1,5 @@
 use Rattle.std.proofs.Common.{◌≡◌, Ok, length, sym, ap, subst, ◌∙◌}
-use Rattle.deadhead_matrix.specs.Prices.{Plan}
+use Rattle.assignment_model.specs.Prices.{Plan}
 use Rattle.claim_files.specs.Written.{IsAccepted, written}
 use Rattle.sample_command.proofs.AcceptedLemmas.{not-no, verdict-yes, same-vehicles, same-minutes}
 use Rattle.sample_command.proofs.summary.numbers_of.Goals as goal

@@ -1,7 +1,14 @@
-use Rattle.std.proofs.Common.{arith, subst, ◌∙◌}
+use Rattle.std.proofs.Common.{arith, refl, subst, ◌∙◌}
 use Rattle.shift_moves.specs.Trial.{IsRoom}
-use Rattle.shift_moves.proofs.Sizes.{none-past, none-up_to}
+use Rattle.shift_moves.proofs.Sizes.{none-below, none-past, none-up_to}
 use Rattle.shift_moves.proofs.search.shift_of_slot.Goals as goal
+
+pub loop-size-init : goal.loop-size-init
+loop-size-init g c = record {
+  unchanged = refl;
+  none = none-below c.args.timetable.now c.args.slot c.least_sizes-least.result.earlier c.least_sizes-least.result.later c.least_sizes-least.ensures.earlier c.least_sizes-least.ensures.later _ (omega arith);
+  counted = omega arith;
+}
 
 pub loop-size-preserved : goal.loop-size-preserved
 loop-size-preserved g c = record {

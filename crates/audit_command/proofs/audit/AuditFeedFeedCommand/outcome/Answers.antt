@@ -1,6 +1,6 @@
 use Rattle.std.proofs.Common.{[], List, Bool, length, sym, ap, subst, ◌∙◌}
 use Rattle.std.specs.Prelude.{IfOk}
-use Rattle.desk_feed.specs.Feed.{said_with}
+use Rattle.desk_feed.specs.Commands.{said_to}
 use Rattle.desk_feed.proofs.PapersLemmas.{has-papers}
 use Rattle.block_audit.specs.Stated.{AreNames}
 use Rattle.audit_command.specs.Audit.{trips_in}
@@ -9,29 +9,29 @@ use Rattle.audit_command.proofs.Given.{audited-given, names-of, refused-given}
 use Rattle.audit_command.proofs.audit.AuditFeedFeedCommand.outcome.Goals as goal
 
 pub read_trips-requires : goal.read_trips-requires
-read_trips-requires g c = has-papers [] c.args.read.now.pages c.requires.papers
+read_trips-requires g c = has-papers [] c.args.said.read.now.pages c.requires.papers
 
 pub returns-in-Refused-clause-given : goal.returns-in-Refused-clause-given
 returns-in-Refused-clause-given g c =
-    let read = c.args.read.now in
-    let said = said_with c.args.settings.now c.args.timetable c.args.deadheads.now c.args.pulls c.args.lines.now in
-    refused-given read said c.in-Refused.outcome (subst (IsAuditable c.args.settings.now (trips_in read)) c.in-Refused.is c.in_ok-outcome.ensures)
+    let read = c.args.said.read.now in
+    let said = said_to c.args.said in
+    refused-given read said c.in-Refused.outcome (subst (IsAuditable c.args.said.settings.now (trips_in read)) c.in-Refused.is c.in_ok-outcome.ensures)
 
 pub audited-requires-clause-chosen : goal.audited-requires-clause-chosen
 audited-requires-clause-chosen g c =
-    let may = subst (IsAuditable c.args.settings.now (trips_in c.args.read.now)) c.in-Trips.is c.in_ok-outcome.ensures in
-    ap (λ (xs : List Bool). length xs) c.deref.ensures.value ∙ (names-of c.args.settings.now (trips_in c.args.read.now) c.in-Trips.trips c.in-Trips.chosen may).0
+    let may = subst (IsAuditable c.args.said.settings.now (trips_in c.args.said.read.now)) c.in-Trips.is c.in_ok-outcome.ensures in
+    ap (λ (xs : List Bool). length xs) c.deref.ensures.value ∙ (names-of c.args.said.settings.now (trips_in c.args.said.read.now) c.in-Trips.trips c.in-Trips.chosen may).0
 
 pub audited-requires-clause-names : goal.audited-requires-clause-names
 audited-requires-clause-names g c =
-    let may = subst (IsAuditable c.args.settings.now (trips_in c.args.read.now)) c.in-Trips.is c.in_ok-outcome.ensures in
-    subst (AreNames c.in-Trips.trips) (sym c.deref.ensures.value) (names-of c.args.settings.now (trips_in c.args.read.now) c.in-Trips.trips c.in-Trips.chosen may).1
+    let may = subst (IsAuditable c.args.said.settings.now (trips_in c.args.said.read.now)) c.in-Trips.is c.in_ok-outcome.ensures in
+    subst (AreNames c.in-Trips.trips) (sym c.deref.ensures.value) (names-of c.args.said.settings.now (trips_in c.args.said.read.now) c.in-Trips.trips c.in-Trips.chosen may).1
 
 pub returns-clause-given : goal.returns-clause-given
 returns-clause-given g c =
-    let read = c.args.read.now in
-    let said = said_with c.args.settings.now c.args.timetable c.args.deadheads.now c.args.pulls c.args.lines.now in
-    let may = subst (IsAuditable c.args.settings.now (trips_in read)) c.in-Trips.is c.in_ok-outcome.ensures in
+    let read = c.args.said.read.now in
+    let said = said_to c.args.said in
+    let may = subst (IsAuditable c.args.said.settings.now (trips_in read)) c.in-Trips.is c.in_ok-outcome.ensures in
     let edited = c.in_ok-edited.edited in
     let matrix = c.in_ok-matrix.matrix in
     audited-given said matrix edited c.in-Trips.trips c.in-Trips.chosen read c.in_ok-matrix.ensures c.in_ok-edited.ensures.edited c.audited.ensures.moves c.in_ok-edited.ensures.places may

@@ -4,7 +4,7 @@ use Rattle.plan_history.specs.History.{HistoryView}
 use Rattle.edit_script.specs.Changes.{IsSlotOf}
 use Rattle.desk_core.specs.Desk.{DeskView, IsDone, desk_seen}
 use Rattle.desk_core.specs.Repair.{MayRepair}
-use Rattle.deadhead_matrix.specs.Prices.{IsPlanFor}
+use Rattle.deadhead_matrix.specs.Plans.{IsPlanFor}
 use Rattle.desk_core.proofs.DeskLemmas.{IsDesk-edited, IsDone-edited, counted-trip, may-repair}
 use Rattle.desk_core.proofs.desk.Desk.edit.Goals as goal
 

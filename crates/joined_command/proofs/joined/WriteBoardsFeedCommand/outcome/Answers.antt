@@ -1,12 +1,12 @@
-use Rattle.desk_feed.specs.Feed.{said_with}
+use Rattle.desk_feed.specs.Commands.{said_to}
 use Rattle.joined_command.proofs.Given.{drawn-blocking, joined-given}
 use Rattle.joined_command.proofs.joined.WriteBoardsFeedCommand.outcome.Goals as goal
 
 pub boarded-requires : goal.boarded-requires
-boarded-requires g c = record { blocking = drawn-blocking c.args.timetable c.args.lines.now c.in_ok-matrix.matrix c.in_ok-drawn.drawn c.in_ok-drawn.ensures.drawn }
+boarded-requires g c = record { blocking = drawn-blocking c.args.said.timetable c.args.said.lines.now c.in_ok-matrix.matrix c.in_ok-drawn.drawn c.in_ok-drawn.ensures.drawn }
 
 pub returns-clause-given : goal.returns-clause-given
 returns-clause-given g c =
-    joined-given c.args._read.now (said_with c.args.settings.now c.args.timetable c.args.deadheads.now c.args.pulls c.args.lines.now) c.in_ok-matrix.matrix c.in_ok-drawn.drawn
+    joined-given c.args.said.read.now (said_to c.args.said) c.in_ok-matrix.matrix c.in_ok-drawn.drawn
     c.joined_law.ensures.least c.entries_law.ensures c.requires.says c.in_ok-matrix.ensures c.in_ok-drawn.ensures.drawn
     c.boarded.result c.boarded.ensures.boarded

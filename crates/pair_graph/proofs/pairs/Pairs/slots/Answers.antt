@@ -1,6 +1,6 @@
 use Rattle.std.proofs.Common.{◌≡◌, length, sym, ap, subst, ◌∙◌, arith}
 use Rattle.std.specs.Prelude.{All}
-use Rattle.deadhead_matrix.specs.Prices.{IsDay}
+use Rattle.assignment_model.specs.Prices.{IsDay}
 use Rattle.deadhead_matrix.specs.Pulls.{IsPull}
 use Rattle.deadhead_matrix.proofs.Days.{AreDepartures-deadhead, IsDay-deadhead}
 use Rattle.trip_model.specs.Plain.{AreMoves}

@@ -1,7 +1,7 @@
 use Rattle.std.proofs.Common.{◌≡◌, ℕ, ◌-◌, ◌<◌, get_or, true, false, Option, Some, None, sym, subst}
 use Rattle.std.specs.Prelude.{IfNone, IfSome}
 use Rattle.std.specs.Option.{option_map}
-use Rattle.deadhead_matrix.specs.Prices.{weight}
+use Rattle.assignment_model.specs.Prices.{weight}
 use Rattle.pair_graph.specs.Pairs.{RowView, pairs_network}
 use Rattle.pair_graph.specs.Reach.{saved_from, saved_until}
 use Rattle.pair_graph.specs.declared.reach.Reach.{Reach}

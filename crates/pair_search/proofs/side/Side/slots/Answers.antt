@@ -1,4 +1,4 @@
-use Rattle.std.proofs.Common.{ℕ, subst}
+use Rattle.std.proofs.Common.{◌≡◌, ℕ, length, subst}
 use Rattle.trip_model.specs.Order.{minute_left}
 use Rattle.trip_model.specs.Plain.{move_at}
 use Rattle.pair_graph.specs.Pairs.{pairs_network}
@@ -19,3 +19,7 @@ returns-clause-sound c =
 pub returns-clause-renaming : goal.returns-clause-renaming
 returns-clause-renaming c =
     subst (λ (s : SideView). IsRenaming (side_slots s) (side_slot s) (side_place s)) c.self.view_is c.self.invariant.0.renaming
+
+pub returns-clause-lengths : goal.returns-clause-lengths
+returns-clause-lengths c =
+    subst (λ (s : SideView). (length s.columns ≡ side_slots s) × (length s.places ≡ side_slots s)) c.self.view_is (c.self.invariant.0.count, c.self.invariant.0.slots)

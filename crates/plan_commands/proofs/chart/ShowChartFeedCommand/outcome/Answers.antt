@@ -1,8 +1,8 @@
-use Rattle.desk_feed.specs.Feed.{said_with}
+use Rattle.desk_feed.specs.Commands.{said_to}
 use Rattle.plan_commands.proofs.Charted.{chart-given}
 use Rattle.plan_commands.proofs.chart.ShowChartFeedCommand.outcome.Goals as goal
 
 pub returns-clause-given : goal.returns-clause-given
 returns-clause-given g c =
-    chart-given c.args._read.now (said_with c.args.settings.now c.args.timetable c.args.deadheads.now c.args.pulls c.args.lines.now) c.in_ok-matrix.matrix c.in_ok-drawn.drawn c.in_ok-text.text c.prefix.result.now
+    chart-given c.args.said.read.now (said_to c.args.said) c.in_ok-matrix.matrix c.in_ok-drawn.drawn c.in_ok-text.text c.prefix.result.now
     c.in_ok-matrix.ensures c.in_ok-drawn.ensures.drawn c.in_ok-text.ensures c.prefix.ensures c.putting_after.result c.putting_after.ensures

@@ -1,22 +1,22 @@
 use Rattle.std.proofs.Common.{◌≡◌, ap, ◌∙◌}
 use Rattle.trip_model.specs.Timetable.{TimetableView}
 use Rattle.claim_files.specs.Claims.{claimed_of}
-use Rattle.desk_feed.specs.Feed.{said_with}
+use Rattle.desk_feed.specs.Commands.{said_to}
 use Rattle.plan_commands.specs.Check.{claim_in}
 use Rattle.plan_commands.proofs.Given.{check-given}
 use Rattle.plan_commands.proofs.ClaimPapers.{blocks-among, prices-among}
 use Rattle.plan_commands.proofs.check.CheckClaimFeedCommand.outcome.Goals as goal
 
 pub found-blocks-requires : goal.found-blocks-requires
-found-blocks-requires g c = blocks-among c.args.read.now.pages c.requires.papers
+found-blocks-requires g c = blocks-among c.args.said.read.now.pages c.requires.papers
 
 pub found-prices-requires : goal.found-prices-requires
-found-prices-requires g c = prices-among c.args.read.now.pages c.requires.papers
+found-prices-requires g c = prices-among c.args.said.read.now.pages c.requires.papers
 
 pub returns-clause-given : goal.returns-clause-given
 returns-clause-given g c =
-    let read = c.args.read.now in
-    let said = said_with c.args._settings.now c.args.timetable c.args.deadheads.now c.args.pulls c.args.lines.now in
+    let read = c.args.said.read.now in
+    let said = said_to c.args.said in
     let edited = c.in_ok-edited.edited in
     let is = c.in_ok-edited.ensures.edited in
     let timetable = c.timetable-timetable.result.now in

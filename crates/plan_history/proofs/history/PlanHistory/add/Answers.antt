@@ -1,6 +1,7 @@
 use Rattle.std.proofs.Common.{◌≡◌, ◌≤◌, ◌∙◌, ◌++◌, ◌∷◌, [], sym, ap, length, arith}
 use Rattle.pair_graph.specs.Pairs.{pairs_network}
 use Rattle.undo_log.specs.Log.{latest_items}
+use Rattle.price_repair.specs.Repaired.{plan_added}
 use Rattle.plan_history.specs.Items.{IsWhole, IsNoted}
 use Rattle.plan_history.specs.History.{HistoryView}
 use Rattle.plan_history.specs.Stands.{stands}
@@ -40,3 +41,6 @@ pub returns-clause-earlier : goal.returns-clause-earlier
 returns-clause-earlier g c =
     earlier-noted c.self.inside.solver c.after_add.new.solver c.self.inside.log c.keep.new.log c.self.invariant.0 (whole g c) (fewer g c) (noted g c)
     ∙ ap (λ (h : HistoryView). latest_items (h.earlier ++ h.plan ∷ [])) c.self.view_is
+
+pub returns-clause-plan : goal.returns-clause-plan
+returns-clause-plan g c = c.after_add.ensures.plan ∙ ap (λ (h : HistoryView). plan_added c.args.pairs.now c.args.slot h.plan) c.self.view_is

@@ -1,6 +1,8 @@
 use Rattle.std.proofs.Common.{◌≡◌, ◌≤◌, ◌∙◌, ◌++◌, ◌∷◌, [], sym, ap, length, arith}
 use Rattle.pair_graph.specs.Pairs.{pairs_network}
 use Rattle.undo_log.specs.Log.{latest_items}
+use Rattle.price_repair.specs.Repaired.{plan_replaced}
+use Rattle.price_repair.proofs.RepairedLemmas.{plan_replaced-is}
 use Rattle.plan_history.specs.Items.{IsWhole, IsNoted}
 use Rattle.plan_history.specs.History.{HistoryView}
 use Rattle.plan_history.specs.Stands.{stands}
@@ -40,3 +42,8 @@ pub returns-clause-earlier : goal.returns-clause-earlier
 returns-clause-earlier g c =
     earlier-noted c.self.inside.solver c.after_add.new.solver c.self.inside.log c.keep.new.log c.self.invariant.0 (whole g c) (fewer g c) (noted g c)
     ∙ ap (λ (h : HistoryView). latest_items (h.earlier ++ h.plan ∷ [])) c.self.view_is
+
+pub returns-clause-plan : goal.returns-clause-plan
+returns-clause-plan g c =
+    plan_replaced-is c.args.without.now c.args.pairs.now c.args.slot c.self.inside.solver c.after_take.new.solver c.after_add.new.solver c.after_take.ensures.plan c.after_add.ensures.plan
+    ∙ ap (λ (h : HistoryView). plan_replaced c.args.without.now c.args.pairs.now c.args.slot h.plan) c.self.view_is

@@ -1,5 +1,5 @@
 use Rattle.std.proofs.Common.{◌∙◌, ◌++◌, ◌∷◌, [], sym, ap, subst}
-use Rattle.deadhead_matrix.specs.Prices.{Plan}
+use Rattle.assignment_model.specs.Prices.{Plan}
 use Rattle.undo_log.specs.Log.{LogView}
 use Rattle.plan_history.specs.History.{HistoryView}
 use Rattle.plan_history.specs.Items.{undone_by, redone_by, plans_along, AreItemsOf}

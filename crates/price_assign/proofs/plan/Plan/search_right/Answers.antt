@@ -1,12 +1,14 @@
 use Rattle.std.proofs.Common.{◌≡◌, ℕ, length, Some, sym, subst, arith}
 use Rattle.trip_model.specs.Order.{minute_left}
 use Rattle.trip_model.specs.Plain.{move_at}
-use Rattle.deadhead_matrix.specs.Paths.{IsRightPath}
-use Rattle.deadhead_matrix.specs.Prices.{Plan, IsDay, IsLoose}
+use Rattle.assignment_model.specs.Paths.{IsRightPath}
+use Rattle.assignment_model.specs.Prices.{Plan, IsDay, IsLoose}
 use Rattle.pair_graph.specs.Pairs.{pairs_network}
+use Rattle.pair_search.specs.Arranged.{slots_of}
+use Rattle.price_assign.specs.Found.{found_right}
 use Rattle.pair_search.proofs.LooseLemmas.{AreNextTrips-loose}
 use Rattle.price_assign.proofs.RightLemmas.{IsRightPath-loose}
-use Rattle.price_assign.proofs.PlanLemmas.{MayBegin-entering, IsLoose-entering}
+use Rattle.price_assign.proofs.PlanLemmas.{MayBegin-entering, IsLoose-entering, found-right}
 use Rattle.pair_search.specs.Side.{side_weight}
 use Rattle.price_assign.proofs.plan.Plan.search_right.Goals as goal
 
@@ -24,7 +26,7 @@ search_befores-requires-clause-begins g c =
     let pairs = c.args.pairs.now in
     let was : Plan = record { next = c.self.inside.links; leave = c.self.inside.leave.items; enter = c.self.inside.enter.items } in (
       c.args.a,
-      MayBegin-entering pairs c.arrange.new.columns c.arrange.new.places c.find_groups-count.new.groups c.find_groups-count.result c.of-side.result was c.args.a c.args.b c.of-side.ensures
+      MayBegin-entering pairs c.of-side.result.columns c.of-side.result.places c.of-side.result.groups c.of-side.result.count c.of-side.result was c.args.a c.args.b c.of-side.ensures.pairs
           (subst (IsDay (pairs_network pairs)) c.slots-slots.ensures.count c.slots-slots.ensures.day)
           (subst (λ (p : Plan). IsLoose (pairs_network pairs) p c.args.a (Some c.args.b)) (sym c.self.view_is) c.requires.loose),
     )
@@ -36,8 +38,8 @@ returns-clause-loose g c =
     let was : Plan = record { next = c.self.inside.links; leave = c.self.inside.leave.items; enter = c.self.inside.enter.items } in
     let new : Plan = record { next = c.search_befores.new.links; leave = c.search_befores.new.leave.items; enter = c.search_befores.new.enter.items } in
     let loose : IsLoose (pairs_network pairs) was c.args.a (Some c.args.b) = subst (λ (p : Plan). IsLoose (pairs_network pairs) p c.args.a (Some c.args.b)) (sym c.self.view_is) c.requires.loose in
-    let begins = MayBegin-entering pairs c.arrange.new.columns c.arrange.new.places c.find_groups-count.new.groups c.find_groups-count.result c.of-side.result was c.args.a c.args.b c.of-side.ensures (subst (IsDay (pairs_network pairs)) c.slots-slots.ensures.count c.slots-slots.ensures.day) loose in
-    IsLoose-entering pairs c.arrange.new.columns c.arrange.new.places c.find_groups-count.new.groups c.find_groups-count.result departs c.of-side.result was new c.args.a c.args.b c.of-side.ensures c.slots-slots.ensures.departures loose
+    let begins = MayBegin-entering pairs c.of-side.result.columns c.of-side.result.places c.of-side.result.groups c.of-side.result.count c.of-side.result was c.args.a c.args.b c.of-side.ensures.pairs (subst (IsDay (pairs_network pairs)) c.slots-slots.ensures.count c.slots-slots.ensures.day) loose in
+    IsLoose-entering pairs c.of-side.result.columns c.of-side.result.places c.of-side.result.groups c.of-side.result.count departs c.of-side.result was new c.args.a c.args.b c.of-side.ensures.pairs c.slots-slots.ensures.departures loose
     (omega (arith, c.search_befores.ensures.leave.0, c.search_befores.ensures.links, c.self.invariant.1, c.search_befores.new.leave.ok.0))
     (omega (arith, c.search_befores.ensures.enter.0, c.search_befores.ensures.links, c.self.invariant.2, c.search_befores.new.enter.ok.0))
     (c.search_befores.ensures.found c.args.a begins)
@@ -51,7 +53,24 @@ returns-clause-path g c =
     let loose : IsLoose (pairs_network pairs) was c.args.a (Some c.args.b) = subst (λ (p : Plan). IsLoose (pairs_network pairs) p c.args.a (Some c.args.b)) (sym c.self.view_is) c.requires.loose in
     let slots : length was.next ≡ length pairs.moves = subst (λ (p : Plan). length p.next ≡ length pairs.moves) (sym c.self.view_is) c.requires.slots in
     let day = subst (IsDay (pairs_network pairs)) c.slots-slots.ensures.count c.slots-slots.ensures.day in
-    let begins = MayBegin-entering pairs c.arrange.new.columns c.arrange.new.places c.find_groups-count.new.groups c.find_groups-count.result c.of-side.result was c.args.a c.args.b c.of-side.ensures day loose in
+    let begins = MayBegin-entering pairs c.of-side.result.columns c.of-side.result.places c.of-side.result.groups c.of-side.result.count c.of-side.result was c.args.a c.args.b c.of-side.ensures.pairs day loose in
     subst (λ (p : Plan). IsRightPath p.next c.search_befores.new.links c.args.b) c.self.view_is
     (IsRightPath-loose (pairs_network pairs) (length pairs.moves) departs was new c.args.a c.args.b (side_weight c.of-side.result) day c.slots-slots.ensures.departures
     slots c.search_befores.ensures.links loose (returns-clause-loose g c) (c.search_befores.ensures.found c.args.a begins))
+
+pub returns-clause-visited : goal.returns-clause-visited
+returns-clause-visited g c = record {
+  side = c.of-side.result;
+  is = c.of-side.ensures.pairs;
+  groups = c.of-side.ensures.groups;
+  once = c.search_befores.ensures.visited;
+}
+
+pub returns-clause-plan : goal.returns-clause-plan
+returns-clause-plan g c =
+    let pairs = c.args.pairs.now in
+    let side = c.of-side.result in
+    let was : Plan = record { next = c.self.inside.links; leave = c.self.inside.leave.items; enter = c.self.inside.enter.items } in
+    let new : Plan = record { next = c.search_befores.new.links; leave = c.search_befores.new.leave.items; enter = c.search_befores.new.enter.items } in
+    subst (λ (p : Plan). new ≡ found_right pairs c.args.b c.args.a p) c.self.view_is
+    (found-right pairs side (slots_of side.columns) was new c.args.b c.args.a c.of-side.ensures.pairs c.of-side.ensures.slots c.search_befores.ensures.plan)

@@ -1,11 +1,12 @@
 use Rattle.std.proofs.Common.{◌≡◌, ℕ, length, sym, ap, subst, arith}
 use Rattle.trip_model.specs.Order.{minute_left}
 use Rattle.trip_model.specs.Plain.{move_at}
-use Rattle.deadhead_matrix.specs.Prices.{Plan, IsDay}
+use Rattle.assignment_model.specs.Prices.{Plan, IsDay}
 use Rattle.pair_graph.specs.Pairs.{pairs_network}
-use Rattle.pair_search.specs.Order.{slot_at, place_of, IsRenaming}
+use Rattle.pair_search.specs.Arranged.{slots_of}
+use Rattle.pair_search.specs.Order.{slot_at, IsRenaming}
 use Rattle.pair_search.specs.Side.{side_slots}
-use Rattle.price_assign.proofs.PlanLemmas.{IsCertified-leaving}
+use Rattle.price_assign.proofs.PlanLemmas.{IsCertified-leaving, solved-is}
 use Rattle.price_assign.proofs.plan.Plan.solve.Goals as goal
 
 pub returns-clause-certified : goal.returns-clause-certified
@@ -13,14 +14,19 @@ returns-clause-certified g c =
     let pairs = c.args.pairs.now in
     let departs : ℕ → ℕ = λ s. minute_left (move_at pairs.moves s) in
     let plan : Plan = record { next = c.link_all.new.links; leave = c.link_all.new.leave.items; enter = c.link_all.new.enter.items } in
-    IsCertified-leaving pairs c.arrange.new.columns c.arrange.new.places c.find_groups-count.new.groups c.find_groups-count.result departs c.of-side.result plan c.of-side.ensures (subst (IsDay (pairs_network pairs)) c.slots-slots.ensures.count c.slots-slots.ensures.day) c.slots-slots.ensures.departures
+    IsCertified-leaving pairs c.of-side.result.columns c.of-side.result.places c.of-side.result.groups c.of-side.result.count departs c.of-side.result plan c.of-side.ensures.pairs (subst (IsDay (pairs_network pairs)) c.slots-slots.ensures.count c.slots-slots.ensures.day) c.slots-slots.ensures.departures
     c.link_all.ensures.links (omega (arith, c.link_all.ensures.leave.0, c.link_all.ensures.links, c.link_all.new.leave.ok.0)) (omega (arith, c.link_all.ensures.enter.0, c.link_all.ensures.links, c.link_all.new.enter.ok.0))
     c.link_all.ensures.matched c.link_all.ensures.covers
 
 pub link_all-requires-clause-renaming : goal.link_all-requires-clause-renaming
 link_all-requires-clause-renaming g c =
     let side = c.of-side.result in
-    let same : length c.args.pairs.now.moves ≡ side_slots side = ap side_slots (sym c.of-side.ensures) in (
-      place_of (side_slots side) c.arrange_departures.new.places,
-      subst (λ n. IsRenaming n (slot_at n c.arrange_departures.new.columns) (place_of n c.arrange_departures.new.places)) same c.arrange_departures.ensures.renaming,
-    )
+    let same : length c.args.pairs.now.moves ≡ side_slots side = ap side_slots (sym c.of-side.ensures.pairs) in
+    let place = c.arrange-departures.ensures.renaming.0 in
+    (place, subst (λ n. IsRenaming n (slot_at n c.arrange-departures.result.now) place) same c.arrange-departures.ensures.renaming.1)
+
+pub returns-clause-plan : goal.returns-clause-plan
+returns-clause-plan g c =
+    let side = c.of-side.result in
+    let plan : Plan = record { next = c.link_all.new.links; leave = c.link_all.new.leave.items; enter = c.link_all.new.enter.items } in
+    solved-is c.args.pairs.now side (slots_of side.columns) (slots_of c.arrange-departures.result.now) plan c.of-side.ensures.pairs c.of-side.ensures.slots c.arrange-departures.ensures.slots c.link_all.ensures.plan

@@ -3,16 +3,16 @@ use Rattle.std.specs.Prelude.{All}
 use Rattle.trip_model.specs.Timetable.{TimetableView}
 use Rattle.claim_files.specs.Written.{IsName}
 use Rattle.desk_run.specs.Reading.{found_of}
-use Rattle.desk_feed.specs.Feed.{said_with}
+use Rattle.desk_feed.specs.Commands.{said_to}
 use Rattle.sample_command.proofs.Given.{summary-given}
 use Rattle.sample_command.proofs.summary.SummarizeFeedCommand.outcome.Goals as goal
 
 pub summed-requires-clause-names : goal.summed-requires-clause-names
 summed-requires-clause-names g c =
-    let said = said_with c.args.settings.now c.args.timetable c.args.deadheads.now c.args.pulls c.args.lines.now in
-    subst (λ (t : TimetableView). All (λ slot. IsName slot.name) t.slots) (sym c.in_ok-edited.ensures.edited.timetable) (c.names_law.ensures (found_of c.args._read.now.pages) said c.requires.says)
+    let said = said_to c.args.said in
+    subst (λ (t : TimetableView). All (λ slot. IsName slot.name) t.slots) (sym c.in_ok-edited.ensures.edited.timetable) (c.names_law.ensures (found_of c.args.said.read.now.pages) said c.requires.says)
 
 pub returns-clause-given : goal.returns-clause-given
 returns-clause-given g c =
-    summary-given c.args.self.now.trips c.args._read.now (said_with c.args.settings.now c.args.timetable c.args.deadheads.now c.args.pulls c.args.lines.now) c.in_ok-edited.edited c.in_ok-matrix.matrix
-    c.in_ok-edited.ensures.edited c.in_ok-matrix.ensures c.summed.result c.prefix.result.now c.prefix.ensures c.summed.ensures.summed
+    summary-given c.args.self.now.trips c.args.said.read.now (said_to c.args.said) c.in_ok-edited.edited c.in_ok-matrix.matrix
+    c.in_ok-edited.ensures.edited c.in_ok-matrix.ensures c.summed.result c.prefix-prefix.result.now c.prefix-prefix.ensures c.summed.ensures.summed

@@ -1,0 +1,5 @@
+pub mod Duality
+pub mod GreatestPrice
+pub mod Looseness
+pub mod PathLemmas
+pub mod PriceSums

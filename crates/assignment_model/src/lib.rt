@@ -1,0 +1,17 @@
+//! The assignment problem of a network of trips: plans of next trips, and the dual prices that prove them least.
+//!
+//! A row is a trip that a vehicle leaves, a column is one that it enters, and a pair weighs what the link saves. The crate has
+//! no code but laws. [`laws::certified_law`] says that the blocks of a plan with such prices are least. The laws of
+//! [`path_laws`] are of the paths along which a plan is repaired.
+//!
+//! The contracts cite:
+//!
+//! - `Prices`: plans of next trips whose prices prove that they are least
+//! - `Paths`: the paths along which such a plan is repaired
+#![tactic(auto)]
+
+pub mod laws;
+mod limits;
+pub mod path_laws;
+
+pub use limits::{MOST_DEADHEAD, VEHICLE_WEIGHT};

@@ -1,0 +1,152 @@
+-- What was read determines the outcome of a command: one after the other.
+use Rattle.std.proofs.Common.{◌≡◌, ℕ, ◌+◌, ◌<◌, Bool, List, [], ◌∷◌, length, Result, Ok, Err, sym, ap, subst, ◌∙◌, inl, inr, ⊎_elim, arith}
+use Rattle.std.proofs.lemmas.Bool.{cases_lt}
+use Rattle.std.proofs.lemmas.Int.{ints}
+use Rattle.gtfs_tables.specs.Table.{TableView}
+use Rattle.gtfs_tables.specs.declared.fault.FeedFault.{FeedFault}
+use Rattle.gtfs_tables.specs.declared.fault.FeedFault.TheVariants as fault
+use Rattle.gtfs_tables.specs.declared.paper.Column.TheVariants as column
+use Rattle.gtfs_tables.specs.declared.paper.Paper.TheVariants as paper
+use Rattle.trip_model.specs.Blocking.{empty_minutes}
+use Rattle.trip_model.specs.Deficit.{live_moves}
+use Rattle.trip_model.specs.Timetable.{TimetableView}
+use Rattle.deadhead_matrix.specs.Fitting.{network_of}
+use Rattle.deadhead_matrix.specs.Matrix.{MatrixView}
+use Rattle.block_audit.specs.declared.misfit.Misfit.{Misfit}
+use Rattle.block_audit.specs.Misfits.{misfits_in}
+use Rattle.block_audit.specs.Stated.{NamedBlock, slots_by}
+use Rattle.desk_feed.specs.Edited.{refusing_first}
+use Rattle.desk_feed.specs.Feed.{FeedView, standing}
+use Rattle.desk_feed.specs.Judging.{ending_of, refused_of, refusing}
+use Rattle.desk_feed.specs.Numbers.{numbers_line}
+use Rattle.desk_feed.specs.Schedule.{IsMatrixFor}
+use Rattle.desk_feed.proofs.OneMatrix.{matrix-same}
+use Rattle.desk_run.specs.Outcome.{OutcomeView}
+use Rattle.desk_run.specs.declared.status.Ending.{Ending}
+use Rattle.desk_settings.specs.Selected.{chosen_in}
+use Rattle.feed_commands.specs.Deficits.{deficits_asked, deficits_shown}
+use Rattle.feed_commands.specs.Fixed.{fixed_asked, fixed_shown, fixed_text}
+use Rattle.journal_commands.specs.Keep.{keep_asked, keep_does}
+use Rattle.journal_commands.specs.Kept.{kept_asked}
+use Rattle.lowering_commands.specs.Chains.{AreChains, chains_asked, chains_shown}
+use Rattle.lowering_commands.specs.Shifts.{shifts_asked, shifts_shown, shifts_text}
+use Rattle.plan_commands.specs.Check.{check_asked, check_does, checked}
+use Rattle.planner_desk.specs.declared.edit.PlannerLine.{PlannerLine}
+use Rattle.planners_command.specs.Moments.{timetable_after}
+use Rattle.planners_command.specs.Numbers.{IsNumbered}
+use Rattle.planners_command.specs.Planners.{GivesBy, ending_after, planners_asked, planners_does, planners_text}
+use Rattle.planners_command.specs.Reading.{lines_in}
+use Rattle.audit_command.specs.Audit.{AuditsBy, IsFirstBad, IsJudged, audit_asked, audit_does, stated_of, trips_in}
+use Rattle.audit_command.specs.Lines.{costs_text}
+use Rattle.sample_command.specs.Sample.{HasSummary, sample_asked, sample_read, summary_does, summary_line}
+use Rattle.same_runs.specs.Same.{IsDetermined}
+use Rattle.same_runs.proofs.ChainLemmas.{one-text}
+use Rattle.same_runs.proofs.FeedLemmas.{determined-feed, determined-text, one-given}
+use Rattle.same_runs.proofs.LeastLemmas.{one-number, one-sum}
+use Rattle.same_runs.proofs.ShiftLemmas.{one-shifts}
+
+pub deficits-determined : IsDetermined deficits_asked
+unfolding deficits_asked
+deficits-determined = determined-text deficits_shown (λ stands one other is is'. is ∙ sym is')
+
+pub fixed-determined : IsDetermined fixed_asked
+unfolding fixed_asked
+fixed-determined =
+    determined-text fixed_shown (λ stands one other is is'.
+    is.printed ∙ ap (fixed_text stands.timetable stands.pulls stands.settings.prefix) (is.by_rule ∙ sym is'.by_rule) ∙ sym is'.printed)
+
+pub chains-determined : IsDetermined chains_asked
+unfolding chains_asked
+chains-determined =
+    determined-text chains_shown (λ stands one other is is'.
+    let same = matrix-same stands.entries stands.pulls (length stands.timetable.places) is.matrix is'.matrix is.matrix_is is'.matrix_is in
+    let are = subst (λ matrix. AreChains matrix (live_moves stands.timetable.slots) is'.chains.chains) (sym same) is'.chains.are in
+    is.chains.printed ∙ one-text stands.timetable is.matrix (live_moves stands.timetable.slots) 0 is.chains.chains is'.chains.chains is.chains.are are ∙ sym is'.chains.printed)
+
+pub shifts-determined : IsDetermined shifts_asked
+unfolding shifts_asked
+shifts-determined =
+    determined-text shifts_shown (λ stands one other is is'.
+    is.printed ∙ ap (shifts_text stands.timetable 0) (one-shifts stands.timetable is.shifts is'.shifts is.are is'.are) ∙ sym is'.printed)
+
+pub check-determined : IsDetermined check_asked
+unfolding check_asked
+check-determined =
+    determined-feed check_does (λ read said one other is is'.
+    is.done ∙ ap (checked read said) (matrix-same said.entries said.pulls (length said.base.places) is.matrix is'.matrix is.matrix_is is'.matrix_is) ∙ sym is'.done)
+
+pub keep-determined : IsDetermined keep_asked
+unfolding keep_asked
+keep-determined = determined-feed keep_does (λ read said one other is is'. is.done ∙ sym is'.done)
+
+pub kept-determined : IsDetermined kept_asked
+kept-determined = λ read one other is is'. is.gives ∙ sym is'.gives
+
+-- the numbers of a timetable, by whichever least plan
+one-numbers : (timetable : TimetableView) (matrix : MatrixView) (one other : List ℕ) → IsNumbered timetable matrix one → IsNumbered timetable matrix other → one ≡ other
+one-numbers timetable matrix one other is is' =
+    let network = network_of timetable matrix in
+    let without : length is.without ≡ length is'.without = omega (arith, ints, is.maxima, is'.maxima) in
+    let number = one-number network is.blocks is'.blocks is.scheduled.least is'.scheduled.least in
+    let sum = one-sum network is.blocks is'.blocks is.scheduled.least is'.scheduled.least in
+    is.put ∙ (λ i. numbers_line (without i) (number i) (sum i)) ∙ sym is'.put
+
+one-planners : (said : FeedView) (lines : Result (List PlannerLine) FeedFault) (one other : OutcomeView) → GivesBy said lines one → GivesBy said lines other → one ≡ other
+one-planners said (Ok lines) one other is is' =
+    let same = matrix-same said.entries said.pulls (length said.base.places) is.matrix is'.matrix is.matrix_is is'.matrix_is in
+    let numbered = subst (λ matrix. IsNumbered (timetable_after (standing said) lines) matrix is'.planned.numbers) (sym same) is'.planned.numbered in
+    let numbers = one-numbers (timetable_after (standing said) lines) is.matrix is.planned.numbers is'.planned.numbers is.planned.numbered numbered in
+    is.planned.done
+    ∙ ap (λ numbers. refusing_first (refused_of said) (planners_text (standing said) lines numbers) (ending_after (standing said) lines (ending_of said))) numbers
+    ∙ sym is'.planned.done
+one-planners said (Err refused) one other is is' = is ∙ sym is'
+
+pub planners-determined : IsDetermined planners_asked
+unfolding planners_asked
+planners-determined = determined-feed planners_does (λ read said one other. one-planners said (lines_in read) one other)
+
+-- the cost of stated blocks beside whichever least ones
+one-cost : (refused : List ℕ) (end : Ending) (timetable : TimetableView) (matrix : MatrixView) (stated : List NamedBlock) (misfits : List Misfit) (one other : OutcomeView)
+    → IsJudged refused end timetable matrix stated misfits one → IsJudged refused end timetable matrix stated misfits other → one ≡ other
+one-cost refused end timetable matrix stated [] one other is is' =
+    let network = network_of timetable matrix in
+    let number = one-number network is.least is'.least is.scheduled.least is'.scheduled.least in
+    let sum = one-sum network is.least is'.least is.scheduled.least is'.scheduled.least in
+    is.done
+    ∙ (λ i. refusing_first refused (costs_text (length (slots_by stated)) (empty_minutes network (slots_by stated)) (number i) (sum i)) end)
+    ∙ sym is'.done
+one-cost refused end timetable matrix stated (misfit ∷ misfits) one other is is' = is ∙ sym is'
+
+-- two first records whose name is not text are one
+one-bad : (trips : TableView) (chosen : List Bool) (r s : ℕ) → IsFirstBad trips chosen r → IsFirstBad trips chosen s → r ≡ s
+one-bad trips chosen r s is is' = ⊎_elim
+    (λ (less : r < s). absurd (is.bad (is'.before r less is.selected)))
+    (λ more. ⊎_elim (λ (less : s < r). absurd (is'.bad (is.before s less is'.selected))) (λ rest. omega (arith, more, rest)) (cases_lt s r))
+    (cases_lt r s)
+
+one-audit : (said : FeedView) (trips : Result TableView FeedFault) (one other : OutcomeView) → AuditsBy said trips one → AuditsBy said trips other → one ≡ other
+one-audit said (Err refused) one other is is' = is ∙ sym is'
+one-audit said (Ok trips) one other (inl is) (inl is') =
+    is.done ∙ ap (λ r. refusing (fault.NotUtf8 paper.Trips (r + 1) column.BlockId)) (one-bad trips (chosen_in said.settings trips) is.record_before is'.record_before is.first is'.first) ∙ sym is'.done
+one-audit said (Ok trips) one other (inl is) (inr is') = absurd (is.first.bad (is'.0 is.record_before is.first.within is.first.selected))
+one-audit said (Ok trips) one other (inr is) (inl is') = absurd (is'.first.bad (is.0 is'.record_before is'.first.within is'.first.selected))
+one-audit said (Ok trips) one other (inr is) (inr is') =
+    let same = matrix-same said.entries said.pulls (length said.base.places) is.1.matrix is'.1.matrix is.1.matrix_is is'.1.matrix_is in
+    let judged = subst (λ matrix. IsJudged (refused_of said) (ending_of said) (standing said) matrix (stated_of said trips) (misfits_in (standing said) matrix (stated_of said trips)) other) (sym same) is'.1.judged in
+    one-cost (refused_of said) (ending_of said) (standing said) is.1.matrix (stated_of said trips) (misfits_in (standing said) is.1.matrix (stated_of said trips)) one other is.1.judged judged
+
+pub audit-determined : IsDetermined audit_asked
+unfolding audit_asked
+audit-determined = determined-feed audit_does (λ read said one other. one-audit said (trips_in read) one other)
+
+pub sample-determined : (trips : ℕ) → IsDetermined (sample_asked trips)
+sample-determined trips = λ read one other given given'.
+    one-given (summary_does trips) (λ read said one other is is'.
+    let same = matrix-same said.entries said.pulls (length said.base.places) is.matrix is'.matrix is.matrix_is is'.matrix_is in
+    let summary = subst (λ matrix. HasSummary (standing said) matrix said.settings.prefix is'.fixed is'.vehicles is'.minutes) (sym same) is'.summary in
+    let network = network_of (standing said) is.matrix in
+    let fixed : is.fixed ≡ is'.fixed = omega (arith, ints, is.summary.fixed_is, summary.fixed_is) in
+    let vehicles : is.vehicles ≡ is'.vehicles = is.summary.vehicles_is ∙ one-number network is.summary.blocks summary.blocks is.summary.scheduled.least summary.scheduled.least ∙ sym summary.vehicles_is in
+    let minutes : is.minutes ≡ is'.minutes = is.summary.minutes_is ∙ one-sum network is.summary.blocks summary.blocks is.summary.scheduled.least summary.scheduled.least ∙ sym summary.minutes_is in
+    is.done ∙ (λ i. refusing_first (refused_of said) (summary_line trips (fixed i) (vehicles i) (minutes i)) (ending_of said)) ∙ sym is'.done)
+    (sample_read trips) one other given.gives given'.gives

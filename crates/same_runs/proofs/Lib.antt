@@ -1,0 +1,6 @@
+pub mod ChainLemmas
+pub mod CommandLemmas
+pub mod FeedLemmas
+pub mod LeastLemmas
+pub mod RunLemmas
+pub mod ShiftLemmas
