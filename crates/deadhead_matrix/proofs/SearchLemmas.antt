@@ -60,18 +60,18 @@ IsSearch-step ways start reach u done dist new search short nearest led few = re
     in_done = omega (arith, search.len, nearest.within)
 
     here : is_done (set done u true) u ≡ true
-    here = get_or-set_same done u true true in_done
+    here = get_or-set_same done u true false in_done
 
     other : (a : ℕ) → a ≢ u → is_done (set done u true) a ≡ is_done done a
-    other a differs = get_or-set_other done u a true true differs
+    other a differs = get_or-set_other done u a true false differs
 
     low : reach ≤ dist_at dist u
     low = search.later u nearest.within nearest.undone
 
     fewer : count_by not (set done u true) + 1 ≡ count_by not done
     fewer =
-        let sums = sum_by-set (λ d. cond (not d) 1 0) done u true true in_done in
-        let was : ◌≡◌ {A = ℕ} (cond (not (get_or done u true)) 1 0) 1 = ap (λ d. cond (not d) 1 0) nearest.undone in
+        let sums = sum_by-set (λ d. cond (not d) 1 0) done u true false in_done in
+        let was : ◌≡◌ {A = ℕ} (cond (not (get_or done u false)) 1 0) 1 = ap (λ d. cond (not d) 1 0) nearest.undone in
         omega (arith, sums, was)
 
     walks : (entries : List Entry) (b : ℕ) → AreWays (length dist) entries ways → dist_at new b < far → (dist_at new b ≡ dist_at dist b) ⊎ ((way ways u b ≢ 0) × (dist_at new b ≡ dist_at dist u + way ways u b) × (dist_at new b < dist_at dist b))

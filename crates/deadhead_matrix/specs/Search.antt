@@ -21,7 +21,7 @@ way_to row place = slice_index_or row place 0
 
 -- whether a place is done
 abbrev pub is_done : List Bool → ℕ → Bool
-is_done done place = slice_index_or done place true
+is_done done place = slice_index_or done place false
 
 -- the places below a number were looked at from a place that is so far. Each is no farther than before and than by the entry to
 -- it, and as far as one of these. The others are as they were
