@@ -15,7 +15,7 @@ use Rattle.desk_run.specs.Outcome.{OutcomeView}
 use Rattle.desk_run.specs.declared.status.Ending.{Ending}
 use Rattle.desk_run.specs.declared.status.Ending.TheVariants as ending
 use Rattle.desk_feed.specs.Edited.{refusing_first}
-use Rattle.desk_feed.specs.Schedule.{IsScheduled}
+use Rattle.deadhead_matrix.specs.Plans.{IsScheduled}
 use Rattle.audit_command.specs.Audit.{IsCosted, IsJudged, text_of_costs}
 use Rattle.audit_command.specs.Lines.{misfits_text}
 

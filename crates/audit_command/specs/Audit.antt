@@ -27,7 +27,8 @@ use Rattle.desk_run.specs.declared.status.Ending.TheVariants as ending
 use Rattle.desk_feed.specs.Edited.{refusing_first}
 use Rattle.desk_feed.specs.Feed.{FeedView, standing}
 use Rattle.desk_feed.specs.Judging.{FeedAsked, ending_of, of_feed, refused_of, refusing}
-use Rattle.desk_feed.specs.Schedule.{IsMatrixFor, IsScheduled, most_steps}
+use Rattle.deadhead_matrix.specs.Plans.{IsScheduled}
+use Rattle.desk_feed.specs.Schedule.{IsMatrixFor, most_steps}
 use Rattle.audit_command.specs.Lines.{costs_text, misfits_text}
 
 -- the table of the trips, or why it is none; an accepted feed has one

@@ -9,5 +9,6 @@ pub mod PlanLemmas
 pub mod SearchLemmas
 pub mod Standing
 pub mod TerminalWalks
+pub mod TimelyLinks
 pub mod UnplacedLemmas
 pub mod WaysLemmas

@@ -3,4 +3,3 @@ pub mod OneMatrix
 pub mod PapersLemmas
 pub mod SaidLemmas
 pub mod ScriptLemmas
-pub mod TimelyLinks

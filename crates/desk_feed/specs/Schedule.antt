@@ -1,16 +1,8 @@
--- The plan of a feed and its blocks, for every command that draws, writes or lists them.
+-- The matrix of a feed, and the most steps of a plan, for every command that has blocks.
 use Rattle.std.specs.Prelude.{◌≡◌, ℕ, ◌+◌, ◌*◌, List, length}
-use Rattle.trip_model.specs.Blocking.{IsLeast}
-use Rattle.trip_model.specs.Links.{blocks_along}
-use Rattle.trip_model.specs.Order.{by_departure}
-use Rattle.trip_model.specs.Plain.{trip_moves}
-use Rattle.trip_model.specs.Timetable.{TimetableView}
 use Rattle.deadhead_matrix.specs.declared.entry.Entry.{Entry}
 use Rattle.deadhead_matrix.specs.declared.pulls.Pull.{Pull}
-use Rattle.deadhead_matrix.specs.Fitting.{network_of}
 use Rattle.deadhead_matrix.specs.Matrix.{MatrixView, AreLeastWalks, IsSquare}
-use Rattle.assignment_model.specs.Prices.{Plan}
-use Rattle.deadhead_matrix.specs.Plans.{IsPlanFor}
 use Rattle.desk_feed.specs.Feed.{FeedView}
 
 -- The matrix has the least walks of the entries between so many places, and the pulls. There is one such matrix.
@@ -24,13 +16,6 @@ pub record IsMatrixOf (entries : List Entry) (pulls : List Pull) (places : ℕ) 
 -- the matrix of what a feed says: no edit changes the places
 abbrev pub IsMatrixFor : FeedView → MatrixView → Type 0
 IsMatrixFor said matrix = IsMatrixOf said.entries said.pulls (length said.base.places) matrix
-
--- A plan that its prices prove, and the blocks along its links, in order of departure. They are least: no blocking, also with
--- deadheads, has fewer vehicles, and none with as few has fewer empty minutes.
-pub record IsScheduled (timetable : TimetableView) (matrix : MatrixView) (plan : Plan) (blocks : List (List ℕ)) : Type 0 where
-  pub certified : IsPlanFor timetable matrix plan
-  pub along : blocks ≡ blocks_along plan.next (by_departure (trip_moves timetable.slots))
-  pub least : IsLeast (network_of timetable matrix) blocks
 
 -- the most steps that a plan of n trips from scratch counts: cube and square for the plan, and 28 each for the deficits
 abbrev pub most_steps : ℕ → ℕ

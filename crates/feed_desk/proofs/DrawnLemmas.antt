@@ -8,7 +8,7 @@ use Rattle.assignment_model.specs.Prices.{Plan}
 use Rattle.desk_core.specs.Counts.{blocks_in}
 use Rattle.desk_core.specs.Desk.{DeskView}
 use Rattle.desk_feed.specs.Edited.{standing_after}
-use Rattle.desk_feed.specs.Schedule.{IsScheduled}
+use Rattle.deadhead_matrix.specs.Plans.{IsScheduled}
 use Rattle.feed_desk.specs.Answers.{refusals}
 use Rattle.feed_desk.specs.Drawn.{HasDrawn, HasFollowed, IsDrawn}
 use Rattle.feed_desk.specs.Plans.{IsPlannedAt}

@@ -14,7 +14,8 @@ use Rattle.assignment_model.specs.Prices.{Plan}
 use Rattle.desk_core.specs.Counts.{blocks_in}
 use Rattle.desk_core.specs.Desk as desk
 use Rattle.desk_feed.specs.Feed.{FeedView}
-use Rattle.desk_feed.specs.Schedule.{IsScheduled, most_steps}
+use Rattle.deadhead_matrix.specs.Plans.{IsScheduled}
+use Rattle.desk_feed.specs.Schedule.{most_steps}
 use Rattle.desk_feed.specs.Script.{line_at, refusal_in, standing_at, state_at, step_at}
 
 -- the sum of the maxima of the deficits

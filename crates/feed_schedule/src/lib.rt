@@ -6,7 +6,7 @@
 //!
 //! `planners_command` shows a use, in `src/planners.rt`.
 //!
-//! The contracts cite `Schedule` of `desk_feed`.
+//! The contracts cite `Plans` of `deadhead_matrix`.
 #![tactic(auto)]
 
 mod schedule;

@@ -1,6 +1,5 @@
 ghost use Rattle.std.specs.Prelude.{◌≡◌, ◌+◌, ◌*◌, ◌≤◌, ◌<◌, length, All, IfOk};
-ghost use Rattle.deadhead_matrix.specs.Plans.{IsPlanFor};
-ghost use Rattle.desk_feed.specs.Schedule.{IsScheduled};
+ghost use Rattle.deadhead_matrix.specs.Plans.{IsPlanFor, IsScheduled};
 
 use block_build::{Blocks, blocks_of};
 use deadhead_matrix::Matrix;

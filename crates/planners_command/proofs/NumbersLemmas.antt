@@ -13,7 +13,7 @@ use Rattle.deadhead_matrix.specs.Fitting.{network_of}
 use Rattle.deadhead_matrix.specs.Matrix.{MatrixView}
 use Rattle.assignment_model.specs.Prices.{Plan}
 use Rattle.fixed_fleet.specs.Rule.{first_in_first_out}
-use Rattle.desk_feed.specs.Schedule.{IsScheduled}
+use Rattle.deadhead_matrix.specs.Plans.{IsScheduled}
 use Rattle.desk_feed.specs.Numbers.{numbers_line}
 use Rattle.planners_command.specs.Stepped.{HasNumbers}
 

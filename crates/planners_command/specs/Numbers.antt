@@ -9,7 +9,7 @@ use Rattle.deadhead_matrix.specs.Fitting.{network_of}
 use Rattle.deadhead_matrix.specs.Matrix.{MatrixView}
 use Rattle.assignment_model.specs.Prices.{Plan}
 use Rattle.desk_feed.specs.Numbers.{numbers_line}
-use Rattle.desk_feed.specs.Schedule.{IsScheduled}
+use Rattle.deadhead_matrix.specs.Plans.{IsScheduled}
 
 -- They are those of a timetable. The blocks of a plan are least over all blockings. Blocks without deadheads are fewest among
 -- such blocks, and as many as the sum of the maxima of the deficits.

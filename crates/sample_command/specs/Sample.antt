@@ -15,7 +15,8 @@ use Rattle.desk_run.specs.declared.reading.Loaded.TheVariants as loaded
 use Rattle.desk_feed.specs.Edited.{refusing_first}
 use Rattle.desk_feed.specs.Feed.{FeedView, feed_papers, standing}
 use Rattle.desk_feed.specs.Judging.{FeedAsked, doing, ending_of, of_feed, refused_of}
-use Rattle.desk_feed.specs.Schedule.{IsMatrixFor, IsScheduled, most_steps}
+use Rattle.deadhead_matrix.specs.Plans.{IsScheduled}
+use Rattle.desk_feed.specs.Schedule.{IsMatrixFor, most_steps}
 use Rattle.feed_sample.specs.Sample.{sample_files}
 
 -- the summary of a sample of so many trips: the fewest vehicles without deadheads, and the vehicles and the empty minutes of a plan

@@ -43,7 +43,7 @@ use Rattle.desk_run.specs.Outcome.{OutcomeView, putting}
 use Rattle.desk_run.specs.declared.status.Ending.TheVariants as ending
 use Rattle.desk_feed.specs.Feed.{FeedView, said_by, said_with, standing}
 use Rattle.desk_feed.specs.Judging.{Does, ending_of, refused_of}
-use Rattle.desk_feed.specs.Schedule.{IsScheduled}
+use Rattle.deadhead_matrix.specs.Plans.{IsScheduled}
 use Rattle.desk_feed.specs.Script.{ending_by, first_records}
 use Rattle.desk_feed.proofs.OneMatrix.{matrix-same}
 use Rattle.desk_feed.proofs.ScriptLemmas.{first-none, refused-none, some-none, standing-places}

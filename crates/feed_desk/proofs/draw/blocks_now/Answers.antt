@@ -3,7 +3,7 @@ use Rattle.trip_model.specs.Links.{AreLinks}
 use Rattle.trip_model.specs.Plain.{timely_network, trip_moves}
 use Rattle.trip_model.specs.Timetable.{TimetableView}
 use Rattle.assignment_model.specs.Prices.{Plan}
-use Rattle.desk_feed.proofs.TimelyLinks.{timely-links}
+use Rattle.deadhead_matrix.proofs.TimelyLinks.{timely-links}
 use Rattle.feed_desk.proofs.draw.blocks_now.Goals as goal
 
 pub blocks_of-requires-clause-links : goal.blocks_of-requires-clause-links

@@ -2,7 +2,7 @@ use Rattle.std.proofs.Common.{sym, ap, subst, ◌∙◌}
 use Rattle.assignment_model.specs.Prices.{Plan}
 use Rattle.trip_model.specs.Links.{AreLinks}
 use Rattle.trip_model.specs.Plain.{timely_network, trip_moves}
-use Rattle.desk_feed.proofs.TimelyLinks.{timely-links}
+use Rattle.deadhead_matrix.proofs.TimelyLinks.{timely-links}
 use Rattle.feed_schedule.proofs.schedule.schedule_of.Goals as goal
 
 pub blocks_of-requires-clause-links : goal.blocks_of-requires-clause-links
