@@ -30,8 +30,10 @@ use Rattle.trip_model.specs.declared.trip.Trip.{Trip}
 use Rattle.trip_model.specs.Fleet.{with_shift}
 use Rattle.undo_log.specs.Log.{latest_items, last_item}
 use Rattle.undo_log.proofs.LastItem.{take_last_item}
-use Rattle.desk_core.specs.Desk.{DeskView, desk_seen, ArePlansAfter, ArePlansFor, AreRepaired, IsDesk, IsDone, IsKept, IsRefused, most_steps}
+use Rattle.desk_core.specs.Desk.{DeskView, desk_seen, ArePlansFor, AreRepaired, IsDesk, IsDone, IsRefused, most_steps, plans_of}
+use Rattle.desk_core.specs.Computed.{plan_repaired}
 use Rattle.desk_core.specs.Repair.{IsRepairedIn, MayRepair}
+use Rattle.desk_core.proofs.PlansLemmas.{plans-edited}
 
 -- plans beside timetables: as one more stands at the end, as the oldest go, and the last of each
 pub plans-length : (m : MatrixView) (ts : List TimetableView) (ps : List Plan) → ArePlansFor m ts ps → length ts ≡ length ps
@@ -246,12 +248,6 @@ repaired-in (Restore trip) t s old new told is trips = subst (λ o. IfSome o (λ
 repaired-in (Extra trip from to departs arrives) t s old new told is trips = subst (λ s. IsAdded old new s) (some-inj s (length t.slots) told) is
 repaired-in edit t s old new told is trips = absurd trips
 
-kept-after : (edit : Edit) (old new : DeskView) → EditsTrip edit → IsKept old new → ArePlansAfter edit old new
-kept-after Undo old new trips kept = absurd trips
-kept-after Redo old new trips kept = absurd trips
-kept-after Show old new trips kept = absurd trips
-kept-after edit old new trips kept = kept
-
 pub counted-trip : (edit : Edit) (n slots old between new : ℕ) → EditsTrip edit → slots ≡ n → between ≤ old + 56 → new ≤ between + (4 * slots * slots + 4 * slots) → new ≤ old + most_steps edit n
 counted-trip Undo n slots old between new trips same one two = absurd trips
 counted-trip Redo n slots old between new trips same one two = absurd trips
@@ -278,12 +274,14 @@ module _ (s next : ScriptView) (m : MatrixView) (h reserved new : HistoryView) (
         rows = rows ∙ (desk.rows ∙ sym places);
       }
 
-  pub IsDone-edited : (slot : ℕ) → IsSlotOf edit s.timetable (Some slot) → IsRepairedIn edit slot reserved.plan.next new.plan.next → IsDone number edit (desk_seen s m h) (desk_seen next m new)
-  IsDone-edited slot told links = record {
+  pub IsDone-edited : (slot : ℕ) → IsSlotOf edit s.timetable (Some slot) → IsRepairedIn edit slot reserved.plan.next new.plan.next
+      → new.plan ≡ plan_repaired edit slot next.timetable m reserved.plan → IsDone number edit (desk_seen s m h) (desk_seen next m new)
+  IsDone-edited slot told links found = record {
     script = accepted;
     matrix = refl;
     links = repaired-in edit s.timetable slot h.plan.next new.plan.next told (subst (λ (k : HistoryView). IsRepairedIn edit slot k.plan.next new.plan.next) same links) trips;
-    plans = kept-after edit (desk_seen s m h) (desk_seen next m new) trips (record { earlier = keeps; later = later });
+    plans = plans-edited edit s.timetable next.timetable m (plans_of (desk_seen s m h)) (plans_of (desk_seen next m new)) slot trips told
+        (found ∙ ap (λ (k : HistoryView). plan_repaired edit slot next.timetable m k.plan) same) (record { earlier = keeps; later = later });
   }
 
 -- an undo and a redo that are accepted

@@ -1,4 +1,5 @@
 pub mod CountLemmas
 pub mod DeskLemmas
 pub mod FollowLemmas
+pub mod PlansLemmas
 pub mod StandingLemmas

@@ -9,14 +9,17 @@ use Rattle.std.proofs.Math.Seq.{take-length, take-append_seam}
 use Rattle.deadhead_matrix.specs.Matrix.{MatrixView}
 use Rattle.assignment_model.specs.Prices.{Plan}
 use Rattle.edit_script.specs.Script.{ScriptView, IsNext, all_but_last, last_alone, numbers_along, if_shown, with_edit}
+use Rattle.edit_script.specs.Edits.{EditsTrip}
 use Rattle.edit_script.specs.declared.edit.Edit.{Edit}
 use Rattle.edit_script.specs.declared.edit.Edit.TheVariants.{Shift, Cancel, Restore, Extra, Undo, Redo, Show}
 use Rattle.edit_script.specs.declared.fault.EditFault.TheVariants as fault
 use Rattle.trip_model.specs.Timetable.{TimetableView}
 use Rattle.undo_log.specs.Log.{latest_items}
 use Rattle.undo_log.proofs.LastItem.{take_last_item}
-use Rattle.desk_core.specs.Desk.{DeskView, IsDone, IsKept, IsUndone, IsRedone, IsShown}
+use Rattle.desk_core.specs.Computed.{PlansView}
+use Rattle.desk_core.specs.Desk.{DeskView, IsDone, plans_of}
 use Rattle.desk_core.specs.Standing.{IsLed, IsOpened}
+use Rattle.desk_core.proofs.PlansLemmas.{IsKept, IsRedone, IsUndone, get-middle, kept-of, redone-of, undone-of}
 use Rattle.desk_core.proofs.DeskLemmas.{IsEdited, IsStepBack, IsStepForth, edited-any, stepped-undo, stepped-redo}
 
 -- what lies before, what stands, and what was undone, of which the newest comes first
@@ -44,10 +47,6 @@ get-left : {X : Type 0} (xs ys : List X) (i : ℕ) → i < length xs → slice_g
 get-left [] ys i h = absurd (omega arith)
 get-left (x ∷ xs) ys zero h = refl
 get-left (x ∷ xs) ys (suc i) h = get-left xs ys i (omega arith)
-
-get-middle : {X : Type 0} (xs : List X) (x : X) (ys : List X) → slice_get (xs ++ x ∷ ys) (length xs) ≡ Some x
-get-middle [] x ys = refl
-get-middle (y ∷ xs) x ys = get-middle xs x ys
 
 get-drop : {X : Type 0} (n : ℕ) (xs : List X) (i j : ℕ) → j ≡ n + i → slice_get (drop n xs) i ≡ slice_get xs j
 get-drop zero xs i j e = ap (slice_get xs) (let k : i ≡ j = omega (arith, e) in k)
@@ -152,20 +151,20 @@ after-same a d e is standing undone earlier later same_numbers same_timetables s
           is.agreed i t p (ap (λ ts. slice_get ts i) (sym same_timetables) ∙ ti) (ap (λ ps. slice_get ps i) (sym same_plans) ∙ pi) (ap (take (is.sound.base + i)) (sym same_numbers) ∙ same);
     }
 
-after-shown : (a d e : DeskView) → IsAfter a d → (shows : ℕ) → e.script ≡ record d.script { shows = shows } → IsShown d e → IsAfter a e
+after-shown : (a d e : DeskView) → IsAfter a d → (shows : ℕ) → e.script ≡ record d.script { shows = shows } → plans_of e ≡ plans_of d → IsAfter a e
 after-shown a d e is shows script shown =
     after-same a d e is
     (ap (λ (s : ScriptView). is.sound.base + length s.earlier) script ∙ (is.sound.standing ∙ sym (ap (λ (s : ScriptView). length s.standing) script)))
     (ap (λ (s : ScriptView). length s.undone) script ∙ (is.sound.undone ∙ sym (ap (λ (s : ScriptView). length s.later) script)))
-    (ap length shown.earlier ∙ (is.sound.earlier ∙ sym (ap (λ (s : ScriptView). length s.earlier) script)))
-    (ap length shown.later ∙ (is.sound.later ∙ sym (ap (λ (s : ScriptView). length s.later) script)))
+    (ap (λ (p : PlansView). length p.earlier) shown ∙ (is.sound.earlier ∙ sym (ap (λ (s : ScriptView). length s.earlier) script)))
+    (ap (λ (p : PlansView). length p.later) shown ∙ (is.sound.later ∙ sym (ap (λ (s : ScriptView). length s.later) script)))
     (ap (λ (s : ScriptView). numbers_along s.standing s.undone) script)
     (ap (λ (s : ScriptView). along s.earlier s.timetable s.later) script)
-    (λ i. along (shown.earlier i) (shown.plan i) (shown.later i))
+    (ap (λ (p : PlansView). along p.earlier p.plan p.later) shown)
     (ap (λ (s : ScriptView). s.last) script)
 
 -- an undo
-after-undone : (a d e : DeskView) → IsAfter a d → IsStepBack d.script e.script → IsUndone d e → IsAfter a e
+after-undone : (a d e : DeskView) → IsAfter a d → IsStepBack d.script e.script → IsUndone (plans_of d) (plans_of e) → IsAfter a e
 after-undone a d e is back undone =
     let s = d.script in
     let whole : all_but_last s.earlier ++ back.timetable ∷ [] ≡ s.earlier = take_last_item s.earlier back.timetable back.last in
@@ -183,7 +182,7 @@ after-undone a d e is back undone =
     back.greatest
 
 -- a redo
-after-redone : (a d e : DeskView) → IsAfter a d → IsStepForth d.script e.script → IsRedone d e → IsAfter a e
+after-redone : (a d e : DeskView) → IsAfter a d → IsStepForth d.script e.script → IsRedone (plans_of d) (plans_of e) → IsAfter a e
 after-redone a d e is forth redone =
     let s = d.script in
     let whole : all_but_last s.later ++ forth.timetable ∷ [] ≡ s.later = take_last_item s.later forth.timetable forth.last in
@@ -244,7 +243,7 @@ edited-due a d number t m plan is above =
           (cases_lt i (length (latest_items (s.earlier ++ s.timetable ∷ []))));
     }
 
-after-edited : (a d e : DeskView) (number : ℕ) → IsAfter a d → d.script.last < number → IsEdited d.script e.script number → IsKept d e → IsAfter a e
+after-edited : (a d e : DeskView) (number : ℕ) → IsAfter a d → d.script.last < number → IsEdited d.script e.script number → IsKept (plans_of d) (plans_of e) → IsAfter a e
 after-edited a d e number is above edited kept =
     let s = d.script in
     let t = edited.timetable in
@@ -260,13 +259,23 @@ stepped-show s next e = by (nat_lt s.shows 64) e
     by true e = (s.shows + 1, cc)
     by false e = absurd (cc)
 
+-- an edit of a trip keeps the plan before it
+kept-by : (d e : DeskView) (number : ℕ) (edit : Edit) → EditsTrip edit → IsDone number edit d e → IsKept (plans_of d) (plans_of e)
+kept-by d e number edit trips done = kept-of edit d.script.timetable e.script.timetable d.matrix (plans_of d) (plans_of e) trips done.plans
+
 after-done : (a d e : DeskView) (number : ℕ) (edit : Edit) → IsAfter a d → IsNext d.script number edit → IsDone number edit d e → IsAfter a e
-after-done a d e number (Shift trip by) is next done = after-edited a d e number is next (edited-any d.script e.script number _ done.script) done.plans
-after-done a d e number (Cancel trip) is next done = after-edited a d e number is next (edited-any d.script e.script number _ done.script) done.plans
-after-done a d e number (Restore trip) is next done = after-edited a d e number is next (edited-any d.script e.script number _ done.script) done.plans
-after-done a d e number (Extra trip from to departs arrives) is next done = after-edited a d e number is next (edited-any d.script e.script number _ done.script) done.plans
-after-done a d e number Undo is next done = after-undone a d e is (stepped-undo d.script e.script number done.script) done.plans
-after-done a d e number Redo is next done = after-redone a d e is (stepped-redo d.script e.script number Redo refl done.script) done.plans
+after-done a d e number (Shift trip by) is next done = after-edited a d e number is next (edited-any d.script e.script number _ done.script) (kept-by d e number (Shift trip by) tt done)
+after-done a d e number (Cancel trip) is next done = after-edited a d e number is next (edited-any d.script e.script number _ done.script) (kept-by d e number (Cancel trip) tt done)
+after-done a d e number (Restore trip) is next done = after-edited a d e number is next (edited-any d.script e.script number _ done.script) (kept-by d e number (Restore trip) tt done)
+after-done a d e number (Extra trip from to departs arrives) is next done = after-edited a d e number is next (edited-any d.script e.script number _ done.script) (kept-by d e number (Extra trip from to departs arrives) tt done)
+after-done a d e number Undo is next done =
+    let back = stepped-undo d.script e.script number done.script in
+    let within = get-within d.script.earlier (length d.script.earlier - 1) back.timetable back.last in
+    after-undone a d e is back (undone-of (plans_of d) (plans_of e) done.plans (omega (arith, within, is.sound.earlier)))
+after-done a d e number Redo is next done =
+    let forth = stepped-redo d.script e.script number Redo refl done.script in
+    let within = get-within d.script.later (length d.script.later - 1) forth.timetable forth.last in
+    after-redone a d e is forth (redone-of (plans_of d) (plans_of e) done.plans (omega (arith, within, is.sound.later)))
 after-done a d e number Show is next done = let to = stepped-show d.script e.script done.script in after-shown a d e is to.0 to.1 done.plans
 
 -- and all that follows

@@ -1,5 +1,5 @@
 -- What a desk is seen as, what holds of each one, and what an edit does to it.
-use Rattle.std.specs.Prelude.{◌≡◌, ℕ, ◌+◌, ◌*◌, List, [], ◌∷◌, ◌++◌, length, Option, IfSome, Ok, Err, Result, ℤ, ⊤}
+use Rattle.std.specs.Prelude.{◌≡◌, ℕ, ◌+◌, ◌*◌, List, length, Option, IfSome, Ok, Err, Result, ℤ, ⊤}
 use Rattle.std.specs.List.{AllZip}
 use Rattle.deadhead_matrix.specs.Matrix.{MatrixView}
 use Rattle.assignment_model.specs.Paths.{IsTaken, IsAdded}
@@ -12,9 +12,9 @@ use Rattle.edit_script.specs.declared.edit.Edit.TheVariants.{Shift, Cancel, Rest
 use Rattle.edit_script.specs.declared.fault.EditFault.{EditFault}
 use Rattle.edit_script.specs.declared.fault.EditFault.TheVariants as fault
 use Rattle.plan_history.specs.History.{HistoryView, IsReplaced}
+use Rattle.desk_core.specs.Computed.{PlansView, plans_after}
 use Rattle.trip_model.specs.Deficit.{live_moves}
 use Rattle.trip_model.specs.Timetable.{TimetableView, number_of, slot_names}
-use Rattle.undo_log.specs.Log.{latest_items}
 
 -- a desk: the script, the matrix and the plan. Then the plan before each edit that can be undone, and the plan after each that
 -- can be redone, the newest last
@@ -54,40 +54,17 @@ AreRepaired Undo timetable old new = ⊤
 AreRepaired Redo timetable old new = ⊤
 AreRepaired Show timetable old new = new ≡ old
 
--- the plan before is the last that can be undone, of 256 at most, and none can be redone
-pub record IsKept (old new : DeskView) : Type 0 where
-  pub earlier : new.earlier ≡ latest_items (old.earlier ++ old.plan ∷ [])
-  pub later : new.later ≡ []
+-- the plans of a desk
+abbrev pub plans_of : DeskView → PlansView
+plans_of desk = record { plan = desk.plan; earlier = desk.earlier; later = desk.later }
 
--- the plan is the last that could be undone, prices included, and the one before is the last that can be redone
-pub record IsUndone (old new : DeskView) : Type 0 where
-  pub earlier : old.earlier ≡ new.earlier ++ new.plan ∷ []
-  pub later : new.later ≡ old.later ++ old.plan ∷ []
-
--- the plan is the last that could be redone, prices included, and the one before is the last that can be undone
-pub record IsRedone (old new : DeskView) : Type 0 where
-  pub later : old.later ≡ new.later ++ new.plan ∷ []
-  pub earlier : new.earlier ≡ old.earlier ++ old.plan ∷ []
-
--- no plan is another
-pub record IsShown (old new : DeskView) : Type 0 where
-  pub plan : new.plan ≡ old.plan
-  pub earlier : new.earlier ≡ old.earlier
-  pub later : new.later ≡ old.later
-
--- which plans can be undone and redone after an edit
-abbrev pub ArePlansAfter : Edit → DeskView → DeskView → Type 0
-ArePlansAfter Undo old new = IsUndone old new
-ArePlansAfter Redo old new = IsRedone old new
-ArePlansAfter Show old new = IsShown old new
-ArePlansAfter edit old new = IsKept old new
-
--- the edit of a record of that number was done: the script made its step, and the plan was repaired, or restored as it was
+-- The edit of a record of that number was done. The script made its step, and the plans are those that are computed from the
+-- plans before. Links changed along the paths of the repair alone.
 pub record IsDone (number : ℕ) (edit : Edit) (old new : DeskView) : Type 0 where
   pub script : stepped old.script number edit ≡ Ok new.script
   pub matrix : new.matrix ≡ old.matrix
   pub links : AreRepaired edit old.script.timetable old.plan.next new.plan.next
-  pub plans : ArePlansAfter edit old new
+  pub plans : plans_of new ≡ plans_after edit old.script.timetable new.script.timetable old.matrix (plans_of old)
 
 -- a fault is the refusal of an edit, or lack of memory for one that takes memory
 abbrev pub IsRefused : EditFault → Edit → Result ScriptView EditFault → Type 0

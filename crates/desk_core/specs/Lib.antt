@@ -1,3 +1,4 @@
+pub mod Computed
 pub mod Counts
 pub mod Desk
 pub mod Follow

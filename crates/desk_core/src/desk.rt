@@ -2,6 +2,7 @@ ghost use Rattle.std.specs.Prelude.{◌≡◌, ◌≢◌, ℕ, ◌+◌, ◌*◌,
 ghost use Rattle.assignment_model.specs.Prices.{Plan as PlanView};
 ghost use Rattle.deadhead_matrix.specs.Plans.{IsPlanFor};
 ghost use Rattle.deficit_steps.specs.Holds.{Holds};
+ghost use Rattle.desk_core.specs.Computed.{first_plan};
 ghost use Rattle.desk_core.specs.Counts.{blocks_in, minutes_in};
 ghost use Rattle.desk_core.specs.Desk.{ArePlansFor, IsDone, IsRefused, most_steps};
 ghost use Rattle.edit_script.specs.Edits.{EditsTrip, InForm};
@@ -70,6 +71,7 @@ impl Desk {
         requires later { script.later ≡ [] }
         ensures script { IfOk result (λ desk. desk.script ≡ script) }
         ensures matrix { IfOk result (λ desk. desk.matrix ≡ matrix) }
+        ensures plan { IfOk result (λ desk. desk.plan ≡ first_plan script.timetable matrix) }
         ensures certified { IfOk result (λ desk. IsPlanFor script.timetable matrix desk.plan) }
         ensures earlier { IfOk result (λ desk. desk.earlier ≡ []) }
         ensures later { IfOk result (λ desk. desk.later ≡ []) }

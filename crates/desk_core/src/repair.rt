@@ -1,5 +1,6 @@
 ghost use Rattle.std.specs.Prelude.{◌≡◌, ◌+◌, ◌*◌, ◌≤◌, ◌<◌, ◌++◌, ◌∷◌, [], length};
 ghost use Rattle.deadhead_matrix.specs.Plans.{IsPlanFor};
+ghost use Rattle.desk_core.specs.Computed.{plan_repaired};
 ghost use Rattle.desk_core.specs.Repair.{IsRepairedIn, MayRepair};
 ghost use Rattle.undo_log.specs.Log.{latest_items};
 
@@ -25,6 +26,7 @@ pub(crate) fn repair<L: Ledger>(
     requires room { length history.old.plan.next < history.old.room }
     requires may { MayRepair edit.now slot timetable.now matrix.now history.old.plan }
     ensures plan { IsPlanFor timetable.now matrix.now history.new.plan }
+    ensures found { history.new.plan ≡ plan_repaired edit.now slot timetable.now matrix.now history.old.plan }
     ensures links { IsRepairedIn edit.now slot history.old.plan.next history.new.plan.next }
     ensures earlier { history.new.earlier ≡ latest_items (history.old.earlier ++ history.old.plan ∷ []) }
     ensures later { history.new.later ≡ [] }

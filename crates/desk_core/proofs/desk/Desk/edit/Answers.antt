@@ -1,8 +1,9 @@
-use Rattle.std.proofs.Common.{ap, length, subst, sym}
+use Rattle.std.proofs.Common.{ap, length, subst, sym, ◌∙◌}
 use Rattle.trip_model.specs.Timetable.{IsTimetable, TimetableView}
 use Rattle.plan_history.specs.History.{HistoryView}
 use Rattle.edit_script.specs.Changes.{IsSlotOf}
 use Rattle.desk_core.specs.Desk.{DeskView, IsDone, desk_seen}
+use Rattle.desk_core.specs.Computed.{plan_repaired}
 use Rattle.desk_core.specs.Repair.{MayRepair}
 use Rattle.deadhead_matrix.specs.Plans.{IsPlanFor}
 use Rattle.desk_core.proofs.DeskLemmas.{IsDesk-edited, IsDone-edited, counted-trip, may-repair}
@@ -30,7 +31,8 @@ returns-clause-done g c =
     subst (λ (old : DeskView). IsDone c.args.number c.args.edit.now old (desk_seen c.step.new.script c.self.inside.matrix c.repair.new.history)) c.self.view_is
     (IsDone-edited c.self.inside.script c.step.new.script c.self.inside.matrix c.self.inside.history c.reserve.new.self c.repair.new.history c.args.number c.args.edit.now c.in_ok-reserve.ensures.seen
     c.requires.trip c.in_ok-touched.ensures.accepted c.repair.ensures.earlier c.repair.ensures.later c.in-Some.slot
-    (subst (IsSlotOf c.args.edit.now c.self.inside.script.timetable) c.in-Some.is c.in_ok-touched.ensures.slot) c.repair.ensures.links)
+    (subst (IsSlotOf c.args.edit.now c.self.inside.script.timetable) c.in-Some.is c.in_ok-touched.ensures.slot) c.repair.ensures.links
+    (c.repair.ensures.found ∙ ap (λ (t : TimetableView). plan_repaired c.args.edit.now c.in-Some.slot t c.self.inside.matrix c.reserve.new.self.plan) c.timetable-timetable.ensures))
 
 pub returns-clause-counted : goal.returns-clause-counted
 returns-clause-counted g c =
