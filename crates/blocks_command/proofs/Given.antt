@@ -14,6 +14,7 @@ use Rattle.assignment_model.specs.Prices.{Plan}
 use Rattle.desk_core.specs.Counts.{blocks_in}
 use Rattle.feed_names.specs.Laws.{TripsAreNamed}
 use Rattle.feed_desk.specs.Drawn.{HasFollowed}
+use Rattle.feed_desk.specs.Plans.{plan_at}
 use Rattle.feed_desk.specs.declared.follow.Followed.{Followed}
 use Rattle.blocks_command.specs.Answers.{answer_text, numbers_text}
 use Rattle.blocks_command.specs.Blocks.{IsPlanned, blocks_does, plan_files}
@@ -30,7 +31,6 @@ pub planned-of : {E : Type 0} (base : TimetableView) (lines : List Line) (matrix
     → IfOk result (IsPlanned base lines matrix prefix)
 planned-of base lines matrix prefix followed has begun (Err e) done = tt
 planned-of base lines matrix prefix followed has begun (Ok outcome) done = record {
-  plans = has.plans;
   are = has.are;
   pulls = has.pulls;
   begun = begun;
@@ -53,7 +53,7 @@ pub plan-given : {E : Type 0} (read : ReadView) (said : FeedView) (matrix : Matr
 plan-given read said matrix accepts named says is (Err e) prefix prefix_is planned = tt
 plan-given read said matrix accepts named says is (Ok outcome) prefix prefix_is planned =
     let here : IsPlanned said.base said.lines matrix said.settings.prefix outcome = subst (λ p. IsPlanned said.base said.lines matrix p outcome) prefix_is planned in
-    let plan = here.plans (length said.lines) in
+    let plan = plan_at said.base said.lines matrix (length said.lines) in
     let last = here.are.planned (length said.lines) (omega arith) in
     record {
       gives = record {

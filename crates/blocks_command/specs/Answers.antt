@@ -1,11 +1,10 @@
 -- What is put of each record of a script, by the plan after it.
-use Rattle.std.specs.Prelude.{ℕ, List, [], ◌++◌, length, Option, None, Some, codes}
+use Rattle.std.specs.Prelude.{ℕ, List, [], ◌++◌, length, None, Some, codes}
 use Rattle.std.specs.Fmt.{decimal}
 use Rattle.trip_model.specs.Timetable.{TimetableView}
 use Rattle.edit_script.specs.declared.edit.Edit.TheVariants.{Show}
 use Rattle.edit_script.specs.declared.edit.Line.{Line}
 use Rattle.edit_script.specs.declared.edit.Line.TheVariants as line
-use Rattle.edit_script.specs.declared.fault.EditFault.{EditFault}
 use Rattle.deadhead_matrix.specs.Matrix.{MatrixView}
 use Rattle.assignment_model.specs.Prices.{Plan}
 use Rattle.block_build.specs.Lines.{block_text, price_text}

@@ -18,7 +18,7 @@ use Rattle.desk_feed.specs.Feed.{FeedView, standing}
 use Rattle.desk_feed.specs.Judging.{FeedAsked, doing, of_feed}
 use Rattle.desk_feed.specs.Schedule.{IsMatrixFor}
 use Rattle.feed_desk.specs.Answers.{answers_by}
-use Rattle.feed_desk.specs.Plans.{ArePlanned, most_steps_of}
+use Rattle.feed_desk.specs.Plans.{ArePlanned, most_steps_of, plan_at}
 use Rattle.blocks_command.specs.Answers.{answer_text, numbers_text}
 
 -- the two files of a plan, in the order in which they are written
@@ -28,23 +28,24 @@ plan_files timetable matrix prefix plan =
     ∷ record { name = file_name_of paper.Prices; bytes = prices_text timetable plan.leave plan.enter }
     ∷ []
 
--- What is written and put of such plans. The files are those of the last one. Of each record it is put what the plan after it
+-- What is written and put of a feed's plans. The files are those of the last one. Of each record it is put what the plan after it
 -- says, and last come the numbers after all records.
-abbrev pub plans_outcome : TimetableView → List Line → MatrixView → List ℕ → (ℕ → Plan) → OutcomeView
-plans_outcome base lines matrix prefix plans = record {
-  writes = plan_files (standing_after base lines) matrix prefix (plans (length lines));
-  lines = None;
-  text = answers_by (answer_text matrix prefix) base lines plans (length lines) ++ numbers_text (standing_after base lines) matrix (plans (length lines));
-  ending = ending_after base lines;
-}
+abbrev pub plans_outcome : TimetableView → List Line → MatrixView → List ℕ → OutcomeView
+plans_outcome base lines matrix prefix =
+    let last = plan_at base lines matrix (length lines) in
+    record {
+      writes = plan_files (standing_after base lines) matrix prefix last;
+      lines = None;
+      text = answers_by (answer_text matrix prefix) base lines (plan_at base lines matrix) (length lines) ++ numbers_text (standing_after base lines) matrix last;
+      ending = ending_after base lines;
+    }
 
--- It is done of one plan for each moment. Pulls and prefix are valid.
+-- It is done of the plan at each moment. Pulls and prefix are valid.
 pub record IsPlanned (base : TimetableView) (lines : List Line) (matrix : MatrixView) (prefix : List ℕ) (outcome : OutcomeView) : Type 0 where
-  pub plans : ℕ → Plan
-  pub are : ArePlanned base lines matrix plans
+  pub are : ArePlanned base lines matrix
   pub pulls : All IsPull matrix.pulls
   pub begun : IsUtf8 prefix
-  pub done : outcome ≡ plans_outcome base lines matrix prefix plans
+  pub done : outcome ≡ plans_outcome base lines matrix prefix
 
 -- what is written of the last plan is a claim on which the verdict is yes, with the vehicles and the minutes of its blocks
 abbrev pub IsLastAccepted : TimetableView → MatrixView → List ℕ → Plan → Type 0
@@ -55,7 +56,7 @@ pub record IsPlan (said : FeedView) (outcome : OutcomeView) : Type 0 where
   pub matrix : MatrixView
   pub matrix_is : IsMatrixFor said matrix
   pub planned : IsPlanned said.base said.lines matrix said.settings.prefix outcome
-  pub accepted : IsLastAccepted (standing said) matrix said.settings.prefix (planned.plans (length said.lines))
+  pub accepted : IsLastAccepted (standing said) matrix said.settings.prefix (plan_at said.base said.lines matrix (length said.lines))
 
 abbrev pub blocks_does : FeedAsked
 blocks_does = doing IsPlan most_steps_of

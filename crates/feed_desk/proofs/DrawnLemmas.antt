@@ -11,7 +11,7 @@ use Rattle.desk_feed.specs.Edited.{standing_after}
 use Rattle.deadhead_matrix.specs.Plans.{IsScheduled}
 use Rattle.feed_desk.specs.Answers.{refusals}
 use Rattle.feed_desk.specs.Drawn.{HasDrawn, HasFollowed, IsDrawn}
-use Rattle.feed_desk.specs.Plans.{IsPlannedAt}
+use Rattle.feed_desk.specs.Plans.{IsPlannedAt, plan_at}
 use Rattle.feed_desk.specs.declared.draw.Drawn.{Drawn}
 use Rattle.feed_desk.specs.declared.follow.Followed.{Followed}
 use Rattle.feed_desk.proofs.MomentsLemmas.{refusals-are}
@@ -34,13 +34,12 @@ pub has-drawn : (base : TimetableView) (lines : List Line) (matrix : MatrixView)
     → HasDrawn base lines matrix drawn
 has-drawn base lines matrix followed drawn has desk blocks refused end = record {
   plan = record {
-    plans = has.plans;
     are = has.are;
     last = ap (λ (d : DeskView). d.plan) desk ∙ has.plan;
     along = blocks ∙ (λ i. blocks_in (has.timetable i) ((ap (λ (d : DeskView). d.plan) (sym desk)) i));
   };
   timetable = ap (λ (d : DeskView). d.script.timetable) desk ∙ has.timetable;
   matrix_is = ap (λ (d : DeskView). d.matrix) desk ∙ has.matrix_is;
-  refused = refused ∙ has.text ∙ refusals-are base lines has.plans (length lines);
+  refused = refused ∙ has.text ∙ refusals-are base lines (plan_at base lines matrix) (length lines);
   ending = end ∙ has.ending;
 }

@@ -24,14 +24,15 @@ use Rattle.edit_script.specs.declared.edit.Line.TheVariants as line
 use Rattle.edit_script.specs.declared.fault.EditFault.TheVariants as fault
 use Rattle.edit_script.specs.declared.edit.Line.{Line}
 use Rattle.edit_script.specs.declared.fault.EditFault.{EditFault}
-use Rattle.desk_core.specs.Desk.{DeskView, IsRefused}
+use Rattle.desk_core.specs.Computed.{PlansView, first_plan, plans_after}
+use Rattle.desk_core.specs.Desk.{DeskView, IsRefused, plans_of}
 use Rattle.desk_core.specs.Standing.{IsLed, IsOpened}
 use Rattle.desk_feed.specs.Script.{IsStepped, first_records, line_at, record_at, refusal_in, refusal_text, refused_to, standing_at, state_at, step_at}
 use Rattle.desk_feed.specs.Edited.{ending_after}
 use Rattle.desk_feed.proofs.ScriptLemmas.{first-next, first-none, some-next, some-none}
 use Rattle.edit_script.proofs.FoldsLemmas.{standing-folds}
 use Rattle.feed_desk.specs.Answers.{Answer, answers_by, refusals}
-use Rattle.feed_desk.specs.Plans.{ArePlanned, AreRelinked, IsFixed, IsPlannedAt, fixed_number, most_of, most_to}
+use Rattle.feed_desk.specs.Plans.{ArePlanned, AreRelinked, IsFixed, IsPlannedAt, fixed_number, most_of, most_to, plan_at, plans_at, plans_by}
 use Rattle.feed_desk.specs.Drawn.{HasFollowed}
 use Rattle.feed_desk.specs.declared.follow.Followed.{Followed}
 use Rattle.feed_desk.specs.Moments.{AreMoments, IsAnswered, IsFollowed, IsMoment}
@@ -248,7 +249,8 @@ module _ (makes : MakesMoves) (are_made : AreMade) (reaches : ReachesMaxima) whe
 
 -- the plans of all moments
 module _ (restores : AreRestored) (proves : AreProved) (makes : MakesMoves) (are_made : AreMade) (reaches : ReachesMaxima)
-    (base : TimetableView) (lines : List Line) (first last : DeskView) (n : ℕ) (desks : ℕ → DeskView) (are : AreMoments base lines first n last desks) (opened : IsOpened first) (pulls : All IsPull first.matrix.pulls) where
+    (base : TimetableView) (lines : List Line) (first last : DeskView) (n : ℕ) (desks : ℕ → DeskView) (are : AreMoments base lines first n last desks) (opened : IsOpened first) (begun : first.plan ≡ first_plan base first.matrix)
+    (pulls : All IsPull first.matrix.pulls) where
   -- from one moment to a later one a desk is led by the edits between them
   led-on : (m d : ℕ) → m + d ≤ n → (moments : List DeskView) × IsLed (desks m) moments (desks (m + d))
   led-on m zero le = ([], ap desks (let same : m + zero ≡ m = omega arith in same))
@@ -307,13 +309,42 @@ module _ (restores : AreRestored) (proves : AreProved) (makes : MakesMoves) (are
       by (line.Edit edit) (Some refused) followed = ap (λ (d : DeskView). d.plan.next) followed
       by line.NotAnEdit (Some refused) followed = ap (λ (d : DeskView). d.plan.next) followed
 
-  pub are-planned : n ≡ length lines → ArePlanned base lines first.matrix (λ k. (desks k).plan)
+  -- the plans of each moment are those that are computed
+  computed : (m : ℕ) → m ≤ n → plans_of (desks m) ≡ plans_at base lines first.matrix m
+  unfolding plans_at
+  computed zero le = ap plans_of are.begins ∙ (λ i. record { plan = begun i; earlier = opened.earlier i; later = opened.later i })
+  computed (suc m) le =
+      by (line_at lines m) (refusal_in (step_at base lines m)) (are.follow m (omega (arith, le)))
+      ∙ ap (plans_by (line_at lines m) (refusal_in (step_at base lines m)) (standing_at base lines m) (standing_at base lines (suc m)) first.matrix) (computed m (omega (arith, le)))
+    where
+      here : IsMoment base lines first.matrix m (desks m)
+      here = are.each m (omega (arith, le))
+
+      there : IsMoment base lines first.matrix (suc m) (desks (suc m))
+      there = are.each (suc m) le
+
+      by : (l : Line) (refused : Option EditFault) → IsFollowed l refused (desks m) (desks (suc m))
+          → plans_of (desks (suc m)) ≡ plans_by l refused (standing_at base lines m) (standing_at base lines (suc m)) first.matrix (plans_of (desks m))
+      by (line.Edit edit) None followed = followed.done.plans ∙ (λ i. plans_after edit (here.at.timetable i) (there.at.timetable i) (here.matrix_is i) (plans_of (desks m)))
+      by line.NotAnEdit None followed = absurd followed
+      by (line.Edit edit) (Some refused) followed = ap plans_of followed
+      by line.NotAnEdit (Some refused) followed = ap plans_of followed
+
+  plan-is : (m : ℕ) → m ≤ n → (desks m).plan ≡ plan_at base lines first.matrix m
+  plan-is m le = ap (λ (plans : PlansView). plans.plan) (computed m le)
+
+  pub are-planned : n ≡ length lines → ArePlanned base lines first.matrix
   are-planned all = record {
-    planned = λ m le. planned m (omega (arith, all, le));
-    restored = λ m k m_in k_in standing. restored m k (omega (arith, all, m_in)) (omega (arith, all, k_in)) standing;
-    unchanged = λ m lt is. unchanged m (omega (arith, all, lt)) is;
+    planned = λ m le. subst (IsPlannedAt (standing_at base lines m) first.matrix) (plan-is m (omega (arith, all, le))) (planned m (omega (arith, all, le)));
+    restored = λ m k m_in k_in standing.
+        sym (plan-is m (omega (arith, all, m_in))) ∙ restored m k (omega (arith, all, m_in)) (omega (arith, all, k_in)) standing ∙ plan-is k (omega (arith, all, k_in));
+    unchanged = λ m lt is. sym (plan-is (suc m) (omega (arith, all, lt))) ∙ unchanged m (omega (arith, all, lt)) is ∙ plan-is m (omega (arith, all, lt));
     folds = λ m le. standing-folds base (first_records lines m);
-    repaired = λ m lt. repaired m (omega (arith, all, lt));
+    repaired = λ m lt.
+        subst (λ (old : Plan). AreRelinked (line_at lines m) (refusal_in (step_at base lines m)) (standing_at base lines m) old.next (plan_at base lines first.matrix (suc m)).next)
+        (plan-is m (omega (arith, all, lt)))
+        (subst (λ (new : Plan). AreRelinked (line_at lines m) (refusal_in (step_at base lines m)) (standing_at base lines m) (desks m).plan.next new.next)
+        (plan-is (suc m) (omega (arith, all, lt))) (repaired m (omega (arith, all, lt))));
   }
 
   -- a desk has followed the script with these plans
@@ -323,12 +354,11 @@ module _ (restores : AreRestored) (proves : AreProved) (makes : MakesMoves) (are
   has-followed answer followed all is put end_is =
       let last_is = subst (IsMoment base lines first.matrix n) are.ends (are.each n (omega arith)) in
       record {
-        plans = λ k. (desks k).plan;
         are = are-planned all;
         pulls = pulls;
         timetable = ap (λ (d : DeskView). d.script.timetable) is ∙ last_is.at.timetable ∙ ap (standing_at base lines) all;
         matrix_is = ap (λ (d : DeskView). d.matrix) is ∙ last_is.matrix_is;
-        plan = ap (λ (d : DeskView). d.plan) (is ∙ sym are.ends ∙ ap desks all);
-        text = put ∙ ap (answers_by answer base lines (λ k. (desks k).plan)) all;
+        plan = ap (λ (d : DeskView). d.plan) (is ∙ sym are.ends) ∙ plan-is n (omega arith) ∙ ap (plan_at base lines first.matrix) all;
+        text = put ∙ answers-same answer base lines (λ k. (desks k).plan) (plan_at base lines first.matrix) n plan-is ∙ ap (answers_by answer base lines (plan_at base lines first.matrix)) all;
         ending = end_is;
       }

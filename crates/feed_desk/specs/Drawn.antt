@@ -8,27 +8,24 @@ use Rattle.deadhead_matrix.specs.Pulls.{IsPull}
 use Rattle.desk_core.specs.Counts.{blocks_in}
 use Rattle.desk_feed.specs.Edited.{ending_after, refused_text, standing_after}
 use Rattle.feed_desk.specs.Answers.{Answer, answers_by}
-use Rattle.feed_desk.specs.Plans.{ArePlanned}
+use Rattle.feed_desk.specs.Plans.{ArePlanned, plan_at}
 use Rattle.feed_desk.specs.declared.follow.Followed.{Followed}
 use Rattle.feed_desk.specs.declared.draw.Drawn.{Drawn}
 
--- A desk has followed a script, with one plan for each moment. It is where the script ends, with the last of these plans. This
--- was put of the records.
+-- A desk has followed a script. It is where the script ends, with the last of its plans. This was put of the records.
 pub record HasFollowed (answer : Answer) (base : TimetableView) (lines : List Line) (matrix : MatrixView) (followed : Followed) : Type 0 where
-  pub plans : ℕ → Plan
-  pub are : ArePlanned base lines matrix plans
+  pub are : ArePlanned base lines matrix
   pub pulls : All IsPull matrix.pulls
   pub timetable : followed.desk.script.timetable ≡ standing_after base lines
   pub matrix_is : followed.desk.matrix ≡ matrix
-  pub plan : followed.desk.plan ≡ plans (length lines)
-  pub text : string_bytes followed.text ≡ answers_by answer base lines plans (length lines)
+  pub plan : followed.desk.plan ≡ plan_at base lines matrix (length lines)
+  pub text : string_bytes followed.text ≡ answers_by answer base lines (plan_at base lines matrix) (length lines)
   pub ending : followed.ending ≡ ending_after base lines
 
--- The plan of a command that draws one, and its blocks: it is the last of the plans of a script, one for each moment.
+-- The plan of a command that draws one, and its blocks: it is the last of the plans of a script.
 pub record IsDrawn (base : TimetableView) (lines : List Line) (matrix : MatrixView) (plan : Plan) (blocks : List (List ℕ)) : Type 0 where
-  pub plans : ℕ → Plan
-  pub are : ArePlanned base lines matrix plans
-  pub last : plan ≡ plans (length lines)
+  pub are : ArePlanned base lines matrix
+  pub last : plan ≡ plan_at base lines matrix (length lines)
   pub along : blocks ≡ blocks_in (standing_after base lines) plan
 
 -- the desk after a script, its plan drawn, with the lines of refused records

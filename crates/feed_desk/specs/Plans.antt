@@ -1,5 +1,5 @@
 -- The plans of a script, one for each moment, and the steps that they take.
-use Rattle.std.specs.Prelude.{◌≡◌, ℕ, zero, suc, ◌+◌, ◌<◌, ◌≤◌, List, length, Option, None, IsSome, pos, unsigned_abs}
+use Rattle.std.specs.Prelude.{◌≡◌, ℕ, zero, suc, ◌+◌, ◌<◌, ◌≤◌, List, [], length, Option, None, IsSome, pos, unsigned_abs}
 use Rattle.trip_model.specs.Blocking.{IsFewest}
 use Rattle.trip_model.specs.Deficit.{deficit, live_moves}
 use Rattle.trip_model.specs.Maximum.{sum_of_maxima}
@@ -11,6 +11,7 @@ use Rattle.edit_script.specs.declared.edit.Line.TheVariants as line
 use Rattle.edit_script.specs.declared.fault.EditFault.{EditFault}
 use Rattle.deadhead_matrix.specs.Matrix.{MatrixView}
 use Rattle.assignment_model.specs.Prices.{Plan}
+use Rattle.desk_core.specs.Computed.{PlansView, first_plan, plans_after}
 use Rattle.desk_core.specs.Counts.{blocks_in}
 use Rattle.desk_core.specs.Desk as desk
 use Rattle.desk_feed.specs.Feed.{FeedView}
@@ -42,15 +43,32 @@ abbrev pub AreRelinked : Line → Option EditFault → TimetableView → List (O
 AreRelinked (line.Edit edit) None timetable old new = desk.AreRepaired edit timetable old new
 AreRelinked line refused timetable old new = new ≡ old
 
--- One plan for each moment of a script. A moment is after so many of its records. Each is a plan of the timetable that stands
--- then. Where the same edits stand the plans are equal, prices included. A refused record leaves the plan as it is. The edit of
--- a trip changes links along the paths of its repair alone. The edits that stand are each accepted over those before.
-pub record ArePlanned (base : TimetableView) (lines : List Line) (matrix : MatrixView) (plans : ℕ → Plan) : Type 0 where
-  pub planned : (m : ℕ) → m ≤ length lines → IsPlannedAt (standing_at base lines m) matrix (plans m)
-  pub restored : (m k : ℕ) → m ≤ length lines → k ≤ length lines → (state_at base lines m).standing ≡ (state_at base lines k).standing → plans m ≡ plans k
-  pub unchanged : (n : ℕ) → n < length lines → IsSome (refusal_in (step_at base lines n)) → plans (suc n) ≡ plans n
+-- the plans after a record: those after its edit, or the same ones where it is refused
+abbrev pub plans_by : Line → Option EditFault → TimetableView → TimetableView → MatrixView → PlansView → PlansView
+plans_by (line.Edit edit) None before after matrix plans = plans_after edit before after matrix plans
+plans_by line refused before after matrix plans = plans
+
+module _ (base : TimetableView) (lines : List Line) (matrix : MatrixView) where
+  -- the plans after so many of the first records, computed record by record
+  unfoldable pub plans_at : ℕ → PlansView
+  plans_at zero = record { plan = first_plan base matrix; earlier = []; later = [] }
+  plans_at (suc n) = plans_by (line_at lines n) (refusal_in (step_at base lines n)) (standing_at base lines n) (standing_at base lines (suc n)) matrix (plans_at n)
+
+  -- the plan then
+  abbrev pub plan_at : ℕ → Plan
+  plan_at m = (plans_at m).plan
+
+-- What holds of the plan at each moment of a script. A moment is after so many of its records. It is a plan of the timetable that
+-- stands then. Where the same edits stand the plans are equal, prices included. A refused record leaves the plan as it is. The
+-- edit of a trip changes links along the paths of its repair alone. The edits that stand are each accepted over those before.
+pub record ArePlanned (base : TimetableView) (lines : List Line) (matrix : MatrixView) : Type 0 where
+  pub planned : (m : ℕ) → m ≤ length lines → IsPlannedAt (standing_at base lines m) matrix (plan_at base lines matrix m)
+  pub restored : (m k : ℕ) → m ≤ length lines → k ≤ length lines → (state_at base lines m).standing ≡ (state_at base lines k).standing
+      → plan_at base lines matrix m ≡ plan_at base lines matrix k
+  pub unchanged : (n : ℕ) → n < length lines → IsSome (refusal_in (step_at base lines n)) → plan_at base lines matrix (suc n) ≡ plan_at base lines matrix n
   pub folds : (m : ℕ) → m ≤ length lines → Folds base (state_at base lines m).standing
-  pub repaired : (n : ℕ) → n < length lines → AreRelinked (line_at lines n) (refusal_in (step_at base lines n)) (standing_at base lines n) (plans n).next (plans (suc n)).next
+  pub repaired : (n : ℕ) → n < length lines
+      → AreRelinked (line_at lines n) (refusal_in (step_at base lines n)) (standing_at base lines n) (plan_at base lines matrix n).next (plan_at base lines matrix (suc n)).next
 
 -- the most steps of a record, with so many slots after it: none where it is refused
 abbrev pub most_of : Line → ℕ → Option EditFault → ℕ

@@ -13,7 +13,7 @@ use Rattle.desk_settings.specs.Settings.{SettingsView}
 use Rattle.trip_model.specs.Blocking.{IsLeast, empty_minutes}
 use Rattle.trip_model.specs.Links.{blocks_along}
 use Rattle.trip_model.specs.Order.{by_departure}
-use Rattle.trip_model.specs.Plain.{trip_moves, AreMoves}
+use Rattle.trip_model.specs.Plain.{trip_moves}
 use Rattle.trip_model.specs.Timetable.{TimetableView, IsTimetable}
 use Rattle.edit_script.specs.declared.edit.Line.{Line}
 use Rattle.edit_script.specs.Machine.{machine, timetable_at}
@@ -46,7 +46,7 @@ use Rattle.desk_feed.specs.Judging.{Does, ending_of, refused_of}
 use Rattle.deadhead_matrix.specs.Plans.{IsScheduled}
 use Rattle.desk_feed.specs.Script.{ending_by, first_records}
 use Rattle.desk_feed.proofs.OneMatrix.{matrix-same}
-use Rattle.desk_feed.proofs.ScriptLemmas.{first-none, refused-none, some-none, standing-places}
+use Rattle.desk_feed.proofs.ScriptLemmas.{first-none, refused-none, some-none}
 use Rattle.feed_desk.proofs.DrawnLemmas.{drawn-scheduled, drawn-valid}
 use Rattle.write_command.specs.Write.{IsWritten}
 use Rattle.audit_command.specs.Audit.{AuditsBy, AuditsOf, IsAudited, IsCosted, IsJudged}

@@ -1,5 +1,5 @@
 -- What `blocks` has written, `check` accepts.
-use Rattle.std.proofs.Common.{◌≡◌, ℕ, ◌≤◌, false, List, [], ◌++◌, length, Option, Some, None, Result, Ok, Err, refl, sym, ap, subst, ◌∙◌, arith}
+use Rattle.std.proofs.Common.{◌≡◌, ℕ, ◌≤◌, false, List, ◌++◌, length, Option, Some, None, Result, Ok, Err, refl, sym, ap, subst, ◌∙◌, arith}
 use Rattle.std.proofs.lemmas.Option.{none-some, same_Some}
 use Rattle.std.specs.FinMap.{get}
 use Rattle.desk_io.specs.Shelf.{Files, found_as, found_in}
@@ -16,12 +16,10 @@ use Rattle.desk_settings.specs.Settings.{settings_of}
 use Rattle.feed_read.specs.Base.{base_of}
 use Rattle.deadhead_matrix.specs.Deadheads.{deadheads_of}
 use Rattle.deadhead_matrix.specs.Depot.{pulls_of}
-use Rattle.deadhead_matrix.specs.Matrix.{MatrixView}
 use Rattle.assignment_model.specs.Prices.{Plan}
 use Rattle.block_build.specs.Files.{blocks_text, prices_text}
 use Rattle.claim_files.specs.Claims.{claimed_of}
 use Rattle.claim_files.specs.Written.{IsAccepted}
-use Rattle.trip_model.specs.Timetable.{TimetableView, IsTimetable}
 use Rattle.desk_run.specs.Becomes.{with_writings}
 use Rattle.desk_run.specs.Commands.{IsGiven}
 use Rattle.desk_run.specs.Outcome.{OutcomeView, putting, status_of}
@@ -33,13 +31,12 @@ use Rattle.desk_run.specs.World.{World}
 use Rattle.desk_run.proofs.EachStatus.{pages_told}
 use Rattle.desk_core.specs.Counts.{blocks_in, minutes_in}
 use Rattle.feed_desk.specs.Answers.{answers_by}
-use Rattle.feed_desk.specs.Plans.{IsPlannedAt, fixed_number}
+use Rattle.feed_desk.specs.Plans.{fixed_number, IsPlannedAt, plan_at}
 use Rattle.blocks_command.specs.Answers.{answer_text}
 use Rattle.blocks_command.specs.Blocks.{IsPlan, blocks_asked}
 use Rattle.desk_feed.specs.Feed.{FeedView, feed_papers, kept_on, lines_by, said_by, said_with, standing}
 use Rattle.desk_feed.specs.Judging.{Does, refused_of, said_in}
 use Rattle.plan_commands.specs.Check.{IsChecked, check_asked, checked, claim_in, claim_outcome, claim_papers, verdict_outcome, yes_line}
-use Rattle.desk_feed.proofs.ScriptLemmas.{standing-places}
 use Rattle.desk_feed.proofs.OneMatrix.{matrix-same}
 use Rattle.two_runs.specs.Confirmed.{IsConfirmed, IsShort, StandAgain}
 use Rattle.two_runs.proofs.TwoFiles.{first-stands, found-short, is_name, others-stand, second-stands, with_two, with_two_told}
@@ -109,7 +106,7 @@ module _ (seen again : Option ReadView) (before left later after : World) (first
 
   -- the plan at the last moment, and its blocks
   abbrev last_plan : Plan
-  last_plan = plan.planned.plans (length said.lines)
+  last_plan = plan_at said.base said.lines plan.matrix (length said.lines)
 
   last_planned : IsPlannedAt (standing said) plan.matrix last_plan
   last_planned = plan.planned.are.planned (length said.lines) (omega arith)
@@ -169,7 +166,7 @@ module _ (seen again : Option ReadView) (before left later after : World) (first
 
     confirmed : IsConfirmed before left later after second
     confirmed = record {
-      answers = answers_by (answer_text plan.matrix said.settings.prefix) said.base said.lines plan.planned.plans (length said.lines);
+      answers = answers_by (answer_text plan.matrix said.settings.prefix) said.base said.lines (plan_at said.base said.lines plan.matrix) (length said.lines);
       refused = refused_of said;
       fixed = fixed_number (standing said);
       vehicles = vehicles;

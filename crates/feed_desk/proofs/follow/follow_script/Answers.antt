@@ -4,6 +4,7 @@ use Rattle.deadhead_matrix.specs.Matrix.{MatrixView}
 use Rattle.deadhead_matrix.specs.Pulls.{IsPull}
 use Rattle.edit_script.specs.Script.{ScriptView}
 use Rattle.trip_model.specs.Timetable.{IsTimetable, TimetableView}
+use Rattle.desk_core.specs.Computed.{first_plan}
 use Rattle.desk_core.specs.Standing.{IsOpened}
 use Rattle.desk_feed.specs.Script.{ending_by}
 use Rattle.feed_desk.specs.Drawn.{HasFollowed}
@@ -34,6 +35,7 @@ returns-clause-followed g c =
     let answer = g.A.Answers.answer c.args.answers in
     let script = c.in_ok-desk.ensures.script ∙ c.in_ok-script.ensures in
     let opened : IsOpened desk = record { timetable = c.args.timetable; script = script; earlier = c.in_ok-desk.ensures.earlier; later = c.in_ok-desk.ensures.later } in
+    let begun = c.in_ok-desk.ensures.plan ∙ (λ i. first_plan (sym c.in_ok-desk.ensures.script i).timetable (sym c.in_ok-desk.ensures.matrix i)) in
     let pulls = subst (λ (m : MatrixView). All IsPull m.pulls) (sym c.in_ok-desk.ensures.matrix) c.places-places.ensures.valid in
     let answered = c.in_ok-follow_records.ensures.stands.1 in
     let done = c.follow_records.new.follower in
@@ -41,5 +43,5 @@ returns-clause-followed g c =
     subst (λ (t : TimetableView). HasFollowed (answer c.args.matrix) t lines c.args.matrix followed) (ap (λ (s : ScriptView). s.timetable) script)
     (subst (λ (m : MatrixView). HasFollowed (answer m) desk.script.timetable lines m followed) c.in_ok-desk.ensures.matrix
     (has-followed c.same_edits_law.ensures c.plan_law.ensures c.plain_law.ensures.moves c.plain_law.ensures.made c.plain_blocks_law.ensures.reached
-    desk.script.timetable lines desk done.desk (length lines) answered.desks answered.are opened pulls
+    desk.script.timetable lines desk done.desk (length lines) answered.desks answered.are opened begun pulls
     (answer desk.matrix) followed refl refl answered.put (c.ending_by.ensures ∙ ap ending_by answered.some_is)))
