@@ -6,16 +6,13 @@ use Rattle.gtfs_tables.specs.Table.{TableView}
 use Rattle.gtfs_tables.specs.declared.paper.Column.TheVariants as column
 use Rattle.gtfs_tables.specs.declared.fault.FeedFault.{FeedFault}
 use Rattle.gtfs_tables.specs.Reading.{place_of}
-use Rattle.trip_model.specs.Blocking.{IsBlocking}
-use Rattle.trip_model.specs.Network.{Network}
-use Rattle.trip_model.specs.Plain.{trip_moves, AreMoves}
 use Rattle.trip_model.specs.Timetable.{TimetableView}
 use Rattle.deadhead_matrix.specs.Matrix.{MatrixView}
 use Rattle.desk_settings.specs.Selected.{chosen_in, is_selected}
 use Rattle.desk_settings.specs.Settings.{SettingsView}
 use Rattle.block_audit.specs.declared.misfit.Misfit.{Misfit}
 use Rattle.block_audit.specs.Misfits.{misfits_in}
-use Rattle.block_audit.specs.Stated.{AreNames, NamedBlock, slots_by, stated_in}
+use Rattle.block_audit.specs.Stated.{AreNames, NamedBlock, stated_in}
 use Rattle.block_audit.proofs.StatedLemmas.{are-blocking, have-no-misfit}
 use Rattle.desk_run.specs.Outcome.{OutcomeView}
 use Rattle.desk_run.specs.Reading.{ReadView}
@@ -108,11 +105,10 @@ module _ (said : FeedView) (trips : TableView) where
 
 -- what is put of the timetable after the script
 module _ (said : FeedView) (matrix : MatrixView) (edited : Edited) (table : TableView) (chosen : Vec Bool Global) where
-  audited-read : IsMatrixFor said matrix → IsEdited said.base said.lines edited → AreMoves (length edited.script.timetable.places) (trip_moves edited.script.timetable.slots)
-      → edited.script.timetable.places ≡ said.base.places → (read : Result TableView FeedFault) → IsAuditable said.settings read (Trips table chosen) → (outcome : OutcomeView) → Judges edited matrix table chosen.items outcome
+  audited-read : IsMatrixFor said matrix → IsEdited said.base said.lines edited → (read : Result TableView FeedFault) → IsAuditable said.settings read (Trips table chosen) → (outcome : OutcomeView) → Judges edited matrix table chosen.items outcome
       → AuditsBy said read outcome × EndsBy said read outcome.ending × (outcome.lines ≡ None)
-  audited-read is stands moves places (Err refused) may outcome judged = absurd may
-  audited-read is stands moves places (Ok trips) may outcome judged =
+  audited-read is stands (Err refused) may outcome judged = absurd may
+  audited-read is stands (Ok trips) may outcome judged =
       let judge : List ℕ → Ending → TimetableView → TableView → List Bool → Type 0 = λ refused end t trips chosen.
       IsJudged refused end t matrix (stated_in trips t chosen) (misfits_in t matrix (stated_in trips t chosen)) outcome in
       let by-refused : judge (refused_of said) edited.ending edited.script.timetable table chosen.items =
@@ -127,11 +123,11 @@ module _ (said : FeedView) (matrix : MatrixView) (edited : Edited) (table : Tabl
       subst (λ c. judge (refused_of said) (ending_of said) (standing said) trips c) may.1 by-trips in
       audited-by said trips may.2 matrix is outcome by-chosen
 
-  pub audited-given : {E : Type 0} (read : ReadView) → IsMatrixFor said matrix → IsEdited said.base said.lines edited → AreMoves (length edited.script.timetable.places) (trip_moves edited.script.timetable.slots)
-      → edited.script.timetable.places ≡ said.base.places → IsAuditable said.settings (trips_in read) (Trips table chosen) → (result : Result OutcomeView E) → IfOk result (Judges edited matrix table chosen.items) → IfOk result (IsGivenOf audit_does read said)
-  audited-given read is stands moves places may (Err e) judged = tt
-  audited-given read is stands moves places may (Ok outcome) judged =
-      let does = audited-read is stands moves places (trips_in read) may outcome judged in
+  pub audited-given : {E : Type 0} (read : ReadView) → IsMatrixFor said matrix → IsEdited said.base said.lines edited
+      → IsAuditable said.settings (trips_in read) (Trips table chosen) → (result : Result OutcomeView E) → IfOk result (Judges edited matrix table chosen.items) → IfOk result (IsGivenOf audit_does read said)
+  audited-given read is stands may (Err e) judged = tt
+  audited-given read is stands may (Ok outcome) judged =
+      let does = audited-read is stands (trips_in read) may outcome judged in
       record { gives = does.0; ends = does.1; unkept = λ _. does.2 }
 
 -- trips that may be judged have the `block_id` of each selected record as text, and a mark for each record

@@ -1,6 +1,5 @@
 ghost use Rattle.std.specs.Prelude.{◌≡◌, ◌+◌, ◌≤◌, [], length, All, IfOk};
 ghost use Rattle.trip_model.specs.Blocking.{IsBlocking};
-ghost use Rattle.trip_model.specs.Plain.{AreMoves, trip_moves};
 ghost use Rattle.deadhead_matrix.specs.Fitting.{network_of};
 ghost use Rattle.price_check.specs.Claim.{Runs};
 ghost use Rattle.block_audit.specs.Misfits.{misfits_in};
@@ -30,7 +29,6 @@ use gtfs_tables::{Column, FeedFault, Paper, Table, table_in};
 use std::alloc::Global;
 use std::sync::ledger::Ledger;
 use trip_model::Timetable;
-use trip_model::laws::plain_law;
 
 // The table of the trips and which of its records are selected, or what is done where its blocks may not be judged.
 #[derive(Drop)]
@@ -119,14 +117,10 @@ fn audited<L: Ledger>(
     requires chosen { length chosen.now ≡ length trips.now.rows }
     requires names { AreNames trips.now chosen.now }
     ensures judged { IfOk result (Judges edited.now matrix.now trips.now chosen.now) }
-    ensures moves { AreMoves (length edited.now.script.timetable.places) (trip_moves edited.now.script.timetable.slots) }
     ensures counted { steps.new ≤ steps.old + most_steps (length edited.now.script.timetable.slots) }
 {
-    plain_law();
     blocking_law();
     let timetable = edited.script.timetable();
-    // Its clause says that the timetable is valid.
-    let _slots = timetable.slots();
     let stated = stated_blocks(alloc, trips, timetable, chosen)?;
     judged(
         alloc,

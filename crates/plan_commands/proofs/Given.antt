@@ -1,7 +1,6 @@
 -- What `check` gives of an accepted feed is what it asks.
 use Rattle.std.proofs.Common.{◌≡◌, ℕ, List, [], length, None, Result, Ok, Err, refl, ap, subst, ◌∙◌}
 use Rattle.std.specs.Prelude.{IfOk}
-use Rattle.trip_model.specs.Plain.{trip_moves, AreMoves}
 use Rattle.deadhead_matrix.specs.Matrix.{MatrixView}
 use Rattle.price_check.specs.declared.verdict.Verdict.{Verdict}
 use Rattle.price_check.specs.declared.verdict.Verdict.TheVariants.{Yes, No}
@@ -29,11 +28,11 @@ put-alone refused timetable matrix (Ok claimed) = by (verdict_of timetable matri
 
 module _ (read : ReadView) (said : FeedView) (timetable : TimetableView) (matrix : MatrixView) (stands : timetable ≡ standing said) (is : IsMatrixFor said matrix) where
   -- the verdict on a claim
-  pub check-given : {E : Type 0} (result : Result OutcomeView E) (refused : List ℕ) → refused ≡ refused_of said → AreMoves (length timetable.places) (trip_moves timetable.slots)
-      → timetable.places ≡ said.base.places → (claim : Result ClaimedView ClaimFault) → claim ≡ claim_in read said → Proves timetable matrix claim
+  pub check-given : {E : Type 0} (result : Result OutcomeView E) (refused : List ℕ) → refused ≡ refused_of said
+      → (claim : Result ClaimedView ClaimFault) → claim ≡ claim_in read said → Proves timetable matrix claim
       → IfOk result (λ outcome. outcome ≡ claim_outcome refused timetable matrix claim) → IfOk result (IsGivenOf check_does read said)
-  check-given (Err e) refused refused_is moves places claim claim_is proved done = tt
-  check-given (Ok outcome) refused refused_is moves places claim claim_is proved done =
+  check-given (Err e) refused refused_is claim claim_is proved done = tt
+  check-given (Ok outcome) refused refused_is claim claim_is proved done =
       let here : outcome ≡ checked read said matrix = done ∙ (λ i. claim_outcome (refused_is i) (stands i) matrix (claim_is i)) in
       record {
         gives = record { matrix = matrix; matrix_is = is; done = here; proved = subst (λ (t : TimetableView). Proves t matrix (claim_in read said)) stands (subst (Proves timetable matrix) claim_is proved) };

@@ -1,6 +1,5 @@
 ghost use Rattle.std.specs.Prelude.{◌≡◌, length, IfOk};
 ghost use Rattle.gtfs_tables.specs.Papers.{IsWithinLimit};
-ghost use Rattle.trip_model.specs.Plain.{trip_moves, AreMoves};
 ghost use Rattle.price_check.specs.Claim.{AreBlockRows, ArePriceRows};
 ghost use Rattle.price_check.specs.Reasons.{verdict_of};
 ghost use Rattle.claim_files.specs.Claims.{claimed_of};
@@ -79,7 +78,6 @@ fn checked(
     requires prices { IsWithinLimit prices.now }
     ensures done { IfOk result (λ outcome. outcome ≡ claim_outcome refused.now timetable.now matrix.now (claimed_of timetable.now blocks.now prices.now)) }
     ensures proved { Proves timetable.now matrix.now (claimed_of timetable.now blocks.now prices.now) }
-    ensures moves { AreMoves (length timetable.now.places) (trip_moves timetable.now.slots) }
 {
     plain_law();
     rows_law();

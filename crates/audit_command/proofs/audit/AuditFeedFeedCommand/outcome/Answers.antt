@@ -34,5 +34,5 @@ returns-clause-given g c =
     let may = subst (IsAuditable c.args.said.settings.now (trips_in read)) c.in-Trips.is c.in_ok-outcome.ensures in
     let edited = c.in_ok-edited.edited in
     let matrix = c.in_ok-matrix.matrix in
-    audited-given said matrix edited c.in-Trips.trips c.in-Trips.chosen read c.in_ok-matrix.ensures c.in_ok-edited.ensures.edited c.audited.ensures.moves c.in_ok-edited.ensures.places may
+    audited-given said matrix edited c.in-Trips.trips c.in-Trips.chosen read c.in_ok-matrix.ensures c.in_ok-edited.ensures.edited may
     c.audited.result (subst (λ chosen. IfOk c.audited.result (Judges edited matrix c.in-Trips.trips chosen)) c.deref.ensures.value c.audited.ensures.judged)

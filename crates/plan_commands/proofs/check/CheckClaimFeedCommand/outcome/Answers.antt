@@ -1,5 +1,4 @@
-use Rattle.std.proofs.Common.{◌≡◌, ap, ◌∙◌}
-use Rattle.trip_model.specs.Timetable.{TimetableView}
+use Rattle.std.proofs.Common.{◌≡◌, ◌∙◌}
 use Rattle.claim_files.specs.Claims.{claimed_of}
 use Rattle.desk_feed.specs.Commands.{said_to}
 use Rattle.plan_commands.specs.Check.{claim_in}
@@ -24,5 +23,5 @@ returns-clause-given g c =
     let read_claim = claimed_of timetable c.found-blocks.result.now c.found-prices.result.now in
     let claim : read_claim ≡ claim_in read said = λ i. claimed_of (stands i) (c.found-blocks.ensures.found i) (c.found-prices.ensures.found i) in
     check-given read said timetable c.in_ok-matrix.matrix stands c.in_ok-matrix.ensures
-    c.checked.result edited.refused is.refused c.checked.ensures.moves (ap (λ (t : TimetableView). t.places) c.timetable-timetable.ensures ∙ c.in_ok-edited.ensures.places)
+    c.checked.result edited.refused is.refused
     read_claim claim c.checked.ensures.proved c.checked.ensures.done
