@@ -1,5 +1,5 @@
 -- What was read determines the outcome of a command: one after the other.
-use Rattle.std.proofs.Common.{◌≡◌, ℕ, ◌+◌, ◌<◌, Bool, List, [], ◌∷◌, length, Result, Ok, Err, sym, ap, subst, ◌∙◌, inl, inr, ⊎_elim, arith}
+use Rattle.std.proofs.Common.{◌≡◌, ℕ, ◌+◌, ◌<◌, Bool, List, [], ◌∷◌, ◌++◌, length, None, Result, Ok, Err, sym, ap, subst, ◌∙◌, inl, inr, ⊎_elim, arith}
 use Rattle.std.proofs.lemmas.Bool.{cases_lt}
 use Rattle.std.proofs.lemmas.Int.{ints}
 use Rattle.gtfs_tables.specs.Table.{TableView}
@@ -12,6 +12,8 @@ use Rattle.trip_model.specs.Deficit.{live_moves}
 use Rattle.trip_model.specs.Timetable.{TimetableView}
 use Rattle.deadhead_matrix.specs.Fitting.{network_of}
 use Rattle.deadhead_matrix.specs.Matrix.{MatrixView}
+use Rattle.block_writer.specs.StopTimes.{stop_time_columns}
+use Rattle.blocks_command.specs.Blocks.{blocks_asked, blocks_does, plans_outcome}
 use Rattle.block_audit.specs.declared.misfit.Misfit.{Misfit}
 use Rattle.block_audit.specs.Misfits.{misfits_in}
 use Rattle.block_audit.specs.Stated.{NamedBlock, slots_by}
@@ -19,8 +21,10 @@ use Rattle.desk_feed.specs.Edited.{refusing_first}
 use Rattle.desk_feed.specs.Feed.{FeedView, standing}
 use Rattle.desk_feed.specs.Judging.{ending_of, refused_of, refusing}
 use Rattle.desk_feed.specs.Numbers.{numbers_line}
-use Rattle.desk_feed.specs.Schedule.{IsMatrixFor}
 use Rattle.desk_feed.proofs.OneMatrix.{matrix-same}
+use Rattle.desk_program.specs.Commands.{asked_by}
+use Rattle.desk_program.specs.declared.command.CommandName.{CommandName}
+use Rattle.desk_program.specs.declared.command.CommandName.TheVariants.{Deficits, Fixed, Blocks, Check, Write, Chart, Chains, Shifts, Keep, Kept, Joined, Planners, Audit, Sample}
 use Rattle.desk_run.specs.Outcome.{OutcomeView}
 use Rattle.desk_run.specs.declared.status.Ending.{Ending}
 use Rattle.desk_settings.specs.Selected.{chosen_in}
@@ -30,6 +34,8 @@ use Rattle.journal_commands.specs.Keep.{keep_asked, keep_does}
 use Rattle.journal_commands.specs.Kept.{kept_asked}
 use Rattle.lowering_commands.specs.Chains.{AreChains, chains_asked, chains_shown}
 use Rattle.lowering_commands.specs.Shifts.{shifts_asked, shifts_shown, shifts_text}
+use Rattle.joined_command.specs.Joined.{boards_outcome, joined_asked, joined_does}
+use Rattle.plan_commands.specs.Chart.{chart_asked, chart_does, chart_text}
 use Rattle.plan_commands.specs.Check.{check_asked, check_does, checked}
 use Rattle.planner_desk.specs.declared.edit.PlannerLine.{PlannerLine}
 use Rattle.planners_command.specs.Moments.{timetable_after}
@@ -39,23 +45,26 @@ use Rattle.planners_command.specs.Reading.{lines_in}
 use Rattle.audit_command.specs.Audit.{AuditsBy, IsFirstBad, IsJudged, audit_asked, audit_does, stated_of, trips_in}
 use Rattle.audit_command.specs.Lines.{costs_text}
 use Rattle.sample_command.specs.Sample.{HasSummary, sample_asked, sample_read, summary_does, summary_line}
+use Rattle.write_command.specs.Write.{IsWritten, WritesBy, feed_files, stop_times_in, trip_columns, trips_in as write_trips_in, write_asked, write_does, written_line}
 use Rattle.same_runs.specs.Same.{IsDetermined}
 use Rattle.same_runs.proofs.ChainLemmas.{one-text}
 use Rattle.same_runs.proofs.FeedLemmas.{determined-feed, determined-text, one-given}
 use Rattle.same_runs.proofs.LeastLemmas.{one-number, one-sum}
+use Rattle.same_runs.proofs.PlanLemmas.{one-list, one-matrix}
 use Rattle.same_runs.proofs.ShiftLemmas.{one-shifts}
+use Rattle.same_runs.proofs.TextLemmas.{no-refusal, one-paper}
 
-pub deficits-determined : IsDetermined deficits_asked
+deficits-determined : IsDetermined deficits_asked
 unfolding deficits_asked
 deficits-determined = determined-text deficits_shown (λ stands one other is is'. is ∙ sym is')
 
-pub fixed-determined : IsDetermined fixed_asked
+fixed-determined : IsDetermined fixed_asked
 unfolding fixed_asked
 fixed-determined =
     determined-text fixed_shown (λ stands one other is is'.
     is.printed ∙ ap (fixed_text stands.timetable stands.pulls stands.settings.prefix) (is.by_rule ∙ sym is'.by_rule) ∙ sym is'.printed)
 
-pub chains-determined : IsDetermined chains_asked
+chains-determined : IsDetermined chains_asked
 unfolding chains_asked
 chains-determined =
     determined-text chains_shown (λ stands one other is is'.
@@ -63,23 +72,23 @@ chains-determined =
     let are = subst (λ matrix. AreChains matrix (live_moves stands.timetable.slots) is'.chains.chains) (sym same) is'.chains.are in
     is.chains.printed ∙ one-text stands.timetable is.matrix (live_moves stands.timetable.slots) 0 is.chains.chains is'.chains.chains is.chains.are are ∙ sym is'.chains.printed)
 
-pub shifts-determined : IsDetermined shifts_asked
+shifts-determined : IsDetermined shifts_asked
 unfolding shifts_asked
 shifts-determined =
     determined-text shifts_shown (λ stands one other is is'.
     is.printed ∙ ap (shifts_text stands.timetable 0) (one-shifts stands.timetable is.shifts is'.shifts is.are is'.are) ∙ sym is'.printed)
 
-pub check-determined : IsDetermined check_asked
+check-determined : IsDetermined check_asked
 unfolding check_asked
 check-determined =
     determined-feed check_does (λ read said one other is is'.
     is.done ∙ ap (checked read said) (matrix-same said.entries said.pulls (length said.base.places) is.matrix is'.matrix is.matrix_is is'.matrix_is) ∙ sym is'.done)
 
-pub keep-determined : IsDetermined keep_asked
+keep-determined : IsDetermined keep_asked
 unfolding keep_asked
 keep-determined = determined-feed keep_does (λ read said one other is is'. is.done ∙ sym is'.done)
 
-pub kept-determined : IsDetermined kept_asked
+kept-determined : IsDetermined kept_asked
 kept-determined = λ read one other is is'. is.gives ∙ sym is'.gives
 
 -- the numbers of a timetable, by whichever least plan
@@ -101,7 +110,7 @@ one-planners said (Ok lines) one other is is' =
     ∙ sym is'.planned.done
 one-planners said (Err refused) one other is is' = is ∙ sym is'
 
-pub planners-determined : IsDetermined planners_asked
+planners-determined : IsDetermined planners_asked
 unfolding planners_asked
 planners-determined = determined-feed planners_does (λ read said one other. one-planners said (lines_in read) one other)
 
@@ -135,11 +144,11 @@ one-audit said (Ok trips) one other (inr is) (inr is') =
     let judged = subst (λ matrix. IsJudged (refused_of said) (ending_of said) (standing said) matrix (stated_of said trips) (misfits_in (standing said) matrix (stated_of said trips)) other) (sym same) is'.1.judged in
     one-cost (refused_of said) (ending_of said) (standing said) is.1.matrix (stated_of said trips) (misfits_in (standing said) is.1.matrix (stated_of said trips)) one other is.1.judged judged
 
-pub audit-determined : IsDetermined audit_asked
+audit-determined : IsDetermined audit_asked
 unfolding audit_asked
 audit-determined = determined-feed audit_does (λ read said one other. one-audit said (trips_in read) one other)
 
-pub sample-determined : (trips : ℕ) → IsDetermined (sample_asked trips)
+sample-determined : (trips : ℕ) → IsDetermined (sample_asked trips)
 sample-determined trips = λ read one other given given'.
     one-given (summary_does trips) (λ read said one other is is'.
     let same = matrix-same said.entries said.pulls (length said.base.places) is.matrix is'.matrix is.matrix_is is'.matrix_is in
@@ -150,3 +159,71 @@ sample-determined trips = λ read one other given given'.
     let minutes : is.minutes ≡ is'.minutes = is.summary.minutes_is ∙ one-sum network is.summary.blocks summary.blocks is.summary.scheduled.least summary.scheduled.least ∙ sym summary.minutes_is in
     is.done ∙ (λ i. refusing_first (refused_of said) (summary_line trips (fixed i) (vehicles i) (minutes i)) (ending_of said)) ∙ sym is'.done)
     (sample_read trips) one other given.gives given'.gives
+
+blocks-determined : IsDetermined blocks_asked
+unfolding blocks_asked
+blocks-determined =
+    determined-feed blocks_does (λ read said one other is is'.
+    is.planned.done ∙ ap (λ matrix. plans_outcome said.base said.lines matrix said.settings.prefix) (one-matrix said is.matrix is'.matrix is.matrix_is is'.matrix_is) ∙ sym is'.planned.done)
+
+chart-determined : IsDetermined chart_asked
+unfolding chart_asked
+chart-determined =
+    determined-feed chart_does (λ read said one other is is'.
+    let matrix = one-matrix said is.matrix is'.matrix is.matrix_is is'.matrix_is in
+    let blocks = one-list said is.matrix is'.matrix is.plan is'.plan is.blocks is'.blocks is.matrix_is is'.matrix_is is.drawn is'.drawn in
+    is.done ∙ (λ i. refusing_first (refused_of said) (chart_text (standing said) (matrix i) said.settings.prefix (blocks i)) (ending_of said)) ∙ sym is'.done)
+
+joined-determined : IsDetermined joined_asked
+unfolding joined_asked
+joined-determined =
+    determined-feed joined_does (λ read said one other is is'.
+    let matrix = one-matrix said is.matrix is'.matrix is.matrix_is is'.matrix_is in
+    let blocks = one-list said is.matrix is'.matrix is.plan is'.plan is.blocks is'.blocks is.matrix_is is'.matrix_is is.drawn is'.drawn in
+    is.done ∙ (λ i. boards_outcome (refused_of said) (ending_of said) said.settings.prefix (standing said) (matrix i) (blocks i)) ∙ sym is'.done)
+
+-- what is written of two papers that are tables of texts
+one-written : (said : FeedView) (trips stop_times : TableView) (one other : OutcomeView) → IsWritten said trips stop_times one → IsWritten said trips stop_times other → one ≡ other
+one-written said trips stop_times one other is is' =
+    let blocks = one-list said is.matrix is'.matrix is.plan is'.plan is.blocks is'.blocks is.matrix_is is'.matrix_is is.drawn is'.drawn in
+    is.done
+    ∙ (λ i. record { writes = feed_files said trips stop_times (blocks i); lines = None; text = refused_of said ++ written_line; ending = ending_of said })
+    ∙ sym is'.done
+
+-- and where one of them is refused
+one-write : (said : FeedView) (trips stop_times : Result TableView FeedFault) (one other : OutcomeView) → WritesBy said trips stop_times one → WritesBy said trips stop_times other → one ≡ other
+one-write said trips stop_times one other (inl is) (inl is') =
+    is.done ∙ ap refusing (one-paper paper.Trips (trip_columns said.settings) trips is.refused is'.refused is.for is'.for) ∙ sym is'.done
+one-write said trips stop_times one other (inl is) (inr (inl is')) = absurd (no-refusal paper.Trips (trip_columns said.settings) trips is.refused _ is.for is')
+one-write said trips stop_times one other (inl is) (inr (inr is')) = absurd (no-refusal paper.Trips (trip_columns said.settings) trips is.refused _ is.for is')
+one-write said trips stop_times one other (inr (inl is)) (inl is') = absurd (no-refusal paper.Trips (trip_columns said.settings) trips is'.refused _ is'.for is)
+one-write said trips stop_times one other (inr (inr is)) (inl is') = absurd (no-refusal paper.Trips (trip_columns said.settings) trips is'.refused _ is'.for is)
+one-write said (Err refused) stop_times one other (inr (inl is)) (inr is') = absurd is
+one-write said (Err refused) stop_times one other (inr (inr is)) (inr is') = absurd is
+one-write said (Ok trips) stop_times one other (inr (inl is)) (inr (inl is')) =
+    is.1.done ∙ ap refusing (one-paper paper.StopTimes stop_time_columns stop_times is.1.refused is'.1.refused is.1.for is'.1.for) ∙ sym is'.1.done
+one-write said (Ok trips) stop_times one other (inr (inl is)) (inr (inr is')) = absurd (no-refusal paper.StopTimes stop_time_columns stop_times is.1.refused _ is.1.for is'.1)
+one-write said (Ok trips) stop_times one other (inr (inr is)) (inr (inl is')) = absurd (no-refusal paper.StopTimes stop_time_columns stop_times is'.1.refused _ is'.1.for is.1)
+one-write said (Ok trips) (Err refused) one other (inr (inr is)) (inr (inr is')) = absurd is.1
+one-write said (Ok trips) (Ok stop_times) one other (inr (inr is)) (inr (inr is')) = one-written said trips stop_times one other is.1.1 is'.1.1
+
+write-determined : IsDetermined write_asked
+unfolding write_asked
+write-determined = determined-feed write_does (λ read said one other. one-write said (write_trips_in read) (stop_times_in read) one other)
+
+-- so each command's outcome is determined
+pub determined : (command : CommandName) → IsDetermined (asked_by command)
+determined Deficits = deficits-determined
+determined Fixed = fixed-determined
+determined Blocks = blocks-determined
+determined Check = check-determined
+determined Write = write-determined
+determined Chart = chart-determined
+determined Chains = chains-determined
+determined Shifts = shifts-determined
+determined Keep = keep-determined
+determined Kept = kept-determined
+determined Joined = joined-determined
+determined Planners = planners-determined
+determined Audit = audit-determined
+determined (Sample trips) = sample-determined trips

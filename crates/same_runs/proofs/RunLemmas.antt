@@ -1,5 +1,5 @@
 -- Two runs that read the same, by what each of them has done.
-use Rattle.std.proofs.Common.{◌≡◌, ℕ, Option, Some, refl, sym, ap, subst, ◌∙◌}
+use Rattle.std.proofs.Common.{◌≡◌, ℕ, Option, sym, ap, subst, ◌∙◌}
 use Rattle.std.proofs.lemmas.Option.{same_Some}
 use Rattle.desk_run.specs.Becomes.{done}
 use Rattle.desk_run.specs.Commands.{Asked, IsGiven}

@@ -1,7 +1,8 @@
 use Rattle.desk_program.specs.Commands.{asked_by}
+use Rattle.same_runs.proofs.CommandLemmas.{determined}
 use Rattle.same_runs.proofs.RunLemmas.{alike}
 use Rattle.same_runs.proofs.laws.same_run_law.Goals as goal
 
 pub returns : goal.returns
-returns c = λ command before after later last status second n m k l determined one other same all all'.
-    alike (asked_by command) one.found other.found before.world after.world later.world last.world status second determined same (one.run.ended all) (other.run.ended all')
+returns c = λ command before after later last status second n m k l one other same all all'.
+    alike (asked_by command) one.found other.found before.world after.world later.world last.world status second (determined command) same (one.run.ended all) (other.run.ended all')
