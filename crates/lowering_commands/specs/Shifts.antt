@@ -36,13 +36,17 @@ pub record IsShiftsText (timetable : TimetableView) (before : ℕ) (text : List 
   pub are : AreShifts timetable shifts
   pub printed : text ≡ shifts_text timetable before shifts
 
--- so many steps count a search over so many trips, with their deficits before it and after it
+-- so many steps count a search over so many trips
 abbrev pub steps_of_search : ℕ → ℕ
-steps_of_search n = 28 * n + 13440 * n + 28 * n
+steps_of_search n = 13440 * n
 
--- no more shifts than trips, since each of them takes a vehicle; and then one search that finds none
+-- and so many the shifts that are made one after the other: the deficits, no more shifts than trips, since each of them takes a
+-- vehicle, and then one search that finds none
+abbrev pub steps_of_shifts : ℕ → ℕ
+steps_of_shifts n = 28 * n + (steps_of_search n + 56) * n + steps_of_search n
+
 abbrev pub shifts_shown : TextAsked
-shifts_shown = record { Shows = λ stands. IsShiftsText stands.timetable 0; most = λ timetable. steps_of_search (length timetable.slots) * (length timetable.slots + 1) + 28 * length timetable.slots }
+shifts_shown = record { Shows = λ stands. IsShiftsText stands.timetable 0; most = λ timetable. steps_of_shifts (length timetable.slots) }
 
 unfoldable pub shifts_asked : Asked
 shifts_asked = of_feed (showing shifts_shown)

@@ -1,4 +1,4 @@
--- One chain, or one shift, after the other: terms of the functions inside.
+-- One chain after the other: terms of the functions inside.
 use Rattle.std.specs.Prelude.{◌≡◌, ℕ, List, ◌++◌, length, ℤ, pos, ◌+ℤ◌}
 use Rattle.trip_model.specs.Maximum.{sum_of_maxima}
 use Rattle.trip_model.specs.Timetable.{TimetableView}
@@ -9,10 +9,7 @@ use Rattle.deficit_steps.specs.Holds.{Holds}
 use Rattle.dh_chains.specs.Chains.{IsFirstChain, following, places_of}
 use Rattle.dh_chains.specs.Lines.{chain_text}
 use Rattle.dh_chains.specs.declared.chain.Chain.{Chain}
-use Rattle.shift_moves.specs.Lowering.{IsFirst}
-use Rattle.shift_moves.specs.declared.search.Shift.{Shift}
 use Rattle.lowering_commands.specs.Chains.{with_chain}
-use Rattle.lowering_commands.specs.Shifts.{after_shift, shift_line}
 
 -- the sum of the maxima of deficits that are kept
 abbrev pub sum_kept : List (List ℤ) → ℤ
@@ -28,10 +25,3 @@ pub record HasPut (timetable : TimetableView) (matrix : MatrixView) (number : �
   pub sum_is : pos sum ≡ sum_kept new
   pub fell : (sum_kept new +ℤ pos 1) ≡ sum_kept old
   pub put : text_new ≡ text_old ++ chain_text timetable number chain sum
-
--- the first shift was made and its line put
-pub record HasShifted (old new : TimetableView) (text_old text_new : List ℕ) : Type 0 where
-  pub shift : Shift
-  pub first : IsFirst old shift.slot shift.by
-  pub timetable : new ≡ after_shift old shift
-  pub put : text_new ≡ text_old ++ shift_line old shift

@@ -1,18 +1,16 @@
-ghost use Rattle.std.specs.Prelude.{◌≡◌, ◌+◌, ◌*◌, ◌<◌, ◌≤◌, [], ◌∷◌, ◌++◌, ℕ, ℤ, true, false, length, codes, IfOk, IsUtf8, Ok, OnOk, string_bytes};
-ghost use Rattle.gtfs_tables.specs.Writing.{record_text};
+ghost use Rattle.std.specs.Prelude.{◌≡◌, ◌+◌, ◌<◌, ◌≤◌, ◌++◌, length, IfOk, OnOk, string_bytes};
 ghost use Rattle.desk_run.specs.Outside.{outside};
 ghost use Rattle.desk_run.specs.Performs.{Performs};
-ghost use Rattle.lowering_commands.specs.Shifts.{IsShiftsText, shift_line, shifts_asked, steps_of_search};
-ghost use Rattle.lowering_commands.specs.Step.{HasShifted};
-ghost use Rattle.shift_moves.specs.Lowering.{IsLowering};
+ghost use Rattle.lowering_commands.specs.Shifts.{IsShiftsText, shift_line, shifts_asked, steps_of_shifts};
 
-use deficit_steps::{deficits_of, fixed_of};
+use deficit_steps::deficits_of;
+use deficit_steps::laws::held_law;
 use desk_feed::{OnFeed, Stands, TextCommand};
 use desk_io::{Memory, Shelf, Sink, Steps, Text};
 use desk_keeper::Keeper;
 use desk_run::perform;
 use edit_script::shift_line;
-use shift_moves::{Shift, next_shift};
+use shift_moves::{Shift, make_shift, next_shift};
 use std::alloc::Global;
 use std::fmt::Write;
 use std::sync::ledger::Ledger;
@@ -33,46 +31,28 @@ fn push_shift(
     Ok(())
 }
 
-// Makes the first shift, where there is one, and puts its line.
-fn put_next<L: Ledger>(
-    alloc: Global,
-    text: &mut String,
-    timetable: &mut Timetable,
-    steps: &mut Steps<L>,
-) -> Result<bool, Memory>
-    ensures some { result ≡ Ok true → HasShifted timetable.old timetable.new (string_bytes text.old) (string_bytes text.new) }
-    ensures none { result ≡ Ok false → (slot : ℕ) (by : ℤ) → ¬ IsLowering timetable.old slot by }
-    ensures unchanged { result ≡ Ok false → (timetable.new ≡ timetable.old) × (string_bytes text.new ≡ string_bytes text.old) }
-    ensures slots { length timetable.new.slots ≡ length timetable.old.slots }
-    ensures counted { let n = length timetable.old.slots in steps.new + 28 * n ≤ steps.old + steps_of_search n }
-{
-    let mut deficits = deficits_of(alloc, timetable, steps)?;
-    let Some(shift) = next_shift(timetable, &mut deficits, steps) else {
-        return Ok(false);
-    };
-    push_shift(alloc, text, timetable, shift)?;
-    timetable.shift(shift.slot, shift.by);
-    Ok(true)
-}
-
-// The lines of the shifts that are made one after the other, and how many there are.
+// The lines of the shifts that are made one after the other, and how many there are. The deficits are kept beside the timetable.
 fn shifts_text<L: Ledger>(
     alloc: Global,
     timetable: &Timetable,
     steps: &mut Steps<L>,
 ) -> Result<Text, Memory>
     ensures text { IfOk result (IsShiftsText timetable.now 0) }
-    ensures counted { let n = length timetable.now.slots in steps.new ≤ steps.old + (steps_of_search n * (n + 1) + 28 * n) }
+    ensures counted { steps.new ≤ steps.old + steps_of_shifts (length timetable.now.slots) }
 {
+    held_law();
     let mut moved = timetable.copy(alloc)?;
+    let mut deficits = deficits_of(alloc, &moved, steps)?;
+    // Its clause says that these are deficits.
+    let _places = deficits.places();
     let mut text = String::new(alloc);
     let mut number = 0u32;
-    let mut sum = fixed_of(alloc, &moved, steps)?;
-    while put_next(alloc, &mut text, &mut moved, steps)? {
+    while let Some(shift) = next_shift(&moved, &mut deficits, steps) {
+        push_shift(alloc, &mut text, &moved, shift)?;
+        make_shift(&mut moved, &mut deficits, shift, steps);
         number += 1;
-        sum = fixed_of(alloc, &moved, steps)?;
     }
-    writeln!(text, "shifts {number}, sum {sum}")?;
+    writeln!(text, "shifts {number}, sum {}", deficits.total())?;
     Ok(Text::wrap(text))
 }
 

@@ -9,7 +9,7 @@ use Rattle.trip_model.specs.Deficit.{deficit, live_moves}
 use Rattle.trip_model.specs.Maximum.{first_maximum, sum_of_maxima}
 use Rattle.trip_model.specs.Timetable.{TimetableView, slot_at}
 use Rattle.trip_model.specs.Trip.{move_of, shifted}
-use Rattle.trip_model.specs.Fleet.{deficit_sum, with_shift}
+use Rattle.trip_model.specs.Fleet.{with_shift}
 use Rattle.trip_model.proofs.MaximumLemmas.{IsFirstMaximum-first_maximum, first_maximum-agree}
 use Rattle.deficit_steps.specs.Changes.{value}
 use Rattle.shift_moves.specs.Lowering.{IsLowering}

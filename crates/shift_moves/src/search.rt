@@ -1,14 +1,16 @@
 ghost use Rattle.std.specs.Prelude.{◌≡◌, ℕ, ◌+◌, ◌-◌, ◌*◌, ◌<◌, ◌≤◌, ◌⊎◌, true, false, length, ℤ, pos, neg_ℤ, unsigned_abs, IfNone, IfSome, List};
+ghost use Rattle.deficit_steps.specs.Changes.{IsDeficits};
 ghost use Rattle.deficit_steps.specs.Holds.{Holds};
 ghost use Rattle.shift_moves.specs.Lowering.{IsFirst, IsLowering};
 ghost use Rattle.shift_moves.specs.Trial.{IsFirstInSlot, IsRoom, tried};
 ghost use Rattle.trip_model.specs.Deficit.{live_moves};
+ghost use Rattle.trip_model.specs.Fleet.{with_shift};
 ghost use Rattle.trip_model.specs.Place.{Place};
 ghost use Rattle.trip_model.specs.Timetable.{slot_at};
-ghost use Rattle.trip_model.specs.Trip.{IsValidTrip};
+ghost use Rattle.trip_model.specs.Trip.{IsValidTrip, MayShift};
 ghost use Rattle.trip_model.specs.declared.limits.TheConstants.{MOST_TOLERANCE};
 
-use crate::trial::{Least, is_lowering, least_sizes};
+use crate::trial::{Least, is_lowering, least_sizes, moves_of, replace};
 use deficit_steps::Deficits;
 use desk_io::Steps;
 use std::sync::ledger::Ledger;
@@ -160,4 +162,30 @@ pub fn next_shift<L: Ledger>(
         }
     }
     None
+}
+
+/// Makes a shift of a trip that runs, in a timetable and in the deficits of its trips that run. That is two changes of at most
+/// 28 steps. It takes no memory.
+pub fn make_shift<L: Ledger>(
+    timetable: &mut Timetable,
+    deficits: &mut Deficits,
+    shift: Shift,
+    steps: &mut Steps<L>,
+)
+    requires held { Holds deficits.old (live_moves timetable.old.slots) }
+    requires rows { length deficits.old ≡ length timetable.old.places }
+    requires slot { shift.slot < length timetable.old.slots }
+    requires live { (slot_at timetable.old shift.slot).trip.live ≡ true }
+    requires within { MayShift (slot_at timetable.old shift.slot).trip shift.by }
+    ensures shifted { timetable.new ≡ with_shift timetable.old shift.slot shift.by }
+    ensures held { Holds deficits.new (live_moves timetable.new.slots) }
+    ensures rows { length deficits.new ≡ length timetable.new.places }
+    ensures valid { IsDeficits deficits.new }
+    ensures counted { steps.new ≤ steps.old + 2 * 28 }
+{
+    // Its clause says that the timetable is valid.
+    let _slots = timetable.slots();
+    let (stands, moved) = moves_of(timetable, shift.slot, shift.by);
+    replace(deficits, &stands, &moved, steps);
+    timetable.shift(shift.slot, shift.by);
 }

@@ -17,8 +17,8 @@ use desk_io::Steps;
 use std::sync::ledger::Ledger;
 use trip_model::{Move, Timetable};
 
-// The move of the trip of a slot, which runs, as it is and moved by so many minutes.
-fn moves_of(timetable: &Timetable, slot: u16, by: i16) -> (Move, Move)
+/// The move of the trip of a slot, which runs, as it is and moved by so many minutes.
+pub(crate) fn moves_of(timetable: &Timetable, slot: u16, by: i16) -> (Move, Move)
     requires slot { slot < length timetable.now.slots }
     requires live { (slot_at timetable.now slot).trip.live ≡ true }
     requires within { MayShift (slot_at timetable.now slot).trip by }
@@ -37,8 +37,13 @@ fn moves_of(timetable: &Timetable, slot: u16, by: i16) -> (Move, Move)
     (stands, moved)
 }
 
-// Holds another move between the same places in the stead of one that is held.
-fn replace<L: Ledger>(deficits: &mut Deficits, taken: &Move, added: &Move, steps: &mut Steps<L>)
+/// Holds another move between the same places in the stead of one that is held.
+pub(crate) fn replace<L: Ledger>(
+    deficits: &mut Deficits,
+    taken: &Move,
+    added: &Move,
+    steps: &mut Steps<L>,
+)
     requires taken { IsMove (length deficits.old) taken.now }
     requires added { IsMove (length deficits.old) added.now }
     requires from { added.now.from ≡ taken.now.from }

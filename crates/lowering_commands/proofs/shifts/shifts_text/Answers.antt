@@ -1,84 +1,85 @@
-use Rattle.std.proofs.Common.{◌≡◌, ◌≤◌, ◌++◌, length, Ok, sym, ap, subst, ◌∙◌, arith}
-use Rattle.std.specs.Prelude.{codes, string_bytes}
+use Rattle.std.proofs.Common.{◌≡◌, ◌+◌, ◌≤◌, ◌++◌, length, sym, ap, subst, ◌∙◌, arith}
+use Rattle.std.specs.Prelude.{codes, string_bytes, unsigned_abs}
 use Rattle.std.proofs.lemmas.List.{append_assoc}
 use Rattle.trip_model.specs.Deficit.{live_moves}
+use Rattle.trip_model.specs.Fleet.{deficit_sum}
 use Rattle.trip_model.specs.Timetable.{TimetableView}
 use Rattle.lowering_commands.specs.Fleet.{total_line}
 use Rattle.lowering_commands.specs.Shifts.{IsShiftsText, shift_line, steps_of_search}
+use Rattle.lowering_commands.specs.Step.{sum_kept}
 use Rattle.lowering_commands.proofs.FleetLemmas.{fleet-few, live-few}
-use Rattle.lowering_commands.proofs.ShiftsLemmas.{no-shift, shift-before, sum-falls, times-le, times-more, times-next}
+use Rattle.lowering_commands.proofs.ShiftsLemmas.{length-after_shift, no-shift, shift-before, sum-falls, sum-kept, sum-number, times-le, times-more}
 use Rattle.lowering_commands.proofs.shifts.shifts_text.Goals as goal
 
-pub loop-text-init : goal.loop-text-init
-loop-text-init g c =
+pub loop-shift-init : goal.loop-shift-init
+loop-shift-init g c =
     let t = c.args.timetable.now in
     let n = length t.slots in
     let same = c.in_ok-moved.ensures in
-    let slots = ap (λ (t : TimetableView). length t.slots) same in
-    let sum = c.in_ok-sum.sum in
     let moved = c.in_ok-moved.moved in
-    let few : sum ≤ n = omega (arith, fleet-few (live_moves moved.slots) (length moved.places) sum c.in_ok-sum.ensures.sum, live-few moved.slots, slots) in
+    let deficits = c.in_ok-deficits in
+    let slots = ap (λ (t : TimetableView). length t.slots) same in
+    let sum = sum-number c.held_law.ensures.total c.held_law.ensures.maximum moved deficits.deficits c.places-places.ensures.valid deficits.ensures.held deficits.ensures.places in
+    let few : unsigned_abs (deficit_sum moved) ≤ n = omega (arith, fleet-few (live_moves moved.slots) (length moved.places) _ sum, live-few moved.slots, slots) in
     record {
       slots = slots;
-      sum = c.in_ok-sum.ensures.sum;
+      held = deficits.ensures.held;
+      rows = deficits.ensures.places;
+      valid = c.places-places.ensures.valid;
+      sum = sum;
       number = omega (arith, few);
-      counted = omega (arith, c.in_ok-sum.ensures.counted, slots, times-le (steps_of_search n) sum n few);
+      counted = omega (arith, deficits.ensures.counted, slots, times-le (steps_of_search n + 56) _ n few);
       text = λ rest is. subst (λ text. IsShiftsText t 0 (text ++ rest)) (sym c.new-text.ensures.bytes) (subst (λ (t : TimetableView). IsShiftsText t 0 rest) same is);
     }
 
-pub returns-in_err-put_next-clause-counted : goal.returns-in_err-put_next-clause-counted
-returns-in_err-put_next-clause-counted g c =
-    let n = length c.args.timetable.now.slots in
-    omega (arith, c.loop-text.invariant.counted, c.put_next.ensures.counted, c.loop-text.invariant.slots, times-next (steps_of_search n) n)
+pub returns-in_err-push_shift-clause-counted : goal.returns-in_err-push_shift-clause-counted
+returns-in_err-push_shift-clause-counted g c =
+    omega (arith, c.loop-shift.invariant.counted, c.in-Some.ensures.counted, c.loop-shift.invariant.slots)
 
-pub returns-in_err-sum-2-clause-counted : goal.returns-in_err-sum-2-clause-counted
-returns-in_err-sum-2-clause-counted g c =
-    let n = length c.args.timetable.now.slots in
-    omega (arith, c.loop-text.invariant.counted, c.in_ok-put_next.ensures.counted, c.in_ok-put_next.ensures.slots, c.loop-text.invariant.slots, c.fixed_of-in-loop-text.ensures.counted, times-next (steps_of_search n) n)
-
-pub loop-text-smaller : goal.loop-text-smaller
-loop-text-smaller g c =
-    let falls = sum-falls c.loop-text.moved c.put_next.new.timetable (string_bytes c.loop-text.text) (string_bytes c.put_next.new.text) c.loop-text.sum c.in_ok-sum-2.sum
-    (c.in_ok-put_next.ensures.some (ap Ok c.if-branch.true)) c.loop-text.invariant.sum c.in_ok-sum-2.ensures.sum in
-    omega (arith, falls)
-
-pub loop-text-preserved : goal.loop-text-preserved
-loop-text-preserved g c =
+pub loop-shift-preserved : goal.loop-shift-preserved
+loop-shift-preserved g c =
     let t = c.args.timetable.now in
     let n = length t.slots in
-    let inv = c.loop-text.invariant in
-    let made = c.in_ok-put_next.ensures.some (ap Ok c.if-branch.true) in
-    let old = string_bytes c.loop-text.text in
-    let new = string_bytes c.put_next.new.text in
-    let falls = sum-falls c.loop-text.moved c.put_next.new.timetable old new c.loop-text.sum c.in_ok-sum-2.sum made inv.sum c.in_ok-sum-2.ensures.sum in
-    let slots : length c.put_next.new.timetable.slots ≡ n = c.in_ok-put_next.ensures.slots ∙ inv.slots in
+    let inv = c.loop-shift.invariant in
+    let old = c.loop-shift.moved in
+    let new = c.make_shift.new.timetable in
+    let shift = c.in-Some.shift in
+    let first = c.in-Some.ensures.first in
+    let made = c.make_shift.ensures.shifted in
+    let sum = sum-number c.held_law.ensures.total c.held_law.ensures.maximum new c.make_shift.new.deficits c.make_shift.ensures.valid c.make_shift.ensures.held c.make_shift.ensures.rows in
+    let falls = sum-falls old new shift _ _ first made inv.sum sum in
+    let slots : length new.slots ≡ n = length-after_shift old new shift made ∙ inv.slots in
     record {
       slots = slots;
-      sum = c.in_ok-sum-2.ensures.sum;
+      held = c.make_shift.ensures.held;
+      rows = c.make_shift.ensures.rows;
+      valid = c.make_shift.ensures.valid;
+      sum = sum;
       number = omega (arith, inv.number, falls);
-      counted = omega (arith, inv.counted, c.in_ok-put_next.ensures.counted, c.in_ok-sum-2.ensures.counted, slots, inv.slots, times-more (steps_of_search n) c.in_ok-sum-2.sum c.loop-text.sum falls);
+      counted = omega (arith, inv.counted, c.in-Some.ensures.counted, c.make_shift.ensures.counted, inv.slots, times-more (steps_of_search n + 56) _ _ falls);
       text = λ rest is.
-          let line = shift_line c.loop-text.moved made.shift in
-          subst (IsShiftsText t 0) (sym (append_assoc old line rest) ∙ ap (λ text. text ++ rest) (sym made.put))
-          (inv.text (line ++ rest) (shift-before c.loop-text.moved c.put_next.new.timetable c.loop-text.number old new rest made is));
+          let line = shift_line old shift in
+          subst (IsShiftsText t 0) (sym (append_assoc (string_bytes c.loop-shift.text) line rest) ∙ ap (λ text. text ++ rest) (sym c.in_ok-push_shift.ensures))
+          (inv.text (line ++ rest) (shift-before old new shift c.loop-shift.number rest first made is));
     }
 
+pub loop-shift-smaller : goal.loop-shift-smaller
+loop-shift-smaller g c =
+    let sum = sum-number c.held_law.ensures.total c.held_law.ensures.maximum c.make_shift.new.timetable c.make_shift.new.deficits c.make_shift.ensures.valid c.make_shift.ensures.held c.make_shift.ensures.rows in
+    let falls = sum-falls c.loop-shift.moved c.make_shift.new.timetable c.in-Some.shift _ _ c.in-Some.ensures.first c.make_shift.ensures.shifted c.loop-shift.invariant.sum sum in
+    omega (arith, falls)
+
 pub returns-in_err-writeln-clause-counted : goal.returns-in_err-writeln-clause-counted
-returns-in_err-writeln-clause-counted g c =
-    let n = length c.args.timetable.now.slots in
-    omega (arith, c.loop-text.invariant.counted, c.in_ok-put_next.ensures.counted, c.loop-text.invariant.slots, times-next (steps_of_search n) n)
+returns-in_err-writeln-clause-counted g c = omega (arith, c.loop-shift.invariant.counted, c.in_default.ensures.counted, c.loop-shift.invariant.slots)
 
 pub returns-clause-text : goal.returns-clause-text
 returns-clause-text g c =
     let t = c.args.timetable.now in
-    let inv = c.loop-text.invariant in
-    let none = c.in_ok-put_next.ensures.none (ap Ok c.if-branch.false) in
-    let same = c.in_ok-put_next.ensures.unchanged (ap Ok c.if-branch.false) in
-    let last = total_line (codes "shifts ") c.loop-text.number c.loop-text.sum in
-    subst (IsShiftsText t 0) (sym (c.wrap.ensures ∙ c.in_ok-writeln.ensures.bytes ∙ ap (λ text. text ++ last) same.1))
-    (inv.text last (no-shift c.loop-text.moved c.loop-text.number c.loop-text.sum none inv.sum))
+    let inv = c.loop-shift.invariant in
+    let last = total_line (codes "shifts ") c.loop-shift.number c.total.result in
+    let kept = sum-kept c.held_law.ensures.total c.loop-shift.moved c.loop-shift.deficits inv.valid inv.held inv.rows in
+    subst (IsShiftsText t 0) (sym (◌∙◌ {c = string_bytes c.loop-shift.text ++ last} c.wrap.ensures c.in_ok-writeln.ensures.bytes))
+    (inv.text last (no-shift c.loop-shift.moved c.loop-shift.number c.total.result c.in_default.ensures.none (c.total.ensures ∙ ap sum_kept c.in_default.ensures.unchanged ∙ kept)))
 
 pub returns-clause-counted : goal.returns-clause-counted
-returns-clause-counted g c =
-    let n = length c.args.timetable.now.slots in
-    omega (arith, c.loop-text.invariant.counted, c.in_ok-put_next.ensures.counted, c.loop-text.invariant.slots, times-next (steps_of_search n) n)
+returns-clause-counted g c = omega (arith, c.loop-shift.invariant.counted, c.in_default.ensures.counted, c.loop-shift.invariant.slots)
