@@ -1,4 +1,4 @@
-ghost use Rattle.std.specs.Prelude.{◌≡◌, ℕ, ◌<◌, length, Some};
+ghost use Rattle.std.specs.Prelude.{◌≡◌, ℕ, ◌<◌, ◌≤◌, length, Some};
 ghost use Rattle.assignment_model.specs.Prices.{weight};
 ghost use Rattle.pair_graph.specs.Pairs.{pairs_network};
 ghost use Rattle.pair_graph.specs.Reach.{saved_until};
@@ -30,17 +30,20 @@ impl<'a> Model for Column<'a> {
 }
 
 impl<'a> Column<'a> {
-    /// What it saves to make the trip of the column's slot next after any trip that ends at a place. And until when that trip
-    /// must end. None where it cannot be made. The caller counts the pairs that it then reads.
-    pub fn reach(&self, place: u16) -> Option<Reach>
+    /// What it saves to make the trip of the column's slot next after any trip that ends at a place, and no sooner than at a
+    /// minute. And until when that trip must end. None where it cannot be made. The caller counts the pairs that it then reads.
+    pub fn reach(&self, place: u16, soonest: u16) -> Option<Reach>
         requires { place < length self.now.pairs.matrix.walks }
-        ensures { (i : ℕ) (m : Move) → move_at self.now.pairs.moves i ≡ Some m → m.to ≡ place
+        ensures { (i : ℕ) (m : Move) → move_at self.now.pairs.moves i ≡ Some m → m.to ≡ place → soonest ≤ m.arrives
             → weight (pairs_network self.now.pairs) i self.now.slot ≡ saved_until result m.arrives }
     {
         let pairs = self.pairs;
         let matrix = pairs.matrix;
         let minutes = matrix.minutes(place, self.after.from)?;
         let minute = u32::from(self.after.leaves).checked_sub(minutes)?;
+        if minute < u32::from(soonest) {
+            return None;
+        }
         let home = matrix.pull_in(place);
         Some(Reach {
             minute: minute as u16,

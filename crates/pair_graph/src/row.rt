@@ -1,4 +1,4 @@
-ghost use Rattle.std.specs.Prelude.{◌≡◌, ℕ, ◌+◌, ◌<◌, length, Some};
+ghost use Rattle.std.specs.Prelude.{◌≡◌, ℕ, ◌+◌, ◌<◌, ◌≤◌, length, Some};
 ghost use Rattle.assignment_model.specs.Prices.{weight};
 ghost use Rattle.pair_graph.specs.Pairs.{pairs_network};
 ghost use Rattle.pair_graph.specs.Reach.{saved_from};
@@ -10,7 +10,7 @@ use deadhead_matrix::Walks;
 use desk_io::Steps;
 use std::marker::Model;
 use std::sync::ledger::Ledger;
-use trip_model::{LAST_MINUTE, Move};
+use trip_model::Move;
 
 /// The pairs of one slot, whose trip runs, with each: what they share is fetched once.
 #[derive(Drop)]
@@ -51,19 +51,17 @@ impl<'a> Row<'a> {
         Some(self.saved + u64::from(out) - u64::from(minutes))
     }
 
-    /// What it saves to make any trip that begins at a place next after that of the row's slot. And from when on that trip must
-    /// leave. None where none can be made. The caller counts the pairs that it then reads.
-    pub fn reach(&self, place: u16) -> Option<Reach>
+    /// What it saves to make any trip next after that of the row's slot that begins at a place, and no later than at a minute.
+    /// And from when on that trip must leave. None where none can be made. The caller counts the pairs that it then reads.
+    pub fn reach(&self, place: u16, latest: u16) -> Option<Reach>
         requires { place < length self.now.pairs.matrix.walks }
-        ensures { (j : ℕ) (m : Move) → move_at self.now.pairs.moves j ≡ Some m → m.from ≡ place
+        ensures { (j : ℕ) (m : Move) → move_at self.now.pairs.moves j ≡ Some m → m.from ≡ place → m.leaves ≤ latest
             → weight (pairs_network self.now.pairs) self.now.slot j ≡ saved_from result m.leaves }
     {
         let pairs = self.pairs;
-        // Its clause says that moves are of one day.
-        let _slots = pairs.slots();
         let minutes = self.walks.to(place)?;
         let minute = u32::from(self.before.arrives) + minutes;
-        if minute > u32::from(LAST_MINUTE) {
+        if minute > u32::from(latest) {
             return None;
         }
         let out = pairs.matrix.pull_out(place);
