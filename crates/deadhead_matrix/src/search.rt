@@ -1,4 +1,4 @@
-ghost use Rattle.std.specs.Prelude.{◌≡◌, ℕ, ◌+◌, ◌<◌, ◌≤◌, false, List, length, IfSome, IfNone, IfOk};
+ghost use Rattle.std.specs.Prelude.{◌≡◌, ◌≢◌, ℕ, ◌+◌, ◌<◌, ◌≤◌, false, List, length, IfSome, IfNone, IfOk};
 ghost use Rattle.trip_model.specs.declared.limits.TheConstants.{MOST_PLACES};
 ghost use Rattle.deadhead_matrix.specs.Search.{far, dist_at, is_done, AreRelaxed, IsNearest, AreShort, AreRows, IsSearch, IsBounded, AreLeastFrom};
 
@@ -7,17 +7,27 @@ use crate::ways::Ways;
 use desk_io::Memory;
 use std::alloc::Global;
 
-// The entry to one place, from a place that is so far.
+// How far a place is along an entry of so many minutes, from a place that is so far. 0 minutes are no entry.
+fn along(from: u32, minutes: u16) -> u32
+    requires { from ≤ 1048576 }
+    ensures none { minutes ≡ 0 → result ≡ 4294967295 }
+    ensures some { minutes ≢ 0 → result ≡ from + minutes }
+{
+    if minutes == 0 {
+        u32::MAX
+    } else {
+        from + u32::from(minutes)
+    }
+}
+
+// The entry to one place, from a place that is so far. A branch would take longer.
 fn lead_to(row: &[u16], from: u32, dist: &mut [u32], to: usize)
     requires len { length row.now ≡ length dist.old }
     requires from { from ≤ 1048576 }
     requires to { to < length dist.old }
     ensures { (before : List ℕ) → AreRelaxed row.now from to before dist.old → AreRelaxed row.now from (to + 1) before dist.new }
 {
-    let minutes = u32::from(row[to]);
-    if minutes != 0 && from + minutes < dist[to] {
-        dist[to] = from + minutes;
-    }
+    dist[to] = dist[to].min(along(from, row[to]));
 }
 
 // The entries of a row, from a place that is so far.
@@ -40,7 +50,7 @@ fn nearest(done: &[bool], dist: &[u32]) -> Option<usize>
     let mut best = None;
     let mut least = FAR;
     for place in 0..dist.len() {
-        if !done[place] && dist[place] < least {
+        if dist[place] < least && !done[place] {
             best = Some(place);
             least = dist[place];
         }
