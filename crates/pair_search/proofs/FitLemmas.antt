@@ -108,35 +108,38 @@ module _ (line : LineView) (arranged : IsArranged line.side) where
       by None is e = unmade (leads_to (side_slot line.side k) line.side.without) refl is
       by (Some m) is e = left m (leads_to (side_slot line.side k) line.side.without) refl e
 
-  -- the weights of the columns at a post
-  abbrev pub AreSaved : ℕ → Option Reach → Type 0
-  AreSaved p result = (k : ℕ) → k < side_slots line.side → (column k).post ≡ Some p → line_weight line k ≡ saved_from result (column k).minute
+  -- the weights of the columns at a post that need a row no later than at a minute
+  abbrev pub AreSaved : ℕ → ℕ → Option Reach → Type 0
+  AreSaved p latest result = (k : ℕ) → k < side_slots line.side → (column k).post ≡ Some p → (column k).minute ≤ latest → line_weight line k ≡ saved_from result (column k).minute
 
-  pub saved-leaving : (p : ℕ) (result : Option Reach) → line.side.turned ≡ false
-      → ((j : ℕ) (m : Move) → move_at line.side.pairs.moves j ≡ Some m → m.from ≡ p → weight (pairs_network line.side.pairs) line.row j ≡ saved_from result m.leaves) → AreSaved p result
-  saved-leaving p result leaving reach k lt e =
+  pub saved-leaving : (p latest : ℕ) (result : Option Reach) → line.side.turned ≡ false
+      → ((j : ℕ) (m : Move) → move_at line.side.pairs.moves j ≡ Some m → m.from ≡ p → m.leaves ≤ latest → weight (pairs_network line.side.pairs) line.row j ≡ saved_from result m.leaves)
+      → AreSaved p latest result
+  saved-leaving p latest result leaving reach k lt e soon =
       let s = at-post k p lt e in
       let slot = side_slot line.side k in
+      let minute : (column k).minute ≡ s.made.leaves = arranged.order.minutes k lt ∙ ap (column_minute line.side.turned) s.is ∙ ap (λ t. column_minute t (Some s.made)) leaving in
       masked line.side line.row slot false s.kept
       ∙ ap (λ t. all_weights line.side.pairs t line.row slot) leaving
-      ∙ reach slot s.made s.is (sym (ap (λ t. cond t s.made.to s.made.from) leaving) ∙ s.here)
-      ∙ ap (saved_from result) (sym (arranged.order.minutes k lt ∙ ap (column_minute line.side.turned) s.is ∙ ap (λ t. column_minute t (Some s.made)) leaving))
+      ∙ reach slot s.made s.is (sym (ap (λ t. cond t s.made.to s.made.from) leaving) ∙ s.here) (omega (arith, minute, soon))
+      ∙ ap (saved_from result) (sym minute)
 
-  pub saved-entering : (p : ℕ) (result : Option Reach) → line.side.turned ≡ true
-      → ((i : ℕ) (m : Move) → move_at line.side.pairs.moves i ≡ Some m → m.to ≡ p → weight (pairs_network line.side.pairs) i line.row ≡ saved_until result m.arrives)
-      → AreSaved p (option_map (λ (r : Reach). record { minute = 8191 - r.minute; saved = r.saved }) result)
-  saved-entering p result entering reach k lt e =
+  pub saved-entering : (p latest soonest : ℕ) (result : Option Reach) → soonest ≡ 8191 - latest → line.side.turned ≡ true
+      → ((i : ℕ) (m : Move) → move_at line.side.pairs.moves i ≡ Some m → m.to ≡ p → soonest ≤ m.arrives → weight (pairs_network line.side.pairs) i line.row ≡ saved_until result m.arrives)
+      → AreSaved p latest (option_map (λ (r : Reach). record { minute = 8191 - r.minute; saved = r.saved }) result)
+  saved-entering p latest soonest result is entering reach k lt e soon =
       let s = at-post k p lt e in
       let slot = side_slot line.side k in
+      let minute : (column k).minute ≡ 8191 - s.made.arrives = arranged.order.minutes k lt ∙ ap (column_minute line.side.turned) s.is ∙ ap (λ t. column_minute t (Some s.made)) entering in
       let turned = option_map (λ (r : Reach). record { minute = 8191 - r.minute; saved = r.saved }) result in
       masked line.side line.row slot false s.kept
       ∙ ap (λ t. all_weights line.side.pairs t line.row slot) entering
-      ∙ reach slot s.made s.is (sym (ap (λ t. cond t s.made.to s.made.from) entering) ∙ s.here)
+      ∙ reach slot s.made s.is (sym (ap (λ t. cond t s.made.to s.made.from) entering) ∙ s.here) (omega (arith, is, minute, soon))
       ∙ turned-minutes result s.made.arrives (arranged.moves.each slot s.made s.is).in_day
-      ∙ ap (saved_from turned) (sym (arranged.order.minutes k lt ∙ ap (column_minute line.side.turned) s.is ∙ ap (λ t. column_minute t (Some s.made)) entering))
+      ∙ ap (saved_from turned) (sym minute)
 
-  pub saved-idle : (p : ℕ) → (pairs_network line.side.pairs).live line.row ≡ false → AreSaved p None
-  saved-idle p dead k lt e =
+  pub saved-idle : (p latest : ℕ) → (pairs_network line.side.pairs).live line.row ≡ false → AreSaved p latest None
+  saved-idle p latest dead k lt e soon =
       let s = at-post k p lt e in
       masked line.side line.row (side_slot line.side k) false s.kept ∙ by line.side.turned
     where

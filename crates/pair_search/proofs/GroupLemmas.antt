@@ -1,5 +1,5 @@
 -- Groups of columns follow on each other, and what is seen of one says nothing of the others.
-use Rattle.std.proofs.Common.{◌≡◌, ◌≢◌, ℕ, zero, suc, ◌+◌, ◌<◌, ◌≤◌, Bool, true, false, cond, nat_eq, List, length, get_or, replicate, set, Option, None, Some, refl, sym, ap, subst, ◌∙◌, ⊎_elim, arith}
+use Rattle.std.proofs.Common.{◌≡◌, ◌≢◌, ℕ, zero, suc, ◌+◌, ◌-◌, ◌<◌, ◌≤◌, Bool, true, false, cond, nat_eq, List, length, get_or, replicate, set, Option, None, Some, refl, sym, ap, subst, ◌∙◌, ⊎_elim, arith}
 use Rattle.std.specs.Option.{option_eq}
 use Rattle.std.proofs.lemmas.Bool.{both_ways, cases_eq, eqb-true, cases_lt, lt-ltb, le-ltb}
 use Rattle.std.proofs.lemmas.List.{get_or_past, get_or-replicate, get_or-set_same, get_or-set_other, length-set}
@@ -58,14 +58,22 @@ AreGroups-none columns groups = record {
   within = λ r lt. absurd (omega (arith, lt));
   posts = λ r k d lt. absurd (omega (arith, lt));
   rise = λ r h k d lt. absurd (omega (arith, lt));
+  last = λ r d lt. absurd (omega (arith, lt));
 }
+
+-- the minutes of a group are at most its latest one
+pub to-latest : (n : ℕ) (columns : List Column) (count : ℕ) (groups : List Group) → AreGroups n columns count groups → (r k : ℕ) (d : Column) → r < count
+    → (group_at groups r).from ≤ k → k < (group_at groups r).to → (get_or columns k d).minute ≤ (group_at groups r).latest
+to-latest n columns count groups are r k d lt after before =
+    omega (arith, are.rise r k ((group_at groups r).to - 1) d lt after (omega (arith, before)) (omega (arith, before)), are.last r d lt)
 
 -- one more group follows on those that are found
 pub AreGroups-more : (from to : ℕ) (columns : List Column) (count : ℕ) (groups : List Group) (group : Group) → AreGroups from columns count groups → group.from ≡ from → group.to ≡ to → from < to → to ≤ 4096
     → count < length groups → ((k : ℕ) (d : Column) → from ≤ k → k < to → (get_or columns k d).post ≡ group.post)
     → ((h k : ℕ) (d : Column) → from ≤ h → h ≤ k → k < to → (get_or columns h d).minute ≤ (get_or columns k d).minute)
+    → ((d : Column) → (get_or columns (to - 1) d).minute ≡ group.latest)
     → AreGroups to columns (count + 1) (set groups count group)
-AreGroups-more from to columns count groups group are begin end rises few room posts rise = record {
+AreGroups-more from to columns count groups group are begin end rises few room posts rise last = record {
   few = omega (arith, are.few, rises);
   most = omega (arith, are.few, rises, few);
   room = omega (arith, room, length-set groups count group);
@@ -113,16 +121,24 @@ AreGroups-more from to columns count groups group are begin end rises few room p
       let same = at-new r (omega (arith, lt, last)) in
       rise h k d (omega (arith, after, ap (λ (g : Group). g.from) same, begin)) le (omega (arith, before, ap (λ (g : Group). g.to) same, end)))
       (cases_lt r count);
+  last = λ r d lt. ⊎_elim
+      (λ (old : r < count).
+      let same = other r old in
+      ap (λ (g : Group). (get_or columns (g.to - 1) d).minute) same ∙ are.last r d old ∙ sym (ap (λ (g : Group). g.latest) same))
+      (λ (here : count ≤ r).
+      let same = at-new r (omega (arith, lt, here)) in
+      ap (λ (g : Group). (get_or columns (g.to - 1) d).minute) same ∙ ap (λ t. (get_or columns (t - 1) d).minute) end ∙ last d ∙ sym (ap (λ (g : Group). g.latest) same))
+      (cases_lt r count);
 }
   where
     new : group_at (set groups count group) count ≡ group
-    new = get_or-set_same groups count group (record { post = None; from = 0; to = 0 }) room
+    new = get_or-set_same groups count group (record { post = None; from = 0; to = 0; latest = 0 }) room
 
     at-new : (r : ℕ) → r ≡ count → group_at (set groups count group) r ≡ group
     at-new r e = ap (group_at (set groups count group)) e ∙ new
 
     other : (r : ℕ) → r < count → group_at (set groups count group) r ≡ group_at groups r
-    other r lt = get_or-set_other groups count r group (record { post = None; from = 0; to = 0 }) (λ e. omega (arith, lt, e))
+    other r lt = get_or-set_other groups count r group (record { post = None; from = 0; to = 0; latest = 0 }) (λ e. omega (arith, lt, e))
 
 -- columns of one group were approached
 module _ (n : ℕ) (columns : List Column) (count : ℕ) (groups : List Group) (are : AreGroups n columns count groups) (g first upto from cost near : ℕ) (enter : List ℕ) (done : List Bool)

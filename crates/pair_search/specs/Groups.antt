@@ -1,5 +1,5 @@
 -- Groups of columns, and what a search has seen of them.
-use Rattle.std.specs.Prelude.{◌≡◌, ℕ, ◌+◌, ◌<◌, ◌≤◌, nat_lt, Bool, false, List, length, slice_index_or, Option, None, Some, if◌then◌else◌}
+use Rattle.std.specs.Prelude.{◌≡◌, ℕ, ◌+◌, ◌-◌, ◌<◌, ◌≤◌, nat_lt, Bool, false, List, length, slice_index_or, Option, None, Some, if◌then◌else◌}
 use Rattle.trip_model.specs.declared.limits.TheConstants.{MOST_SLOTS}
 use Rattle.pair_search.specs.declared.groups.Group.{Group}
 use Rattle.pair_search.specs.declared.limits.TheConstants.{GREATEST_PRICE}
@@ -16,13 +16,14 @@ use Rattle.pair_graph.specs.Pairs.{PairsView}
 
 -- a group of a list; past its end one without columns
 abbrev pub group_at : List Group → ℕ → Group
-group_at groups r = slice_index_or groups r (record { post = None; from = 0; to = 0 })
+group_at groups r = slice_index_or groups r (record { post = None; from = 0; to = 0; latest = 0 })
 
 -- the place at which a group of so many begins; that past the last column where there is no such group
 abbrev pub begins : ℕ → ℕ → List Group → ℕ → ℕ
 begins n count groups r = if nat_lt r count then (group_at groups r).from else n
 
--- The columns in so many groups, one after the other. Those of one are at its post, and their minutes rise.
+-- The columns in so many groups, one after the other. Those of one are at its post, and their minutes rise
+-- to its latest one.
 pub record AreGroups (n : ℕ) (columns : List Column) (count : ℕ) (groups : List Group) : Type 0 where
   pub few : count ≤ n
   pub most : count ≤ MOST_SLOTS
@@ -34,6 +35,7 @@ pub record AreGroups (n : ℕ) (columns : List Column) (count : ℕ) (groups : L
   pub posts : (r k : ℕ) (d : Column) → r < count → (group_at groups r).from ≤ k → k < (group_at groups r).to → (slice_index_or columns k d).post ≡ (group_at groups r).post
   pub rise : (r h k : ℕ) (d : Column) → r < count → (group_at groups r).from ≤ h → h ≤ k → k < (group_at groups r).to
       → (slice_index_or columns h d).minute ≤ (slice_index_or columns k d).minute
+  pub last : (r : ℕ) (d : Column) → r < count → (slice_index_or columns ((group_at groups r).to - 1) d).minute ≡ (group_at groups r).latest
 
 -- The columns of one side of pairs are in order and in groups. Their order is the one that is computed: by post, then by minute,
 -- then by slot.

@@ -5,12 +5,13 @@ ghost use Rattle.trip_model.specs.declared.limits.TheConstants.{MOST_SLOTS};
 use crate::order::Column;
 
 /// Columns next to each other that stand at one post and in the order of their minutes: those from one place until before
-/// another.
+/// another. And the minute of the last of them.
 #[derive(Clone, Copy)]
 pub struct Group {
     pub post: Option<u16>,
     pub from: u16,
     pub to: u16,
+    pub latest: u16,
 }
 
 // Where the group ends that begins at a place.
@@ -45,6 +46,7 @@ pub(crate) fn find_groups(columns: &[Column], groups: &mut [Group]) -> usize
             post: columns[from].post,
             from: from as u16,
             to: to as u16,
+            latest: columns[to - 1].minute,
         };
         count += 1;
         from = to;

@@ -73,7 +73,7 @@ impl Tree {
         self.clear(side.groups(), side.slots());
         self.rows[0] = a;
         self.far[0] = 0;
-        self.look_from(&side.line(a), 0, GREATEST_PRICE, enter, steps);
+        self.look_from(side, a, 0, GREATEST_PRICE, enter, steps);
     }
 
     // A row comes into the tree by a column, and all columns are looked at from it.
@@ -118,7 +118,7 @@ impl Tree {
         self.rows[place as usize] = row;
         self.far[place as usize] = distance;
         let start = distance + leave[row as usize];
-        self.look_from(&side.line(row), place, start, enter, steps);
+        self.look_from(side, row, place, start, enter, steps);
     }
 
     /// Grows from the first row, row by row by the nearest column, until the search ends.

@@ -31,23 +31,25 @@ impl<'a> Model for Line<'a> {
 }
 
 impl<'a> Line<'a> {
-    // What the row weighs with each column at a post that it is in time for. And the minute from which on such a column may
-    // need it.
-    fn reach(&self, post: u16) -> Option<Reach>
+    // What the row weighs with each column at a post that it is in time for, of those that need a row no later than at a minute.
+    // And the minute from which on such a column may need it.
+    fn reach(&self, post: u16, latest: u16) -> Option<Reach>
         requires { post < length self.now.side.pairs.matrix.walks }
         ensures { (k : ℕ) → k < side_slots self.now.side → (slice_index_or self.now.side.columns k (no_column (side_slots self.now.side))).post ≡ Some post
+            → (slice_index_or self.now.side.columns k (no_column (side_slots self.now.side))).minute ≤ latest
             → line_weight self.now k ≡ saved_from result (slice_index_or self.now.side.columns k (no_column (side_slots self.now.side))).minute }
     {
         let side = self.side;
         // Its clauses say that moves are of one day.
         let _slots = side.pairs.slots();
         if let Some(row) = &self.leaving {
-            return row.reach(post);
+            return row.reach(post, latest);
         }
         let Some(column) = &self.entering else {
             return None;
         };
-        let reach = column.reach(post)?;
+        let soonest = LAST_MINUTE.saturating_sub(latest);
+        let reach = column.reach(post, soonest)?;
         Some(Reach {
             minute: LAST_MINUTE.saturating_sub(reach.minute),
             saved: reach.saved,
@@ -63,7 +65,7 @@ impl<'a> Line<'a> {
         // Its clauses say that moves are of one day.
         let _slots = side.pairs.slots();
         let group = side.group(group);
-        self.reach(group.post?)
+        self.reach(group.post?, group.latest)
     }
 
     /// The first column of a group before a place that the row fits; that place where it fits none of them.

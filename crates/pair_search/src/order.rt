@@ -12,6 +12,9 @@ use crate::orders::{Departures, EMPTY, NOWHERE, Order};
 use pair_graph::Pairs;
 use trip_model::{LAST_MINUTE, Move};
 
+// So many columns are looked through in a shorter time than they are halved.
+const FEW: u16 = 16;
+
 /// A column of a search: where its trip begins or, seen from the entering side, ends. Then the minute by which a row that is
 /// linked to it must be ready, and its slot. No row is linked to one without a post.
 #[derive(Clone, Copy, PartialEq, Eq, PartialOrd, Ord)]
@@ -186,6 +189,24 @@ fn columns_before(columns: &[Column], minute: u16) -> usize
     )
 }
 
+// The first column between two places that needs a row no sooner than at a minute, where they are few; the second place where
+// none does.
+fn first_of_few(columns: &[Column], from: u16, upto: u16, minute: u16) -> u16
+    requires within { upto ≤ length columns.now }
+    requires rise { (h k : ℕ) (d : _) → from ≤ h → h ≤ k → k < upto → (slice_index_or columns.now h d).minute ≤ (slice_index_or columns.now k d).minute }
+    ensures within { result ≤ upto }
+    ensures after { result < upto → from ≤ result }
+    ensures before { (k : ℕ) (d : _) → from ≤ k → k < result → (slice_index_or columns.now k d).minute < minute }
+    ensures later { (k : ℕ) (d : _) → from ≤ k → result ≤ k → k < upto → minute ≤ (slice_index_or columns.now k d).minute }
+{
+    for first in from..upto {
+        if columns[first as usize].minute >= minute {
+            return first;
+        }
+    }
+    upto
+}
+
 /// The first column between two places that needs a row no sooner than at a minute; the second place where none does. The last
 /// column needs it latest, so one comparison tells whether there is any.
 pub(crate) fn first_from(columns: &[Column], from: u16, upto: u16, minute: u16) -> u16
@@ -198,6 +219,9 @@ pub(crate) fn first_from(columns: &[Column], from: u16, upto: u16, minute: u16) 
 {
     if upto <= from || columns[upto as usize - 1].minute < minute {
         return upto;
+    }
+    if upto - from <= FEW {
+        return first_of_few(columns, from, upto, minute);
     }
     from + columns_before(&columns[from as usize..upto as usize], minute) as u16
 }

@@ -19,6 +19,7 @@ pub(crate) const EMPTY: Group = Group {
     post: None,
     from: 0,
     to: 0,
+    latest: 0,
 };
 
 /// The columns of one side in their order, the place of each, and their groups, with how many there are.

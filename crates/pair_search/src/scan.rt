@@ -2,7 +2,7 @@ ghost use Rattle.std.specs.Prelude.{◌≡◌, ℕ, ◌+◌, ◌-◌, ◌*◌, �
 ghost use Rattle.pair_search.specs.Determined.{first_nearest};
 ghost use Rattle.pair_search.specs.Groups.{group_at, AreApproached, AreNear, AreReached, IsNearer, IsSeen};
 ghost use Rattle.pair_search.specs.Search.{at, is_done, as_columns, columns_of, AreLooked, Columns, IsNearest};
-ghost use Rattle.pair_search.specs.Side.{side_slots, line_weight};
+ghost use Rattle.pair_search.specs.Side.{side_slots, line_weight, place_weight};
 ghost use Rattle.pair_search.specs.Visits.{AreVisited, IsVisited};
 
 use crate::limits::{FAR, GREATEST_PRICE};
@@ -169,7 +169,7 @@ impl Tree {
     }
 
     // Looks at all columns from a place of the tree, which is so far with the price of its row.
-    pub(crate) fn look_from<L: Ledger>(
+    fn look_along<L: Ledger>(
         &mut self,
         line: &Line<'_>,
         from: u16,
@@ -194,6 +194,34 @@ impl Tree {
         for group in 0..side.groups() {
             self.look(line, group, from, start, enter, steps);
         }
+    }
+
+    // Looks at all columns from a place of the tree, where a row is that is so far with its price. What the pairs of the row share
+    // stays at hand.
+    pub(crate) fn look_from<L: Ledger>(
+        &mut self,
+        side: &Side<'_>,
+        row: u16,
+        from: u16,
+        start: u64,
+        enter: &[u64],
+        steps: &mut Steps<L>,
+    )
+        requires row { row < side_slots side.now }
+        requires slots { vec_len self.old.dist ≡ side_slots side.now }
+        requires enter { length enter.now ≡ side_slots side.now }
+        requires seen { IsSeen side.now enter.now self.old }
+        requires start { start ≤ 2 * GREATEST_PRICE }
+        requires low { (j k : ℕ) → place_weight side.now row j ≡ Some k → at enter.now j ≤ GREATEST_PRICE }
+        requires covers { (j k : ℕ) → place_weight side.now row j ≡ Some k → k ≤ start + at enter.now j }
+        ensures slots { vec_len self.new.dist ≡ vec_len self.old.dist }
+        ensures rows { (self.new.rows.items ≡ self.old.rows.items) × (self.new.far.items ≡ self.old.far.items) }
+        ensures looked { AreLooked (place_weight side.now row) (side_slots side.now) from start enter.now (columns_of self.old) (columns_of self.new) }
+        ensures seen { IsSeen side.now enter.now self.new }
+        ensures visited { AreVisited (place_weight side.now row) side.now.groups side.now.count self.old.dist.items self.new.dist.items steps.old steps.new }
+        ensures counted { steps.new ≤ steps.old + side_slots side.now }
+    {
+        self.look_along(&side.line(row), from, start, enter, steps);
     }
 }
 

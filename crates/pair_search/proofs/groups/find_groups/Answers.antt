@@ -1,4 +1,4 @@
-use Rattle.std.proofs.Common.{◌∙◌, refl, ap, arith}
+use Rattle.std.proofs.Common.{◌-◌, ◌∙◌, refl, ap, arith}
 use Rattle.std.proofs.lemmas.List.{get_or_default}
 use Rattle.pair_search.specs.declared.order.Column.{Column}
 use Rattle.pair_search.proofs.GroupLemmas.{AreGroups-none, AreGroups-more}
@@ -14,5 +14,6 @@ loop-from-preserved c =
       within = found.within;
       groups = AreGroups-more c.loop-from.from c.group_end-to.result c.args.columns.now c.loop-from.count c.loop-from.groups _ c.loop-from.invariant.groups refl refl found.after
           (omega (arith, found.within, c.requires.few)) (omega (arith, c.loop-from.invariant.groups.few, c.loop-from-test.true, c.loop-from.auto.groups, c.requires.room))
-          (λ k d after before. found.posts k d after before ∙ ap (λ (x : Column). x.post) (get_or_default c.args.columns.now c.loop-from.from d _ c.loop-from-test.true)) found.rise;
+          (λ k d after before. found.posts k d after before ∙ ap (λ (x : Column). x.post) (get_or_default c.args.columns.now c.loop-from.from d _ c.loop-from-test.true)) found.rise
+          (λ d. ap (λ (x : Column). x.minute) (get_or_default c.args.columns.now (c.group_end-to.result - 1) d _ (omega (arith, found.after, found.within))));
     }

@@ -6,7 +6,7 @@ use Rattle.pair_search.specs.Determined.{Front, first_front}
 use Rattle.pair_search.specs.Fronts.{IsShown}
 use Rattle.pair_search.specs.Groups.{seen_at, AreNear, AreReached}
 use Rattle.pair_search.specs.Search.{at, as_columns, columns_of, problem_of, AreLooked, IsTree}
-use Rattle.pair_search.specs.Side.{SideView, LineView, line_weight, side_slots, place_weight}
+use Rattle.pair_search.specs.Side.{SideView, side_slots, place_weight}
 use Rattle.pair_search.proofs.GroupLemmas.{AreNear-none, AreReached-none, seen-none}
 use Rattle.pair_search.proofs.ShownLemmas.{IsShown-begun}
 use Rattle.pair_search.proofs.TreeLemmas.{tree_with, IsTree-begun}
@@ -21,7 +21,7 @@ returns-clause-tree g c = λ before given.
     let was = c.clear.new.self in
     let now = c.look_from.new.self in
     let looked : AreLooked (place_weight side c.args.a) n 0 67111744 c.args.enter.now (columns_of was) (columns_of now) =
-    subst (λ (line : LineView). AreLooked (line_weight line) (side_slots line.side) 0 67111744 c.args.enter.now (columns_of was) (columns_of now)) c.line.ensures c.look_from.ensures.looked in
+    c.look_from.ensures.looked in
     let slots : vec_len was.dist ≡ n = c.clear.ensures.slots ∙ c.slots.ensures.count in
     subst (λ d. IsTree p (tree_with now.dist.items now.parent.items d now.rows.items now.far.items 1 0)) (sym looked.done)
     (IsTree-begun p was.dist.items was.parent.items now.dist.items now.parent.items was.done.items now.rows.items now.far.items given
@@ -46,11 +46,7 @@ look_from-requires-clause-seen g c =
     let reached : AreReached side.count side.groups c.args.enter.now was.done.items was.dist.items was.seen.items =
     AreReached-none n side.count side.groups was.done.items was.dist.items was.seen.items are.few dists are.within c.args.enter.now (omega (arith, c.requires.few))
     (λ r lt. omega (arith, ap (λ (s : Seen). s.from) (at-none r lt))) in
-    record {
-      room = subst (λ (line : LineView). line.side.count ≤ length was.seen.items) (sym c.line.ensures) room;
-      near = subst (λ (line : LineView). AreNear line.side.count line.side.groups was.done.items was.dist.items was.seen.items) (sym c.line.ensures) near;
-      reached = subst (λ (line : LineView). AreReached line.side.count line.side.groups c.args.enter.now was.done.items was.dist.items was.seen.items) (sym c.line.ensures) reached;
-    }
+    record { room = room; near = near; reached = reached }
 
 pub returns-clause-shown : goal.returns-clause-shown
 returns-clause-shown g c =
@@ -62,7 +58,7 @@ returns-clause-shown g c =
     let none : List Bool = replicate n false in
     let first : Front = first_front w c.args.a c.args.enter.now n in
     let looked : AreLooked (w c.args.a) n 0 67111744 c.args.enter.now (columns_of was) (columns_of now) =
-    subst (λ (line : LineView). AreLooked (line_weight line) (side_slots line.side) 0 67111744 c.args.enter.now (columns_of was) (columns_of now)) c.line.ensures c.look_from.ensures.looked in
+    c.look_from.ensures.looked in
     let slots : vec_len was.dist ≡ n = c.clear.ensures.slots ∙ c.slots.ensures.count in
     let far : was.dist.items ≡ replicate n 67111745 = c.clear.ensures.dist ∙ ap (λ m. replicate m 67111745) c.slots.ensures.count in
     let undone : was.done.items ≡ none = c.clear.ensures.done ∙ ap (λ m. replicate m false) c.slots.ensures.count in

@@ -1,15 +1,9 @@
 use Rattle.std.proofs.Common.{◌≡◌, ◌∙◌, ◌+◌, true, set, sym, ap, subst, arith}
 use Rattle.std.proofs.lemmas.List.{get_or_read}
 use Rattle.pair_search.specs.Search.{at, as_columns, columns_of, problem_of, tree_of, AreLooked, IsTree}
-use Rattle.pair_search.specs.Side.{LineView, line_weight, side_slots, place_weight}
-use Rattle.pair_search.specs.Visits.{AreVisited}
+use Rattle.pair_search.specs.Side.{side_slots, place_weight}
 use Rattle.pair_search.proofs.TreeLemmas.{tree_with, IsTree-visit}
 use Rattle.pair_search.proofs.tree.Tree.visit.Goals as goal
-
-pub returns-clause-visited : goal.returns-clause-visited
-returns-clause-visited g c =
-    subst (λ (line : LineView). AreVisited (line_weight line) line.side.groups line.side.count c.args.self.now.dist.items c.look_from.new.self.dist.items c.args.steps.now c.look_from.new.steps) c.line.ensures
-    c.look_from.ensures.visited
 
 pub returns-clause-tree : goal.returns-clause-tree
 returns-clause-tree g c = λ a reach before given tree next.
@@ -24,8 +18,7 @@ returns-clause-tree g c = λ a reach before given tree next.
     get_or_read was.dist.items c.args.column c.index-distance.result.now (omega (arith, was.dist.ok.0, c.requires.column, c.requires.slots)) c.index-distance.ensures 0 in
     let looked : AreLooked (place_weight side c.args.row) (side_slots side) c.args.place (far + at c.args.leave.now c.args.row) c.args.enter.now (as_columns was.dist.items was.parent.items done) (columns_of now) =
     subst (λ d. AreLooked (place_weight side c.args.row) (side_slots side) c.args.place (d + at c.args.leave.now c.args.row) c.args.enter.now (as_columns was.dist.items was.parent.items done) (columns_of now)) read
-    (subst (λ (line : LineView). AreLooked (line_weight line) (side_slots line.side) c.args.place (c.index-distance.result.now + at c.args.leave.now c.args.row) c.args.enter.now (as_columns was.dist.items was.parent.items done) (columns_of now)) c.line.ensures
-    c.look_from.ensures.looked) in
+    c.look_from.ensures.looked in
     let visited =
     IsTree-visit p (tree_of was c.args.place reach) c.args.row c.args.column now.dist.items now.parent.items given tree
     (record {
@@ -54,6 +47,5 @@ returns-clause-looked g c =
     get_or_read was.dist.items c.args.column c.index-distance.result.now (omega (arith, was.dist.ok.0, c.requires.column, c.requires.slots)) c.index-distance.ensures 0 in
     let looked : AreLooked (place_weight side c.args.row) (side_slots side) c.args.place (far + at c.args.leave.now c.args.row) c.args.enter.now (as_columns was.dist.items was.parent.items done) (columns_of now) =
     subst (λ d. AreLooked (place_weight side c.args.row) (side_slots side) c.args.place (d + at c.args.leave.now c.args.row) c.args.enter.now (as_columns was.dist.items was.parent.items done) (columns_of now)) read
-    (subst (λ (line : LineView). AreLooked (line_weight line) (side_slots line.side) c.args.place (c.index-distance.result.now + at c.args.leave.now c.args.row) c.args.enter.now (as_columns was.dist.items was.parent.items done) (columns_of now)) c.line.ensures
-    c.look_from.ensures.looked) in
+    c.look_from.ensures.looked in
     subst (λ d. AreLooked (place_weight side c.args.row) (side_slots side) c.args.place (far + at c.args.leave.now c.args.row) c.args.enter.now (as_columns was.dist.items was.parent.items done) (as_columns now.dist.items now.parent.items d)) looked.done looked

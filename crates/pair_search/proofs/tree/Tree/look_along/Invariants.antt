@@ -4,7 +4,7 @@ use Rattle.pair_search.specs.Groups.{begins, IsSeen}
 use Rattle.pair_search.specs.Search.{columns_of, AreLooked}
 use Rattle.pair_search.specs.Side.{side_slots, line_weight}
 use Rattle.pair_search.specs.Visits.{AreVisited}
-use Rattle.pair_search.proofs.tree.Tree.look_from.Given as goal
+use Rattle.pair_search.proofs.tree.Tree.look_along.Given as goal
 
 abbrev pub invariant-loop-group : goal.invariant-loop-group
 invariant-loop-group g l = record {
