@@ -3,7 +3,7 @@ use Rattle.std.proofs.Common.{◌≡◌, ℕ, zero, suc, ◌+◌, ◌-◌, ◌<�
 use Rattle.std.specs.Prelude.{⊤, slice_index_or}
 use Rattle.std.specs.Cmp.{nat_cmp_is}
 use Rattle.std.specs.List.{AllByRecursion, range_with_len}
-use Rattle.std.specs.List.Sorted.{IsSorted}
+use Rattle.std.specs.List.Sorted.{IsNonDecreasingBy}
 use Rattle.std.specs.Option.{option_cmp}
 use Rattle.std.specs.Ordering.{ordering_then, is_lt, nat_cmp}
 use Rattle.std.proofs.lemmas.Bool.{cases_lt, cases_order, leb-true, leb-false}
@@ -11,7 +11,7 @@ use Rattle.std.proofs.Math.ListN.{get_or-map}
 use Rattle.std.proofs.lemmas.List.{length-map}
 use Rattle.std.proofs.lemmas.Map.Keys.{ge_from_not_lt}
 use Rattle.trip_model.specs.Order.{placed_by, by_key}
-use Rattle.pair_search.specs.Arranged.{post_key, slots_of, StandsBefore, AreInOrder}
+use Rattle.pair_search.specs.Arranged.{post_key, slots_of, StandsBefore, AreInOrder, IsRanked}
 use Rattle.pair_search.specs.Order.{no_column, slot_at, place_of, IsOrder, IsRenaming}
 use Rattle.pair_search.specs.declared.order.Column.{Column}
 
@@ -308,46 +308,28 @@ AreInOrder-next n columns next h k lt within = by (k - h - 1) k (omega (arith, l
         (by gap (h + gap + 1) refl (omega (arith, near, within)))
         (subst (λ (i : ℕ). StandsBefore (slice_index_or columns (h + gap + 1) (no_column n)) (slice_index_or columns i (no_column n))) (sym near) (next (h + gap + 1) (omega (arith, near, within))))
 
--- the order by which columns are sorted
-abbrev pub column_cmp : Column → Column → Ordering
-column_cmp c d = ordering_then (option_cmp nat_cmp c.post d.post) (ordering_then (nat_cmp c.minute d.minute) (nat_cmp c.slot d.slot))
-
--- of two numbers the second is not less than the first, and where they are equal the rest decides
-not-less : (x y : ℕ) (rest : Ordering) → is_lt (ordering_then (nat_cmp y x) rest) ≡ false → (x < y) ⊎ ((x ≡ y) × (is_lt rest ≡ false))
-not-less x y rest h = ⊎_elim
-    (λ (e : x ≡ y). inr (e, subst (λ (o : Ordering). is_lt (ordering_then o rest) ≡ false) (sym (nat_cmp_is y x Equal (sym e))) h))
-    (⊎_elim
-    (λ (less : x < y). inl less)
-    (λ (more : y < x). let no : true ≡ false = subst (λ (o : Ordering). is_lt (ordering_then o rest) ≡ false) (sym (nat_cmp_is y x Less more)) h in cc no))
-    (cases_order x y)
-
-not-less-post : (p q : Option ℕ) (rest : Ordering) → is_lt (ordering_then (option_cmp nat_cmp q p) rest) ≡ false → (post_key p < post_key q) ⊎ ((post_key p ≡ post_key q) × (is_lt rest ≡ false))
-not-less-post None None rest h = inr (refl, h)
-not-less-post None (Some y) rest h = inl (omega arith)
-not-less-post (Some x) None rest h = let no : true ≡ false = h in cc no
-not-less-post (Some x) (Some y) rest h = ⊎_elim
-    (λ (less : x < y). inl (omega (arith, less)))
-    (λ (same : (x ≡ y) × (is_lt rest ≡ false)). inr (ap suc same.0, same.1))
-    (not-less x y rest h)
-
--- a column that is not less than one of another slot stands behind it
-stands-behind : (c d : Column) → (c.slot ≡ d.slot → ⊥) → is_lt (column_cmp d c) ≡ false → StandsBefore c d
-stands-behind c d ne h = ⊎_elim
+-- a column that ranks no lower than one of another slot stands behind it
+stands-behind : (c d : Column) → IsRanked c → IsRanked d → (c.slot ≡ d.slot → ⊥) → c.rank ≤ d.rank → StandsBefore c d
+stands-behind c d rc rd ne le = ⊎_elim
     (λ (less : post_key c.post < post_key d.post). inl less)
-    (λ (same : (post_key c.post ≡ post_key d.post) × (is_lt (ordering_then (nat_cmp d.minute c.minute) (nat_cmp d.slot c.slot)) ≡ false)).
+    (λ (no-less : post_key d.post ≤ post_key c.post).
+    let same : post_key c.post ≡ post_key d.post = omega (arith, no-less, le, rc.rank, rd.rank, rc.minute, rd.minute, rc.slot, rd.slot) in
     inr (
-      same.0,
+      same,
       ⊎_elim
-          (λ (less : c.minute < d.minute). inl less)
-          (λ (even : (c.minute ≡ d.minute) × (is_lt (nat_cmp d.slot c.slot) ≡ false)). inr (even.0, omega (arith, ge_from_not_lt d.slot c.slot even.1, ne)))
-          (not-less c.minute d.minute (nat_cmp d.slot c.slot) same.1),
+          (λ (sooner : c.minute < d.minute). inl sooner)
+          (λ (no-sooner : d.minute ≤ c.minute).
+          let even : c.minute ≡ d.minute = omega (arith, same, no-sooner, le, rc.rank, rd.rank, rc.slot, rd.slot) in
+          inr (even, omega (arith, same, even, le, rc.rank, rd.rank, ne)))
+          (cases_lt c.minute d.minute),
     ))
-    (not-less-post c.post d.post (ordering_then (nat_cmp d.minute c.minute) (nat_cmp d.slot c.slot)) h)
+    (cases_lt (post_key c.post) (post_key d.post))
 
 -- columns that were sorted, of which no two have one slot, are in order
 pub AreInOrder-sorted : (n : ℕ) (columns : List Column) → length columns ≡ n → ((h k : ℕ) → h < n → k < n → slot_at n columns h ≡ slot_at n columns k → h ≡ k)
-    → IsSorted column_cmp columns → AreInOrder n columns
-AreInOrder-sorted n columns len apart sorted = AreInOrder-next n columns
+    → ((k : ℕ) → k < n → IsRanked (get_or columns k (no_column n))) → IsNonDecreasingBy (λ c. c.rank) columns → AreInOrder n columns
+AreInOrder-sorted n columns len apart ranked sorted = AreInOrder-next n columns
     (λ k lt. stands-behind (slice_index_or columns k (no_column n)) (slice_index_or columns (k + 1) (no_column n))
+    (ranked k (omega (arith, lt))) (ranked (k + 1) lt)
     (λ e. absurd (omega (arith, apart k (k + 1) (omega (arith, lt)) lt e)))
-    (sorted k (no_column n) (omega arith) (omega (arith, lt, len))))
+    (sorted k (k + 1) (no_column n) (omega arith) (omega (arith, lt, len))))

@@ -1,5 +1,5 @@
 -- Searches over columns in their order, and from the entering side.
-use Rattle.std.specs.Prelude.{◌≡◌, ℕ, suc, ◌<◌, ◌⊎◌, ◌==◌, Bool, false, List, map, position, unwrap_or, replicate, length, slice_index_or, Option, None, Some, if◌then◌else◌}
+use Rattle.std.specs.Prelude.{◌≡◌, ℕ, suc, ◌+◌, ◌*◌, ◌<◌, ◌⊎◌, ◌==◌, Bool, false, List, map, position, unwrap_or, replicate, length, slice_index_or, Option, None, Some, if◌then◌else◌}
 use Rattle.std.specs.List.{range_with_len}
 use Rattle.std.specs.Option.{option_map}
 use Rattle.assignment_model.specs.Prices.{Plan, price, weight}
@@ -15,6 +15,16 @@ use Rattle.pair_search.specs.declared.order.Column.{Column}
 abbrev pub post_key : Option ℕ → ℕ
 post_key None = 0
 post_key (Some post) = suc post
+
+-- one number by which columns stand in order by post, those of one post by minute, and those of one minute by slot
+abbrev pub column_rank : Option ℕ → ℕ → ℕ → ℕ
+column_rank post minute slot = post_key post * 4294967296 + minute * 65536 + slot
+
+-- a column has its rank
+pub record IsRanked (c : Column) : Type 0 where
+  pub rank : c.rank ≡ column_rank c.post c.minute c.slot
+  pub minute : c.minute < 65536
+  pub slot : c.slot < 65536
 
 -- the slots of columns by post, those of one post by minute, and those of one minute by number
 unfoldable pub arranged : PairsView → Bool → Option ℕ → List ℕ

@@ -1,7 +1,8 @@
 ghost use Rattle.std.specs.Prelude.{◌≡◌, ℕ, ◌<◌, ◌≤◌, nat_lt, false, Option, None, length, slice_index_or, IfSome};
 ghost use Rattle.std.specs.List.Sorted.{IsNonDecreasingBy};
 ghost use Rattle.trip_model.specs.declared.limits.TheConstants.{LAST_MINUTE, MOST_SLOTS};
-ghost use Rattle.pair_search.specs.Arranged.{arranged, departing, slots_of, AreInOrder};
+ghost use Rattle.pair_search.specs.Arranged as arranged_spec;
+ghost use Rattle.pair_search.specs.Arranged.{arranged, departing, slots_of, AreInOrder, IsRanked};
 ghost use Rattle.pair_search.specs.Groups.{IsOrderOf};
 ghost use Rattle.pair_search.specs.Order as spec;
 ghost use Rattle.pair_search.specs.Order.{slot_at, place_of, IsOrder, IsRenaming};
@@ -16,12 +17,38 @@ use trip_model::{LAST_MINUTE, Move};
 const FEW: u16 = 16;
 
 /// A column of a search: where its trip begins or, seen from the entering side, ends. Then the minute by which a row that is
-/// linked to it must be ready, and its slot. No row is linked to one without a post.
-#[derive(Clone, Copy, PartialEq, Eq, PartialOrd, Ord)]
+/// linked to it must be ready, and its slot. No row is linked to one without a post. The rank is one number that tells its place
+/// among the others.
+#[derive(Clone, Copy)]
 pub struct Column {
     pub post: Option<u16>,
     pub minute: u16,
     pub slot: u16,
+    pub rank: u64,
+}
+
+// The rank of the column of a slot: those without a post come first. The others are in order by post, then by minute.
+fn column_rank(post: Option<u16>, minute: u16, slot: u16) -> u64
+    ensures { result ≡ arranged_spec.column_rank post minute slot }
+{
+    let within = u64::from(minute) * 65_536 + u64::from(slot);
+    let Some(post) = post else {
+        return within;
+    };
+    (u64::from(post) + 1) * 4_294_967_296 + within
+}
+
+// The column of a slot, with its rank.
+fn ranked(post: Option<u16>, minute: u16, slot: u16) -> Column
+    ensures column { (result.post ≡ post) × (result.minute ≡ minute) × (result.slot ≡ slot) }
+    ensures ranked { IsRanked result }
+{
+    Column {
+        post,
+        minute,
+        slot,
+        rank: column_rank(post, minute, slot),
+    }
 }
 
 // The minute by which a row that is linked to this trip's column must be ready.
@@ -56,12 +83,13 @@ fn list_columns(pairs: &Pairs<'_>, turned: bool, without: Option<u16>, columns: 
     ensures slots { (j : ℕ) (d : _) → j < length columns.old → (slice_index_or columns.new j d).slot ≡ j }
     ensures minutes { (j : ℕ) (d : _) → j < length columns.old → (slice_index_or columns.new j d).minute ≡ pairs_minute pairs.now turned j }
     ensures posts { (j : ℕ) (d : _) → j < length columns.old → (slice_index_or columns.new j d).post ≡ pairs_post pairs.now turned without j }
+    ensures ranked { (j : ℕ) (d : _) → j < length columns.old → IsRanked (slice_index_or columns.new j d) }
 {
     for slot in 0..pairs.slots() {
         let made = pairs.move_at(slot);
         let post = column_post(turned, without, slot, made);
         let minute = column_minute(turned, made);
-        columns[slot as usize] = Column { post, minute, slot };
+        columns[slot as usize] = ranked(post, minute, slot);
     }
 }
 
@@ -71,14 +99,11 @@ fn list_departures(pairs: &Pairs<'_>, columns: &mut [Column])
     ensures slots { (j : ℕ) (d : _) → j < length columns.old → (slice_index_or columns.new j d).slot ≡ j }
     ensures minutes { (j : ℕ) (d : _) → j < length columns.old → (slice_index_or columns.new j d).minute ≡ pairs_minute pairs.now false j }
     ensures posts { (j : ℕ) (d : _) → j < length columns.old → (slice_index_or columns.new j d).post ≡ None }
+    ensures ranked { (j : ℕ) (d : _) → j < length columns.old → IsRanked (slice_index_or columns.new j d) }
 {
     for slot in 0..pairs.slots() {
         let minute = column_minute(false, pairs.move_at(slot));
-        columns[slot as usize] = Column {
-            post: None,
-            minute,
-            slot,
-        };
+        columns[slot as usize] = ranked(None, minute, slot);
     }
 }
 
@@ -103,12 +128,17 @@ fn sort(columns: &mut [Column], places: &mut [u16])
     requires places { length places.old ≡ length columns.old }
     requires few { length columns.old ≤ MOST_SLOTS }
     requires slots { (j : ℕ) (d : _) → j < length columns.old → (slice_index_or columns.old j d).slot ≡ j }
+    requires ranked { (j : ℕ) (d : _) → j < length columns.old → IsRanked (slice_index_or columns.old j d) }
     ensures numbered { (minute : ℕ → ℕ) (post : ℕ → Option ℕ) → ((j : ℕ) (d : _) → j < length columns.old → (slice_index_or columns.old j d).minute ≡ minute j)
         → ((j : ℕ) (d : _) → j < length columns.old → (slice_index_or columns.old j d).post ≡ post j)
         → IsOrder (length columns.old) minute post columns.new places.new }
     ensures sorted { AreInOrder (length columns.old) columns.new }
 {
-    columns.sort_unstable();
+    columns.sort_unstable_by_key(
+        |column| -> u64
+            ensures { result ≡ column.now.rank }
+        { column.rank },
+    );
     number_places(columns, places);
 }
 

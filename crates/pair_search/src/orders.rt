@@ -12,6 +12,7 @@ pub(crate) const NOWHERE: Column = Column {
     post: None,
     minute: 0,
     slot: 0,
+    rank: 0,
 };
 
 /// A group without columns, with which a list begins.
