@@ -6,14 +6,14 @@ ghost use Rattle.desk_settings.specs.Desk as spec;
 
 use crate::class::Class;
 use crate::date::Date;
-use crate::minutes::{Layover, Tolerance};
+use crate::minutes::{Layover, TOLERANCE, Tolerance};
 use crate::names::Names;
 use desk_io::{Found, Memory, Text};
 use gtfs_tables::{Entries, FeedFault, Paper, optional_bytes};
 use service_days::read_date;
 use std::alloc::Global;
 use toml::{Table, Value};
-use trip_model::{MOST_LAYOVER, MOST_TOLERANCE};
+use trip_model::MOST_LAYOVER;
 
 /// The most bytes of what the names of blocks begin with.
 pub const MOST_PREFIX: usize = 32;
@@ -191,12 +191,8 @@ impl DeskTable {
             "classes" => self.classes = classes_in(alloc, value)?.ok_or(bad)?,
             "layover" => self.layover = Layover::of(minutes_in(value, MOST_LAYOVER).ok_or(bad)?),
             "layovers" => self.layovers = layovers_in(alloc, value)?.ok_or(bad)?,
-            "early" => self.early = Tolerance::of(
-                minutes_in(value, u16::from(MOST_TOLERANCE)).ok_or(bad)? as u8,
-            ),
-            "late" => self.late = Tolerance::of(
-                minutes_in(value, u16::from(MOST_TOLERANCE)).ok_or(bad)? as u8,
-            ),
+            "early" => self.early = Tolerance::of(minutes_in(value, TOLERANCE).ok_or(bad)?),
+            "late" => self.late = Tolerance::of(minutes_in(value, TOLERANCE).ok_or(bad)?),
             "block_prefix" => self.prefix = Text::of(alloc, prefix_in(value).ok_or(bad)?)?,
             _ => return Err(bad),
         }

@@ -1,70 +1,45 @@
 ghost use Rattle.std.specs.Prelude.{◌≡◌, ◌≤◌};
-ghost use Rattle.trip_model.specs.declared.limits.TheConstants.{MOST_LAYOVER, MOST_TOLERANCE};
 
 use std::marker::Model;
+use trip_model::{MOST_LAYOVER, MOST_TOLERANCE};
 
-/// How long a vehicle stays at a place after a trip: at most 240 minutes.
+/// Minutes, at most so many.
 #[derive(Drop)]
-pub(crate) struct Layover {
+pub(crate) struct Minutes<const MOST: u16> {
     minutes: u16,
 }
 
-impl Model for Layover {
+impl<const MOST: u16> Model for Minutes<MOST> {
     ghost use Rattle.std.specs.Prelude.{ℕ, ◌≤◌};
-    ghost use Rattle.trip_model.specs.declared.limits.TheConstants.{MOST_LAYOVER};
 
     ghost Value = { ℕ };
 
-    ghost view = { λ l. l.minutes };
+    ghost view = { λ m. m.minutes };
 
-    ghost invariant = { λ l. l.minutes ≤ MOST_LAYOVER };
+    ghost invariant = { λ m. m.minutes ≤ MOST };
 }
 
-impl Layover {
-    pub(crate) fn of(minutes: u16) -> Layover
-        requires { minutes ≤ MOST_LAYOVER }
+impl<const MOST: u16> Minutes<MOST> {
+    pub(crate) fn of(minutes: u16) -> Minutes<MOST>
+        requires { minutes ≤ MOST }
         ensures { result ≡ minutes }
     {
-        Layover { minutes }
+        Minutes { minutes }
     }
 
     pub(crate) fn minutes(&self) -> u16
         ensures value { result ≡ self.now }
-        ensures most { result ≤ MOST_LAYOVER }
+        ensures most { result ≤ MOST }
     {
         self.minutes
     }
 }
+
+/// The most minutes of a tolerance, as wide as those of a layover.
+pub(crate) const TOLERANCE: u16 = MOST_TOLERANCE as u16;
+
+/// How long a vehicle stays at a place after a trip: at most 240 minutes.
+pub(crate) type Layover = Minutes<MOST_LAYOVER>;
 
 /// By how much a trip may be moved one way: at most 60 minutes.
-#[derive(Drop)]
-pub(crate) struct Tolerance {
-    minutes: u8,
-}
-
-impl Model for Tolerance {
-    ghost use Rattle.std.specs.Prelude.{ℕ, ◌≤◌};
-    ghost use Rattle.trip_model.specs.declared.limits.TheConstants.{MOST_TOLERANCE};
-
-    ghost Value = { ℕ };
-
-    ghost view = { λ t. t.minutes };
-
-    ghost invariant = { λ t. t.minutes ≤ MOST_TOLERANCE };
-}
-
-impl Tolerance {
-    pub(crate) fn of(minutes: u8) -> Tolerance
-        requires { minutes ≤ MOST_TOLERANCE }
-        ensures { result ≡ minutes }
-    {
-        Tolerance { minutes }
-    }
-
-    pub(crate) fn minutes(&self) -> u8
-        ensures value { result ≡ self.now }
-        ensures most { result ≤ MOST_TOLERANCE }
-    {
-        self.minutes
-    }
-}
+pub(crate) type Tolerance = Minutes<TOLERANCE>;

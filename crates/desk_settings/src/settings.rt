@@ -119,7 +119,8 @@ impl Settings {
     pub fn keep_services(&mut self, services: &[Text]) -> Result<(), Memory>
         ensures kept { OnOk result (self.new ≡ spec.with_services_kept self.old services.now) }
         ensures err { OnErr result (self.new ≡ self.old) }
-        ensures chosen { OnOk result ((service : List ℕ) → spec.is_chosen self.new service ≡ (spec.is_chosen self.old service && is_among service services.now)) }
+        ensures chosen { OnOk result ((service : List ℕ)
+            → spec.is_chosen self.new service ≡ (spec.is_chosen self.old service && is_among service services.now)) }
     {
         let alloc = self.desk.classes.allocator();
         self.desk.services = Some(kept_services(alloc, &self.desk.services, services)?);
@@ -163,7 +164,7 @@ impl Settings {
         ensures value { result ≡ self.now.early }
         ensures valid { result ≤ MOST_TOLERANCE }
     {
-        self.desk.early.minutes()
+        self.desk.early.minutes() as u8
     }
 
     /// By how many minutes a trip without tolerances of its own may be moved after its published times.
@@ -171,7 +172,7 @@ impl Settings {
         ensures value { result ≡ self.now.late }
         ensures valid { result ≤ MOST_TOLERANCE }
     {
-        self.desk.late.minutes()
+        self.desk.late.minutes() as u8
     }
 
     /// What the names of blocks begin with.
@@ -199,7 +200,7 @@ impl Settings {
         ensures late { result.1 ≤ MOST_TOLERANCE }
     {
         match self.tolerances.find(trip) {
-            Some((early, late)) => (early.minutes(), late.minutes()),
+            Some((early, late)) => (early.minutes() as u8, late.minutes() as u8),
             None => (self.early(), self.late()),
         }
     }

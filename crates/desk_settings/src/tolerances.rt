@@ -39,7 +39,7 @@ fn tolerance_in<'a>(
     filled_in(paper, number, Column::Late, late)?;
     let early = number_in(paper, number, Column::Early, 2, most, early)?;
     let late = number_in(paper, number, Column::Late, 2, most, late)?;
-    let tolerances = (Tolerance::of(early as u8), Tolerance::of(late as u8));
+    let tolerances = (Tolerance::of(early as u16), Tolerance::of(late as u16));
     Ok((trip, tolerances))
 }
 
