@@ -55,31 +55,6 @@ fn read_trips(alloc: Global, settings: &Settings, read: &Read) -> Result<Auditab
     Ok(Auditable::Trips(trips, chosen))
 }
 
-// What is put of stated blocks that are a blocking.
-fn costed<L: Ledger>(
-    alloc: Global,
-    refused: &Text,
-    ending: Ending,
-    timetable: &Timetable,
-    matrix: &Matrix,
-    stated: &Stated,
-    steps: &mut Steps<L>,
-) -> Result<Outcome, Memory>
-    requires places { length timetable.now.places ≡ length matrix.now.walks }
-    requires blocking { IsBlocking (network_of timetable.now matrix.now) (slots_by stated.now) }
-    ensures costed { IfOk result (IsCosted refused.now ending timetable.now matrix.now stated.now) }
-    ensures counted { steps.new ≤ steps.old + most_steps (length timetable.now.slots) }
-{
-    let _stated = stated.len();
-    let schedule = schedule_of(alloc, timetable, matrix, steps)?;
-    let blocks = &schedule.blocks;
-    let count = blocks.len();
-    let minutes = empty_minutes(timetable, matrix, blocks);
-    let cost = stated_cost(timetable, matrix, stated);
-    let text = costs_text(alloc, cost, (count as u32, minutes))?;
-    putting_after(alloc, refused, &text, ending)
-}
-
 // What is put of stated blocks, behind the lines of refused records.
 fn judged<L: Ledger>(
     alloc: Global,
@@ -92,16 +67,26 @@ fn judged<L: Ledger>(
 ) -> Result<Outcome, Memory>
     requires places { length timetable.now.places ≡ length matrix.now.walks }
     requires runs { All (All (Runs timetable.now)) (slots_by stated.now) }
-    requires blocking { misfits_in timetable.now matrix.now stated.now ≡ [] → IsBlocking (network_of timetable.now matrix.now) (slots_by stated.now) }
-    ensures judged { IfOk result (IsJudged refused.now ending timetable.now matrix.now stated.now (misfits_in timetable.now matrix.now stated.now)) }
+    requires blocking { misfits_in timetable.now matrix.now stated.now ≡ []
+        → IsBlocking (network_of timetable.now matrix.now) (slots_by stated.now) }
+    ensures judged { IfOk result (IsJudged refused.now ending timetable.now matrix.now stated.now
+        (misfits_in timetable.now matrix.now stated.now)) }
     ensures counted { steps.new ≤ steps.old + most_steps (length timetable.now.slots) }
 {
     let misfits = misfits(alloc, timetable, matrix, stated)?;
-    if misfits.is_empty() {
-        return costed(alloc, refused, ending, timetable, matrix, stated, steps);
+    if !misfits.is_empty() {
+        let text = misfits_text(alloc, timetable, stated, &misfits)?;
+        return putting_after(alloc, refused, &text, Ending::No);
     }
-    let text = misfits_text(alloc, timetable, stated, &misfits)?;
-    putting_after(alloc, refused, &text, Ending::No)
+    // Its clause says that there are no more blocks than trips.
+    let _stated = stated.len();
+    let schedule = schedule_of(alloc, timetable, matrix, steps)?;
+    let blocks = &schedule.blocks;
+    let count = blocks.len();
+    let minutes = empty_minutes(timetable, matrix, blocks);
+    let cost = stated_cost(timetable, matrix, stated);
+    let text = costs_text(alloc, cost, (count as u32, minutes))?;
+    putting_after(alloc, refused, &text, ending)
 }
 
 // What is put of the blocks that the selected trips state of a timetable after its script.

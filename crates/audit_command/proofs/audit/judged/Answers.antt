@@ -1,26 +1,33 @@
-use Rattle.std.proofs.Common.{◌≡◌, ℕ, List, length, ap, subst, ◌∙◌, arith}
-use Rattle.std.specs.Prelude.{IfOk}
+use Rattle.std.proofs.Common.{◌≡◌, length, sym, ◌∙◌, arith}
 use Rattle.std.proofs.lemmas.Bool.Decides.{nat_tests}
-use Rattle.block_audit.specs.declared.misfit.Misfit.{Misfit}
+use Rattle.std.proofs.lemmas.List.{length-map, nil_from_length}
 use Rattle.block_audit.specs.Misfits.{misfits_in}
-use Rattle.desk_run.specs.Outcome.{OutcomeView}
-use Rattle.desk_run.specs.declared.status.Ending.TheVariants as ending
-use Rattle.desk_feed.specs.Edited.{refusing_first}
-use Rattle.audit_command.specs.Lines.{misfits_text}
-use Rattle.audit_command.proofs.JudgedLemmas.{judged-some}
+use Rattle.block_audit.specs.Stated.{NamedBlock}
+use Rattle.audit_command.specs.Lines.{costs_text}
+use Rattle.audit_command.proofs.JudgedLemmas.{costed-given, few-least, judged-none}
 use Rattle.audit_command.proofs.audit.judged.Goals as goal
+
+pub overflow_cast-count : goal.overflow_cast-count
+overflow_cast-count g c =
+    let empty : length c.in_ok-misfits.misfits.items ≡ 0 = grind (arith, nat_tests) in
+    let none = sym c.in_ok-misfits.ensures.misfits ∙ nil_from_length c.in_ok-misfits.misfits.items empty in
+    let few =
+    few-least c.args.refused.now c.args.ending c.args.timetable.now c.args.matrix.now c.args.stated.now c.in_ok-schedule.schedule.solver
+    c.in_ok-schedule.schedule.blocks c.in_ok-schedule.ensures.scheduled (c.requires.blocking none) c.len-stated.ensures.valid in
+    grind (arith, few)
 
 pub returns-clause-judged : goal.returns-clause-judged
 returns-clause-judged g c =
-    let t = c.args.timetable.now in
-    let m = c.args.matrix.now in
     let stated = c.args.stated.now in
-    let refused = c.args.refused.now in
-    let made = c.in_ok-misfits.ensures.misfits in
-    let text = c.in_ok-text.ensures ∙ ap (λ (xs : List Misfit). misfits_text t stated xs) (c.deref.ensures.value ∙ made) in
-    judged-some refused c.args.ending t m stated (misfits_in t m stated)
-    (λ e.
-    let none : length c.in_ok-misfits.misfits.items ≡ 0 = ap (λ (xs : List Misfit). length xs) (made ∙ e) in
-    absurd (grind (arith, nat_tests)))
-    c.putting_after.result
-    (subst (λ (put : List ℕ). IfOk c.putting_after.result (λ (outcome : OutcomeView). outcome ≡ refusing_first refused put ending.No)) text c.putting_after.ensures)
+    let empty : length c.in_ok-misfits.misfits.items ≡ 0 = grind (arith, nat_tests) in
+    let none = sym c.in_ok-misfits.ensures.misfits ∙ nil_from_length c.in_ok-misfits.misfits.items empty in
+    let vehicles = c.stated_cost-cost.ensures.vehicles ∙ sym (length-map stated (λ (b : NamedBlock). b.slots)) in
+    let text =
+    c.in_ok-text-2.ensures
+    ∙ (λ i. costs_text (vehicles i) (c.stated_cost-cost.ensures.minutes i) (c.len-count.ensures.count i)
+    (c.empty_minutes-minutes.ensures i)) in
+    judged-none c.args.refused.now c.args.ending c.args.timetable.now c.args.matrix.now stated
+    (misfits_in c.args.timetable.now c.args.matrix.now stated) none c.putting_after-2.result
+    (costed-given c.args.refused.now c.args.ending c.args.timetable.now c.args.matrix.now stated c.in_ok-schedule.schedule.solver
+    c.in_ok-schedule.schedule.blocks c.in_ok-schedule.ensures.scheduled (c.requires.blocking none) c.in_ok-text-2.text text
+    c.putting_after-2.result c.putting_after-2.ensures)
