@@ -195,25 +195,18 @@ struct StopTimes<'a> {
 
 impl<'a> RecordReader for StopTimes<'a> {
     ghost use Rattle.std.specs.Prelude.{List, ℕ};
-    ghost use Rattle.block_writer.specs.StopTimes.{columns_in, with_stop_time, Before};
+    ghost use Rattle.block_writer.specs.StopTimes.{columns_in, with_stop_time};
 
     type Columns = Columns;
 
-    ghost Kept = { Before };
-
     ghost State = { List ℕ };
-
-    ghost kept = { λ written. record { timetable = written.timetable.now; base = written.base; header = written.header.now } };
 
     ghost state = { λ written. written.records };
 
     ghost columns_in = { columns_in };
 
-    ghost step = { with_stop_time };
-
-    ghost Leaves = { λ _ _ _ _ _ _. Unit {0} };
-
-    ghost Changes = { λ _ _ _ _ _. Unit {0} };
+    ghost step = { λ written. with_stop_time
+        (record { timetable = written.timetable.now; base = written.base; header = written.header.now }) };
 
     #[tactic(auto, unfolding(crate::specs::StopTimes::columns_in))]
     fn columns(&self, header: &Row) -> Result<Columns, FeedFault> {
@@ -265,19 +258,21 @@ pub fn stop_times_text(
     base: u16,
 ) -> Result<Bytes, FeedFault>
     requires { IsWithinLimit found.now }
-    ensures written { IfOk result (λ text. IsTextPaper (λ table. text ≡ spec.stop_times_written table timetable.now base) (table_in Paper.StopTimes found.now)) }
-    ensures refused { IfErr result (λ refused. refused ≢ FeedFault.Memory → IsRefusedPaper Paper.StopTimes spec.stop_time_columns (table_in Paper.StopTimes found.now) refused) }
+    ensures written { IfOk result (λ text. IsTextPaper (λ table. text ≡ spec.stop_times_written table timetable.now base)
+        (table_in Paper.StopTimes found.now)) }
+    ensures refused { IfErr result (λ refused. refused ≢ FeedFault.Memory
+        → IsRefusedPaper Paper.StopTimes spec.stop_time_columns (table_in Paper.StopTimes found.now) refused) }
 {
     let header = read_header(alloc, Paper::StopTimes, found)?;
     let mut records = RecordWriter::new(alloc);
     records.push(&fields_of(alloc, &header)?)?;
-    let mut written = StopTimes {
+    let begun = StopTimes {
         alloc,
         timetable,
         base,
         header: &header,
         records,
     };
-    read_records(alloc, Paper::StopTimes, found, &mut written)?;
+    let written = read_records(alloc, Paper::StopTimes, found, begun)?;
     Ok(written.records.into_bytes()?)
 }

@@ -72,26 +72,17 @@ struct Blocks<'a> {
 }
 
 impl<'a> RecordReader for Blocks<'a> {
-    ghost use Rattle.trip_model.specs.Timetable.{TimetableView};
     ghost use Rattle.claim_files.specs.Blocks as spec;
 
     type Columns = Columns;
 
-    ghost Kept = { TimetableView };
-
     ghost State = { spec.BlocksRead };
-
-    ghost kept = { λ read. read.timetable.now };
 
     ghost state = { λ read. record { names = read.names; rows = read.rows.items } };
 
     ghost columns_in = { spec.columns_in };
 
-    ghost step = { spec.with_trip };
-
-    ghost Leaves = { λ _ _ _ _ _ _. Unit {0} };
-
-    ghost Changes = { λ _ _ _ _ _. Unit {0} };
+    ghost step = { λ read. spec.with_trip read.timetable.now };
 
     #[tactic(auto, unfolding(crate::specs::Blocks::columns_in))]
     fn columns(&self, header: &Row) -> Result<Columns, FeedFault> {
@@ -134,12 +125,12 @@ pub(crate) fn blocks_of(
     requires { IsWithinLimit found.now }
     ensures { Gives (λ rows. rows.items) result (spec.rows_of timetable.now found.now) }
 {
-    let mut read = Blocks {
+    let none = Blocks {
         alloc,
         timetable,
         names: Names::new(alloc),
         rows: Vec::new(alloc),
     };
-    read_records(alloc, Paper::Blocks, found, &mut read)?;
+    let read = read_records(alloc, Paper::Blocks, found, none)?;
     Ok(read.rows)
 }

@@ -54,26 +54,17 @@ struct Prices<'a> {
 impl<'a> RecordReader for Prices<'a> {
     ghost use Rattle.std.specs.Prelude.{List};
     ghost use Rattle.price_check.specs.declared.claim.PriceRow.{PriceRow};
-    ghost use Rattle.trip_model.specs.Timetable.{TimetableView};
     ghost use Rattle.claim_files.specs.Prices as spec;
 
     type Columns = Columns;
 
-    ghost Kept = { TimetableView };
-
     ghost State = { List PriceRow };
-
-    ghost kept = { λ read. read.timetable.now };
 
     ghost state = { λ read. read.rows.items };
 
     ghost columns_in = { spec.columns_in };
 
-    ghost step = { spec.with_prices };
-
-    ghost Leaves = { λ _ _ _ _ _ _. Unit {0} };
-
-    ghost Changes = { λ _ _ _ _ _. Unit {0} };
+    ghost step = { λ read. spec.with_prices read.timetable.now };
 
     #[tactic(auto, unfolding(crate::specs::Prices::columns_in))]
     fn columns(&self, header: &Row) -> Result<Columns, FeedFault> {
@@ -110,11 +101,11 @@ pub(crate) fn prices_of(
     requires { IsWithinLimit found.now }
     ensures { Gives (λ rows. rows.items) result (spec.prices_of timetable.now found.now) }
 {
-    let mut read = Prices {
+    let none = Prices {
         alloc,
         timetable,
         rows: Vec::new(alloc),
     };
-    read_records(alloc, Paper::Prices, found, &mut read)?;
+    let read = read_records(alloc, Paper::Prices, found, none)?;
     Ok(read.rows)
 }

@@ -72,21 +72,13 @@ impl RecordReader for Depot {
 
     type Columns = Columns;
 
-    ghost Kept = { Unit {0} };
-
     ghost State = { Entries Pull };
-
-    ghost kept = { λ _. tt };
 
     ghost state = { λ rows. rows };
 
     ghost columns_in = { spec.columns_in };
 
     ghost step = { λ _. spec.with_row };
-
-    ghost Leaves = { λ _ _ _ _ _ _. Unit {0} };
-
-    ghost Changes = { λ _ _ _ _ _. Unit {0} };
 
     #[tactic(auto, unfolding(crate::specs::Depot::columns_in))]
     fn columns(&self, header: &Row) -> Result<Columns, FeedFault> {
@@ -128,11 +120,8 @@ impl Depot {
         requires { IsWithinLimit found.now }
         ensures { Gives (λ depot. depot) result (spec.rows_of found.now) }
     {
-        let mut depot = Depot {
-            rows: Entries::new(alloc),
-        };
-        read_optional(alloc, Paper::Depot, found, &mut depot)?;
-        Ok(depot)
+        let rows = Entries::new(alloc);
+        read_optional(alloc, Paper::Depot, found, Depot { rows })
     }
 
     /// The pulls of the terminal of that name; none where no row names it.

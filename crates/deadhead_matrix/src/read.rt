@@ -14,8 +14,8 @@ use crate::unplaced::Unplaced;
 use assignment_model::MOST_DEADHEAD;
 use desk_io::{Found, Text};
 use gtfs_tables::{
-    Column, FeedFault, Paper, RecordReader, Row, column_in, filled_in, judge_table, number_in,
-    read_records, text_in,
+    Column, FeedFault, Paper, Row, TracedReader, column_in, filled_in, judge_table, number_in,
+    read_traced, text_in,
 };
 use std::alloc::Global;
 use std::mem;
@@ -82,7 +82,7 @@ struct Reading {
     ghost named: { All (λ class. has_slash class ≡ false) classes.items },
 }
 
-impl RecordReader for Reading {
+impl TracedReader for Reading {
     ghost use Rattle.std.specs.Prelude.{List};
     ghost use Rattle.deadhead_matrix.specs.Deadheads as spec;
     ghost use Rattle.deadhead_matrix.specs.Left as left;
@@ -143,7 +143,7 @@ fn read_all(alloc: Global, found: &Found, reading: &mut Reading) -> Result<(), F
         Found::Missing => Ok(()),
         Found::TooLong | Found::File(_) => {
             judge_table(alloc, Paper::Deadheads, found)?;
-            read_records(alloc, Paper::Deadheads, found, reading)
+            read_traced(alloc, Paper::Deadheads, found, reading)
         }
     }
 }

@@ -47,21 +47,13 @@ impl RecordReader for Terminals {
 
     type Columns = Columns;
 
-    ghost Kept = { Unit {0} };
-
     ghost State = { Entries Name };
-
-    ghost kept = { λ _. tt };
 
     ghost state = { λ read. read.entries };
 
     ghost columns_in = { spec.columns_in };
 
     ghost step = { λ _. spec.with_terminal };
-
-    ghost Leaves = { λ _ _ _ _ _ _. Unit {0} };
-
-    ghost Changes = { λ _ _ _ _ _. Unit {0} };
 
     #[tactic(auto, unfolding(crate::specs::Terminals::columns_in))]
     fn columns(&self, header: &Row) -> Result<Columns, FeedFault> {
@@ -83,10 +75,7 @@ pub(crate) fn terminals_of(alloc: Global, found: &Found) -> Result<Entries<Text>
     requires { IsWithinLimit found.now }
     ensures { Gives (λ entries. entries) result (spec.terminals_of found.now) }
 {
-    let mut read = Terminals {
-        alloc,
-        entries: Entries::new(alloc),
-    };
-    read_optional(alloc, Paper::Terminals, found, &mut read)?;
+    let entries = Entries::new(alloc);
+    let read = read_optional(alloc, Paper::Terminals, found, Terminals { alloc, entries })?;
     Ok(read.entries)
 }

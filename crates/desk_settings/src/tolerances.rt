@@ -56,21 +56,13 @@ impl RecordReader for Tolerances {
 
     type Columns = Columns;
 
-    ghost Kept = { Unit {0} };
-
     ghost State = { Entries (ℕ × ℕ) };
-
-    ghost kept = { λ _. tt };
 
     ghost state = { λ read. read.entries };
 
     ghost columns_in = { spec.columns_in };
 
     ghost step = { λ _. spec.with_tolerance };
-
-    ghost Leaves = { λ _ _ _ _ _ _. Unit {0} };
-
-    ghost Changes = { λ _ _ _ _ _. Unit {0} };
 
     #[tactic(auto, unfolding(crate::specs::Tolerances::columns_in))]
     fn columns(&self, header: &Row) -> Result<Columns, FeedFault> {
@@ -95,9 +87,7 @@ pub(crate) fn tolerances_of(
     requires { IsWithinLimit found.now }
     ensures { Gives (λ entries. entries) result (spec.tolerances_of found.now) }
 {
-    let mut read = Tolerances {
-        entries: Entries::new(alloc),
-    };
-    read_optional(alloc, Paper::Tolerances, found, &mut read)?;
+    let entries = Entries::new(alloc);
+    let read = read_optional(alloc, Paper::Tolerances, found, Tolerances { entries })?;
     Ok(read.entries)
 }

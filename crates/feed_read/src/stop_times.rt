@@ -98,27 +98,18 @@ struct StopTimes<'a> {
 
 impl<'a> RecordReader for StopTimes<'a> {
     ghost use Rattle.std.specs.Prelude.{ℕ, List, map};
-    ghost use Rattle.gtfs_tables.specs.Entries.{Name};
     ghost use Rattle.feed_read.specs.Kept.{Kept, trip_ends_seen, with_record_kept};
     ghost use Rattle.feed_read.specs.StopTimes.{columns_in};
 
     type Columns = Columns;
 
-    ghost Kept = { List Name };
-
     ghost State = { List Kept };
-
-    ghost kept = { λ read. read.names.now };
 
     ghost state = { λ read. map trip_ends_seen read.trip_ends.items };
 
     ghost columns_in = { columns_in };
 
-    ghost step = { with_record_kept };
-
-    ghost Leaves = { λ _ _ _ _ _ _. Unit {0} };
-
-    ghost Changes = { λ _ _ _ _ _. Unit {0} };
+    ghost step = { λ read. with_record_kept read.names.now };
 
     #[tactic(auto, unfolding(crate::specs::StopTimes::columns_in))]
     fn columns(&self, header: &Row) -> Result<Columns, FeedFault> {
@@ -163,11 +154,11 @@ pub(crate) fn trip_ends_in(
     ensures keeps { Keeps (λ trip_ends. trip_ends.items) result (spec.stop_times_for names.now found.now) }
     ensures count { IfOk result (λ trip_ends. length trip_ends.items ≡ length names.now) }
 {
-    let mut read = StopTimes {
+    let none = StopTimes {
         alloc,
         names,
         trip_ends: no_trip_ends(alloc, names.len())?,
     };
-    read_records(alloc, Paper::StopTimes, found, &mut read)?;
+    let read = read_records(alloc, Paper::StopTimes, found, none)?;
     Ok(read.trip_ends)
 }

@@ -105,27 +105,18 @@ struct Trips<'a> {
 }
 
 impl<'a> RecordReader for Trips<'a> {
-    ghost use Rattle.desk_settings.specs.Settings.{SettingsView};
     ghost use Rattle.feed_read.specs.Trips as spec;
     ghost use Rattle.feed_read.specs.Trips.{Selected};
 
     type Columns = Columns;
 
-    ghost Kept = { SettingsView };
-
     ghost State = { Selected };
-
-    ghost kept = { λ read. read.settings.now };
 
     ghost state = { λ read. spec.seen read.selection };
 
     ghost columns_in = { spec.columns_in };
 
-    ghost step = { spec.with_trip };
-
-    ghost Leaves = { λ _ _ _ _ _ _. Unit {0} };
-
-    ghost Changes = { λ _ _ _ _ _. Unit {0} };
+    ghost step = { λ read. spec.with_trip read.settings.now };
 
     fn columns(&self, header: &Row) -> Result<Columns, FeedFault> {
         columns_in(header)
@@ -140,35 +131,25 @@ impl<'a> RecordReader for Trips<'a> {
     }
 }
 
-// The selected records that were read, where vehicles are of the classes of routes.
+// The same where vehicles are of the classes of routes.
 #[derive(Drop)]
 struct ClassedTrips<'a> {
-    settings: &'a Settings,
-    selection: Selection,
+    trips: Trips<'a>,
 }
 
 impl<'a> RecordReader for ClassedTrips<'a> {
-    ghost use Rattle.desk_settings.specs.Settings.{SettingsView};
     ghost use Rattle.feed_read.specs.Trips as spec;
     ghost use Rattle.feed_read.specs.Trips.{Selected};
 
     type Columns = ClassedColumns;
 
-    ghost Kept = { SettingsView };
-
     ghost State = { Selected };
 
-    ghost kept = { λ read. read.settings.now };
-
-    ghost state = { λ read. spec.seen read.selection };
+    ghost state = { λ read. spec.seen read.trips.selection };
 
     ghost columns_in = { spec.classed_columns_in };
 
-    ghost step = { spec.with_classed_trip };
-
-    ghost Leaves = { λ _ _ _ _ _ _. Unit {0} };
-
-    ghost Changes = { λ _ _ _ _ _. Unit {0} };
+    ghost step = { λ read. spec.with_classed_trip read.trips.settings.now };
 
     #[tactic(auto, unfolding(crate::specs::Trips::classed_columns_in))]
     fn columns(&self, header: &Row) -> Result<ClassedColumns, FeedFault> {
@@ -184,7 +165,7 @@ impl<'a> RecordReader for ClassedTrips<'a> {
         number: u32,
         row: &Row,
     ) -> Result<(), FeedFault> {
-        let Some(name) = chosen_in(self.settings, &columns.columns, number, row)? else {
+        let Some(name) = chosen_in(self.trips.settings, &columns.columns, number, row)? else {
             return Ok(());
         };
         let route = text_in(
@@ -193,7 +174,8 @@ impl<'a> RecordReader for ClassedTrips<'a> {
             Column::RouteId,
             row.field(columns.route),
         )?;
-        self.selection.add(number, name, self.settings.class(route))
+        let class = self.trips.settings.class(route);
+        self.trips.selection.add(number, name, class)
     }
 }
 
@@ -206,20 +188,15 @@ pub(crate) fn trips_in(
     requires { IsWithinLimit found.now }
     ensures { Gives spec.seen result (spec.trips_in settings.now found.now) }
 {
-    let selection = Selection::new(alloc);
+    let trips = Trips {
+        settings,
+        selection: Selection::new(alloc),
+    };
     if settings.classed() {
-        let mut read = ClassedTrips {
-            settings,
-            selection,
-        };
-        read_records(alloc, Paper::Trips, found, &mut read)?;
-        Ok(read.selection)
+        let read = read_records(alloc, Paper::Trips, found, ClassedTrips { trips })?;
+        Ok(read.trips.selection)
     } else {
-        let mut read = Trips {
-            settings,
-            selection,
-        };
-        read_records(alloc, Paper::Trips, found, &mut read)?;
+        let read = read_records(alloc, Paper::Trips, found, trips)?;
         Ok(read.selection)
     }
 }

@@ -1,7 +1,8 @@
 //! Comma-separated files as tables, small texts as numbers and times, and the lines of refused files.
 //!
-//! [`read_records`] takes the records of a file one by one into a [`RecordReader`]. [`judge_table`] says whether a file is a
-//! table. [`Table::read`] gives a header and rows of as many fields, and [`read_rows`] the records of a file that has no
+//! [`read_records`] takes the records of a file one by one into a [`RecordReader`]. [`read_traced`] does so into a
+//! [`TracedReader`], which also says what a refused file leaves of it. [`judge_table`] says whether a file is a table.
+//! [`Table::read`] gives a header and rows of as many fields, and [`read_rows`] the records of a file that has no
 //! header. [`read_time`], [`read_minute`] and [`read_number`] read values with spaces round them, which [`without_spaces`]
 //! takes off, and [`digits_number`] reads digits alone. [`minute_text`] prints a minute, and [`RecordWriter`] writes records.
 //! [`Paper`] and [`Column`] name the files and their columns, and [`feed_line`] is the line of a [`FeedFault`]. [`table_in`],
@@ -47,7 +48,9 @@ mod writing;
 
 pub use entries::Entries;
 pub use fault::{FeedFault, feed_line};
-pub use fold::{RecordReader, judge_table, read_header, read_optional, read_records};
+pub use fold::{
+    RecordReader, TracedReader, judge_table, read_header, read_optional, read_records, read_traced,
+};
 pub use numbers::{digits_number, read_number};
 pub use paper::{Column, MOST_BYTES, MOST_RECORDS, Paper};
 pub use reading::{

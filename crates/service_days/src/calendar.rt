@@ -186,11 +186,7 @@ impl RecordReader for Calendar {
 
     type Columns = Columns;
 
-    ghost Kept = { Unit {0} };
-
     ghost State = { Entries ServicePeriod };
-
-    ghost kept = { λ _. tt };
 
     ghost state = { λ schedules. schedules };
 
@@ -198,34 +194,20 @@ impl RecordReader for Calendar {
 
     ghost step = { λ _. spec.with_schedule };
 
-    ghost Leaves = { λ _ _ _ _ _ _. Unit {0} };
-
-    ghost Changes = { λ _ _ _ _ _. Unit {0} };
-
     #[tactic(auto, unfolding(crate::specs::Calendar::columns_in))]
     fn columns(&self, header: &Row) -> Result<Columns, FeedFault> {
         let paper = Paper::Calendar;
-        let service = column_in(paper, Column::ServiceId, header)?;
-        let monday = column_in(paper, Column::Monday, header)?;
-        let tuesday = column_in(paper, Column::Tuesday, header)?;
-        let wednesday = column_in(paper, Column::Wednesday, header)?;
-        let thursday = column_in(paper, Column::Thursday, header)?;
-        let friday = column_in(paper, Column::Friday, header)?;
-        let saturday = column_in(paper, Column::Saturday, header)?;
-        let sunday = column_in(paper, Column::Sunday, header)?;
-        let start = column_in(paper, Column::StartDate, header)?;
-        let end = column_in(paper, Column::EndDate, header)?;
         Ok(Columns {
-            service,
-            monday,
-            tuesday,
-            wednesday,
-            thursday,
-            friday,
-            saturday,
-            sunday,
-            start,
-            end,
+            service: column_in(paper, Column::ServiceId, header)?,
+            monday: column_in(paper, Column::Monday, header)?,
+            tuesday: column_in(paper, Column::Tuesday, header)?,
+            wednesday: column_in(paper, Column::Wednesday, header)?,
+            thursday: column_in(paper, Column::Thursday, header)?,
+            friday: column_in(paper, Column::Friday, header)?,
+            saturday: column_in(paper, Column::Saturday, header)?,
+            sunday: column_in(paper, Column::Sunday, header)?,
+            start: column_in(paper, Column::StartDate, header)?,
+            end: column_in(paper, Column::EndDate, header)?,
         })
     }
 
@@ -242,11 +224,8 @@ impl Calendar {
         requires { IsWithinLimit found.now }
         ensures { Gives (λ calendar. calendar) result (spec.schedules_of found.now) }
     {
-        let mut calendar = Calendar {
-            schedules: Entries::new(alloc),
-        };
-        read_optional(alloc, Paper::Calendar, found, &mut calendar)?;
-        Ok(calendar)
+        let schedules = Entries::new(alloc);
+        read_optional(alloc, Paper::Calendar, found, Calendar { schedules })
     }
 
     /// The schedule of a service, if it has one.

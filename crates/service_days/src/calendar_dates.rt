@@ -92,21 +92,13 @@ impl RecordReader for CalendarDates {
 
     type Columns = Columns;
 
-    ghost Kept = { Unit {0} };
-
     ghost State = { List (spec.ServiceDate × Exception) };
-
-    ghost kept = { λ _. tt };
 
     ghost state = { λ exceptions. exceptions };
 
     ghost columns_in = { spec.columns_in };
 
     ghost step = { λ _. spec.with_record };
-
-    ghost Leaves = { λ _ _ _ _ _ _. Unit {0} };
-
-    ghost Changes = { λ _ _ _ _ _. Unit {0} };
 
     #[tactic(auto, unfolding(crate::specs::CalendarDates::columns_in))]
     fn columns(&self, header: &Row) -> Result<Columns, FeedFault> {
@@ -162,11 +154,9 @@ impl CalendarDates {
         requires { IsWithinLimit found.now }
         ensures { Gives (λ dates. dates) result (spec.exceptions_of found.now) }
     {
-        let mut dates = CalendarDates {
-            exceptions: IndexMap::new(alloc),
-        };
-        read_optional(alloc, Paper::CalendarDates, found, &mut dates)?;
-        Ok(dates)
+        let exceptions = IndexMap::new(alloc);
+        let none = CalendarDates { exceptions };
+        read_optional(alloc, Paper::CalendarDates, found, none)
     }
 
     /// The exception of a service on a date, if there is one.

@@ -5,33 +5,40 @@ use Rattle.gtfs_tables.proofs.fold.read_rest.Goals as goal
 
 pub returns-in-Err-clause-gives : goal.returns-in-Err-clause-gives
 returns-in-Err-clause-gives g c =
-    let reads = g.R.RecordReader in
+    let reads = g.R.TracedReader in
     let kept = reads.kept c.args.records.now in
     let next = rw c.if-branch.true at c.in_ok-read.ensures in
     let fits = short-record c.args.width c.read.new.self next.0 next.2 (omega (arith, c.len.ensures, c.if-len-width.false)) in
-    folded-refused c.args.paper c.args.width (reads.step kept c.args.columns.now) (reads.Leaves kept c.args.columns.now) (reads.state c.args.records.now)
-    (records_left c.args.reader.now) c.records.number (reads.state c.records.records) (records_left c.records.reader) (records_left c.read.new.reader)
+    folded-refused c.args.paper c.args.width (reads.step kept c.args.columns.now) (reads.Leaves kept c.args.columns.now)
+    (reads.state c.args.records.now)
+    (records_left c.args.reader.now) c.records.number (reads.state c.records.records) (records_left c.records.reader)
+    (records_left c.read.new.reader)
     next.0 c.read.new.self c.records.invariant.folded next.1 c.in-Err.refused c.in_ok-due_of.field-0 fits next.2
     (rw c.records.invariant.kept at c.in-Err.ensures.gives) c.in_ok-due_of.ensures
 
 pub returns-in_err-read-clause-changed : goal.returns-in_err-read-clause-changed
 returns-in_err-read-clause-changed g c =
-    let reads = g.R.RecordReader in
-    changed-so_far (reads.Changes (reads.kept c.args.records.now) c.args.columns.now) c.args.width (reads.state c.args.records.now) (records_left c.args.reader.now)
+    let reads = g.R.TracedReader in
+    changed-so_far (reads.Changes (reads.kept c.args.records.now) c.args.columns.now) c.args.width (reads.state c.args.records.now)
+    (records_left c.args.reader.now)
     (reads.state c.records.records) (records_left c.records.reader) c.records.invariant.changed
 
 pub returns-in_err-due_of-clause-changed : goal.returns-in_err-due_of-clause-changed
 returns-in_err-due_of-clause-changed g c =
-    let reads = g.R.RecordReader in
+    let reads = g.R.TracedReader in
     let next = rw c.if-branch.true at c.in_ok-read.ensures in
-    changed-record (reads.Changes (reads.kept c.args.records.now) c.args.columns.now) c.args.width (reads.state c.args.records.now) (records_left c.args.reader.now)
+    changed-record (reads.Changes (reads.kept c.args.records.now) c.args.columns.now) c.args.width (reads.state c.args.records.now)
+    (records_left c.args.reader.now)
     (reads.state c.records.records) (records_left c.records.reader) c.records.invariant.changed
-    (records_left c.read.new.reader) next.0 c.read.new.self (reads.state c.record.new.self) next.1 next.2 (rw c.records.invariant.kept at c.in-Err.ensures.changes)
+    (records_left c.read.new.reader) next.0 c.read.new.self (reads.state c.record.new.self) next.1 next.2
+    (rw c.records.invariant.kept at c.in-Err.ensures.changes)
 
 pub returns-in-Err-clause-changed : goal.returns-in-Err-clause-changed
 returns-in-Err-clause-changed g c =
-    let reads = g.R.RecordReader in
+    let reads = g.R.TracedReader in
     let next = rw c.if-branch.true at c.in_ok-read.ensures in
-    changed-record (reads.Changes (reads.kept c.args.records.now) c.args.columns.now) c.args.width (reads.state c.args.records.now) (records_left c.args.reader.now)
+    changed-record (reads.Changes (reads.kept c.args.records.now) c.args.columns.now) c.args.width (reads.state c.args.records.now)
+    (records_left c.args.reader.now)
     (reads.state c.records.records) (records_left c.records.reader) c.records.invariant.changed
-    (records_left c.read.new.reader) next.0 c.read.new.self (reads.state c.record.new.self) next.1 next.2 (rw c.records.invariant.kept at c.in-Err.ensures.changes)
+    (records_left c.read.new.reader) next.0 c.read.new.self (reads.state c.record.new.self) next.1 next.2
+    (rw c.records.invariant.kept at c.in-Err.ensures.changes)
