@@ -72,7 +72,8 @@ read-none d minute n rest is other = by (is_step d minute) refl
         absurd (other (omega arith) (ap first_minute all))
     by false e = (sym ((Decides-int_eq (d minute) (value_before d minute)).0 (not-false _ e)), is ∙ steps_from-none d minute n e)
 
--- what is known before a minute is read: `rest` are the steps from it on, `value` is that of the minute before, and the values of all minutes before were read
+-- What is known before a minute is read: `rest` are the steps from it on, `value` is that of the minute before, and the values of
+-- all minutes before were read.
 pub record IsReadBefore (d : ℕ → ℤ) (minute : ℕ) (rest : List (ℕ × ℤ)) (value : ℤ) (values : List ℤ) : Type 0 where
   pub rest_is : rest ≡ steps_from d minute (8192 - minute)
   pub value_is : value ≡ value_before d minute

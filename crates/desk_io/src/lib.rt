@@ -1,9 +1,9 @@
 //! The edge to the outside: what the program reads, writes and counts.
 //!
-//! A [`Shelf`] holds named files, a [`Sink`] takes the bytes that are printed, and [`Steps`] counts steps for
-//! proofs alone. Each of the first two is a trait with one meaning, a record of what it holds and of how many
-//! faults it has counted, and a [`History`] of the calls that came to it. Callers are generic over them, so that they are proved once: for the objects in memory,
-//! which tell their bytes, and for a real folder and standard output, which do not. [`Calls`] says which calls of
+//! A [`Shelf`] holds named files, a [`Sink`] takes the bytes that are printed, and [`Steps`] counts steps for proofs alone. Each
+//! of the first two is a trait with one meaning, a record of what it holds and of how many faults it has counted, and a
+//! [`History`] of the calls that came to it. Callers are generic over them, so that they are proved once: for the objects in
+//! memory, which tell their bytes, and for a real folder and standard output, which do not. [`Calls`] says which calls of
 //! an object in memory fail.
 //!
 //! The contract that the crates above use: a read gives the file, `Missing` or `TooLong` by the files; [`put_all`]
@@ -12,9 +12,9 @@
 //!
 //! `desk_run` shows a use, in `src/reading.rt` and `src/carrying.rt`.
 //!
-//! The contracts cite `Faults` (when a count rose), `History` (which calls came), `Calls` (which calls are listed to fail), `Shelf` (what a shelf
-//! holds, and what reads and writes do to it), `Sink` (what a sink has taken), `MemoryShelf` and `MemorySink` (the objects
-//! in memory), `FolderShelf` and `OutSink` (a real folder and standard output).
+//! The contracts cite `Faults` (when a count rose), `History` (which calls came), `Calls` (which calls are listed to fail),
+//! `Shelf` (what a shelf holds, and what reads and writes do to it), `Sink` (what a sink has taken), `MemoryShelf` and
+//! `MemorySink` (the objects in memory), `FolderShelf` and `OutSink` (a real folder and standard output).
 #![tactic(auto)]
 
 mod calls;
