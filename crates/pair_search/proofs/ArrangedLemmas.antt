@@ -1,15 +1,11 @@
 -- Lists in a strict order with the same entries are equal. So columns in their order are those that are computed.
-use Rattle.std.proofs.Common.{◌≡◌, ℕ, zero, suc, ◌+◌, ◌-◌, ◌<◌, ◌≤◌, nat_le, ◌⊎◌, inl, inr, Bool, true, false, List, [], ◌∷◌, Ordering, Less, Equal, length, get_or, fold, Option, None, Some, if◌then◌else◌, refl, sym, ap, subst, ◌∙◌, ⊎_elim, arith}
+use Rattle.std.proofs.Common.{◌≡◌, ℕ, zero, suc, ◌+◌, ◌-◌, ◌<◌, ◌≤◌, nat_le, ◌⊎◌, inl, inr, Bool, true, false, List, [], ◌∷◌, length, get_or, fold, Option, None, Some, if◌then◌else◌, refl, sym, ap, subst, ◌∙◌, ⊎_elim, arith}
 use Rattle.std.specs.Prelude.{⊤, slice_index_or}
-use Rattle.std.specs.Cmp.{nat_cmp_is}
 use Rattle.std.specs.List.{AllByRecursion, range_with_len}
 use Rattle.std.specs.List.Sorted.{IsNonDecreasingBy}
-use Rattle.std.specs.Option.{option_cmp}
-use Rattle.std.specs.Ordering.{ordering_then, is_lt, nat_cmp}
-use Rattle.std.proofs.lemmas.Bool.{cases_lt, cases_order, leb-true, leb-false}
+use Rattle.std.proofs.lemmas.Bool.{cases_lt, leb-true, leb-false}
 use Rattle.std.proofs.Math.ListN.{get_or-map}
 use Rattle.std.proofs.lemmas.List.{length-map}
-use Rattle.std.proofs.lemmas.Map.Keys.{ge_from_not_lt}
 use Rattle.trip_model.specs.Order.{placed_by, by_key}
 use Rattle.pair_search.specs.Arranged.{post_key, slots_of, StandsBefore, AreInOrder, IsRanked}
 use Rattle.pair_search.specs.Order.{no_column, slot_at, place_of, IsOrder, IsRenaming}

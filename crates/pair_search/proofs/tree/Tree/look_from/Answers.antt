@@ -1,5 +1,5 @@
-use Rattle.std.proofs.Common.{◌≤◌, ◌+◌, length, sym, subst}
-use Rattle.pair_search.specs.Groups.{AreNear, AreReached, IsSeen}
+use Rattle.std.proofs.Common.{sym, subst}
+use Rattle.pair_search.specs.Groups.{IsSeen}
 use Rattle.pair_search.specs.Search.{columns_of, AreLooked}
 use Rattle.pair_search.specs.Side.{LineView, line_weight, side_slots}
 use Rattle.pair_search.specs.Visits.{AreVisited}
