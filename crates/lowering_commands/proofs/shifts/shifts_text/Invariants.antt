@@ -15,7 +15,8 @@ invariant-loop-shift g l = record {
   valid : IsDeficits l.deficits;
   sum : pos (unsigned_abs (deficit_sum l.moved)) ≡ deficit_sum l.moved;
   number : l.number + unsigned_abs (deficit_sum l.moved) ≤ length l.timetable.slots;
-  counted : l.steps + (steps_of_search (length l.timetable.slots) + 56) * unsigned_abs (deficit_sum l.moved) ≤ l.fn.steps + (28 * length l.timetable.slots + (steps_of_search (length l.timetable.slots) + 56) * length l.timetable.slots);
+  counted : let n = length l.timetable.slots in
+      l.steps + (steps_of_search n + 56) * unsigned_abs (deficit_sum l.moved) ≤ l.fn.steps + (28 * n + (steps_of_search n + 56) * n);
   text : (rest : List ℕ) → IsShiftsText l.moved l.number rest → IsShiftsText l.timetable 0 (string_bytes l.text ++ rest);
 }
 
