@@ -1,5 +1,6 @@
 -- No blocking weighs more than the prices of a certified plan, so the plan's own blocks are least.
-use Rattle.std.proofs.Common.{◌≡◌, ℕ, zero, suc, ◌+◌, ◌-◌, ◌*◌, ◌<◌, ◌≤◌, Bool, true, List, [], ◌∷◌, ◌++◌, length, map, filter, sum_by, Option, None, Some, refl, sym, ap, ◌∙◌, ⊎_elim, arith}
+use Rattle.std.proofs.Common.{◌≡◌, ℕ, zero, suc, ◌+◌, ◌-◌, ◌*◌, ◌<◌, ◌≤◌, Bool, true, List, [], ◌∷◌, ◌++◌, length, map, filter, sum_by}
+use Rattle.std.proofs.Common.{Option, None, Some, refl, sym, ap, ◌∙◌, ⊎_elim, arith}
 use Rattle.std.specs.List.{sum, range_with_len, AllByRecursion}
 use Rattle.std.specs.Option.{is_some, unwrap_or, option_map}
 use Rattle.std.proofs.lemmas.Bool.{cases_lt, false≢true}
@@ -7,11 +8,13 @@ use Rattle.std.proofs.lemmas.List.{length-append, map-id}
 use Rattle.std.proofs.lemmas.List.Sums.{sum_by-cons, sum_by-append, sum-map, count_by-le-length, length-filter}
 use Rattle.std.proofs.lemmas.List.FromFn.{length-range_with_len}
 use Rattle.trip_model.proofs.StepsLemmas.{range_with_len-more}
-use Rattle.trip_model.specs.Blocking.{StandsOnce, Follow, IsBlock, slots_in, IsBlocking, minutes_after, block_minutes, empty_minutes, IsLeast}
+use Rattle.trip_model.specs.Blocking.{StandsOnce, Follow, IsBlock, slots_in, IsBlocking, minutes_after, block_minutes, empty_minutes}
+use Rattle.trip_model.specs.Blocking.{IsLeast}
 use Rattle.trip_model.specs.Links.{next_of, is_first, along, block_from, blocks_along}
 use Rattle.trip_model.specs.Network.{Network, Fits, AreDepartures}
 use Rattle.trip_model.proofs.Chains.{GoesOn, AreChains, chains-of, block_from-is, IsBlocking-blocks_along}
-use Rattle.trip_model.proofs.Counting.{sum_below, sum_below-add, sum_below-list, sum_by-below, sum_by-standing, StandsOnce-filter_range, length-ones}
+use Rattle.trip_model.proofs.Counting.{sum_below, sum_below-add, sum_below-list, sum_by-below, sum_by-standing, StandsOnce-filter_range}
+use Rattle.trip_model.proofs.Counting.{length-ones}
 use Rattle.assignment_model.specs.declared.limits.TheConstants.{VEHICLE_WEIGHT}
 use Rattle.assignment_model.specs.Prices.{weight, Plan, price, weight_to, link_weights, IsCertified, IsDay}
 
@@ -32,10 +35,12 @@ worth : Network → List ℕ → ℕ
 worth network [] = 0
 worth network (i ∷ js) = worth_after network i js
 
-pub weight_is : (network : Network) (i j m : ℕ) → network.empty i j ≡ Some m → weight network i j ≡ Some (VEHICLE_WEIGHT + network.home i + network.out j - m)
+pub weight_is : (network : Network) (i j m : ℕ) → network.empty i j ≡ Some m
+    → weight network i j ≡ Some (VEHICLE_WEIGHT + network.home i + network.out j - m)
 weight_is network i j m e = ap (option_map (λ minutes. VEHICLE_WEIGHT + network.home i + network.out j - minutes)) e
 
-pub worth_is : (network : Network) (i j m : ℕ) → network.empty i j ≡ Some m → unwrap_or (weight network i j) 0 ≡ VEHICLE_WEIGHT + network.home i + network.out j - m
+pub worth_is : (network : Network) (i j m : ℕ) → network.empty i j ≡ Some m
+    → unwrap_or (weight network i j) 0 ≡ VEHICLE_WEIGHT + network.home i + network.out j - m
 worth_is network i j m e = ap (λ w. unwrap_or w 0) (weight_is network i j m e)
 
 walk_is : (network : Network) (i j m : ℕ) → network.empty i j ≡ Some m → unwrap_or (network.empty i j) 0 ≡ m
@@ -56,14 +61,23 @@ chain-le network plan proved i (j ∷ js) follows =
     omega (arith, worth_is network i j m.0 m.1, covers, sum_by-cons (prices plan) j js, chain-le network plan proved j js follows.1)
 
 -- blocks weigh no more than their prices
-blocks-le : (network : Network) (plan : Plan) → IsCertified network plan → (blocks : List (List ℕ)) → AllByRecursion (IsBlock network) blocks
+blocks-le : (network : Network) (plan : Plan) → IsCertified network plan → (blocks : List (List ℕ))
+    → AllByRecursion (IsBlock network) blocks
     → sum_by (worth network) blocks ≤ sum_by (prices plan) (slots_in blocks)
 unfolding worth prices
 blocks-le network plan proved [] each = omega arith
 blocks-le network plan proved ([] ∷ blocks) each = absurd each.0
 blocks-le network plan proved ((i ∷ js) ∷ blocks) each =
     let here : worth_after network i js ≤ price plan.leave i + sum_by (prices plan) js = chain-le network plan proved i js each.0 in
-    omega (arith, sum_by-cons (worth network) (i ∷ js) blocks, sum_by-append (prices plan) (i ∷ js) (slots_in blocks), sum_by-cons (prices plan) i js, here, blocks-le network plan proved blocks each.1)
+    omega (
+      arith,
+      sum_by-cons (worth network) (i ∷ js) blocks,
+      sum_by-append (prices plan) (i ∷ js) (slots_in blocks),
+      sum_by-cons
+          (prices plan) i js,
+      here,
+      blocks-le network plan proved blocks each.1,
+    )
 
 -- the empty minutes out to a trip and home after it
 pulls : Network → ℕ → ℕ
@@ -77,10 +91,19 @@ chain-balance network slots day i [] follows = omega arith
 chain-balance network slots day i (j ∷ js) follows =
     let m = fitting network i j follows.0 in
     let short = day.walks i j m.0 m.1 in
-    omega (arith, worth_is network i j m.0 m.1, walk_is network i j m.0 m.1, short, sum_by-cons (pulls network) j js, chain-balance network slots day j js follows.1)
+    omega (
+      arith,
+      worth_is network i j m.0 m.1,
+      walk_is network i j m.0 m.1,
+      short,
+      sum_by-cons (pulls network) j js,
+      chain-balance network
+          slots day j js follows.1,
+    )
 
 blocks-balance : (network : Network) (slots : ℕ) → IsDay network slots → (blocks : List (List ℕ)) → AllByRecursion (IsBlock network) blocks
-    → sum_by (worth network) blocks + empty_minutes network blocks + VEHICLE_WEIGHT * length blocks ≡ VEHICLE_WEIGHT * length (slots_in blocks) + sum_by (pulls network) (slots_in blocks)
+    → sum_by (worth network) blocks + empty_minutes network blocks + VEHICLE_WEIGHT * length blocks ≡ VEHICLE_WEIGHT * length
+    (slots_in blocks) + sum_by (pulls network) (slots_in blocks)
 unfolding worth pulls
 blocks-balance network slots day [] each = omega arith
 blocks-balance network slots day ([] ∷ blocks) each = absurd each.0
@@ -98,7 +121,8 @@ blocks-balance network slots day ((i ∷ js) ∷ blocks) each =
 
 -- how far the empty minutes of a chain stand from its pulls
 chain-bounds : (network : Network) (slots : ℕ) → IsDay network slots → (i : ℕ) (js : List ℕ) → Follow network i js
-    → (minutes_after network i js ≤ 8191 * length js + network.home i + sum_by (pulls network) js) × (network.home i + sum_by (pulls network) js ≤ minutes_after network i js + 2880 * length js)
+    → (minutes_after network i js ≤ 8191 * length js + network.home i + sum_by (pulls network) js)
+    × (network.home i + sum_by (pulls network) js ≤ minutes_after network i js + 2880 * length js)
 unfolding pulls
 chain-bounds network slots day i [] follows = (omega arith, omega arith)
 chain-bounds network slots day i (j ∷ js) follows =
@@ -110,7 +134,8 @@ chain-bounds network slots day i (j ∷ js) follows =
     )
 
 blocks-bounds : (network : Network) (slots : ℕ) → IsDay network slots → (blocks : List (List ℕ)) → AllByRecursion (IsBlock network) blocks
-    → (empty_minutes network blocks ≤ 8191 * length (slots_in blocks) + sum_by (pulls network) (slots_in blocks)) × (sum_by (pulls network) (slots_in blocks) ≤ empty_minutes network blocks + 2880 * length (slots_in blocks))
+    → (empty_minutes network blocks ≤ 8191 * length (slots_in blocks) + sum_by (pulls network) (slots_in blocks))
+    × (sum_by (pulls network) (slots_in blocks) ≤ empty_minutes network blocks + 2880 * length (slots_in blocks))
 unfolding pulls
 blocks-bounds network slots day [] each = (omega arith, omega arith)
 blocks-bounds network slots day ([] ∷ blocks) each = absurd each.0
@@ -130,7 +155,8 @@ link_weight : Network → List (Option ℕ) → ℕ → ℕ
 link_weight network links s = weight_to network s (next_of links s)
 
 -- a chain of links weighs what its links do
-chain-links : (network : Network) (links : List (Option ℕ)) (i : ℕ) (js : List ℕ) → GoesOn links i js → worth_after network i js ≡ sum_by (link_weight network links) (i ∷ js)
+chain-links : (network : Network) (links : List (Option ℕ)) (i : ℕ) (js : List ℕ) → GoesOn links i js
+    → worth_after network i js ≡ sum_by (link_weight network links) (i ∷ js)
 unfolding worth_after link_weight
 chain-links network links i [] goes =
     let none : weight_to network i (next_of links i) ≡ 0 = ap (weight_to network i) goes in
@@ -147,8 +173,17 @@ blocks-links network links chains (i ∷ firsts) =
     let js = along links 8191 (next_of links i) in
     let rest = slots_in (map (block_from links) firsts) in
     let here = ap (worth network) (block_from-is links i) in
-    let flat = ap (λ block. sum_by (link_weight network links) (block ++ rest)) (block_from-is links i) ∙ sum_by-append (link_weight network links) (i ∷ js) rest in
-    omega (arith, sum_by-cons (worth network) (block_from links i) (map (block_from links) firsts), here, flat, chain-links network links i js (chains.goes_on i), blocks-links network links chains firsts)
+    let flat = ap (λ block. sum_by (link_weight network links) (block ++ rest)) (block_from-is links i)
+    ∙ sum_by-append (link_weight network links) (i ∷ js) rest in
+    omega (
+      arith,
+      sum_by-cons (worth network) (block_from links i) (map (block_from links) firsts),
+      here,
+      flat,
+      chain-links network links i
+          js (chains.goes_on i),
+      blocks-links network links chains firsts,
+    )
 
 -- sums over a range and over a list, as sums below a bound
 pub sum_by-range : (f : ℕ → ℕ) (n : ℕ) → sum_by f (range_with_len 0 n) ≡ sum_below f n
@@ -164,24 +199,29 @@ pub sum-below : (xs : List ℕ) → sum xs ≡ sum_below (price xs) (length xs)
 sum-below xs = ap sum (sym (map-id xs)) ∙ sum-map (λ x. x) xs ∙ sym (sum_below-list (λ x. x) xs 0)
 
 -- what the prices of all slots of a blocking come to
-prices-all : (network : Network) (plan : Plan) → IsCertified network plan → (slots : List ℕ) → StandsOnce network.live slots → ((s : ℕ) → network.live s ≡ true → s < length plan.next)
+prices-all : (network : Network) (plan : Plan) → IsCertified network plan → (slots : List ℕ) → StandsOnce network.live slots
+    → ((s : ℕ) → network.live s ≡ true → s < length plan.next)
     → sum_by (prices plan) slots ≡ link_weights network plan.next
 unfolding prices
 prices-all network plan proved slots stands within =
-    sum_by-below network.live (prices plan) (length plan.next) slots within (λ s dead. let none = proved.dead s dead in omega (arith, none.1, none.2)) stands
+    sum_by-below network.live (prices plan) (length plan.next) slots within
+    (λ s dead. let none = proved.dead s dead in omega (arith, none.1, none.2)) stands
     ∙ sum_below-add (price plan.leave) (price plan.enter) (length plan.next)
     ∙ (λ i. sum_below (price plan.leave) (sym proved.leaves i) + sum_below (price plan.enter) (sym proved.enters i))
     ∙ (λ i. sym (sum-below plan.leave) i + sym (sum-below plan.enter) i)
     ∙ proved.sums
 
 -- and what the plan's own blocks weigh
-own-weight : (network : Network) (plan : Plan) (departs : ℕ → ℕ) → IsCertified network plan → AreDepartures network departs → (order : List ℕ) → StandsOnce network.live order
-    → ((s : ℕ) → network.live s ≡ true → s < length plan.next) → sum_by (worth network) (blocks_along plan.next order) ≡ link_weights network plan.next
+own-weight : (network : Network) (plan : Plan) (departs : ℕ → ℕ) → IsCertified network plan → AreDepartures network departs
+    → (order : List ℕ) → StandsOnce network.live order
+    → ((s : ℕ) → network.live s ≡ true → s < length plan.next)
+    → sum_by (worth network) (blocks_along plan.next order) ≡ link_weights network plan.next
 unfolding link_weight
 own-weight network plan departs proved clock order stands within =
     let blocking = IsBlocking-blocks_along network departs plan.next order clock proved.links stands in
     blocks-links network plan.next (chains-of network departs plan.next clock proved.links) (filter (is_first plan.next) order)
-    ∙ sum_by-below network.live (link_weight network plan.next) (length plan.next) (slots_in (blocks_along plan.next order)) within (λ s dead. ap (weight_to network s) (proved.dead s dead).0) blocking.stands
+    ∙ sum_by-below network.live (link_weight network plan.next) (length plan.next) (slots_in (blocks_along plan.next order)) within
+    (λ s dead. ap (weight_to network s) (proved.dead s dead).0) blocking.stands
     ∙ sym (sum_by-range (link_weight network plan.next) (length plan.next))
 
 -- a list in which each live slot stands once is no longer than there are slots
@@ -189,12 +229,22 @@ standing-length : (live : ℕ → Bool) (n : ℕ) (slots : List ℕ) → ((s : �
 standing-length live n slots within stands =
     let same = sum_by-standing live (λ _. 1) slots (filter live (range_with_len 0 n)) stands (StandsOnce-filter_range live n within) in
     let few = count_by-le-length live (range_with_len 0 n) in
-    omega (arith, length-ones slots, length-ones (filter live (range_with_len 0 n)), same, length-filter live (range_with_len 0 n), few, length-range_with_len 0 n)
+    omega (
+      arith,
+      length-ones slots,
+      length-ones (filter live (range_with_len 0 n)),
+      same,
+      length-filter live (range_with_len 0 n),
+      few,
+      length-range_with_len 0 n,
+    )
 
 -- the plan's own blocks cost no more than any others
-own-cost : (network : Network) (slots : ℕ) (plan : Plan) (departs : ℕ → ℕ) → IsDay network slots → length plan.next ≡ slots → IsCertified network plan → AreDepartures network departs
+own-cost : (network : Network) (slots : ℕ) (plan : Plan) (departs : ℕ → ℕ) → IsDay network slots → length plan.next ≡ slots
+    → IsCertified network plan → AreDepartures network departs
     → (order : List ℕ) → StandsOnce network.live order → (others : List (List ℕ)) → IsBlocking network others
-    → let own = blocks_along plan.next order in (VEHICLE_WEIGHT * length own + empty_minutes network own ≤ VEHICLE_WEIGHT * length others + empty_minutes network others)
+    → let own = blocks_along plan.next order in
+    (VEHICLE_WEIGHT * length own + empty_minutes network own ≤ VEHICLE_WEIGHT * length others + empty_minutes network others)
     × (empty_minutes network others ≤ empty_minutes network own + 45346816)
 own-cost network slots plan departs day len proved clock order stands others other =
     let own = blocks_along plan.next order in
@@ -215,7 +265,8 @@ own-cost network slots plan departs day len proved clock order stands others oth
     let limit = day.few in (omega arith, omega arith)
 
 -- the blocks of a certified plan are least
-pub IsLeast-certified : (network : Network) (slots : ℕ) (plan : Plan) (departs : ℕ → ℕ) → IsDay network slots → length plan.next ≡ slots → IsCertified network plan → AreDepartures network departs
+pub IsLeast-certified : (network : Network) (slots : ℕ) (plan : Plan) (departs : ℕ → ℕ) → IsDay network slots → length plan.next ≡ slots
+    → IsCertified network plan → AreDepartures network departs
     → (order : List ℕ) → StandsOnce network.live order → IsLeast network (blocks_along plan.next order)
 IsLeast-certified network slots plan departs day len proved clock order stands = record {
   fewest = record {
@@ -226,5 +277,6 @@ IsLeast-certified network slots plan departs day len proved clock order stands =
         (λ (enough : length (blocks_along plan.next order) ≤ length others). enough)
         (cases_lt (length others) (length (blocks_along plan.next order))));
   };
-  shortest = λ others other same. (let cost = own-cost network slots plan departs day len proved clock order stands others other in omega (arith, cost.0));
+  shortest = λ others other same. (let cost = own-cost network slots plan departs day len proved clock order stands others other in
+      omega (arith, cost.0));
 }

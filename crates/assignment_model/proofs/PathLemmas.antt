@@ -1,5 +1,6 @@
 -- The inverse of a list of next trips, and the paths that change nothing.
-use Rattle.std.proofs.Common.{◌≡◌, ℕ, zero, suc, ◌<◌, ◌≤◌, ◌==◌, true, false, cond, List, [], ◌∷◌, ◌++◌, length, set, Option, None, Some, refl, sym, ap, subst, ◌∙◌, ⊎_elim, zero-add, arith}
+use Rattle.std.proofs.Common.{◌≡◌, ℕ, zero, suc, ◌<◌, ◌≤◌, ◌==◌, true, false, cond, List, [], ◌∷◌, ◌++◌, length, set, Option, None, Some}
+use Rattle.std.proofs.Common.{refl, sym, ap, subst, ◌∙◌, ⊎_elim, zero-add, arith}
 use Rattle.std.specs.Prelude.{IfSome}
 use Rattle.std.specs.List.{range_with_len}
 use Rattle.std.proofs.Math.ListN.{get_or-map}
@@ -9,7 +10,8 @@ use Rattle.std.proofs.lemmas.List.FromFn.{length-range_with_len, get_or-range_wi
 use Rattle.std.proofs.lemmas.Option.{none-some, same_Some}
 use Rattle.trip_model.specs.Links.{next_of, before_of}
 use Rattle.trip_model.proofs.BeforeLemmas.{next-before, before-next, next-within}
-use Rattle.assignment_model.specs.Paths.{AreNextTrips, AreAlike, befores, IsPath, IsLeftPath, IsRightPath, IsAlone, without_link, cut_at, with_slot, IsLeftFrom, IsRightFrom, IsTaken, IsAdded}
+use Rattle.assignment_model.specs.Paths.{AreNextTrips, AreAlike, befores, IsPath, IsLeftPath, IsRightPath, IsAlone, without_link, cut_at}
+use Rattle.assignment_model.specs.Paths.{with_slot, IsLeftFrom, IsRightFrom, IsTaken, IsAdded}
 
 length-befores : (links : List (Option ℕ)) → length (befores links) ≡ length links
 length-befores links = length-map (range_with_len 0 (length links)) (before_of links) ∙ length-range_with_len 0 (length links)
@@ -32,7 +34,8 @@ next-befores links s are = ⊎_elim
 -- the inverse of a list of next trips is one of trips before
 pub AreNextTrips-befores : (links : List (Option ℕ)) → AreNextTrips links → AreNextTrips (befores links)
 AreNextTrips-befores links are =
-    let before : (s i : ℕ) → next_of (befores links) s ≡ Some i → next_of links i ≡ Some s = λ s i e. next-before links i s (sym (next-befores links s are) ∙ e) in
+    let before : (s i : ℕ) → next_of (befores links) s ≡ Some i
+    → next_of links i ≡ Some s = λ s i e. next-before links i s (sym (next-befores links s are) ∙ e) in
     record {
       within = λ s i e. omega (arith, length-befores links, next-within links i s (before s i e));
       once = λ r s i e f. same_Some r s (sym (before r i e) ∙ before s i f);
@@ -51,7 +54,8 @@ before-befores links i are = by (next_of links i) refl
     by : (next : Option ℕ) → next_of links i ≡ next → before_of (befores links) i ≡ next_of links i
     by None e = none (before_of (befores links) i) refl e ∙ sym e
     by (Some j) e =
-        before-next (befores links) j i (AreNextTrips-befores links are).once (next-befores links j are ∙ before-next links i j are.once e) ∙ sym e
+        before-next (befores links) j i (AreNextTrips-befores links are).once (next-befores links j are ∙ before-next links i j are.once e)
+        ∙ sym e
 
 pub befores-befores : (links : List (Option ℕ)) → AreNextTrips links → befores (befores links) ≡ links
 befores-befores links are =
@@ -66,7 +70,8 @@ AreAlike-befores old new are = record {
 }
 
 -- a path of functions that are equal
-path-same : (had had' had_by had_by' given given' : ℕ → Option ℕ) (a : ℕ) → ((s : ℕ) → had s ≡ had' s) → ((s : ℕ) → had_by s ≡ had_by' s) → ((s : ℕ) → given s ≡ given' s)
+path-same : (had had' had_by had_by' given given' : ℕ → Option ℕ) (a : ℕ) → ((s : ℕ) → had s ≡ had' s) → ((s : ℕ) → had_by s ≡ had_by' s)
+    → ((s : ℕ) → given s ≡ given' s)
     → IsPath had had_by given a → IsPath had' had_by' given' a
 path-same had had' had_by had_by' given given' a h b g path =
     let hads : had ≡ had' = λ j s. h s j in
@@ -79,7 +84,8 @@ pub right-left : (old new : List (Option ℕ)) (b : ℕ) → IsRightPath old new
 right-left old new b right = record {
   lists = AreAlike-befores old new right.lists;
   slot = omega (arith, right.slot, length-befores old);
-  path = path-same _ _ _ _ _ _ b (λ s. sym (next-befores old s right.lists.before)) (λ s. sym (before-befores old s right.lists.before)) (λ s. sym (next-befores new s right.lists.after)) right.path;
+  path = path-same _ _ _ _ _ _ b (λ s. sym (next-befores old s right.lists.before)) (λ s. sym (before-befores old s right.lists.before))
+      (λ s. sym (next-befores new s right.lists.after)) right.path;
 }
 
 -- and a left path is a right one of them
@@ -87,7 +93,8 @@ pub left-right : (old new : List (Option ℕ)) (a : ℕ) → IsLeftPath old new 
 left-right old new a left = record {
   lists = AreAlike-befores old new left.lists;
   slot = omega (arith, left.slot, length-befores old);
-  path = path-same _ _ _ _ _ _ a (λ s. sym (before-befores old s left.lists.before)) (λ s. sym (next-befores old s left.lists.before)) (λ s. sym (before-befores new s left.lists.after)) left.path;
+  path = path-same _ _ _ _ _ _ a (λ s. sym (before-befores old s left.lists.before)) (λ s. sym (next-befores old s left.lists.before))
+      (λ s. sym (before-befores new s left.lists.after)) left.path;
 }
 
 -- a path of one slot that is given nothing, and had nothing
@@ -99,14 +106,16 @@ still had had_by a none = record {
   others = λ s _. refl;
 }
 
-pub IsLeftPath-still : (links : List (Option ℕ)) (a : ℕ) → AreNextTrips links → a < length links → next_of links a ≡ None → IsLeftPath links links a
+pub IsLeftPath-still : (links : List (Option ℕ)) (a : ℕ) → AreNextTrips links → a < length links → next_of links a ≡ None
+    → IsLeftPath links links a
 IsLeftPath-still links a are slot none = record {
   lists = record { before = are; after = are; slots = refl };
   slot = slot;
   path = still (next_of links) (before_of links) a none;
 }
 
-pub IsRightPath-still : (links : List (Option ℕ)) (b : ℕ) → AreNextTrips links → b < length links → before_of links b ≡ None → IsRightPath links links b
+pub IsRightPath-still : (links : List (Option ℕ)) (b : ℕ) → AreNextTrips links → b < length links → before_of links b ≡ None
+    → IsRightPath links links b
 IsRightPath-still links b are slot none = record {
   lists = record { before = are; after = are; slots = refl };
   slot = slot;
@@ -116,7 +125,8 @@ IsRightPath-still links b are slot none = record {
 -- nothing is cut of a trip that stood alone
 cut-alone : (links : List (Option ℕ)) (s : ℕ) → IsAlone links s → cut_at links s ≡ links
 cut-alone links s alone =
-    ap (λ before. without_link (set links s None) before) alone.1 ∙ subst (λ next. set links s next ≡ links) alone.0 (set-get_or links s None)
+    ap (λ before. without_link (set links s None) before) alone.1
+    ∙ subst (λ next. set links s next ≡ links) alone.0 (set-get_or links s None)
 
 -- a trip that stood alone is taken where nothing changes
 pub IsTaken-alone : (links : List (Option ℕ)) (s : ℕ) → AreNextTrips links → IsAlone links s → IsTaken links links s
@@ -143,24 +153,29 @@ next-appended (next ∷ links) (suc i) = next-appended links i
 
 next-with_slot : (links : List (Option ℕ)) (s i : ℕ) → next_of (with_slot links s) i ≡ next_of links i
 next-with_slot links s i =
-    elim (length links == s) as (λ b. next_of (cond b (links ++ None ∷ []) links) i ≡ next_of links i) [ true ↦ next-appended links i | false ↦ refl ]
+    elim (length links == s) as (λ b. next_of (cond b (links ++ None ∷ []) links) i ≡ next_of links i)
+    [ true ↦ next-appended links i | false ↦ refl ]
 
 -- no slot is lost
 longer-with_slot : (links : List (Option ℕ)) (s : ℕ) → length links ≤ length (with_slot links s)
 longer-with_slot links s =
-    elim (length links == s) as (λ b. length links ≤ length (cond b (links ++ None ∷ []) links)) [ true ↦ omega (arith, length-append links (None ∷ [])) | false ↦ omega arith ]
+    elim (length links == s) as (λ b. length links ≤ length (cond b (links ++ None ∷ []) links))
+    [ true ↦ omega (arith, length-append links (None ∷ [])) | false ↦ omega arith ]
 
 -- the slot is there
 within-with_slot : (links : List (Option ℕ)) (s : ℕ) → s ≤ length links → s < length (with_slot links s)
 within-with_slot links s le = ⊎_elim
     (λ (e : length links ≡ s).
-    subst (λ b. s < length (cond b (links ++ None ∷ []) links)) (sym (eq-eqb (length links) s e)) (omega (arith, e, length-append links (None ∷ []))))
-    (λ (ne : length links ≡ s → ⊥). subst (λ b. s < length (cond b (links ++ None ∷ []) links)) (sym (ne_eqb (length links) s ne)) (omega arith))
+    subst (λ b. s < length (cond b (links ++ None ∷ []) links)) (sym (eq-eqb (length links) s e))
+    (omega (arith, e, length-append links (None ∷ []))))
+    (λ (ne : length links ≡ s → ⊥). subst (λ b. s < length (cond b (links ++ None ∷ []) links)) (sym (ne_eqb (length links) s ne))
+    (omega arith))
     (cases_eq (length links) s)
 
 AreNextTrips-with_slot : (links : List (Option ℕ)) (s : ℕ) → AreNextTrips links → AreNextTrips (with_slot links s)
 AreNextTrips-with_slot links s are =
-    let known : (i j : ℕ) → next_of (with_slot links s) i ≡ Some j → next_of links i ≡ Some j = λ i j e. sym (next-with_slot links s i) ∙ e in
+    let known : (i j : ℕ) → next_of (with_slot links s) i ≡ Some j
+    → next_of links i ≡ Some j = λ i j e. sym (next-with_slot links s i) ∙ e in
     record {
       within = λ i j e. omega (arith, are.within i j (known i j e), longer-with_slot links s);
       once = λ h i j e f. are.once h i j (known h j e) (known i j f);
@@ -176,7 +191,8 @@ IsAlone-with_slot links s are alone = (next-with_slot links s s ∙ alone.0, by 
         absurd (none-some i (sym alone.1 ∙ before-next links i s are.once next))
 
 -- a trip that stays alone is added where nothing but its slot is
-pub IsAdded-alone : (links : List (Option ℕ)) (s : ℕ) → AreNextTrips links → s ≤ length links → IsAlone links s → IsAdded links (with_slot links s) s
+pub IsAdded-alone : (links : List (Option ℕ)) (s : ℕ) → AreNextTrips links → s ≤ length links → IsAlone links s
+    → IsAdded links (with_slot links s) s
 IsAdded-alone links s are le alone =
     let now = AreNextTrips-with_slot links s are in
     let here = IsAlone-with_slot links s are alone in

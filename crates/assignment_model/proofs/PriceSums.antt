@@ -1,5 +1,6 @@
 -- The prices of a certified plan are together those of its links, and one slot at least has none.
-use Rattle.std.proofs.Common.{◌≡◌, ℕ, zero, suc, ◌+◌, ◌*◌, ◌<◌, ◌≤◌, true, List, length, Option, None, Some, refl, sym, ap, ◌∙◌, ⊎_elim, arith}
+use Rattle.std.proofs.Common.{◌≡◌, ℕ, zero, suc, ◌+◌, ◌*◌, ◌<◌, ◌≤◌, true, List, length, Option, None, Some, refl, sym, ap, ◌∙◌, ⊎_elim}
+use Rattle.std.proofs.Common.{arith}
 use Rattle.std.specs.List.{sum}
 use Rattle.std.proofs.lemmas.Bool.{cases_eq, cases_lt}
 use Rattle.trip_model.specs.Links.{next_of, AreLinks}
@@ -14,8 +15,10 @@ HasEnd : List (Option ℕ) → Type 0
 HasEnd links = (s : ℕ) × (s < length links) × (next_of links s ≡ None)
 
 -- where the links go on from a slot, they come to one that departs later
-link-on : (network : Network) (departs : ℕ → ℕ) (links : List (Option ℕ)) → AreDepartures network departs → ((s : ℕ) → network.live s ≡ true → s < length links) → AreLinks network links
-    → (i : ℕ) → i < length links → ((j : ℕ) → j < length links → departs i < departs j → departs j ≤ 8191 → HasEnd links) → (next : Option ℕ) → next_of links i ≡ next → HasEnd links
+link-on : (network : Network) (departs : ℕ → ℕ) (links : List (Option ℕ)) → AreDepartures network departs
+    → ((s : ℕ) → network.live s ≡ true → s < length links) → AreLinks network links
+    → (i : ℕ) → i < length links → ((j : ℕ) → j < length links → departs i < departs j → departs j ≤ 8191 → HasEnd links)
+    → (next : Option ℕ) → next_of links i ≡ next → HasEnd links
 unfolding HasEnd
 link-on network departs links clock within are i i_in on None e = (i, i_in, e)
 link-on network departs links clock within are i i_in on (Some j) e =
@@ -23,15 +26,20 @@ link-on network departs links clock within are i i_in on (Some j) e =
     on j (links-within network departs links clock within are i j e).1 (clock.rises i j fits) (clock.within i j fits)
 
 -- so they end within the day
-link-end : (network : Network) (departs : ℕ → ℕ) (links : List (Option ℕ)) → AreDepartures network departs → ((s : ℕ) → network.live s ≡ true → s < length links) → AreLinks network links
+link-end : (network : Network) (departs : ℕ → ℕ) (links : List (Option ℕ)) → AreDepartures network departs
+    → ((s : ℕ) → network.live s ≡ true → s < length links) → AreLinks network links
     → (left i : ℕ) → i < length links → 8191 ≤ departs i + left → HasEnd links
 link-end network departs links clock within are zero i i_in late =
-    link-on network departs links clock within are i i_in (λ j j_in later day. absurd (omega (arith, late, later, day))) (next_of links i) refl
+    link-on network departs links clock within are i i_in (λ j j_in later day. absurd (omega (arith, late, later, day))) (next_of links i)
+    refl
 link-end network departs links clock within are (suc left) i i_in late =
-    link-on network departs links clock within are i i_in (λ j j_in later day. link-end network departs links clock within are left j j_in (omega (arith, late, later))) (next_of links i) refl
+    link-on network departs links clock within are i i_in
+    (λ j j_in later day. link-end network departs links clock within are left j j_in (omega (arith, late, later))) (next_of links i)
+    refl
 
 -- no link weighs more than a vehicle and the longest ways home and out
-weight-most : (network : Network) (slots : ℕ) (links : List (Option ℕ)) → IsDay network slots → AreLinks network links → (i : ℕ) (next : Option ℕ) → next_of links i ≡ next
+weight-most : (network : Network) (slots : ℕ) (links : List (Option ℕ)) → IsDay network slots → AreLinks network links
+    → (i : ℕ) (next : Option ℕ) → next_of links i ≡ next
     → weight_to network i next ≤ 67111744
 weight-most network slots links day are i None e = omega arith
 weight-most network slots links day are i (Some j) e =
@@ -51,7 +59,8 @@ sum_below-but_one f (suc n) s most within none = ⊎_elim
     (cases_eq s n)
 
 -- 4,095 links at most
-pub sum-prices : (network : Network) (slots : ℕ) (plan : Plan) (departs : ℕ → ℕ) → IsDay network slots → length plan.next ≡ slots → IsCertified network plan → AreDepartures network departs
+pub sum-prices : (network : Network) (slots : ℕ) (plan : Plan) (departs : ℕ → ℕ) → IsDay network slots → length plan.next ≡ slots
+    → IsCertified network plan → AreDepartures network departs
     → sum plan.leave + sum plan.enter ≤ 4095 * 67111744
 unfolding HasEnd
 sum-prices network slots plan departs day len proved clock = ⊎_elim

@@ -1,5 +1,6 @@
 -- Along which slots the repair of a plan may change its links. Old and new are lists of next trips.
-use Rattle.std.specs.Prelude.{◌≡◌, ◌≢◌, ℕ, ◌<◌, ◌==◌, List, [], ◌∷◌, ◌++◌, length, map, slice_set, Option, None, Some, IsSome, IfSome, ⊤, if◌then◌else◌}
+use Rattle.std.specs.Prelude.{◌≡◌, ◌≢◌, ℕ, ◌<◌, ◌==◌, List, [], ◌∷◌, ◌++◌, length, map, slice_set, Option, None, Some, IsSome, IfSome, ⊤}
+use Rattle.std.specs.Prelude.{if◌then◌else◌}
 use Rattle.std.specs.List.{range_with_len, AllByRecursion}
 use Rattle.trip_model.specs.Links.{next_of, before_of, AreApart}
 

@@ -1,5 +1,6 @@
 -- What `audit` gives of an accepted feed is what it asks.
-use Rattle.std.proofs.Common.{◌≡◌, ◌≢◌, inl, inr, ℕ, Bool, true, false, List, [], ◌∷◌, length, None, Result, Ok, Err, Global, Vec, if◌then◌else◌, refl, sym, ap, subst, ◌∙◌}
+use Rattle.std.proofs.Common.{◌≡◌, ◌≢◌, inl, inr, ℕ, Bool, true, false, List, [], ◌∷◌, length, None, Result, Ok, Err, Global, Vec}
+use Rattle.std.proofs.Common.{if◌then◌else◌, refl, sym, ap, subst, ◌∙◌}
 use Rattle.std.specs.Prelude.{IfOk}
 use Rattle.std.proofs.lemmas.List.{length-map}
 use Rattle.gtfs_tables.specs.Table.{TableView}
@@ -30,11 +31,13 @@ use Rattle.audit_command.specs.Auditable.{IsAuditable, Judges}
 use Rattle.desk_feed.proofs.OneMatrix.{matrix-same}
 
 -- a record is not judged where its `block_id` is refused
-refused-names : (trips : TableView) (chosen : List Bool) (outcome : OutcomeView) → IsRefusedName trips chosen outcome → ¬ AreNames trips chosen
+refused-names : (trips : TableView) (chosen : List Bool) (outcome : OutcomeView) → IsRefusedName trips chosen outcome
+    → ¬ AreNames trips chosen
 refused-names trips chosen outcome is names = is.first.bad (names is.record_before is.first.within is.first.selected)
 
 -- what is done where nothing is judged
-refused-by : (said : FeedView) (trips : Result TableView FeedFault) (outcome : OutcomeView) → IsAuditable said.settings trips (Refused outcome)
+refused-by : (said : FeedView) (trips : Result TableView FeedFault) (outcome : OutcomeView)
+    → IsAuditable said.settings trips (Refused outcome)
     → AuditsBy said trips outcome × EndsBy said trips outcome.ending × (outcome.lines ≡ None)
 refused-by said (Err refused) outcome is = (is, ap (λ (o : OutcomeView). o.ending) is, ap (λ (o : OutcomeView). o.lines) is)
 refused-by said (Ok trips) outcome is = (
@@ -46,7 +49,8 @@ refused-by said (Ok trips) outcome is = (
   ap (λ (o : OutcomeView). o.lines) is.done,
 )
 
-pub refused-given : (read : ReadView) (said : FeedView) (outcome : OutcomeView) → IsAuditable said.settings (trips_in read) (Refused outcome) → IsGivenOf audit_does read said outcome
+pub refused-given : (read : ReadView) (said : FeedView) (outcome : OutcomeView)
+    → IsAuditable said.settings (trips_in read) (Refused outcome) → IsGivenOf audit_does read said outcome
 refused-given read said outcome is =
     let does = refused-by said (trips_in read) outcome is in
     record { gives = does.0; ends = does.1; unkept = λ _. does.2 }
@@ -60,8 +64,10 @@ script-ends : (some : Bool) → (if some then ending.EditsRefused else ending.Do
 script-ends true e = subst is-no (sym e) tt
 script-ends false e = subst is-no (sym e) tt
 
-module _ (refused : List ℕ) (end : Ending) (timetable : TimetableView) (matrix : MatrixView) (stated : List NamedBlock) (outcome : OutcomeView) where
-  judged-ends : (misfits : List Misfit) → IsJudged refused end timetable matrix stated misfits outcome → outcome.ending ≡ ending_by misfits end
+module _ (refused : List ℕ) (end : Ending) (timetable : TimetableView) (matrix : MatrixView) (stated : List NamedBlock)
+    (outcome : OutcomeView) where
+  judged-ends : (misfits : List Misfit) → IsJudged refused end timetable matrix stated misfits outcome
+      → outcome.ending ≡ ending_by misfits end
   judged-ends [] is = ap (λ (o : OutcomeView). o.ending) is.done
   judged-ends (misfit ∷ misfits) is = ap (λ (o : OutcomeView). o.ending) is
 
@@ -79,25 +85,30 @@ module _ (said : FeedView) (trips : TableView) where
   here = stated_of said trips
 
   pub audited-by : AreNames trips (chosen_in said.settings trips) → (matrix : MatrixView) → IsMatrixFor said matrix
-      → (outcome : OutcomeView) → IsJudged (refused_of said) (ending_of said) (standing said) matrix here (misfits_in (standing said) matrix here) outcome
+      → (outcome : OutcomeView) → IsJudged (refused_of said) (ending_of said) (standing said) matrix here
+      (misfits_in (standing said) matrix here) outcome
       → AuditsBy said (Ok trips) outcome × EndsBy said (Ok trips) outcome.ending × (outcome.lines ≡ None)
   audited-by names matrix is outcome judged =
-      let ends = judged-ends (refused_of said) (ending_of said) (standing said) matrix here outcome (misfits_in (standing said) matrix here) judged in
+      let ends = judged-ends (refused_of said) (ending_of said) (standing said) matrix here outcome
+      (misfits_in (standing said) matrix here) judged in
       let of : IsAudited said trips outcome = record {
         matrix = matrix;
         matrix_is = is;
         judged = judged;
         no = λ ended are.
             let none = have-no-misfit (standing said) matrix here are in
-            script-ends (some_refused said.base said.lines (length said.lines)) (sym (ends ∙ ap (λ misfits. ending_by misfits (ending_of said)) none) ∙ ended);
+            script-ends (some_refused said.base said.lines (length said.lines))
+            (sym (ends ∙ ap (λ misfits. ending_by misfits (ending_of said)) none) ∙ ended);
         blocking = λ other.
-            are-blocking trips (standing said) (chosen_in said.settings trips) matrix (none-by (misfits_in (standing said) matrix here) (ending_of said) (λ e. other (ends ∙ e)));
+            are-blocking trips (standing said) (chosen_in said.settings trips) matrix
+            (none-by (misfits_in (standing said) matrix here) (ending_of said) (λ e. other (ends ∙ e)));
       } in (
         inr (names, of),
         record {
           judged = λ _ other other_is.
               ends
-              ∙ ap (λ m. ending_by (misfits_in (standing said) m here) (ending_of said)) (matrix-same said.entries said.pulls (length said.base.places) matrix other is other_is);
+              ∙ ap (λ m. ending_by (misfits_in (standing said) m here) (ending_of said))
+              (matrix-same said.entries said.pulls (length said.base.places) matrix other is other_is);
           refused = λ no. absurd (no names);
         },
         judged-lines (refused_of said) (ending_of said) (standing said) matrix here outcome (misfits_in (standing said) matrix here) judged,
@@ -105,7 +116,8 @@ module _ (said : FeedView) (trips : TableView) where
 
 -- what is put of the timetable after the script
 module _ (said : FeedView) (matrix : MatrixView) (edited : Edited) (table : TableView) (chosen : Vec Bool Global) where
-  audited-read : IsMatrixFor said matrix → IsEdited said.base said.lines edited → (read : Result TableView FeedFault) → IsAuditable said.settings read (Trips table chosen) → (outcome : OutcomeView) → Judges edited matrix table chosen.items outcome
+  audited-read : IsMatrixFor said matrix → IsEdited said.base said.lines edited → (read : Result TableView FeedFault)
+      → IsAuditable said.settings read (Trips table chosen) → (outcome : OutcomeView) → Judges edited matrix table chosen.items outcome
       → AuditsBy said read outcome × EndsBy said read outcome.ending × (outcome.lines ≡ None)
   audited-read is stands (Err refused) may outcome judged = absurd may
   audited-read is stands (Ok trips) may outcome judged =
@@ -124,18 +136,21 @@ module _ (said : FeedView) (matrix : MatrixView) (edited : Edited) (table : Tabl
       audited-by said trips may.2 matrix is outcome by-chosen
 
   pub audited-given : {E : Type 0} (read : ReadView) → IsMatrixFor said matrix → IsEdited said.base said.lines edited
-      → IsAuditable said.settings (trips_in read) (Trips table chosen) → (result : Result OutcomeView E) → IfOk result (Judges edited matrix table chosen.items) → IfOk result (IsGivenOf audit_does read said)
+      → IsAuditable said.settings (trips_in read) (Trips table chosen) → (result : Result OutcomeView E)
+      → IfOk result (Judges edited matrix table chosen.items) → IfOk result (IsGivenOf audit_does read said)
   audited-given read is stands may (Err e) judged = tt
   audited-given read is stands may (Ok outcome) judged =
       let does = audited-read is stands (trips_in read) may outcome judged in
       record { gives = does.0; ends = does.1; unkept = λ _. does.2 }
 
 -- trips that may be judged have the `block_id` of each selected record as text, and a mark for each record
-pub names-of : (settings : SettingsView) (read : Result TableView FeedFault) (table : TableView) (chosen : Vec Bool Global) → IsAuditable settings read (Trips table chosen)
+pub names-of : (settings : SettingsView) (read : Result TableView FeedFault) (table : TableView) (chosen : Vec Bool Global)
+    → IsAuditable settings read (Trips table chosen)
     → (length chosen.items ≡ length table.rows) × AreNames table chosen.items
 names-of settings (Err refused) table chosen may = absurd may
 names-of settings (Ok trips) table chosen may =
-    let count : length (chosen_in settings trips) ≡ length trips.rows = length-map trips.rows (is_selected settings (place_of column.ServiceId trips.header)) in (
+    let count : length (chosen_in settings trips) ≡ length trips.rows =
+    length-map trips.rows (is_selected settings (place_of column.ServiceId trips.header)) in (
       ap length may.1 ∙ count ∙ sym (ap (λ (t : TableView). length t.rows) may.0),
       subst (λ (t : TableView). AreNames t chosen.items) (sym may.0) (subst (AreNames trips) (sym may.1) may.2),
     )

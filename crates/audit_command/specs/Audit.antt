@@ -55,13 +55,15 @@ text_of_costs network stated least = costs_text (length stated) (empty_minutes n
 -- What is put of stated blocks without a misfit, behind the lines of refused records. It is their cost beside that of the
 -- blocks of a certified plan, which are least over all blockings. `least` is put exactly where the stated blocks are least.
 -- Else it is put how many vehicles they have more, or with as few vehicles how many empty minutes.
-pub record IsCosted (refused : List ℕ) (end : Ending) (timetable : TimetableView) (matrix : MatrixView) (stated : List NamedBlock) (outcome : OutcomeView) : Type 0 where
+pub record IsCosted (refused : List ℕ) (end : Ending) (timetable : TimetableView) (matrix : MatrixView) (stated : List NamedBlock)
+    (outcome : OutcomeView) : Type 0 where
   pub plan : Plan
   pub least : List (List ℕ)
   pub scheduled : IsScheduled timetable matrix plan least
   pub done : outcome ≡ refusing_first refused (text_of_costs (network_of timetable matrix) (slots_by stated) least) end
   pub says : Says (network_of timetable matrix) (slots_by stated) least (standing_of (network_of timetable matrix) (slots_by stated) least)
-  pub nothing : IsLeast (network_of timetable matrix) (slots_by stated) → standing_of (network_of timetable matrix) (slots_by stated) least ≡ Nothing
+  pub nothing : IsLeast (network_of timetable matrix) (slots_by stated)
+      → standing_of (network_of timetable matrix) (slots_by stated) least ≡ Nothing
 
 -- what is put of stated blocks: their misfits, and that they are no blocking; or where there is none their cost
 abbrev pub IsJudged : List ℕ → Ending → TimetableView → MatrixView → List NamedBlock → List Misfit → OutcomeView → Type 0
@@ -77,7 +79,8 @@ stated_of said trips = stated_in trips (standing said) (chosen_in said.settings 
 pub record IsAudited (said : FeedView) (trips : TableView) (outcome : OutcomeView) : Type 0 where
   pub matrix : MatrixView
   pub matrix_is : IsMatrixFor said matrix
-  pub judged : IsJudged (refused_of said) (ending_of said) (standing said) matrix (stated_of said trips) (misfits_in (standing said) matrix (stated_of said trips)) outcome
+  pub judged : IsJudged (refused_of said) (ending_of said) (standing said) matrix (stated_of said trips)
+      (misfits_in (standing said) matrix (stated_of said trips)) outcome
   pub no : outcome.ending ≡ ending.No → ¬ IsBlocking (network_of (standing said) matrix) (slots_by (stated_of said trips))
   pub blocking : outcome.ending ≢ ending.No → IsBlocking (network_of (standing said) matrix) (slots_by (stated_of said trips))
 
@@ -85,7 +88,8 @@ pub record IsAudited (said : FeedView) (trips : TableView) (outcome : OutcomeVie
 -- text is refused
 abbrev pub AuditsOf : FeedView → TableView → OutcomeView → Type 0
 AuditsOf said trips outcome =
-    IsRefusedName trips (chosen_in said.settings trips) outcome ⊎ (AreNames trips (chosen_in said.settings trips) × IsAudited said trips outcome)
+    IsRefusedName trips (chosen_in said.settings trips) outcome
+    ⊎ (AreNames trips (chosen_in said.settings trips) × IsAudited said trips outcome)
 
 abbrev pub AuditsBy : FeedView → Result TableView FeedFault → OutcomeView → Type 0
 AuditsBy said (Err refused) outcome = outcome ≡ refusing refused

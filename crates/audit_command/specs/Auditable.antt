@@ -16,7 +16,8 @@ use Rattle.audit_command.specs.declared.audit.Auditable.TheVariants.{Trips, Refu
 
 -- the table with its selected records, where the `block_id` of each is text; else the first that is not is refused
 abbrev pub IsAuditable : SettingsView → Result TableView FeedFault → Auditable → Type 0
-IsAuditable settings (Ok trips) (Trips table chosen) = (table ≡ trips) × (chosen.items ≡ chosen_in settings trips) × AreNames trips (chosen_in settings trips)
+IsAuditable settings (Ok trips) (Trips table chosen) = (table ≡ trips) × (chosen.items ≡ chosen_in settings trips)
+    × AreNames trips (chosen_in settings trips)
 IsAuditable settings (Ok trips) (Refused outcome) = IsRefusedName trips (chosen_in settings trips) outcome
 IsAuditable settings (Err refused) (Trips table chosen) = ⊥
 IsAuditable settings (Err refused) (Refused outcome) = outcome ≡ refusing refused

@@ -17,7 +17,8 @@ short_text (Some minutes) = codes " short by " ++ decimal minutes
 -- the line of a misfit: its block, its two trips, and what is wrong
 unfoldable pub misfit_line : TimetableView → List NamedBlock → Misfit → List ℕ
 misfit_line timetable stated misfit =
-    codes "block " ++ (block_at stated misfit.block).name ++ codes ": " ++ (slot_at timetable misfit.before).name ++ codes " to " ++ (slot_at timetable misfit.after).name
+    codes "block " ++ (block_at stated misfit.block).name ++ codes ": " ++ (slot_at timetable misfit.before).name ++ codes " to "
+    ++ (slot_at timetable misfit.after).name
     ++ short_text misfit.short ++ 10 ∷ []
 
 -- the lines of misfits, and how many they are
@@ -38,4 +39,5 @@ cost_line vehicles minutes = codes "vehicles " ++ (decimal vehicles ++ (codes ",
 -- the cost of stated blocks, that of least ones, and how the first compare with the second
 unfoldable pub costs_text : ℕ → ℕ → ℕ → ℕ → List ℕ
 costs_text vehicles minutes least_vehicles least_minutes =
-    cost_line vehicles minutes ++ (codes "least " ++ (cost_line least_vehicles least_minutes ++ above_line (above_by vehicles minutes least_vehicles least_minutes)))
+    cost_line vehicles minutes ++ (codes "least "
+    ++ (cost_line least_vehicles least_minutes ++ above_line (above_by vehicles minutes least_vehicles least_minutes)))

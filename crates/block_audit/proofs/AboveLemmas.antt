@@ -8,7 +8,8 @@ use Rattle.block_audit.specs.Laws.{standing, Says}
 
 module _ (network : Network) (blocks least : List (List ℕ)) where
   -- blocks that cost as little as least ones are least
-  as-good : IsBlocking network blocks → IsLeast network least → length blocks ≤ length least → empty_minutes network blocks ≤ empty_minutes network least → length blocks ≡ length least → IsLeast network blocks
+  as-good : IsBlocking network blocks → IsLeast network least → length blocks ≤ length least
+      → empty_minutes network blocks ≤ empty_minutes network least → length blocks ≡ length least → IsLeast network blocks
   as-good are is few short count = record {
     fewest = record { blocking = are; fewest = λ others them. omega (arith, few, is.fewest.fewest others them) };
     shortest = λ others them same. omega (arith, short, is.shortest others them (omega (arith, same, count)));
@@ -29,16 +30,22 @@ module _ (network : Network) (blocks least : List (List ℕ)) where
           as-good are is (omega (arith, same)) (ltb-false (empty_minutes network least) (empty_minutes network blocks) e) same
 
       by-vehicles : (b : Bool) → nat_lt (length least) (length blocks) ≡ b
-          → Says network blocks least (if b then Vehicles (length blocks - length least) else (if nat_lt (empty_minutes network least) (empty_minutes network blocks) then Minutes (empty_minutes network blocks - empty_minutes network least) else Nothing))
+          → Says network blocks least (if b then Vehicles (length blocks - length least)
+          else (if nat_lt (empty_minutes network least) (empty_minutes network blocks) then Minutes
+          (empty_minutes network blocks - empty_minutes network least) else Nothing))
       by-vehicles true e =
           let above = ltb-true (length least) (length blocks) e in
           (omega (arith, above), omega (arith, above))
       by-vehicles false e =
-          by-minutes (nat_lt (empty_minutes network least) (empty_minutes network blocks)) refl (omega (arith, fewer, ltb-false (length least) (length blocks) e))
+          by-minutes (nat_lt (empty_minutes network least) (empty_minutes network blocks)) refl
+          (omega (arith, fewer, ltb-false (length least) (length blocks) e))
 
   pub standing-least : IsLeast network blocks → IsLeast network least → standing network blocks least ≡ Nothing
   standing-least are is =
-      let same : length blocks ≡ length least = omega (arith, are.fewest.fewest least is.fewest.blocking, is.fewest.fewest blocks are.fewest.blocking) in
+      let same : length blocks ≡ length least =
+      omega (arith, are.fewest.fewest least is.fewest.blocking, is.fewest.fewest blocks are.fewest.blocking) in
       let vehicles = le-ltb (length least) (length blocks) (omega (arith, same)) in
-      let minutes = le-ltb (empty_minutes network least) (empty_minutes network blocks) (are.shortest least is.fewest.blocking (sym same)) in
-      λ i. if vehicles i then Vehicles (length blocks - length least) else (if minutes i then Minutes (empty_minutes network blocks - empty_minutes network least) else Nothing)
+      let minutes = le-ltb (empty_minutes network least) (empty_minutes network blocks)
+      (are.shortest least is.fewest.blocking (sym same)) in
+      λ i. if vehicles i then Vehicles (length blocks - length least)
+      else (if minutes i then Minutes (empty_minutes network blocks - empty_minutes network least) else Nothing)

@@ -1,5 +1,6 @@
 -- Blocks are such as vehicles can make exactly where they have no misfit.
-use Rattle.std.proofs.Common.{◌≡◌, ℕ, ◌+◌, ◌<◌, Bool, true, false, List, [], ◌∷◌, ◌++◌, length, None, Some, if◌then◌else◌, refl, sym, ap, subst, ◌∙◌, arith}
+use Rattle.std.proofs.Common.{◌≡◌, ℕ, ◌+◌, ◌<◌, Bool, true, false, List, [], ◌∷◌, ◌++◌, length, None, Some, if◌then◌else◌, refl, sym, ap}
+use Rattle.std.proofs.Common.{subst, ◌∙◌, arith}
 use Rattle.std.specs.List.{AllByRecursion}
 use Rattle.std.specs.Option.{is_some}
 use Rattle.trip_model.specs.Blocking.{Follow, IsBlock}
@@ -23,11 +24,13 @@ empty-front (x ∷ xs) ys e = absurd (cons-empty x (xs ++ ys) e)
 
 module _ (timetable : TimetableView) (matrix : MatrixView) where
   -- one pair
-  fits-from : (b : Bool) (misfit : Misfit) (rest : List Misfit) → with_misfit (if b then None else Some misfit) rest ≡ [] → (b ≡ true) × (rest ≡ [])
+  fits-from : (b : Bool) (misfit : Misfit) (rest : List Misfit) → with_misfit (if b then None else Some misfit) rest ≡ []
+      → (b ≡ true) × (rest ≡ [])
   fits-from true misfit rest e = (refl, e)
   fits-from false misfit rest e = absurd (cons-empty misfit rest e)
 
-  fits-to : (b : Bool) (misfit : Misfit) (rest : List Misfit) → b ≡ true → rest ≡ [] → with_misfit (if b then None else Some misfit) rest ≡ []
+  fits-to : (b : Bool) (misfit : Misfit) (rest : List Misfit) → b ≡ true → rest ≡ []
+      → with_misfit (if b then None else Some misfit) rest ≡ []
   fits-to b misfit rest e none = ap (λ b. with_misfit (if b then None else Some misfit) rest) e ∙ none
 
   follow-from : (block i : ℕ) (js : List ℕ) → misfits_after timetable matrix block i js ≡ [] → Follow (network_of timetable matrix) i js
@@ -39,9 +42,11 @@ module _ (timetable : TimetableView) (matrix : MatrixView) where
   follow-to : (block i : ℕ) (js : List ℕ) → Follow (network_of timetable matrix) i js → misfits_after timetable matrix block i js ≡ []
   follow-to block i [] follow = refl
   follow-to block i (j ∷ js) follow =
-      fits-to (is_some ((network_of timetable matrix).empty i j)) _ (misfits_after timetable matrix block j js) follow.0 (follow-to block j js follow.1)
+      fits-to (is_some ((network_of timetable matrix).empty i j)) _ (misfits_after timetable matrix block j js) follow.0
+      (follow-to block j js follow.1)
 
-  block-from : (block : ℕ) (slots : List ℕ) → 0 < length slots → block_misfits timetable matrix block slots ≡ [] → IsBlock (network_of timetable matrix) slots
+  block-from : (block : ℕ) (slots : List ℕ) → 0 < length slots → block_misfits timetable matrix block slots ≡ []
+      → IsBlock (network_of timetable matrix) slots
   block-from block [] filled e = absurd (omega (arith, filled))
   block-from block (i ∷ js) filled e = follow-from block i js e
 
@@ -50,14 +55,17 @@ module _ (timetable : TimetableView) (matrix : MatrixView) where
   block-to block (i ∷ js) is = follow-to block i js is
 
   -- all blocks
-  pub blocks-from : (number : ℕ) (stated : List NamedBlock) → AllByRecursion (λ b. 0 < length b.slots) stated → misfits_from timetable matrix number stated ≡ []
+  pub blocks-from : (number : ℕ) (stated : List NamedBlock) → AllByRecursion (λ b. 0 < length b.slots) stated
+      → misfits_from timetable matrix number stated ≡ []
       → AllByRecursion (IsBlock (network_of timetable matrix)) (slots_by stated)
   blocks-from number [] filled e = tt
   blocks-from number (b ∷ stated) filled e =
       let parts = empty-front (block_misfits timetable matrix number b.slots) (misfits_from timetable matrix (number + 1) stated) e in
       (block-from number b.slots filled.0 parts.0, blocks-from (number + 1) stated filled.1 parts.1)
 
-  pub blocks-to : (number : ℕ) (stated : List NamedBlock) → AllByRecursion (IsBlock (network_of timetable matrix)) (slots_by stated) → misfits_from timetable matrix number stated ≡ []
+  pub blocks-to : (number : ℕ) (stated : List NamedBlock) → AllByRecursion (IsBlock (network_of timetable matrix)) (slots_by stated)
+      → misfits_from timetable matrix number stated ≡ []
   blocks-to number [] each = refl
   blocks-to number (b ∷ stated) each =
-      ap (λ misfits. misfits ++ misfits_from timetable matrix (number + 1) stated) (block-to number b.slots each.0) ∙ blocks-to (number + 1) stated each.1
+      ap (λ misfits. misfits ++ misfits_from timetable matrix (number + 1) stated) (block-to number b.slots each.0)
+      ∙ blocks-to (number + 1) stated each.1

@@ -1,5 +1,6 @@
 -- In the blocks that are made by names each slot stands as often as in their order.
-use Rattle.std.proofs.Common.{◌≡◌, ◌⊎◌, inl, inr, ℕ, zero, suc, ◌+◌, ◌<◌, ◌≤◌, ◌==◌, ◌||◌, Bool, true, false, cond, List, [], ◌∷◌, length, map, filter, sum_by, if◌then◌else◌, refl, sym, ap, ◌∙◌, ⊎_elim, arith}
+use Rattle.std.proofs.Common.{◌≡◌, ◌⊎◌, inl, inr, ℕ, zero, suc, ◌+◌, ◌<◌, ◌≤◌, ◌==◌, ◌||◌, Bool, true, false, cond, List, [], ◌∷◌, length}
+use Rattle.std.proofs.Common.{map, filter, sum_by, if◌then◌else◌, refl, sym, ap, ◌∙◌, ⊎_elim, arith}
 use Rattle.std.specs.Str.{bytes_eq}
 use Rattle.std.proofs.lemmas.Bool.{cases_Bool, eq-eqb, ne_eqb, eqb-true, false≢true, false_from_ne_true}
 use Rattle.std.proofs.lemmas.List.Sums.{sum_by-cons, sum_by-append}
@@ -47,12 +48,16 @@ pub times-blocks : (names : List (List ℕ)) (order : List ℕ) (s : ℕ) (xs : 
     ≡ sum_by (λ f. cond (begins names order f) (times s (block_from names order f).slots) 0) xs
 times-blocks names order s [] = refl
 times-blocks names order s (x ∷ xs) =
-    by (begins names order x) ∙ ap (λ n. cond (begins names order x) (times s (block_from names order x).slots) 0 + n) (times-blocks names order s xs)
+    by (begins names order x) ∙ ap (λ n. cond (begins names order x) (times s (block_from names order x).slots) 0 + n)
+    (times-blocks names order s xs)
     ∙ sym (sum_by-cons (λ f. cond (begins names order f) (times s (block_from names order f).slots) 0) x xs)
   where
-    by : (b : Bool) → times s (slots_in (slots_by (map (block_from names order) (cond b (x ∷ filter (begins names order) xs) (filter (begins names order) xs)))))
-        ≡ cond b (times s (block_from names order x).slots) 0 + times s (slots_in (slots_by (map (block_from names order) (filter (begins names order) xs))))
-    by true = sum_by-append (λ y. cond (y == s) 1 0) (block_from names order x).slots (slots_in (slots_by (map (block_from names order) (filter (begins names order) xs))))
+    by : (b : Bool) → times s (slots_in
+        (slots_by (map (block_from names order) (cond b (x ∷ filter (begins names order) xs) (filter (begins names order) xs)))))
+        ≡ cond b (times s (block_from names order x).slots) 0 + times s
+        (slots_in (slots_by (map (block_from names order) (filter (begins names order) xs))))
+    by true = sum_by-append (λ y. cond (y == s) 1 0) (block_from names order x).slots
+        (slots_in (slots_by (map (block_from names order) (filter (begins names order) xs))))
     by false = omega arith
 
 -- sums of equal terms
@@ -72,7 +77,8 @@ pub record IsFirstOf (names : List (List ℕ)) (name : List ℕ) (order : List �
   pub stands : 0 < times x order
   pub first : (f : ℕ) → is_first names name order f ≡ (x == f)
 
-first-of : (names : List (List ℕ)) (name : List ℕ) (order : List ℕ) (s : ℕ) → is_of names name s ≡ true → 0 < times s order → (x : ℕ) × IsFirstOf names name order x
+first-of : (names : List (List ℕ)) (name : List ℕ) (order : List ℕ) (s : ℕ) → is_of names name s ≡ true → 0 < times s order
+    → (x : ℕ) × IsFirstOf names name order x
 first-of names name [] s named stands = absurd (omega arith)
 first-of names name (x ∷ order) s named stands = ⊎_elim
     (λ (e : is_of names name x ≡ true). (
@@ -102,14 +108,17 @@ module _ (names : List (List ℕ)) (order : List ℕ) (s : ℕ) where
   -- the term of a trip without a name, whose block is that trip
   term-alone : (f : ℕ) → is_alone names f ≡ true → term f ≡ one (f == s)
   term-alone f e =
-      (λ i. cond (e i || is_first names (name_at names f) order f) (times s (if e i then f ∷ [] else filter (is_of names (name_at names f)) order)) 0)
+      (λ i. cond (e i || is_first names (name_at names f) order f)
+      (times s (if e i then f ∷ [] else filter (is_of names (name_at names f)) order)) 0)
       ∙ times-cons s f []
       ∙ (let zero-less : one (f == s) + 0 ≡ one (f == s) = omega arith in zero-less)
 
   -- that of a trip of a name
-  term-named : (f : ℕ) → is_alone names f ≡ false → term f ≡ cond (is_first names (name_at names f) order f) (cond (is_of names (name_at names f) s) (times s order) 0) 0
+  term-named : (f : ℕ) → is_alone names f ≡ false
+      → term f ≡ cond (is_first names (name_at names f) order f) (cond (is_of names (name_at names f) s) (times s order) 0) 0
   term-named f e =
-      (λ i. cond (e i || is_first names (name_at names f) order f) (times s (if e i then f ∷ [] else filter (is_of names (name_at names f)) order)) 0)
+      (λ i. cond (e i || is_first names (name_at names f) order f)
+      (times s (if e i then f ∷ [] else filter (is_of names (name_at names f)) order)) 0)
       ∙ ap (λ n. cond (is_first names (name_at names f) order f) n 0) (times-filter (is_of names (name_at names f)) s order)
 
   alone-same : (f x : ℕ) → is_of names (name_at names f) x ≡ true → is_alone names x ≡ is_alone names f
@@ -134,7 +143,8 @@ module _ (names : List (List ℕ)) (order : List ℕ) (s : ℕ) where
       (cases_Bool (is_alone names f))
 
   -- a slot with a name stands in the block of the first trip of that name alone
-  term-of-named : is_alone names s ≡ false → (x : ℕ) → IsFirstOf names (name_at names s) order x → (f : ℕ) → term f ≡ cond (x == f) (times s order) 0
+  term-of-named : is_alone names s ≡ false → (x : ℕ) → IsFirstOf names (name_at names s) order x → (f : ℕ)
+      → term f ≡ cond (x == f) (times s order) 0
   term-of-named named x is f = ⊎_elim
       (λ (e : is_alone names f ≡ true).
       let x-named : is_alone names x ≡ false = alone-same s x is.named ∙ named in
@@ -151,7 +161,8 @@ module _ (names : List (List ℕ)) (order : List ℕ) (s : ℕ) where
       ∙ ap (λ b. cond b (times s order) 0) (is.first f))
       (λ (fails : is_of names (name_at names f) s ≡ false).
       let not-x : (x == f) ≡ false = ne_eqb x f (λ same.
-      false≢true (sym fails ∙ text-itself (name_at names s) (name_at names f) (sym (same-text (name_at names x) (name_at names s) is.named) ∙ ap (name_at names) same))) in
+      false≢true (sym fails ∙ text-itself (name_at names s) (name_at names f)
+      (sym (same-text (name_at names x) (name_at names s) is.named) ∙ ap (name_at names) same))) in
       term-named f e
       ∙ ap (λ b. cond (is_first names (name_at names f) order f) (cond b (times s order) 0) 0) fails
       ∙ zero-either (is_first names (name_at names f) order f)
@@ -200,7 +211,8 @@ at-most-one true = omega arith
 at-most-one false = omega arith
 
 -- each slot stands in the blocks as often as in their order, where it stands there once at the most
-pub times-blocks_by : (live : ℕ → Bool) (names : List (List ℕ)) (order : List ℕ) → StandsOnce live order → (s : ℕ) → times s (slots_in (slots_by (blocks_by names order))) ≡ times s order
+pub times-blocks_by : (live : ℕ → Bool) (names : List (List ℕ)) (order : List ℕ) → StandsOnce live order → (s : ℕ)
+    → times s (slots_in (slots_by (blocks_by names order))) ≡ times s order
 times-blocks_by live names order stands s =
     times-blocks names order s order ∙ ⊎_elim
     (λ (alone : is_alone names s ≡ true). sum_by-same (term names order s) (λ f. one (f == s)) order (term-of-alone names order s alone))
@@ -221,7 +233,8 @@ times-blocks_by live names order stands s =
 
     none-at : is_alone names s ≡ false → times s order ≡ 0 → (f : ℕ) → term names order s f ≡ 0
     none-at named fails f = ⊎_elim
-        (λ (e : is_alone names f ≡ true). term-alone names order s f e ∙ ap one (ne_eqb f s (λ same. false≢true (sym named ∙ ap (is_alone names) (sym same) ∙ e))))
+        (λ (e : is_alone names f ≡ true). term-alone names order s f e
+        ∙ ap one (ne_eqb f s (λ same. false≢true (sym named ∙ ap (is_alone names) (sym same) ∙ e))))
         (λ (e : is_alone names f ≡ false).
         term-named names order s f e
         ∙ ap (λ n. cond (is_first names (name_at names f) order f) (cond (is_of names (name_at names f) s) n 0) 0) fails

@@ -1,5 +1,6 @@
 -- A list of slots whose keys rise strictly is the only one of these slots whose keys rise.
-use Rattle.std.proofs.Common.{◌≡◌, ◌⊎◌, inl, inr, ℕ, ◌+◌, ◌<◌, ◌≤◌, ◌==◌, Bool, true, false, cond, List, [], ◌∷◌, filter, refl, sym, ap, subst, ◌∙◌, ⊎_elim, arith}
+use Rattle.std.proofs.Common.{◌≡◌, ◌⊎◌, inl, inr, ℕ, ◌+◌, ◌<◌, ◌≤◌, ◌==◌, Bool, true, false, cond, List, [], ◌∷◌, filter, refl, sym, ap}
+use Rattle.std.proofs.Common.{subst, ◌∙◌, ⊎_elim, arith}
 use Rattle.std.specs.List.{AllByRecursion}
 use Rattle.std.proofs.lemmas.Bool.{cases_Bool, eq-eqb, eqb-true}
 use Rattle.trip_model.specs.Blocking.{times, Follow, IsBlock}
@@ -17,7 +18,8 @@ all-standing : (P : ℕ → Type 0) (xs : List ℕ) → AllByRecursion P xs → 
 all-standing P [] all s some = absurd (omega (arith, some))
 all-standing P (x ∷ xs) all s some = ⊎_elim
     (λ (e : (x == s) ≡ true). subst P (eqb-true x s e) all.0)
-    (λ (e : (x == s) ≡ false). let none : ◌≡◌ {A = ℕ} (cond (x == s) 1 0) 0 = ap (λ b. cond b 1 0) e in all-standing P xs all.1 s (omega (arith, some, times-cons s x xs, none)))
+    (λ (e : (x == s) ≡ false). let none : ◌≡◌ {A = ℕ} (cond (x == s) 1 0) 0 = ap (λ b. cond b 1 0) e in
+    all-standing P xs all.1 s (omega (arith, some, times-cons s x xs, none)))
     (cases_Bool (x == s))
 
 times-head : (x : ℕ) (xs : List ℕ) → times x (x ∷ xs) ≡ 1 + times x xs
@@ -26,7 +28,8 @@ times-head x xs = times-cons x x xs ∙ ap (λ b. cond b 1 0 + times x xs) (eq-e
 at-least : (x y : ℕ) (ys : List ℕ) → 0 < times x (y ∷ ys) → (y ≡ x) ⊎ (0 < times x ys)
 at-least x y ys some = ⊎_elim
     (λ (e : (y == x) ≡ true). inl (eqb-true y x e))
-    (λ (e : (y == x) ≡ false). let none : ◌≡◌ {A = ℕ} (cond (y == x) 1 0) 0 = ap (λ b. cond b 1 0) e in inr (omega (arith, some, times-cons x y ys, none)))
+    (λ (e : (y == x) ≡ false). let none : ◌≡◌ {A = ℕ} (cond (y == x) 1 0) 0 = ap (λ b. cond b 1 0) e in
+    inr (omega (arith, some, times-cons x y ys, none)))
     (cases_Bool (y == x))
 
 pub same-order : (key : ℕ → ℕ) (xs ys : List ℕ) → Climb key xs → RiseBy key ys → ((s : ℕ) → times s xs ≡ times s ys) → xs ≡ ys
@@ -51,18 +54,21 @@ same-order key (x ∷ xs) (y ∷ ys) climb rise same =
     λ i. sym heads i ∷ rest i
 
 -- along trips that fit departures rise strictly
-all-further : (key : ℕ → ℕ) (a b : ℕ) (xs : List ℕ) → key a < key b → AllByRecursion (λ y. key b < key y) xs → AllByRecursion (λ y. key a < key y) xs
+all-further : (key : ℕ → ℕ) (a b : ℕ) (xs : List ℕ) → key a < key b → AllByRecursion (λ y. key b < key y) xs
+    → AllByRecursion (λ y. key a < key y) xs
 all-further key a b [] before all = tt
 all-further key a b (x ∷ xs) before all = (omega (arith, before, all.0), all-further key a b xs before all.1)
 
-climb-after : (network : Network) (departs : ℕ → ℕ) → AreDepartures network departs → (i : ℕ) (js : List ℕ) → Follow network i js → Climb departs (i ∷ js)
+climb-after : (network : Network) (departs : ℕ → ℕ) → AreDepartures network departs → (i : ℕ) (js : List ℕ) → Follow network i js
+    → Climb departs (i ∷ js)
 climb-after network departs clock i [] follow = (tt, tt)
 climb-after network departs clock i (j ∷ js) follow =
     let rest = climb-after network departs clock j js follow.1 in
     let before = clock.rises i j follow.0 in
     ((before, all-further departs i j js before rest.0), rest)
 
-pub climb-block : (network : Network) (departs : ℕ → ℕ) → AreDepartures network departs → (block : List ℕ) → IsBlock network block → Climb departs block
+pub climb-block : (network : Network) (departs : ℕ → ℕ) → AreDepartures network departs → (block : List ℕ) → IsBlock network block
+    → Climb departs block
 climb-block network departs clock [] is = absurd is
 climb-block network departs clock (i ∷ js) is = climb-after network departs clock i js is
 

@@ -1,5 +1,6 @@
 -- What a loop over records has so far, and what holds of each misfit.
-use Rattle.std.proofs.Common.{◌≡◌, ℕ, zero, suc, ◌+◌, ◌<◌, ◌≤◌, Bool, cond, List, [], ◌∷◌, ◌++◌, length, map, filter, get_or, drop, None, Some, Result, Ok, Err, true, false, if◌then◌else◌, refl, sym, ap, subst, ◌∙◌, arith}
+use Rattle.std.proofs.Common.{◌≡◌, ℕ, zero, suc, ◌+◌, ◌<◌, ◌≤◌, Bool, cond, List, [], ◌∷◌, ◌++◌, length, map, filter, get_or, drop, None}
+use Rattle.std.proofs.Common.{Some, Result, Ok, Err, true, false, if◌then◌else◌, refl, sym, ap, subst, ◌∙◌, arith}
 use Rattle.std.specs.Prelude.{All, IfOk}
 use Rattle.std.specs.List.{AllByRecursion, range_with_len}
 use Rattle.std.specs.Option.{is_some}
@@ -31,10 +32,12 @@ passing-more f p n =
     one false = refl
 
 -- what holds of each slot of all blocks holds of each slot of one
-pub block-all : (P : ℕ → Type 0) (stated : List NamedBlock) (b : ℕ) → b < length stated → All (All P) (slots_by stated) → All P (block_at stated b).slots
+pub block-all : (P : ℕ → Type 0) (stated : List NamedBlock) (b : ℕ) → b < length stated → All (All P) (slots_by stated)
+    → All P (block_at stated b).slots
 block-all P [] b within all = absurd (omega (arith, within))
 block-all P (block ∷ stated) zero within all = All-head (All P) block.slots (slots_by stated) all
-block-all P (block ∷ stated) (suc b) within all = block-all P stated b (omega (arith, within)) (All-tail (All P) block.slots (slots_by stated) all)
+block-all P (block ∷ stated) (suc b) within all =
+    block-all P stated b (omega (arith, within)) (All-tail (All P) block.slots (slots_by stated) all)
 
 -- the slots of one block
 pub slots-at : (stated : List NamedBlock) (b : ℕ) → (block_at stated b).slots ≡ get_or (slots_by stated) b []
@@ -50,7 +53,8 @@ made-all P names order (Ok stated) all is = subst (λ (s : List NamedBlock). All
 
 -- the misfits are all where no block is left
 pub all-made : (timetable : TimetableView) (matrix : MatrixView) (stated : List NamedBlock) (made : List Misfit) (b : ℕ) → length stated ≤ b
-    → made ++ misfits_from timetable matrix b (drop b stated) ≡ misfits_in timetable matrix stated → made ≡ misfits_in timetable matrix stated
+    → made ++ misfits_from timetable matrix b (drop b stated) ≡ misfits_in timetable matrix stated
+    → made ≡ misfits_in timetable matrix stated
 all-made timetable matrix stated made b past e =
     sym (append-nil made) ∙ ap (λ xs. made ++ misfits_from timetable matrix b xs) (sym (drop_all b stated past)) ∙ e
 
@@ -61,16 +65,21 @@ module _ (timetable : TimetableView) (matrix : MatrixView) where
     pub before : Runs timetable misfit.before
     pub after : Runs timetable misfit.after
 
-  after-of : (below block i : ℕ) (js : List ℕ) → block < below → Runs timetable i → AllByRecursion (Runs timetable) js → AllByRecursion (IsOf below) (misfits_after timetable matrix block i js)
+  after-of : (below block i : ℕ) (js : List ℕ) → block < below → Runs timetable i → AllByRecursion (Runs timetable) js
+      → AllByRecursion (IsOf below) (misfits_after timetable matrix block i js)
   after-of below block i [] within runs all = tt
-  after-of below block i (j ∷ js) within runs all = by (is_some ((network_of timetable matrix).empty i j)) (after-of below block j js within all.0 all.1)
+  after-of below block i (j ∷ js) within runs all =
+      by (is_some ((network_of timetable matrix).empty i j)) (after-of below block j js within all.0 all.1)
     where
       by : (b : Bool) → AllByRecursion (IsOf below) (misfits_after timetable matrix block j js)
-          → AllByRecursion (IsOf below) (with_misfit (if b then None else Some (record { block = block; before = i; after = j; short = short_by timetable matrix i j })) (misfits_after timetable matrix block j js))
+          → AllByRecursion (IsOf below) (with_misfit
+          (if b then None else Some (record { block = block; before = i; after = j; short = short_by timetable matrix i j }))
+          (misfits_after timetable matrix block j js))
       by true rest = rest
       by false rest = (record { within = within; before = runs; after = all.0 }, rest)
 
-  block-of : (below block : ℕ) (slots : List ℕ) → block < below → AllByRecursion (Runs timetable) slots → AllByRecursion (IsOf below) (block_misfits timetable matrix block slots)
+  block-of : (below block : ℕ) (slots : List ℕ) → block < below → AllByRecursion (Runs timetable) slots
+      → AllByRecursion (IsOf below) (block_misfits timetable matrix block slots)
   block-of below block [] within all = tt
   block-of below block (i ∷ js) within all = after-of below block i js within all.0 all.1
 
@@ -78,12 +87,16 @@ module _ (timetable : TimetableView) (matrix : MatrixView) where
   both P [] ys first second = second
   both P (x ∷ xs) ys first second = (first.0, both P xs ys first.1 second)
 
-  from-of : (below number : ℕ) (stated : List NamedBlock) → number + length stated ≤ below → All (All (Runs timetable)) (slots_by stated) → AllByRecursion (IsOf below) (misfits_from timetable matrix number stated)
+  from-of : (below number : ℕ) (stated : List NamedBlock) → number + length stated ≤ below → All (All (Runs timetable)) (slots_by stated)
+      → AllByRecursion (IsOf below) (misfits_from timetable matrix number stated)
   from-of below number [] within all = tt
   from-of below number (b ∷ stated) within all =
       both (IsOf below) (block_misfits timetable matrix number b.slots) (misfits_from timetable matrix (number + 1) stated)
-      (block-of below number b.slots (omega (arith, within)) (recursion_from_All (Runs timetable) b.slots (All-head (All (Runs timetable)) b.slots (slots_by stated) all)))
+      (block-of below number b.slots (omega (arith, within))
+      (recursion_from_All (Runs timetable) b.slots (All-head (All (Runs timetable)) b.slots (slots_by stated) all)))
       (from-of below (number + 1) stated (omega (arith, within)) (All-tail (All (Runs timetable)) b.slots (slots_by stated) all))
 
-  pub misfits-of : (stated : List NamedBlock) → All (All (Runs timetable)) (slots_by stated) → All (IsOf (length stated)) (misfits_in timetable matrix stated)
-  misfits-of stated all = All-from_recursion (IsOf (length stated)) (misfits_in timetable matrix stated) (from-of (length stated) 0 stated (omega arith) all)
+  pub misfits-of : (stated : List NamedBlock) → All (All (Runs timetable)) (slots_by stated)
+      → All (IsOf (length stated)) (misfits_in timetable matrix stated)
+  misfits-of stated all = All-from_recursion (IsOf (length stated)) (misfits_in timetable matrix stated)
+      (from-of (length stated) 0 stated (omega arith) all)

@@ -61,7 +61,8 @@ standing network blocks least = above_by (length blocks) (empty_minutes network 
 abbrev pub Says : Network → List (List ℕ) → List (List ℕ) → Above → Type 0
 Says network blocks least Nothing = IsLeast network blocks
 Says network blocks least (Vehicles more) = (more ≢ 0) × (length blocks ≡ length least + more)
-Says network blocks least (Minutes more) = (more ≢ 0) × (length blocks ≡ length least) × (empty_minutes network blocks ≡ empty_minutes network least + more)
+Says network blocks least (Minutes more) = (more ≢ 0) × (length blocks ≡ length least)
+    × (empty_minutes network blocks ≡ empty_minutes network least + more)
 
 abbrev pub IsSaid : Type 0
 IsSaid =

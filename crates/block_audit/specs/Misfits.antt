@@ -11,7 +11,8 @@ use Rattle.block_audit.specs.Stated.{NamedBlock}
 -- first, the least walk and the departure of the second decide that
 abbrev pub short_by : TimetableView → MatrixView → ℕ → ℕ → Option ℕ
 short_by timetable matrix i j =
-    option_map (λ minutes. (slot_at timetable i).trip.ends + minutes - (slot_at timetable j).trip.departs) (walk_between timetable (walk matrix) i j)
+    option_map (λ minutes. (slot_at timetable i).trip.ends + minutes - (slot_at timetable j).trip.departs)
+    (walk_between timetable (walk matrix) i j)
 
 -- the misfit of two neighbours of the block of that number; None where the second fits after the first
 abbrev pub misfit_between : TimetableView → MatrixView → ℕ → ℕ → ℕ → Option Misfit
@@ -27,7 +28,8 @@ with_misfit (Some misfit) misfits = misfit ∷ misfits
 -- the misfits of the trip of i and those after it in a block, in the order of the trips
 abbrev pub misfits_after : TimetableView → MatrixView → ℕ → ℕ → List ℕ → List Misfit
 misfits_after timetable matrix block i [] = []
-misfits_after timetable matrix block i (j ∷ js) = with_misfit (misfit_between timetable matrix block i j) (misfits_after timetable matrix block j js)
+misfits_after timetable matrix block i (j ∷ js) =
+    with_misfit (misfit_between timetable matrix block i j) (misfits_after timetable matrix block j js)
 
 -- the misfits of a block
 abbrev pub block_misfits : TimetableView → MatrixView → ℕ → List ℕ → List Misfit
@@ -37,7 +39,8 @@ block_misfits timetable matrix block (i ∷ js) = misfits_after timetable matrix
 -- the misfits of blocks, block by block; the first block has that number
 abbrev pub misfits_from : TimetableView → MatrixView → ℕ → List NamedBlock → List Misfit
 misfits_from timetable matrix number [] = []
-misfits_from timetable matrix number (block ∷ blocks) = block_misfits timetable matrix number block.slots ++ misfits_from timetable matrix (number + 1) blocks
+misfits_from timetable matrix number (block ∷ blocks) = block_misfits timetable matrix number block.slots
+    ++ misfits_from timetable matrix (number + 1) blocks
 
 -- all misfits
 abbrev pub misfits_in : TimetableView → MatrixView → List NamedBlock → List Misfit

@@ -94,7 +94,8 @@ pub fn misfits(
     requires runs { All (All (Runs timetable.now)) (slots_by stated.now) }
     ensures misfits { IfOk result (λ misfits. misfits.items ≡ spec.misfits_in timetable.now matrix.now stated.now) }
     ensures blocks { IfOk result (λ misfits. All (λ misfit. misfit.block < length stated.now) misfits.items) }
-    ensures slots { IfOk result (λ misfits. All (λ misfit. Runs timetable.now misfit.before × Runs timetable.now misfit.after) misfits.items) }
+    ensures slots { IfOk result (λ misfits. All (λ misfit. Runs timetable.now misfit.before × Runs timetable.now misfit.after)
+        misfits.items) }
 {
     let mut misfits = Vec::new(alloc);
     for b in 0..stated.len() {

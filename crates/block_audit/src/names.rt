@@ -25,7 +25,8 @@ impl<'a> Model for Names<'a> {
 // Appends the name in a field, where its record is selected.
 fn push_name<'a>(names: &mut Vec<&'a str>, field: &'a [u8], chosen: bool) -> Result<(), Memory>
     requires { chosen ≡ true → IsUtf8 field.now }
-    ensures { OnOk result (map (λ name. name.now) names.new.items ≡ map (λ name. name.now) names.old.items ++ cond chosen (field.now ∷ []) []) }
+    ensures { OnOk result (map (λ name. name.now) names.new.items ≡ map (λ name. name.now) names.old.items
+        ++ cond chosen (field.now ∷ []) []) }
 {
     if chosen {
         names.push(text_of(field))?;

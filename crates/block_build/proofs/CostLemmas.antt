@@ -1,5 +1,6 @@
 -- The empty minutes of a blocking: which slots stand in it, and how many minutes it has at the most.
-use Rattle.std.proofs.Common.{◌≡◌, ℕ, zero, suc, ◌+◌, ◌*◌, ◌<◌, ◌≤◌, ◌==◌, Bool, true, false, cond, List, [], ◌∷◌, length, drop, get_or, filter, Option, None, Some, refl, ap, ◌∙◌, ⊎_elim, arith}
+use Rattle.std.proofs.Common.{◌≡◌, ℕ, zero, suc, ◌+◌, ◌*◌, ◌<◌, ◌≤◌, ◌==◌, Bool, true, false, cond, List, [], ◌∷◌, length, drop, get_or}
+use Rattle.std.proofs.Common.{filter, Option, None, Some, refl, ap, ◌∙◌, ⊎_elim, arith}
 use Rattle.std.specs.List.{range_with_len, AllByRecursion}
 use Rattle.std.proofs.Math.Seq.{drop-cons}
 use Rattle.std.specs.Option.{IsSome, unwrap_or}
@@ -24,10 +25,12 @@ stands-there (s ∷ slots) (suc k) d h = omega (arith, times-cons (get_or slots 
 stands-among : (blocks : List (List ℕ)) (n s : ℕ) → times s (get_or blocks n []) ≤ times s (slots_in blocks)
 stands-among [] n s = omega arith
 stands-among (block ∷ blocks) zero s = omega (arith, sum_by-append (λ x. cond (x == s) 1 0) block (slots_in blocks))
-stands-among (block ∷ blocks) (suc n) s = omega (arith, sum_by-append (λ x. cond (x == s) 1 0) block (slots_in blocks), stands-among blocks n s)
+stands-among (block ∷ blocks) (suc n) s =
+    omega (arith, sum_by-append (λ x. cond (x == s) 1 0) block (slots_in blocks), stands-among blocks n s)
 
 -- each slot of a block of a blocking is live
-pub block-live : (network : Network) (blocks : List (List ℕ)) → IsBlocking network blocks → (n k d : ℕ) → k < length (get_or blocks n []) → network.live (get_or (get_or blocks n []) k d) ≡ true
+pub block-live : (network : Network) (blocks : List (List ℕ)) → IsBlocking network blocks → (n k d : ℕ) → k < length (get_or blocks n [])
+    → network.live (get_or (get_or blocks n []) k d) ≡ true
 block-live network blocks are n k d h =
     let s = get_or (get_or blocks n []) k d in
     ⊎_elim
@@ -38,7 +41,8 @@ block-live network blocks are n k d h =
     (cases_Bool (network.live s))
 
 -- each block of a blocking is one that a vehicle can make
-pub block-made : (network : Network) (blocks : List (List ℕ)) → AllByRecursion (IsBlock network) blocks → (n : ℕ) → n < length blocks → IsBlock network (get_or blocks n [])
+pub block-made : (network : Network) (blocks : List (List ℕ)) → AllByRecursion (IsBlock network) blocks → (n : ℕ) → n < length blocks
+    → IsBlock network (get_or blocks n [])
 block-made network [] each n h = absurd (omega arith)
 block-made network (block ∷ blocks) each zero h = each.0
 block-made network (block ∷ blocks) each (suc n) h = block-made network blocks each.1 n (omega arith)
@@ -48,7 +52,8 @@ fitting (Some m) is = (m, refl)
 fitting None is = absurd (false≢true is)
 
 -- no chain has more than the longest walks and the longest way home
-chain-most : (network : Network) (slots : ℕ) → IsDay network slots → (i : ℕ) (js : List ℕ) → Follow network i js → minutes_after network i js ≤ 8191 * length js + 1440
+chain-most : (network : Network) (slots : ℕ) → IsDay network slots → (i : ℕ) (js : List ℕ) → Follow network i js
+    → minutes_after network i js ≤ 8191 * length js + 1440
 chain-most network slots day i [] follow = omega (arith, day.home i)
 chain-most network slots day i (j ∷ js) follow =
     let m = fitting (network.empty i j) follow.0 in
@@ -84,9 +89,15 @@ standing-few live n slots within stands =
     )
 
 -- the empty minutes of a blocking are fewer than 2 to the 32
-pub minutes-few : (network : Network) (slots : ℕ) → IsDay network slots → (blocks : List (List ℕ)) → IsBlocking network blocks → empty_minutes network blocks < 4294967296
+pub minutes-few : (network : Network) (slots : ℕ) → IsDay network slots → (blocks : List (List ℕ)) → IsBlocking network blocks
+    → empty_minutes network blocks < 4294967296
 minutes-few network slots day blocks are =
-    omega (arith, blocks-most network slots day blocks are.each, standing-few network.live slots (slots_in blocks) day.within are.stands, day.few)
+    omega (
+      arith,
+      blocks-most network slots day blocks are.each,
+      standing-few network.live slots (slots_in blocks) day.within are.stands,
+      day.few,
+    )
 
 -- the minutes of the blocks from one on are those of this block and of those after it
 pub minutes-from : (network : Network) (blocks : List (List ℕ)) (n : ℕ) → n < length blocks

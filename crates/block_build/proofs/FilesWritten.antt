@@ -1,5 +1,6 @@
 -- Records of blocks and of prices, as they are written one after the other.
-use Rattle.std.proofs.Common.{◌≡◌, ℕ, ◌+◌, List, [], ◌∷◌, ◌++◌, length, get_or, map, Result, Ok, Err, sym, ap, subst, ◌∙◌, append_assoc, arith}
+use Rattle.std.proofs.Common.{◌≡◌, ℕ, ◌+◌, List, [], ◌∷◌, ◌++◌, length, get_or, map, Result, Ok, Err, sym, ap, subst, ◌∙◌, append_assoc}
+use Rattle.std.proofs.Common.{arith}
 use Rattle.std.specs.Prelude.{IsUtf8, IfOk, OnOk}
 use Rattle.std.specs.List.{flat_map, range_with_len}
 use Rattle.std.proofs.lemmas.Grind.{flat_map-append}
@@ -11,20 +12,24 @@ use Rattle.gtfs_tables.specs.Laws.{StaysText}
 use Rattle.gtfs_tables.specs.Writing.{record_text, records_text}
 use Rattle.deadhead_matrix.specs.Matrix.{MatrixView}
 use Rattle.trip_model.specs.Timetable.{TimetableView}
-use Rattle.block_build.specs.Files.{block_header, records_of_block, block_records, blocks_text, price_header, price_record, price_records, prices_text}
+use Rattle.block_build.specs.Files.{block_header, records_of_block, block_records, blocks_text, price_header, price_record, price_records}
+use Rattle.block_build.specs.Files.{prices_text}
 use Rattle.block_build.proofs.LinesWritten.{flat_map-range_more}
 
 -- a record of three texts is text
-three-text : (first second third : List ℕ) → StaysText → IsUtf8 first → IsUtf8 second → IsUtf8 third → IsUtf8 (record_text (first ∷ second ∷ third ∷ []))
+three-text : (first second third : List ℕ) → StaysText → IsUtf8 first → IsUtf8 second → IsUtf8 third
+    → IsUtf8 (record_text (first ∷ second ∷ third ∷ []))
 three-text first second third law a b c =
     law (first ∷ second ∷ third ∷ [])
     (All-cons IsUtf8 first (second ∷ third ∷ []) a (All-cons IsUtf8 second (third ∷ []) b (All-cons IsUtf8 third [] c (All-nil IsUtf8))))
 
 -- what is text stays so with a record of three texts
-pub stays-text : {E : Type 0} (result : Result (Unit {0}) E) (before after first second third : List ℕ) → StaysText → IsUtf8 first → IsUtf8 second → IsUtf8 third
+pub stays-text : {E : Type 0} (result : Result (Unit {0}) E) (before after first second third : List ℕ) → StaysText → IsUtf8 first
+    → IsUtf8 second → IsUtf8 third
     → OnOk result (after ≡ before ++ record_text (first ∷ second ∷ third ∷ [])) → OnOk result (IsUtf8 before → IsUtf8 after)
 stays-text (Ok x) before after first second third law a b c written =
-    λ text. subst IsUtf8 (sym written) (IsUtf8-append before (record_text (first ∷ second ∷ third ∷ [])) text (three-text first second third law a b c))
+    λ text. subst IsUtf8 (sym written)
+    (IsUtf8-append before (record_text (first ∷ second ∷ third ∷ [])) text (three-text first second third law a b c))
 stays-text (Err e) before after first second third law a b c written = tt
 
 -- the text after the record of one more number
@@ -51,12 +56,15 @@ records-more f before now next n so_far written =
     ∙ flat_map-append record_text (flat_map f (range_with_len 0 n)) (f n)))
 
 -- the text of all blocks
-pub blocks-written : (t : TimetableView) (matrix : MatrixView) (prefix : List ℕ) (blocks : List (List ℕ)) (now : List ℕ) (n : ℕ) → length blocks ≡ n
-    → now ≡ record_text block_header ++ records_text (flat_map (λ n. records_of_block t matrix prefix n (get_or blocks n [])) (range_with_len 0 n))
+pub blocks-written : (t : TimetableView) (matrix : MatrixView) (prefix : List ℕ) (blocks : List (List ℕ)) (now : List ℕ) (n : ℕ)
+    → length blocks ≡ n
+    → now ≡ record_text block_header
+    ++ records_text (flat_map (λ n. records_of_block t matrix prefix n (get_or blocks n [])) (range_with_len 0 n))
     → now ≡ blocks_text t matrix prefix blocks
 unfolding blocks_text block_records
 blocks-written t matrix prefix blocks now n all so_far =
-    so_far ∙ ap (λ m. record_text block_header ++ records_text (flat_map (λ n. records_of_block t matrix prefix n (get_or blocks n [])) (range_with_len 0 m))) (sym all)
+    so_far ∙ ap (λ m. record_text block_header
+    ++ records_text (flat_map (λ n. records_of_block t matrix prefix n (get_or blocks n [])) (range_with_len 0 m))) (sym all)
 
 -- the text of all prices
 pub prices-written : (t : TimetableView) (leave enter now : List ℕ) (n : ℕ) → length t.slots ≡ n
@@ -67,6 +75,7 @@ prices-written t leave enter now n all so_far =
     so_far ∙ ap (λ m. record_text price_header ++ records_text (flat_map (price_record t leave enter) (range_with_len 0 m))) (sym all)
 
 -- what holds of a text holds of what is answered for it
-pub if-text : {E : Type 0} (result : Result (List ℕ) E) (now wanted : List ℕ) → IfOk result (λ text. text ≡ now) → now ≡ wanted → IfOk result (λ text. text ≡ wanted)
+pub if-text : {E : Type 0} (result : Result (List ℕ) E) (now wanted : List ℕ) → IfOk result (λ text. text ≡ now) → now ≡ wanted
+    → IfOk result (λ text. text ≡ wanted)
 if-text (Ok text) now wanted is same = is ∙ same
 if-text (Err e) now wanted is same = tt

@@ -1,5 +1,6 @@
 -- Printed blocks, as they are written piece by piece.
-use Rattle.std.proofs.Common.{◌≡◌, ℕ, zero, suc, ◌+◌, ◌-◌, ◌<◌, ◌≤◌, List, [], ◌∷◌, ◌++◌, length, get_or, Option, true, false, refl, sym, ap, ◌∙◌, codes, append_assoc, arith}
+use Rattle.std.proofs.Common.{◌≡◌, ℕ, zero, suc, ◌+◌, ◌-◌, ◌<◌, ◌≤◌, List, [], ◌∷◌, ◌++◌, length, get_or, Option, true, false, refl, sym}
+use Rattle.std.proofs.Common.{ap, ◌∙◌, codes, append_assoc, arith}
 use Rattle.std.specs.Fmt.{decimal}
 use Rattle.std.specs.List.{flat_map, range_with_len}
 use Rattle.std.proofs.lemmas.Grind.{flat_map-append}
@@ -7,12 +8,15 @@ use Rattle.std.proofs.lemmas.List.{append-nil, map-id}
 use Rattle.std.proofs.lemmas.List.FromFn.{map-range_with_len_more}
 use Rattle.trip_model.specs.Timetable.{TimetableView, slot_at}
 use Rattle.deadhead_matrix.specs.Matrix.{MatrixView, walk}
-use Rattle.block_build.specs.Lines.{walk_between, deadhead_text, joint, trip_text, trips_text, pull_out, pull_in, pull_out_text, pull_in_text, block_line, block_text, price_line, price_text}
+use Rattle.block_build.specs.Lines.{walk_between, deadhead_text, joint, trip_text, trips_text, pull_out, pull_in, pull_out_text}
+use Rattle.block_build.specs.Lines.{pull_in_text, block_line, block_text, price_line, price_text}
 
 -- what is made of the numbers below one more
-pub flat_map-range_more : {A : Type 0} (f : ℕ → List A) (n : ℕ) → flat_map f (range_with_len 0 (n + 1)) ≡ flat_map f (range_with_len 0 n) ++ f n
+pub flat_map-range_more : {A : Type 0} (f : ℕ → List A) (n : ℕ)
+    → flat_map f (range_with_len 0 (n + 1)) ≡ flat_map f (range_with_len 0 n) ++ f n
 flat_map-range_more f n =
-    ap (flat_map f) (sym (map-id (range_with_len 0 (n + 1))) ∙ map-range_with_len_more (λ x. x) 0 n n (omega arith) ∙ ap (λ xs. xs ++ n ∷ []) (map-id (range_with_len 0 n)))
+    ap (flat_map f) (sym (map-id (range_with_len 0 (n + 1))) ∙ map-range_with_len_more (λ x. x) 0 n n (omega arith)
+    ∙ ap (λ xs. xs ++ n ∷ []) (map-id (range_with_len 0 n)))
     ∙ flat_map-append f (range_with_len 0 n) (n ∷ [])
     ∙ ap (λ xs. flat_map f (range_with_len 0 n) ++ xs) (append-nil (f n))
 
@@ -43,7 +47,8 @@ pub trips-written : (t : TimetableView) (walk : ℕ → ℕ → Option ℕ) (blo
     → now ≡ before ++ trips_text t walk block
 unfolding trips_text
 trips-written t walk block before now n all so_far =
-    so_far ∙ ap (λ m. before ++ flat_map (λ n. joint t walk block n ++ trip_text (slot_at t (get_or block n 0))) (range_with_len 0 m)) (sym all)
+    so_far ∙ ap (λ m. before ++ flat_map (λ n. joint t walk block n ++ trip_text (slot_at t (get_or block n 0))) (range_with_len 0 m))
+    (sym all)
 
 -- the line of a block, written piece by piece
 pub line-written : (t : TimetableView) (matrix : MatrixView) (prefix block before named out trips home next : List ℕ) (n : ℕ)
@@ -68,7 +73,8 @@ lines-more t matrix prefix blocks block now next n is so_far line =
     ∙ (λ i. so_far i ++ block_line t matrix prefix n (is i))
     ∙ sym (flat_map-range_more (λ n. block_line t matrix prefix n (get_or blocks n [])) n)
 
-pub lines-written : (t : TimetableView) (matrix : MatrixView) (prefix : List ℕ) (blocks : List (List ℕ)) (now : List ℕ) (n : ℕ) → length blocks ≡ n
+pub lines-written : (t : TimetableView) (matrix : MatrixView) (prefix : List ℕ) (blocks : List (List ℕ)) (now : List ℕ) (n : ℕ)
+    → length blocks ≡ n
     → now ≡ flat_map (λ n. block_line t matrix prefix n (get_or blocks n [])) (range_with_len 0 n) → now ≡ block_text t matrix prefix blocks
 unfolding block_text
 lines-written t matrix prefix blocks now n all so_far =
@@ -84,6 +90,7 @@ unfolding price_line
 price-none t leave enter s dead = rw dead refl
 
 pub price-one : (t : TimetableView) (leave enter : List ℕ) (s : ℕ) → (slot_at t s).trip.live ≡ true
-    → price_line t leave enter s ≡ codes " price " ++ ((slot_at t s).name ++ (codes " " ++ (decimal (get_or leave s 0) ++ (codes " " ++ (decimal (get_or enter s 0) ++ 10 ∷ [])))))
+    → price_line t leave enter s ≡ codes " price "
+    ++ ((slot_at t s).name ++ (codes " " ++ (decimal (get_or leave s 0) ++ (codes " " ++ (decimal (get_or enter s 0) ++ 10 ∷ [])))))
 unfolding price_line
 price-one t leave enter s live = rw live (simp append_assoc)

@@ -19,7 +19,8 @@ price_header = column_name_of column.TripId ∷ column_name_of column.Leave ∷ 
 -- the empty minutes before the n-th trip of a block: those out of the depot, or those from the trip before
 abbrev pub minutes_before : TimetableView → MatrixView → List ℕ → ℕ → ℕ
 minutes_before timetable matrix block zero = pull_out timetable matrix.pulls block
-minutes_before timetable matrix block (suc n) = unwrap_or (walk_between timetable (walk matrix) (slice_index block n) (slice_index block (suc n))) 0
+minutes_before timetable matrix block (suc n) =
+    unwrap_or (walk_between timetable (walk matrix) (slice_index block n) (slice_index block (suc n))) 0
 
 -- the record of the n-th trip of a block: the name of the block, that of the trip, and the empty minutes before it
 abbrev pub block_record : TimetableView → MatrixView → List ℕ → ℕ → List ℕ → ℕ → List (List ℕ)
@@ -28,12 +29,14 @@ block_record timetable matrix prefix number block n =
 
 -- the records of a block, trip by trip
 abbrev pub records_of_block : TimetableView → MatrixView → List ℕ → ℕ → List ℕ → List (List (List ℕ))
-records_of_block timetable matrix prefix number block = map (block_record timetable matrix prefix number block) (range_with_len 0 (length block))
+records_of_block timetable matrix prefix number block =
+    map (block_record timetable matrix prefix number block) (range_with_len 0 (length block))
 
 -- the records of blocks, block by block
 unfoldable pub block_records : TimetableView → MatrixView → List ℕ → List (List ℕ) → List (List (List ℕ))
 block_records timetable matrix prefix blocks =
-    flat_map (λ number. records_of_block timetable matrix prefix number (slice_index_or blocks number [])) (range_with_len 0 (length blocks))
+    flat_map (λ number. records_of_block timetable matrix prefix number (slice_index_or blocks number []))
+    (range_with_len 0 (length blocks))
 
 -- the text of `blocks.csv`
 unfoldable pub blocks_text : TimetableView → MatrixView → List ℕ → List (List ℕ) → List ℕ

@@ -1,5 +1,6 @@
 -- The printed lines of blocks. `walk` says in how many minutes a vehicle runs empty from place to place.
-use Rattle.std.specs.Prelude.{ℕ, zero, suc, ◌+◌, ◌-◌, ◌==◌, List, [], ◌∷◌, ◌++◌, length, slice_index, slice_index_or, Option, None, Some, codes, if◌then◌else◌}
+use Rattle.std.specs.Prelude.{ℕ, zero, suc, ◌+◌, ◌-◌, ◌==◌, List, [], ◌∷◌, ◌++◌, length, slice_index, slice_index_or, Option, None, Some}
+use Rattle.std.specs.Prelude.{codes, if◌then◌else◌}
 use Rattle.std.specs.Fmt.{decimal}
 use Rattle.std.specs.List.{flat_map, range_with_len}
 use Rattle.gtfs_tables.specs.Times.{minute_digits}
@@ -32,7 +33,8 @@ walk_between timetable walk i j = walk (slot_at timetable i).trip.to (slot_at ti
 -- what is printed between the n-th trip of a block and the one before it; nothing before the first
 abbrev pub joint : TimetableView → (ℕ → ℕ → Option ℕ) → List ℕ → ℕ → List ℕ
 joint timetable walk block zero = []
-joint timetable walk block (suc n) = codes "; " ++ deadhead_text (walk_between timetable walk (slice_index block n) (slice_index block (suc n)))
+joint timetable walk block (suc n) = codes "; "
+    ++ deadhead_text (walk_between timetable walk (slice_index block n) (slice_index block (suc n)))
 
 -- the trips of a block, each with what is printed before it
 unfoldable pub trips_text : TimetableView → (ℕ → ℕ → Option ℕ) → List ℕ → List ℕ
@@ -58,7 +60,8 @@ pull_in_text minutes = if minutes == 0 then [] else codes "; in " ++ decimal min
 -- the line of a block: its name, the way out of the depot, its trips and the way home
 unfoldable pub block_line : TimetableView → MatrixView → List ℕ → ℕ → List ℕ → List ℕ
 block_line timetable matrix prefix number block =
-    block_name prefix number ++ codes ": " ++ pull_out_text (pull_out timetable matrix.pulls block) ++ trips_text timetable (walk matrix) block
+    block_name prefix number ++ codes ": " ++ pull_out_text (pull_out timetable matrix.pulls block)
+    ++ trips_text timetable (walk matrix) block
     ++ pull_in_text (pull_in timetable matrix.pulls block) ++ 10 ∷ []
 
 -- the lines of blocks, in their order
@@ -70,7 +73,8 @@ block_text timetable matrix prefix blocks =
 unfoldable pub price_line : TimetableView → List ℕ → List ℕ → ℕ → List ℕ
 price_line timetable leave enter s =
     if (slot_at timetable s).trip.live
-    then codes " price " ++ (slot_at timetable s).name ++ codes " " ++ decimal (slice_index_or leave s 0) ++ codes " " ++ decimal (slice_index_or enter s 0) ++ 10 ∷ []
+    then codes " price " ++ (slot_at timetable s).name ++ codes " " ++ decimal (slice_index_or leave s 0) ++ codes " "
+    ++ decimal (slice_index_or enter s 0) ++ 10 ∷ []
     else []
 
 -- the lines of the prices of the trips that run, slot by slot

@@ -53,7 +53,8 @@ fn push_block(
     requires number { number + 1 < 2 ^ 64 }
     requires slots { All (λ s. s < length timetable.now.slots) block.now }
     requires places { length matrix.now.walks ≡ length timetable.now.places }
-    ensures written { OnOk result (records.new ≡ records.old ++ records_text (spec.records_of_block timetable.now matrix.now prefix.now number block.now)) }
+    ensures written { OnOk result (records.new ≡ records.old
+        ++ records_text (spec.records_of_block timetable.now matrix.now prefix.now number block.now)) }
     ensures text { OnOk result (IsUtf8 records.old → IsUtf8 records.new) }
 {
     let name = format!(in alloc; "{prefix}{}", number + 1)?;

@@ -1,5 +1,6 @@
 -- Where a slot stands once in the blocks, its block is named as that in which it stands.
-use Rattle.std.proofs.Common.{◌≡◌, ℕ, zero, suc, ◌+◌, ◌<◌, ◌≤◌, ◌==◌, inl, inr, true, false, cond, List, [], ◌∷◌, ◌++◌, length, get_or, Some, refl, sym, ap, ◌∙◌, arith}
+use Rattle.std.proofs.Common.{◌≡◌, ℕ, zero, suc, ◌+◌, ◌<◌, ◌≤◌, ◌==◌, inl, inr, true, false, cond, List, [], ◌∷◌, ◌++◌, length, get_or}
+use Rattle.std.proofs.Common.{Some, refl, sym, ap, ◌∙◌, arith}
 use Rattle.std.specs.List.{position_from}
 use Rattle.std.proofs.lemmas.Bool.{cases_Bool}
 use Rattle.std.proofs.lemmas.List.Sums.{sum_by-append}
@@ -30,12 +31,15 @@ uncounted s (x ∷ block) out = elim (cases_Bool (x == s)) [
 ]
 
 -- a slot of a block is counted in all blocks
-counted-in : (s : ℕ) (blocks : List (List ℕ)) (k : ℕ) → k < length blocks → is_in s (get_or blocks k []) ≡ true → 1 ≤ times s (slots_in blocks)
+counted-in : (s : ℕ) (blocks : List (List ℕ)) (k : ℕ) → k < length blocks → is_in s (get_or blocks k []) ≡ true
+    → 1 ≤ times s (slots_in blocks)
 counted-in s [] k within in' = absurd (omega arith)
 counted-in s (block ∷ blocks) zero within in' = omega (arith, times-append s block (slots_in blocks), counted s block in')
-counted-in s (block ∷ blocks) (suc k) within in' = omega (arith, times-append s block (slots_in blocks), counted-in s blocks k (omega arith) in')
+counted-in s (block ∷ blocks) (suc k) within in' =
+    omega (arith, times-append s block (slots_in blocks), counted-in s blocks k (omega arith) in')
 
-found : (s i : ℕ) (blocks : List (List ℕ)) → times s (slots_in blocks) ≡ 1 → (b : ℕ) × (position_from (is_in s) i blocks ≡ Some (i + b)) × IsBlockOf blocks s b
+found : (s i : ℕ) (blocks : List (List ℕ)) → times s (slots_in blocks) ≡ 1
+    → (b : ℕ) × (position_from (is_in s) i blocks ≡ Some (i + b)) × IsBlockOf blocks s b
 found s i [] once = absurd (omega arith)
 found s i (block ∷ blocks) once = elim (cases_Bool (is_in s block)) [
   | inl in' ↦ (
@@ -61,7 +65,8 @@ found s i (block ∷ blocks) once = elim (cases_Bool (is_in s block)) [
   where
     here : is_in s block ≡ true → (k : ℕ) → k < length (block ∷ blocks) → is_in s (get_or (block ∷ blocks) k []) ≡ true → k ≡ zero
     here in' zero within stands = refl
-    here in' (suc k) within stands = absurd (omega (arith, times-append s block (slots_in blocks), counted s block in', counted-in s blocks k (omega arith) stands))
+    here in' (suc k) within stands =
+        absurd (omega (arith, times-append s block (slots_in blocks), counted s block in', counted-in s blocks k (omega arith) stands))
 
     there : is_in s block ≡ false → (b : ℕ) → ((k : ℕ) → k < length blocks → is_in s (get_or blocks k []) ≡ true → k ≡ b)
         → (k : ℕ) → k < length (block ∷ blocks) → is_in s (get_or (block ∷ blocks) k []) ≡ true → k ≡ suc b

@@ -1,5 +1,6 @@
 -- Records of texts, as they are written one after the other.
-use Rattle.std.proofs.Common.{◌≡◌, ℕ, ◌+◌, ◌-◌, ◌<◌, ◌≤◌, inl, inr, List, [], ◌∷◌, ◌++◌, length, get_or, set, map, All, Result, Ok, Err, refl, sym, ap, subst, ◌∙◌, arith}
+use Rattle.std.proofs.Common.{◌≡◌, ℕ, ◌+◌, ◌-◌, ◌<◌, ◌≤◌, inl, inr, List, [], ◌∷◌, ◌++◌, length, get_or, set, map, All, Result, Ok, Err}
+use Rattle.std.proofs.Common.{refl, sym, ap, subst, ◌∙◌, arith}
 use Rattle.std.specs.Prelude.{OnOk}
 use Rattle.std.specs.Borrow.{Bor}
 use Rattle.std.specs.Str.{IsUtf8}
@@ -17,14 +18,17 @@ field-text row place are = elim (cases_lt place (length row)) [
 ]
 
 -- the fields that are seen, with another in one place
-pub seen-set : (fields : List (Bor (List ℕ))) (row : List (List ℕ)) (place : ℕ) (field : Bor (List ℕ)) → map (λ field. field.now) fields ≡ row
+pub seen-set : (fields : List (Bor (List ℕ))) (row : List (List ℕ)) (place : ℕ) (field : Bor (List ℕ))
+    → map (λ field. field.now) fields ≡ row
     → map (λ field. field.now) (set fields place field) ≡ set row place field.now
-seen-set fields row place field seen = map-set (λ field. field.now) fields place field ∙ ap (λ (fields : List (List ℕ)). set fields place field.now) seen
+seen-set fields row place field seen = map-set (λ field. field.now) fields place field
+    ∙ ap (λ (fields : List (List ℕ)). set fields place field.now) seen
 
 -- the fields that are seen, with another at their end
 pub seen-more : (fields : List (Bor (List ℕ))) (row : List (List ℕ)) (field : Bor (List ℕ)) → map (λ field. field.now) fields ≡ row
     → map (λ field. field.now) (fields ++ field ∷ []) ≡ row ++ field.now ∷ []
-seen-more fields row field seen = map-append (λ (field : Bor (List ℕ)). field.now) fields (field ∷ []) ∙ ap (λ (fields : List (List ℕ)). fields ++ field.now ∷ []) seen
+seen-more fields row field seen = map-append (λ (field : Bor (List ℕ)). field.now) fields (field ∷ [])
+    ∙ ap (λ (fields : List (List ℕ)). fields ++ field.now ∷ []) seen
 
 -- a record with another field in a column that it has, and in a new one
 pub with-set : (row : List (List ℕ)) (place : ℕ) (field : List ℕ) → place < length row → set row place field ≡ with_field row place field
@@ -34,7 +38,8 @@ pub with-more : (row : List (List ℕ)) (place : ℕ) (field : List ℕ) → len
 with-more row place field past = rw (le-ltb place (length row) past) refl
 
 -- the fields of a table of texts
-pub row-text : (rows : List (List (List ℕ))) (row : List (List ℕ)) (n : ℕ) → All (All IsUtf8) rows → n < length rows → row ≡ get_or rows (n + 1 - 1) [] → All IsUtf8 row
+pub row-text : (rows : List (List (List ℕ))) (row : List (List ℕ)) (n : ℕ) → All (All IsUtf8) rows → n < length rows
+    → row ≡ get_or rows (n + 1 - 1) [] → All IsUtf8 row
 row-text rows row n are within is = subst (All IsUtf8) (sym is) (are (n + 1 - 1) [] (omega arith))
 
 -- a record is written as it is seen

@@ -1,12 +1,14 @@
 -- The numbers of blocks, slot by slot.
-use Rattle.std.proofs.Common.{◌≡◌, ℕ, ◌+◌, ◌<◌, List, [], ◌∷◌, ◌++◌, length, get_or, take, Bool, true, false, cond, Option, Some, None, refl, sym, ap, ◌∙◌, arith}
+use Rattle.std.proofs.Common.{◌≡◌, ℕ, ◌+◌, ◌<◌, List, [], ◌∷◌, ◌++◌, length, get_or, take, Bool, true, false, cond, Option, Some, None}
+use Rattle.std.proofs.Common.{refl, sym, ap, ◌∙◌, arith}
 use Rattle.std.specs.List.{position_from}
 use Rattle.std.proofs.lemmas.List.{ext_get_or, take_more, length-take-le, take_all}
 use Rattle.std.proofs.lemmas.List.FromFn.{get_or-map-range_with_len, length-map-range_with_len}
 use Rattle.block_writer.specs.Trips.{is_in, number_in, numbered, block_numbers}
 
 -- the first place that passes, with one element more at the end
-position-more : {X : Type 0} (p : X → Bool) (i : ℕ) (xs : List X) (x : X) (n : ℕ) → i + length xs ≡ n → position_from p i (xs ++ x ∷ []) ≡ numbered (position_from p i xs) (p x) n
+position-more : {X : Type 0} (p : X → Bool) (i : ℕ) (xs : List X) (x : X) (n : ℕ) → i + length xs ≡ n
+    → position_from p i (xs ++ x ∷ []) ≡ numbered (position_from p i xs) (p x) n
 position-more p i [] x n at = by (p x) i n (omega arith)
   where
     by : (b : Bool) (i n : ℕ) → i ≡ n → cond b (Some i) None ≡ numbered None b n
@@ -30,8 +32,11 @@ pub numbers-made : (numbers : List (Option ℕ)) (slots n : ℕ) (blocks : List 
     → ((s : ℕ) → s < slots → get_or numbers s None ≡ number_in (take n blocks) s) → numbers ≡ block_numbers slots blocks
 numbers-made numbers slots n blocks count all each =
     ext_get_or None numbers (block_numbers slots blocks) (count ∙ sym (length-map-range_with_len (number_in blocks) 0 slots))
-    (λ s within. each s (omega arith) ∙ ap (λ xs. number_in xs s) (take_all n blocks (omega arith)) ∙ sym (get_or-map-range_with_len (number_in blocks) 0 slots s s None (omega arith) (omega arith)))
+    (λ s within. each s (omega arith) ∙ ap (λ xs. number_in xs s) (take_all n blocks (omega arith))
+    ∙ sym (get_or-map-range_with_len (number_in blocks) 0 slots s s None (omega arith) (omega arith)))
 
 -- there are as many numbers as slots
-pub numbers-count : (numbers items : List (Option ℕ)) (slots n : ℕ) (blocks : List (List ℕ)) → numbers ≡ items → items ≡ block_numbers n blocks → n ≡ slots → length numbers ≡ slots
-numbers-count numbers items slots n blocks same made count = ap length (same ∙ made) ∙ length-map-range_with_len (number_in blocks) 0 n ∙ count
+pub numbers-count : (numbers items : List (Option ℕ)) (slots n : ℕ) (blocks : List (List ℕ)) → numbers ≡ items
+    → items ≡ block_numbers n blocks → n ≡ slots → length numbers ≡ slots
+numbers-count numbers items slots n blocks same made count = ap length (same ∙ made) ∙ length-map-range_with_len (number_in blocks) 0 n
+    ∙ count

@@ -1,5 +1,6 @@
 -- The records of a table, as they are written one after the other.
-use Rattle.std.proofs.Common.{◌≡◌, ℕ, inl, inr, ◌+◌, ◌-◌, List, [], ◌++◌, length, get_or, map, Bool, false, Option, ◌≢◌, refl, sym, ap, ◌∙◌, arith}
+use Rattle.std.proofs.Common.{◌≡◌, ℕ, inl, inr, ◌+◌, ◌-◌, List, [], ◌++◌, length, get_or, map, Bool, false, Option, ◌≢◌, refl, sym, ap}
+use Rattle.std.proofs.Common.{◌∙◌, arith}
 use Rattle.std.specs.Prelude.{ℤ, pos, negsuc, unsigned_abs, ◌==◌}
 use Rattle.std.specs.List.{range_with_len}
 use Rattle.std.proofs.lemmas.Bool.{cases_Bool, eqb-true}
@@ -13,7 +14,8 @@ use Rattle.block_writer.specs.StopTimes.{moved_by, moved_row}
 use Rattle.block_writer.specs.Trips.{block_numbers, header_written, trip_written, with_blocks, trips_written}
 
 -- the fields of a trip that is shifted
-pub shifted-row : (offset : ℤ) (arrival departure : ℕ) (row : List (List ℕ)) → offset ≢ pos 0 → moved_row offset arrival departure row ≡ moved_by offset arrival departure row
+pub shifted-row : (offset : ℤ) (arrival departure : ℕ) (row : List (List ℕ)) → offset ≢ pos 0
+    → moved_row offset arrival departure row ≡ moved_by offset arrival departure row
 shifted-row offset arrival departure row other = elim (cases_Bool (unsigned_abs offset == 0)) [
   | inl none ↦ absurd (other (no-minutes offset (eqb-true (unsigned_abs offset) 0 none)))
   | inr some ↦ rw some refl
@@ -24,27 +26,34 @@ shifted-row offset arrival departure row other = elim (cases_Bool (unsigned_abs 
     no-minutes (negsuc n) none = absurd (omega arith)
 
 -- the text after one record more of the trips
-pub trip-more : (t : TimetableView) (numbers items : List (Option ℕ)) (prefix : List ℕ) (trip block : ℕ) (chosen : List Bool) (rows : List (List (List ℕ))) (before now next : List ℕ) (n : ℕ) (row : List (List ℕ))
+pub trip-more : (t : TimetableView) (numbers items : List (Option ℕ)) (prefix : List ℕ) (trip block : ℕ) (chosen : List Bool)
+    (rows : List (List (List ℕ))) (before now next : List ℕ) (n : ℕ) (row : List (List ℕ))
     → numbers ≡ items
-    → now ≡ before ++ records_text (map (λ r. trip_written t items prefix trip block (get_or chosen r false) (get_or rows r [])) (range_with_len 0 n))
+    → now ≡ before ++ records_text
+    (map (λ r. trip_written t items prefix trip block (get_or chosen r false) (get_or rows r [])) (range_with_len 0 n))
     → row ≡ get_or rows (n + 1 - 1) []
     → next ≡ now ++ record_text (trip_written t numbers prefix trip block (get_or chosen n false) row)
-    → next ≡ before ++ records_text (map (λ r. trip_written t items prefix trip block (get_or chosen r false) (get_or rows r [])) (range_with_len 0 (n + 1)))
+    → next ≡ before ++ records_text
+    (map (λ r. trip_written t items prefix trip block (get_or chosen r false) (get_or rows r [])) (range_with_len 0 (n + 1)))
 trip-more t numbers items prefix trip block chosen rows before now next n row seen so_far is written =
     let same : n + 1 - 1 ≡ n = omega arith in
     record-more (λ r. trip_written t items prefix trip block (get_or chosen r false) (get_or rows r [])) before now next n so_far
     (written
     ∙ ap (λ numbers. now ++ record_text (trip_written t numbers prefix trip block (get_or chosen n false) row)) seen
-    ∙ ap (λ row. now ++ record_text (trip_written t items prefix trip block (get_or chosen n false) row)) (is ∙ ap (λ n. get_or rows n []) same))
+    ∙ ap (λ row. now ++ record_text (trip_written t items prefix trip block (get_or chosen n false) row))
+    (is ∙ ap (λ n. get_or rows n []) same))
 
 -- the text of all trips
-pub trips-made : (table : TableView) (t : TimetableView) (chosen : List Bool) (blocks : List (List ℕ)) (prefix : List ℕ) (items : List (Option ℕ)) (slots trip block n : ℕ) (now : List ℕ)
+pub trips-made : (table : TableView) (t : TimetableView) (chosen : List Bool) (blocks : List (List ℕ)) (prefix : List ℕ)
+    (items : List (Option ℕ)) (slots trip block n : ℕ) (now : List ℕ)
     → items ≡ block_numbers slots blocks
     → slots ≡ length t.slots
     → trip ≡ place_of column.TripId table.header
     → block ≡ place_of column.BlockId table.header
     → length table.rows ≡ n
-    → now ≡ record_text (header_written block table.header) ++ records_text (map (λ r. trip_written t items prefix trip block (get_or chosen r false) (get_or table.rows r [])) (range_with_len 0 n))
+    → now ≡ record_text (header_written block table.header)
+    ++ records_text (map (λ r. trip_written t items prefix trip block (get_or chosen r false) (get_or table.rows r []))
+    (range_with_len 0 n))
     → now ≡ trips_written table t chosen blocks prefix
 unfolding with_blocks
 trips-made table t chosen blocks prefix items slots trip block n now made count at_trip at_block all so_far =
@@ -56,4 +65,6 @@ trips-made table t chosen blocks prefix items slots trip block n now made count 
   where
     text : List (Option ℕ) → ℕ → ℕ → ℕ → List ℕ
     text items trip block n =
-        record_text (header_written block table.header) ++ records_text (map (λ r. trip_written t items prefix trip block (get_or chosen r false) (get_or table.rows r [])) (range_with_len 0 n))
+        record_text (header_written block table.header)
+        ++ records_text (map (λ r. trip_written t items prefix trip block (get_or chosen r false) (get_or table.rows r []))
+        (range_with_len 0 n))

@@ -1,5 +1,6 @@
 -- Which fields of a record and of a table are texts.
-use Rattle.std.proofs.Common.{◌≡◌, ℕ, zero, suc, ◌+◌, ◌-◌, ◌<◌, ◌≤◌, inl, inr, Bool, true, false, cond, List, [], ◌∷◌, length, drop, get_or, All, Option, Some, None, refl, sym, subst, ap, ◌∙◌, arith}
+use Rattle.std.proofs.Common.{◌≡◌, ℕ, zero, suc, ◌+◌, ◌-◌, ◌<◌, ◌≤◌, inl, inr, Bool, true, false, cond, List, [], ◌∷◌, length, drop}
+use Rattle.std.proofs.Common.{get_or, All, Option, Some, None, refl, sym, subst, ap, ◌∙◌, arith}
 use Rattle.std.specs.Prelude.{not}
 use Rattle.std.specs.List.{position_from}
 use Rattle.std.specs.Str.{IsUtf8, is_utf8}
@@ -33,7 +34,8 @@ tells-from i (field ∷ row) = by (is_utf8 field) refl (position_from (λ field.
     there : IsUtf8 field → (n : ℕ) → IsFirstBadField row n → IsFirstBadField (field ∷ row) (suc n)
     there text n first = record { within = omega (arith, first.within); bad = first.bad; before = up_to text n first.before }
 
-    by : (is : Bool) → is_utf8 field ≡ is → (rest : Option ℕ) → TellsFrom (i + 1) row rest → TellsFrom i (field ∷ row) (cond (not is) (Some i) rest)
+    by : (is : Bool) → is_utf8 field ≡ is → (rest : Option ℕ) → TellsFrom (i + 1) row rest
+        → TellsFrom i (field ∷ row) (cond (not is) (Some i) rest)
     by true text None rest = All-cons IsUtf8 field row (IsUtf8-from_is_utf8 field text) rest
     by true text (Some place) rest = (suc rest.0, omega (arith, rest.1), there (IsUtf8-from_is_utf8 field text) rest.0 rest.2)
     by false bad rest more = (0, omega arith, here bad)
@@ -54,39 +56,46 @@ tells row = by (bad_field row) (tells-from 0 row)
 pub none-bad : (row : List (List ℕ)) (found : Option ℕ) → found ≡ None → found ≡ bad_field row → All IsUtf8 row
 none-bad row found none is = subst (Tells row) (sym is ∙ none) (tells row)
 
-pub first-bad : (row : List (List ℕ)) (found : Option ℕ) (place : ℕ) → found ≡ Some place → found ≡ bad_field row → IsFirstBadField row place
+pub first-bad : (row : List (List ℕ)) (found : Option ℕ) (place : ℕ) → found ≡ Some place → found ≡ bad_field row
+    → IsFirstBadField row place
 first-bad row found place some is = subst (Tells row) (sym is ∙ some) (tells row)
 
 -- a record of which no field is left in which a bad one may be
-pub all-texts : (row : List (List ℕ)) (n : ℕ) → length row ≤ n → bad_field row ≡ position_from (λ field. not (is_utf8 field)) n (drop n row) → All IsUtf8 row
+pub all-texts : (row : List (List ℕ)) (n : ℕ) → length row ≤ n
+    → bad_field row ≡ position_from (λ field. not (is_utf8 field)) n (drop n row) → All IsUtf8 row
 all-texts row n all is = none-bad row None refl (sym (is ∙ ap (position_from (λ field. not (is_utf8 field)) n) (drop_all n row all)))
 
 -- the first bad field of a table, in its header and in a record
-pub bad-header : (table : TableView) (header : List (List ℕ)) (place : ℕ) → header ≡ table.header → IsFirstBadField header place → IsFirstBad table 0 place
+pub bad-header : (table : TableView) (header : List (List ℕ)) (place : ℕ) → header ≡ table.header → IsFirstBadField header place
+    → IsFirstBad table 0 place
 bad-header table header place is first = record {
   within = omega arith;
   field = subst (λ row. IsFirstBadField row place) is first;
   before = λ k below. absurd (omega arith);
 }
 
-pub bad-row : (table : TableView) (row : List (List ℕ)) (n place : ℕ) → n < length table.rows → ((k : ℕ) → k ≤ n → All IsUtf8 (record_at table k)) → row ≡ get_or table.rows (n + 1 - 1) []
+pub bad-row : (table : TableView) (row : List (List ℕ)) (n place : ℕ) → n < length table.rows
+    → ((k : ℕ) → k ≤ n → All IsUtf8 (record_at table k)) → row ≡ get_or table.rows (n + 1 - 1) []
     → IsFirstBadField row place → IsFirstBad table (n + 1) place
 bad-row table row n place within texts is first =
     let same : n + 1 - 1 ≡ n = omega arith in
     let next : suc n ≡ n + 1 = omega arith in
     record {
       within = omega arith;
-      field = subst (λ k. IsFirstBadField (record_at table k) place) next (subst (λ row. IsFirstBadField row place) (is ∙ ap (λ k. get_or table.rows k []) same) first);
+      field = subst (λ k. IsFirstBadField (record_at table k) place) next
+          (subst (λ row. IsFirstBadField row place) (is ∙ ap (λ k. get_or table.rows k []) same) first);
       before = λ k below. texts k (omega arith);
     }
 
 -- the records up to the header
-pub up-to-header : (table : TableView) (header : List (List ℕ)) → header ≡ table.header → All IsUtf8 header → (k : ℕ) → k ≤ 0 → All IsUtf8 (record_at table k)
+pub up-to-header : (table : TableView) (header : List (List ℕ)) → header ≡ table.header → All IsUtf8 header → (k : ℕ) → k ≤ 0
+    → All IsUtf8 (record_at table k)
 up-to-header table header is are zero below = subst (All IsUtf8) is are
 up-to-header table header is are (suc k) below = absurd (omega arith)
 
 -- the records up to one more
-pub up-to-more : (table : TableView) (row : List (List ℕ)) (n : ℕ) → ((k : ℕ) → k ≤ n → All IsUtf8 (record_at table k)) → row ≡ get_or table.rows (n + 1 - 1) [] → All IsUtf8 row
+pub up-to-more : (table : TableView) (row : List (List ℕ)) (n : ℕ) → ((k : ℕ) → k ≤ n → All IsUtf8 (record_at table k))
+    → row ≡ get_or table.rows (n + 1 - 1) [] → All IsUtf8 row
     → (k : ℕ) → k ≤ n + 1 → All IsUtf8 (record_at table k)
 up-to-more table row n before is are zero below = before zero (omega arith)
 up-to-more table row n before is are (suc k) below = elim (cases_lt (suc k) (n + 1)) [

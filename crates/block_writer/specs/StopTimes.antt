@@ -1,5 +1,6 @@
 -- The records of `stop_times.txt`, written with the times of shifted trips moved.
-use Rattle.std.specs.Prelude.{ℕ, ◌+◌, ◌-◌, ◌*◌, ◌/◌, ◌%◌, ◌==◌, ◌&&◌, ℤ, pos, int_lt, unsigned_abs, List, [], ◌∷◌, ◌++◌, map, nat_lt, slice_set, Option, None, Some, Result, Ok, if◌then◌else◌}
+use Rattle.std.specs.Prelude.{ℕ, ◌+◌, ◌-◌, ◌*◌, ◌/◌, ◌%◌, ◌==◌, ◌&&◌, ℤ, pos, int_lt, unsigned_abs, List, [], ◌∷◌, ◌++◌, map, nat_lt}
+use Rattle.std.specs.Prelude.{slice_set, Option, None, Some, Result, Ok, if◌then◌else◌}
 use Rattle.gtfs_tables.specs.Reading.{◌>>=◌, place_of, field_at}
 use Rattle.gtfs_tables.specs.Table.{TableView}
 use Rattle.gtfs_tables.specs.Times.{seconds_of, two_digits}
@@ -30,7 +31,8 @@ moved_field offset field = moved_time offset field (seconds_of field)
 
 -- a record with the times of two columns moved
 abbrev pub moved_row : ℤ → ℕ → ℕ → List (List ℕ) → List (List ℕ)
-moved_row offset arrival departure row = slice_set (slice_set row arrival (moved_field offset (field_at row arrival))) departure (moved_field offset (field_at row departure))
+moved_row offset arrival departure row =
+    slice_set (slice_set row arrival (moved_field offset (field_at row arrival))) departure (moved_field offset (field_at row departure))
 
 -- by how many minutes the rows of a slot are moved: the offset of its trip, where that runs and has records
 abbrev pub offset_of : TimetableView → ℕ → Option ℕ → ℤ
@@ -42,13 +44,15 @@ abbrev pub moved_by : ℤ → ℕ → ℕ → List (List ℕ) → List (List ℕ
 moved_by offset arrival departure row = if unsigned_abs offset == 0 then row else moved_row offset arrival departure row
 
 abbrev pub stop_time_written : TimetableView → ℕ → ℕ → ℕ → ℕ → List (List ℕ) → List (List ℕ)
-stop_time_written timetable base trip arrival departure row = moved_by (offset_of timetable base (slot_in timetable trip row)) arrival departure row
+stop_time_written timetable base trip arrival departure row =
+    moved_by (offset_of timetable base (slot_in timetable trip row)) arrival departure row
 
 -- the table with the times of shifted trips moved
 unfoldable pub with_times : TableView → TimetableView → ℕ → TableView
 with_times table timetable base = record {
   header = table.header;
-  rows = map (stop_time_written timetable base (place_of column.TripId table.header) (place_of column.ArrivalTime table.header) (place_of column.DepartureTime table.header)) table.rows;
+  rows = map (stop_time_written timetable base (place_of column.TripId table.header) (place_of column.ArrivalTime table.header)
+      (place_of column.DepartureTime table.header)) table.rows;
 }
 
 -- the text of `stop_times_blocks.txt`
@@ -63,7 +67,11 @@ stop_time_columns = column.TripId ∷ column.ArrivalTime ∷ column.DepartureTim
 unfoldable pub columns_in : List (List ℕ) → Result Columns FeedFault
 columns_in header =
     texts_in paper.StopTimes stop_time_columns header 0 header
-    >>= λ _. Ok (record { trip = place_of column.TripId header; arrival = place_of column.ArrivalTime header; departure = place_of column.DepartureTime header })
+    >>= λ _. Ok (record {
+      trip = place_of column.TripId header;
+      arrival = place_of column.ArrivalTime header;
+      departure = place_of column.DepartureTime header;
+    })
 
 -- what is known before the records: the timetable, how many of its slots have records, and the header
 pub record Before : Type 0 where
@@ -74,4 +82,5 @@ pub record Before : Type 0 where
 -- the text so far with one stop time more
 abbrev pub with_stop_time : Before → Columns → ℕ → List ℕ → List (List ℕ) → Result (List ℕ) FeedFault
 with_stop_time before columns number text row =
-    with_written paper.StopTimes stop_time_columns before.header (stop_time_written before.timetable before.base columns.trip columns.arrival columns.departure) number text row
+    with_written paper.StopTimes stop_time_columns before.header
+    (stop_time_written before.timetable before.base columns.trip columns.arrival columns.departure) number text row

@@ -1,5 +1,6 @@
 -- Tables whose fields are texts, and which field is refused that is not one.
-use Rattle.std.specs.Prelude.{◌≡◌, ℕ, ◌<◌, ◌≤◌, ◌==◌, Bool, false, not, List, [], ◌∷◌, ◌++◌, length, All, slice_index_or, Option, None, Some, Result, Ok, Err, if◌then◌else◌}
+use Rattle.std.specs.Prelude.{◌≡◌, ℕ, ◌<◌, ◌≤◌, ◌==◌, Bool, false, not, List, [], ◌∷◌, ◌++◌, length, All, slice_index_or, Option, None}
+use Rattle.std.specs.Prelude.{Some, Result, Ok, Err, if◌then◌else◌}
 use Rattle.std.specs.List.{position_from}
 use Rattle.std.specs.Str.{IsUtf8, is_utf8}
 use Rattle.gtfs_tables.specs.Papers.{column_name_of}
@@ -72,5 +73,7 @@ abbrev pub texts_in : Paper → List Column → List (List ℕ) → ℕ → List
 texts_in paper columns header number row = unless_bad paper columns header number row (bad_field row)
 
 -- the text so far with one record more, written by a rule, where its fields are texts
-abbrev pub with_written : Paper → List Column → List (List ℕ) → (List (List ℕ) → List (List ℕ)) → ℕ → List ℕ → List (List ℕ) → Result (List ℕ) FeedFault
-with_written paper columns header written number text row = texts_in paper columns header number row >>= λ fields. Ok (text ++ record_text (written fields))
+abbrev pub with_written : Paper → List Column → List (List ℕ) → (List (List ℕ) → List (List ℕ)) → ℕ → List ℕ → List (List ℕ)
+    → Result (List ℕ) FeedFault
+with_written paper columns header written number text row =
+    texts_in paper columns header number row >>= λ fields. Ok (text ++ record_text (written fields))

@@ -1,5 +1,6 @@
 -- The records of `trips.txt`, written with the block of each selected trip.
-use Rattle.std.specs.Prelude.{ℕ, ◌==◌, Bool, false, List, [], ◌∷◌, ◌++◌, length, map, nat_lt, slice_index_or, Option, None, Some, if◌then◌else◌}
+use Rattle.std.specs.Prelude.{ℕ, ◌==◌, Bool, false, List, [], ◌∷◌, ◌++◌, length, map, nat_lt, slice_index_or, Option, None, Some}
+use Rattle.std.specs.Prelude.{if◌then◌else◌}
 use Rattle.std.specs.List.{list_any, position_from, range_with_len}
 use Rattle.gtfs_tables.specs.Papers.{column_name_of}
 use Rattle.gtfs_tables.specs.Table.{TableView}
@@ -49,7 +50,8 @@ header_written block header = if nat_lt block (length header) then header else h
 abbrev pub trips_rows : TableView → TimetableView → List Bool → List (List ℕ) → List ℕ → List (List (List ℕ))
 trips_rows table timetable chosen blocks prefix =
     map
-    (λ r. trip_written timetable (block_numbers (length timetable.slots) blocks) prefix (place_of column.TripId table.header) (place_of column.BlockId table.header)
+    (λ r. trip_written timetable (block_numbers (length timetable.slots) blocks) prefix (place_of column.TripId table.header)
+    (place_of column.BlockId table.header)
     (slice_index_or chosen r false) (slice_index_or table.rows r []))
     (range_with_len 0 (length table.rows))
 

@@ -81,7 +81,8 @@ pub(crate) fn texts_of<'a>(
     number: u32,
     row: &'a Row,
 ) -> Result<Vec<&'a [u8]>, FeedFault>
-    ensures gives { Gives (λ fields. map (λ field. field.now) fields.items) result (spec.texts_in paper columns.now header.now number row.now) }
+    ensures gives { Gives (λ fields. map (λ field. field.now) fields.items) result
+        (spec.texts_in paper columns.now header.now number row.now) }
     ensures same { IfOk result (λ fields. map (λ field. field.now) fields.items ≡ row.now) }
     ensures texts { OnOk result (All IsUtf8 row.now) }
 {
@@ -134,7 +135,8 @@ pub fn read_texts(
 ) -> Result<Table, FeedFault>
     requires { IsWithinLimit found.now }
     ensures texts { IfOk result (λ table. IsTextPaper (λ read. read ≡ table) (table_in paper found.now)) }
-    ensures refused { IfErr result (λ refused. refused ≢ FeedFault.Memory → IsRefusedPaper paper columns.now (table_in paper found.now) refused) }
+    ensures refused { IfErr result
+        (λ refused. refused ≢ FeedFault.Memory → IsRefusedPaper paper columns.now (table_in paper found.now) refused) }
 {
     let table = table_in(alloc, paper, found)?;
     match refusal(paper, columns, &table) {

@@ -17,7 +17,8 @@ fn number_block(numbers: &mut Vec<Option<usize>>, block: &[u16], number: usize)
     requires slots { All (λ s. s < length numbers.old.items) block.now }
     ensures count { length numbers.new.items ≡ length numbers.old.items }
     ensures numbers { (s : ℕ) → s < length numbers.old.items
-        → slice_index_or numbers.new.items s None ≡ spec.numbered (slice_index_or numbers.old.items s None) (spec.is_in s block.now) number }
+        → slice_index_or numbers.new.items s None ≡ spec.numbered (slice_index_or numbers.old.items s None) (spec.is_in s block.now)
+        number }
 {
     for slot in block {
         let place = usize::from(*slot);
@@ -48,7 +49,8 @@ fn block_of(
     trip: &str,
 ) -> Result<Text, Memory>
     requires numbers { length numbers.now ≡ length timetable.now.slots }
-    ensures { IfOk result (λ block. block ≡ spec.block_of timetable.now numbers.now prefix.now (number_of (slot_names timetable.now) trip.now)) }
+    ensures { IfOk result (λ block. block ≡ spec.block_of timetable.now numbers.now prefix.now
+        (number_of (slot_names timetable.now) trip.now)) }
 {
     let Some(slot) = timetable.find(trip) else {
         return Text::of(alloc, "");
@@ -111,7 +113,8 @@ fn push_trip(
 ) -> Result<(), Memory>
     requires numbers { length numbers.now ≡ length timetable.now.slots }
     requires text { All IsUtf8 row.now }
-    ensures { OnOk result (records.new ≡ records.old ++ record_text (spec.trip_written timetable.now numbers.now prefix.now trip block chosen row.now)) }
+    ensures { OnOk result (records.new ≡ records.old
+        ++ record_text (spec.trip_written timetable.now numbers.now prefix.now trip block chosen row.now)) }
 {
     if chosen {
         let name = block_of(alloc, timetable, numbers, prefix, text_of(row.field(trip)))?;

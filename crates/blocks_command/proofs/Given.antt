@@ -44,15 +44,18 @@ planned-of base lines matrix prefix followed has begun (Ok outcome) done = recor
 
 -- what is needed of the laws
 abbrev pub AcceptsPlans : Type 0
-AcceptsPlans = (timetable : TimetableView) (matrix : MatrixView) (prefix : List ℕ) (plan : Plan) (blocks : List (List ℕ)) → AreOfPlan timetable matrix prefix plan blocks
+AcceptsPlans = (timetable : TimetableView) (matrix : MatrixView) (prefix : List ℕ) (plan : Plan) (blocks : List (List ℕ))
+    → AreOfPlan timetable matrix prefix plan blocks
     → IsAccepted timetable matrix prefix blocks plan.leave plan.enter
 
-pub plan-given : {E : Type 0} (read : ReadView) (said : FeedView) (matrix : MatrixView) → AcceptsPlans → TripsAreNamed → said_in read ≡ Ok said → IsMatrixFor said matrix
+pub plan-given : {E : Type 0} (read : ReadView) (said : FeedView) (matrix : MatrixView) → AcceptsPlans → TripsAreNamed
+    → said_in read ≡ Ok said → IsMatrixFor said matrix
     → (result : Result OutcomeView E) (prefix : List ℕ) → prefix ≡ said.settings.prefix
     → IfOk result (IsPlanned said.base said.lines matrix prefix) → IfOk result (IsGivenOf blocks_does read said)
 plan-given read said matrix accepts named says is (Err e) prefix prefix_is planned = tt
 plan-given read said matrix accepts named says is (Ok outcome) prefix prefix_is planned =
-    let here : IsPlanned said.base said.lines matrix said.settings.prefix outcome = subst (λ p. IsPlanned said.base said.lines matrix p outcome) prefix_is planned in
+    let here : IsPlanned said.base said.lines matrix said.settings.prefix outcome =
+    subst (λ p. IsPlanned said.base said.lines matrix p outcome) prefix_is planned in
     let plan = plan_at said.base said.lines matrix (length said.lines) in
     let last = here.are.planned (length said.lines) (omega arith) in
     record {

@@ -16,12 +16,14 @@ use Rattle.feed_desk.specs.Plans.{fixed_number}
 
 -- the numbers of a timetable and of the blocks of a plan for it
 abbrev pub numbers_text : TimetableView → MatrixView → Plan → List ℕ
-numbers_text timetable matrix plan = numbers_line (fixed_number timetable) (length (blocks_in timetable plan)) (minutes_in timetable matrix plan)
+numbers_text timetable matrix plan =
+    numbers_line (fixed_number timetable) (length (blocks_in timetable plan)) (minutes_in timetable matrix plan)
 
 module _ (matrix : MatrixView) (prefix : List ℕ) where
   -- a plan as it is shown: the lines of its blocks, one space before each, and those of its prices
   abbrev pub show_text : TimetableView → Plan → List ℕ
-  show_text timetable plan = block_text timetable matrix (codes " " ++ prefix) (blocks_in timetable plan) ++ price_text timetable plan.leave plan.enter
+  show_text timetable plan = block_text timetable matrix (codes " " ++ prefix) (blocks_in timetable plan)
+      ++ price_text timetable plan.leave plan.enter
 
   -- what is shown after a record: of a show the plan, and of any other nothing
   abbrev pub shown_text : Line → TimetableView → Plan → List ℕ

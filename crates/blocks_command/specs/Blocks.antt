@@ -36,12 +36,14 @@ plans_outcome base lines matrix prefix =
     record {
       writes = plan_files (standing_after base lines) matrix prefix last;
       lines = None;
-      text = answers_by (answer_text matrix prefix) base lines (plan_at base lines matrix) (length lines) ++ numbers_text (standing_after base lines) matrix last;
+      text = answers_by (answer_text matrix prefix) base lines (plan_at base lines matrix) (length lines)
+          ++ numbers_text (standing_after base lines) matrix last;
       ending = ending_after base lines;
     }
 
 -- It is done of the plan at each moment. Pulls and prefix are valid.
-pub record IsPlanned (base : TimetableView) (lines : List Line) (matrix : MatrixView) (prefix : List ℕ) (outcome : OutcomeView) : Type 0 where
+pub record IsPlanned (base : TimetableView) (lines : List Line) (matrix : MatrixView) (prefix : List ℕ)
+    (outcome : OutcomeView) : Type 0 where
   pub are : ArePlanned base lines matrix
   pub pulls : All IsPull matrix.pulls
   pub begun : IsUtf8 prefix

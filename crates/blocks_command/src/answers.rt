@@ -12,7 +12,8 @@ use std::fmt::Write;
 
 /// Appends the three numbers of a desk.
 pub(crate) fn push_numbers(text: &mut String, desk: &Desk) -> Result<(), Memory>
-    ensures { OnOk result (string_bytes text.new ≡ string_bytes text.old ++ spec.numbers_text desk.now.script.timetable desk.now.matrix desk.now.plan) }
+    ensures { OnOk result (string_bytes text.new ≡ string_bytes text.old
+        ++ spec.numbers_text desk.now.script.timetable desk.now.matrix desk.now.plan) }
 {
     let fixed = u64::from(desk.fixed());
     let vehicles = desk.vehicles() as usize;
@@ -21,7 +22,8 @@ pub(crate) fn push_numbers(text: &mut String, desk: &Desk) -> Result<(), Memory>
 
 // Appends the plan of a desk: the lines of its blocks and of its prices.
 fn push_show(alloc: Global, text: &mut String, desk: &Desk, prefix: &str) -> Result<(), Memory>
-    ensures { OnOk result (string_bytes text.new ≡ string_bytes text.old ++ spec.show_text desk.now.matrix prefix.now desk.now.script.timetable desk.now.plan) }
+    ensures { OnOk result (string_bytes text.new ≡ string_bytes text.old
+        ++ spec.show_text desk.now.matrix prefix.now desk.now.script.timetable desk.now.plan) }
 {
     let timetable = desk.timetable();
     let plan = desk.plan();

@@ -1,5 +1,6 @@
 -- The marks of blocks: when a span of minutes meets a column, and the links of a block.
-use Rattle.std.proofs.Common.{◌≡◌, ℕ, ◌+◌, ◌-◌, ◌*◌, ◌<◌, ◌≤◌, min, max, Bool, true, false, ◌&&◌, ◌||◌, nat_le, nat_lt, List, [], ◌∷◌, ◌++◌, map, Option, append_assoc, length, get_or, take, drop, sym, ap, ◌∙◌, ⊎_elim, arith}
+use Rattle.std.proofs.Common.{◌≡◌, ℕ, ◌+◌, ◌-◌, ◌*◌, ◌<◌, ◌≤◌, min, max, Bool, true, false, ◌&&◌, ◌||◌, nat_le, nat_lt, List, [], ◌∷◌}
+use Rattle.std.proofs.Common.{◌++◌, map, Option, append_assoc, length, get_or, take, drop, sym, ap, ◌∙◌, ⊎_elim, arith}
 use Rattle.std.specs.Prelude.{decimal}
 use Rattle.std.specs.List.{range_with_len, list_any, flat_map, enumerate_from}
 use Rattle.std.proofs.lemmas.Bool.{cases_lt, le-leb, lt-leb, lt-ltb, le-ltb, and_left, and_right}
@@ -22,7 +23,8 @@ is_within-yes : (from to t : ℕ) → from ≤ t → t < to → is_within from t
 is_within-yes from to t a b = λ i. le-leb from t a i && lt-ltb t to b i
 
 -- a span and a range have a minute in common where the later begin is before the earlier end
-list_any-range : (from to first n : ℕ) → list_any (is_within from to) (range_with_len first n) ≡ nat_lt (max from first) (min to (first + n))
+list_any-range : (from to first n : ℕ)
+    → list_any (is_within from to) (range_with_len first n) ≡ nat_lt (max from first) (min to (first + n))
 list_any-range from to first n =
     ⊎_elim
     (λ (some : max from first < min to (first + n)).
@@ -30,7 +32,8 @@ list_any-range from to first n =
     let there : k < n = omega arith in
     let len = length-range_with_len first n in
     let minute = get_or-range_with_len first n k 0 there in
-    list_any_at (is_within from to) (range_with_len first n) k 0 (omega arith) (is_within-yes from to _ (omega arith) (omega arith)) ∙ sym (lt-ltb _ _ some))
+    list_any_at (is_within from to) (range_with_len first n) k 0 (omega arith) (is_within-yes from to _ (omega arith) (omega arith))
+    ∙ sym (lt-ltb _ _ some))
     (λ (none : min to (first + n) ≤ max from first).
     list_any_none (is_within from to) (range_with_len first n) (λ k d h.
     let len = length-range_with_len first n in
@@ -44,13 +47,15 @@ list_any-range from to first n =
 -- and so with the minutes of a column
 pub has_minute-is : (column from to n : ℕ) → n ≡ 10 → has_minute column from to ≡ nat_lt (max from (10 * column)) (min to (10 * column + n))
 unfolding has_minute minutes_of
-has_minute-is column from to n ten = ap (λ m. list_any (is_within from to) (range_with_len (10 * column) m)) (sym ten) ∙ list_any-range from to (10 * column) n
+has_minute-is column from to n ten = ap (λ m. list_any (is_within from to) (range_with_len (10 * column) m)) (sym ten)
+    ∙ list_any-range from to (10 * column) n
 
 length-links : (block : List ℕ) → length (links block) ≡ length block - 1
 length-links block = let zipped = length-zip block (drop 1 block) in let dropped = length-drop 1 block in omega arith
 
 -- the link that ends at an index of the block
-link_at : (block : List ℕ) (k next : ℕ) → k + 1 ≡ next → next < length block → get_or (links block) k (0, 0) ≡ (get_or block k 0, get_or block next 0)
+link_at : (block : List ℕ) (k next : ℕ) → k + 1 ≡ next → next < length block
+    → get_or (links block) k (0, 0) ≡ (get_or block k 0, get_or block next 0)
 link_at block k next at h =
     let dropped = length-drop 1 block in
     let e : 1 + k ≡ next = omega arith in
@@ -58,21 +63,27 @@ link_at block k next at h =
     ∙ (λ i. (get_or block k 0, (get_or_after_one block k 0 ∙ ap (λ n. get_or block n 0) e) i))
 
 -- a test of the links of a block: it passes where that of one link passes
-pub links-pass : (p : ℕ × ℕ → Bool) (block : List ℕ) (k next : ℕ) → k + 1 ≡ next → next < length block → p (get_or block k 0, get_or block next 0) ≡ true → list_any p (links block) ≡ true
-links-pass p block k next at h passes = list_any_at p (links block) k (0, 0) (omega (arith, length-links block)) (ap p (link_at block k next at h) ∙ passes)
+pub links-pass : (p : ℕ × ℕ → Bool) (block : List ℕ) (k next : ℕ) → k + 1 ≡ next → next < length block
+    → p (get_or block k 0, get_or block next 0) ≡ true → list_any p (links block) ≡ true
+links-pass p block k next at h passes =
+    list_any_at p (links block) k (0, 0) (omega (arith, length-links block)) (ap p (link_at block k next at h) ∙ passes)
 
 -- it fails up to one link more where that link fails
-pub links-fail_more : (p : ℕ × ℕ → Bool) (block : List ℕ) (k next : ℕ) → k + 1 ≡ next → next < length block → list_any p (take k (links block)) ≡ false
+pub links-fail_more : (p : ℕ × ℕ → Bool) (block : List ℕ) (k next : ℕ) → k + 1 ≡ next → next < length block
+    → list_any p (take k (links block)) ≡ false
     → p (get_or block k 0, get_or block next 0) ≡ false → list_any p (take (k + 1) (links block)) ≡ false
 links-fail_more p block k next at h before fails =
-    list_any_more p (links block) k (0, 0) (omega (arith, length-links block)) ∙ (λ i. before i || (ap p (link_at block k next at h) ∙ fails) i)
+    list_any_more p (links block) k (0, 0) (omega (arith, length-links block))
+    ∙ (λ i. before i || (ap p (link_at block k next at h) ∙ fails) i)
 
 -- and altogether where it fails up to the last link
-pub links-fail : (p : ℕ × ℕ → Bool) (block : List ℕ) (k : ℕ) → length block ≤ k + 1 → list_any p (take k (links block)) ≡ false → list_any p (links block) ≡ false
+pub links-fail : (p : ℕ × ℕ → Bool) (block : List ℕ) (k : ℕ) → length block ≤ k + 1 → list_any p (take k (links block)) ≡ false
+    → list_any p (links block) ≡ false
 links-fail p block k all before = sym (ap (list_any p) (take_all k (links block) (omega (arith, length-links block)))) ∙ before
 
 -- the text after the line of one block
-pub block-written : (timetable : TimetableView) (walk : ℕ → ℕ → Option ℕ) (columns prefix : List ℕ) (number : ℕ) (block before marks next : List ℕ)
+pub block-written : (timetable : TimetableView) (walk : ℕ → ℕ → Option ℕ) (columns prefix : List ℕ) (number : ℕ)
+    (block before marks next : List ℕ)
     → marks ≡ before ++ map (block_mark timetable walk block) columns
     → next ≡ marks ++ 32 ∷ (prefix ++ (decimal (number + 1) ++ 10 ∷ []))
     → next ≡ before ++ block_line timetable walk columns prefix number block
@@ -81,20 +92,25 @@ block-written timetable walk columns prefix number block before marks next drawn
     written ∙ (λ i. drawn i ++ 32 ∷ (prefix ++ (decimal (number + 1) ++ 10 ∷ []))) ∙ simp append_assoc
 
 -- the text after the line of one block more, where `read` are the columns and `block` the slots that are drawn
-pub block-more : (timetable : TimetableView) (walk : ℕ → ℕ → Option ℕ) (columns read prefix : List ℕ) (blocks : List (List ℕ)) (number : ℕ) (block start text next : List ℕ)
+pub block-more : (timetable : TimetableView) (walk : ℕ → ℕ → Option ℕ) (columns read prefix : List ℕ) (blocks : List (List ℕ)) (number : ℕ)
+    (block start text next : List ℕ)
     → number < length blocks → read ≡ columns → block ≡ get_or blocks number []
     → text ≡ start ++ flat_map (λ block. block_line timetable walk columns prefix block.0 block.1) (enumerate_from 0 (take number blocks))
     → next ≡ text ++ block_line timetable walk read prefix number block
-    → next ≡ start ++ flat_map (λ block. block_line timetable walk columns prefix block.0 block.1) (enumerate_from 0 (take (number + 1) blocks))
+    → next ≡ start ++ flat_map (λ block. block_line timetable walk columns prefix block.0 block.1)
+    (enumerate_from 0 (take (number + 1) blocks))
 block-more timetable walk columns read prefix blocks number block start text next there same is so_far drawn =
-    text-more (λ block. block_line timetable walk columns prefix block.0 block.1) 0 blocks number number [] start text next there (omega arith) so_far
+    text-more (λ block. block_line timetable walk columns prefix block.0 block.1) 0 blocks number number [] start text next there
+    (omega arith) so_far
     (drawn ∙ (λ i. text ++ block_line timetable walk (same i) prefix number (is i)))
 
 -- the whole chart, once the lines of all blocks are written
-pub blocks-written : (timetable : TimetableView) (walk : ℕ → ℕ → Option ℕ) (columns prefix : List ℕ) (blocks : List (List ℕ)) (k : ℕ) (start text : List ℕ) → columns ≡ columns_of (live_moves timetable.slots)
+pub blocks-written : (timetable : TimetableView) (walk : ℕ → ℕ → Option ℕ) (columns prefix : List ℕ) (blocks : List (List ℕ)) (k : ℕ)
+    (start text : List ℕ) → columns ≡ columns_of (live_moves timetable.slots)
     → length blocks ≤ k → start ≡ []
     → text ≡ start ++ flat_map (λ block. block_line timetable walk columns prefix block.0 block.1) (enumerate_from 0 (take k blocks))
     → text ≡ block_chart_text timetable walk prefix blocks
 unfolding block_chart_text
 blocks-written timetable walk columns prefix blocks k start text list all none so_far =
-    so_far ∙ (λ i. none i ++ flat_map (λ block. block_line timetable walk (list i) prefix block.0 block.1) (enumerate_from 0 (take_all k blocks all i)))
+    so_far ∙ (λ i. none i ++ flat_map (λ block. block_line timetable walk (list i) prefix block.0 block.1)
+    (enumerate_from 0 (take_all k blocks all i)))

@@ -1,5 +1,6 @@
 -- The columns of a chart, as they are computed from the first departure and the last end, and that they lie in the day.
-use Rattle.std.proofs.Common.{◌≡◌, ℕ, suc, ◌+◌, ◌-◌, ◌/◌, ◌<◌, ◌≤◌, max, Bool, true, false, cond, List, [], ◌∷◌, ◌++◌, map, length, get_or, take, filter, fold, All, unwrap_or, refl, sym, ap, subst, ◌∙◌, append_assoc, arith}
+use Rattle.std.proofs.Common.{◌≡◌, ℕ, suc, ◌+◌, ◌-◌, ◌/◌, ◌<◌, ◌≤◌, max, Bool, true, false, cond, List, [], ◌∷◌, ◌++◌, map, length, get_or}
+use Rattle.std.proofs.Common.{take, filter, fold, All, unwrap_or, refl, sym, ap, subst, ◌∙◌, append_assoc, arith}
 use Rattle.std.specs.List.{range_with_len, flat_map, enumerate_from}
 use Rattle.std.proofs.lemmas.Grind.{flat_map-append}
 use Rattle.std.proofs.lemmas.Int.{ints}
@@ -19,7 +20,8 @@ pub columns_between : (moves : List Move) (first last : ℕ) → first ≡ unwra
 unfolding columns_of
 columns_between moves first last starts ends = (λ i. range_with_len (starts i / 10) (ends i / 10 + 1 - starts i / 10)) ∙ by moves
   where
-    by : (moves : List Move) → range_with_len (unwrap_or (first_departure moves) 65535 / 10) (last_end moves / 10 + 1 - unwrap_or (first_departure moves) 65535 / 10) ≡ columns_of moves
+    by : (moves : List Move) → range_with_len (unwrap_or (first_departure moves) 65535 / 10)
+        (last_end moves / 10 + 1 - unwrap_or (first_departure moves) 65535 / 10) ≡ columns_of moves
     by [] = refl
     by (m ∷ moves) = refl
 
@@ -48,8 +50,10 @@ ends-bounded places (s ∷ slots) before h valid =
     let rest : All (λ s. IsValidTrip places s.trip) slots = All-tail (λ s. IsValidTrip places s.trip) s slots valid in
     by s.trip.live (ends-bounded places slots (max before s.trip.ends) (omega arith) rest) (ends-bounded places slots before h rest)
   where
-    by : (b : Bool) → fold max (max before s.trip.ends) (map (λ m. m.arrives) (live_moves slots)) ≤ 6300 → fold max before (map (λ m. m.arrives) (live_moves slots)) ≤ 6300
-        → fold max before (map (λ m. m.arrives) (map (λ s. move_of s.trip) (cond b (s ∷ filter (λ s. s.trip.live) slots) (filter (λ s. s.trip.live) slots)))) ≤ 6300
+    by : (b : Bool) → fold max (max before s.trip.ends) (map (λ m. m.arrives) (live_moves slots)) ≤ 6300
+        → fold max before (map (λ m. m.arrives) (live_moves slots)) ≤ 6300
+        → fold max before (map (λ m. m.arrives)
+        (map (λ s. move_of s.trip) (cond b (s ∷ filter (λ s. s.trip.live) slots) (filter (λ s. s.trip.live) slots)))) ≤ 6300
     by true runs cancelled = runs
     by false runs cancelled = cancelled
 
@@ -61,14 +65,16 @@ columns_of-in_day t valid =
     (range-bounded (unwrap_or (first_departure (live_moves t.slots)) 65535 / 10) (last_end (live_moves t.slots) / 10) 630 (omega arith))
 
 -- numbered items, with one more
-enumerate_from-push : {X : Type 0} (from : ℕ) (xs : List X) (x : X) → enumerate_from from (xs ++ x ∷ []) ≡ enumerate_from from xs ++ (from + length xs, x) ∷ []
+enumerate_from-push : {X : Type 0} (from : ℕ) (xs : List X) (x : X)
+    → enumerate_from from (xs ++ x ∷ []) ≡ enumerate_from from xs ++ (from + length xs, x) ∷ []
 enumerate_from-push from [] x = let e : from ≡ from + 0 = omega arith in ap (λ n. (n, x) ∷ []) e
 enumerate_from-push from (y ∷ xs) x =
     ap (λ rest. (from, y) ∷ rest) (enumerate_from-push (from + 1) xs x
     ∙ (let e : from + 1 + length xs ≡ from + suc (length xs) = omega arith in ap (λ n. enumerate_from (from + 1) xs ++ (n, x) ∷ []) e))
 
 -- the text after the line of one numbered item more
-pub text-more : {X : Type 0} (line : (ℕ × X) → List ℕ) (from : ℕ) (xs : List X) (k number : ℕ) (d : X) (start text next : List ℕ) → k < length xs → from + k ≡ number
+pub text-more : {X : Type 0} (line : (ℕ × X) → List ℕ) (from : ℕ) (xs : List X) (k number : ℕ) (d : X) (start text next : List ℕ)
+    → k < length xs → from + k ≡ number
     → text ≡ start ++ flat_map line (enumerate_from from (take k xs))
     → next ≡ text ++ line (number, get_or xs k d)
     → next ≡ start ++ flat_map line (enumerate_from from (take (k + 1) xs))

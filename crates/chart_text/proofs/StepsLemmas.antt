@@ -1,5 +1,6 @@
 -- The steps of a function of the minute from some minute on, read one minute after another.
-use Rattle.std.proofs.Common.{◌≡◌, ℕ, zero, suc, ◌+◌, ◌-◌, ◌<◌, ◌≤◌, Bool, true, false, cond, List, [], ◌∷◌, ◌++◌, map, length, get_or, drop, filter, ℤ, pos, refl, sym, ap, subst, ◌∙◌, ⊎_elim, add-one, length-append, arith}
+use Rattle.std.proofs.Common.{◌≡◌, ℕ, zero, suc, ◌+◌, ◌-◌, ◌<◌, ◌≤◌, Bool, true, false, cond, List, [], ◌∷◌, ◌++◌, map, length, get_or}
+use Rattle.std.proofs.Common.{drop, filter, ℤ, pos, refl, sym, ap, subst, ◌∙◌, ⊎_elim, add-one, length-append, arith}
 use Rattle.std.specs.List.{range_with_len}
 use Rattle.std.proofs.lemmas.Bool.{cases_lt, not-false}
 use Rattle.std.proofs.lemmas.Bool.Decides.{Decides-int_eq}
@@ -17,15 +18,18 @@ unfolding steps steps_before steps_from
 steps_from-all d n all = sym (ap (steps_before d) all)
 
 -- a minute that is a step, and one that is none
-steps_from-step : (d : ℕ → ℤ) (first n : ℕ) → is_step d first ≡ true → steps_from d first (suc n) ≡ (first, d first) ∷ steps_from d (first + 1) n
+steps_from-step : (d : ℕ → ℤ) (first n : ℕ) → is_step d first ≡ true
+    → steps_from d first (suc n) ≡ (first, d first) ∷ steps_from d (first + 1) n
 unfolding steps_from
 steps_from-step d first n e =
-    let later = filter (is_step d) (range_with_len (first + 1) n) in ap (λ b. map {B = ℕ × ℤ} (λ t. (t, d t)) (cond b (first ∷ later) later)) e
+    let later = filter (is_step d) (range_with_len (first + 1) n) in
+    ap (λ b. map {B = ℕ × ℤ} (λ t. (t, d t)) (cond b (first ∷ later) later)) e
 
 steps_from-none : (d : ℕ → ℤ) (first n : ℕ) → is_step d first ≡ false → steps_from d first (suc n) ≡ steps_from d (first + 1) n
 unfolding steps_from
 steps_from-none d first n e =
-    let later = filter (is_step d) (range_with_len (first + 1) n) in ap (λ b. map {B = ℕ × ℤ} (λ t. (t, d t)) (cond b (first ∷ later) later)) e
+    let later = filter (is_step d) (range_with_len (first + 1) n) in
+    ap (λ b. map {B = ℕ × ℤ} (λ t. (t, d t)) (cond b (first ∷ later) later)) e
 
 -- the minute of the first step of a list
 abbrev first_minute : List (ℕ × ℤ) → ℕ
@@ -37,7 +41,8 @@ unfolding steps_from
 first_minute-later d first zero some = absurd (omega arith)
 first_minute-later d first (suc n) some = by (is_step d first) refl some (first_minute-later d (first + 1) n)
   where
-    by : (b : Bool) → is_step d first ≡ b → 1 ≤ length (steps_from d first (suc n)) → (1 ≤ length (steps_from d (first + 1) n) → first + 1 ≤ first_minute (steps_from d (first + 1) n))
+    by : (b : Bool) → is_step d first ≡ b → 1 ≤ length (steps_from d first (suc n))
+        → (1 ≤ length (steps_from d (first + 1) n) → first + 1 ≤ first_minute (steps_from d (first + 1) n))
         → first ≤ first_minute (steps_from d first (suc n))
     by true e some later = let is = ap first_minute (steps_from-step d first n e) in omega arith
     by false e some later =
@@ -47,12 +52,14 @@ first_minute-later d first (suc n) some = by (is_step d first) refl some (first_
         omega arith
 
 -- a minute whose step comes first gives its value, and leaves the later steps
-pub read-step : (d : ℕ → ℤ) (minute n : ℕ) (rest : List (ℕ × ℤ)) → rest ≡ steps_from d minute (suc n) → 1 ≤ length rest → (get_or rest 0 (0, pos 0)).0 ≡ minute
+pub read-step : (d : ℕ → ℤ) (minute n : ℕ) (rest : List (ℕ × ℤ)) → rest ≡ steps_from d minute (suc n) → 1 ≤ length rest
+    → (get_or rest 0 (0, pos 0)).0 ≡ minute
     → ((get_or rest 0 (0, pos 0)).1 ≡ d minute) × (drop 1 rest ≡ steps_from d (minute + 1) n)
 read-step d minute n rest is some here = by (is_step d minute) refl
   where
     by : (b : Bool) → is_step d minute ≡ b → ((get_or rest 0 (0, pos 0)).1 ≡ d minute) × (drop 1 rest ≡ steps_from d (minute + 1) n)
-    by true e = let all = is ∙ steps_from-step d minute n e in (ap (λ (list : List (ℕ × ℤ)). (get_or list 0 (0, pos 0)).1) all, ap (drop 1) all)
+    by true e = let all = is ∙ steps_from-step d minute n e in
+        (ap (λ (list : List (ℕ × ℤ)). (get_or list 0 (0, pos 0)).1) all, ap (drop 1) all)
     by false e =
         let all = is ∙ steps_from-none d minute n e in
         let len = ap length all in
@@ -61,7 +68,8 @@ read-step d minute n rest is some here = by (is_step d minute) refl
         absurd (omega arith)
 
 -- a minute whose step does not come first has the value of the minute before, and leaves all steps
-pub read-none : (d : ℕ → ℤ) (minute n : ℕ) (rest : List (ℕ × ℤ)) → rest ≡ steps_from d minute (suc n) → (1 ≤ length rest → (get_or rest 0 (0, pos 0)).0 ≡ minute → ⊥)
+pub read-none : (d : ℕ → ℤ) (minute n : ℕ) (rest : List (ℕ × ℤ)) → rest ≡ steps_from d minute (suc n)
+    → (1 ≤ length rest → (get_or rest 0 (0, pos 0)).0 ≡ minute → ⊥)
     → (value_before d minute ≡ d minute) × (rest ≡ steps_from d (minute + 1) n)
 read-none d minute n rest is other = by (is_step d minute) refl
   where
@@ -81,7 +89,8 @@ pub record IsReadBefore (d : ℕ → ℤ) (minute : ℕ) (rest : List (ℕ × �
   pub values_are : (t : ℕ) → t < minute → get_or values t (pos 0) ≡ d t
 
 -- before the first minute
-pub IsReadBefore-start : (d : ℕ → ℤ) (list : List (ℕ × ℤ)) (values : List ℤ) → list ≡ steps d → values ≡ [] → IsReadBefore d 0 list (pos 0) values
+pub IsReadBefore-start : (d : ℕ → ℤ) (list : List (ℕ × ℤ)) (values : List ℤ) → list ≡ steps d → values ≡ []
+    → IsReadBefore d 0 list (pos 0) values
 IsReadBefore-start d list values all none = record {
   rest_is = all ∙ steps_from-all d (8192 - 0) refl;
   value_is = refl;
@@ -90,7 +99,8 @@ IsReadBefore-start d list values all none = record {
 }
 
 -- after one minute
-pub IsReadBefore-next : (d : ℕ → ℤ) (minute : ℕ) (rest next_rest : List (ℕ × ℤ)) (value next_value : ℤ) (values next_values : List ℤ) → IsReadBefore d minute rest value values
+pub IsReadBefore-next : (d : ℕ → ℤ) (minute : ℕ) (rest next_rest : List (ℕ × ℤ)) (value next_value : ℤ) (values next_values : List ℤ)
+    → IsReadBefore d minute rest value values
     → next_rest ≡ steps_from d (minute + 1) (8192 - (minute + 1)) → next_value ≡ d minute → next_values ≡ values ++ next_value ∷ []
     → IsReadBefore d (minute + 1) next_rest next_value next_values
 IsReadBefore-next d minute rest next_rest value next_value values next_values so_far rest_is value_is pushed = record {
@@ -102,6 +112,7 @@ IsReadBefore-next d minute rest next_rest value next_value values next_values so
       rw pushed (⊎_elim
       (λ (before : t < minute). get_or_append_left values (next_value ∷ []) (pos 0) t (omega arith) ∙ so_far.values_are t before)
       (λ (now : minute ≤ t). let e : length values ≡ t = omega arith in let f : minute ≡ t = omega arith in
-      subst (λ k. get_or (values ++ next_value ∷ []) k (pos 0) ≡ d t) e (get_or-append_seam values next_value [] (pos 0) ∙ value_is ∙ ap d f))
+      subst (λ k. get_or (values ++ next_value ∷ []) k (pos 0) ≡ d t) e
+      (get_or-append_seam values next_value [] (pos 0) ∙ value_is ∙ ap d f))
       (cases_lt t minute));
 }

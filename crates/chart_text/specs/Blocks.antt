@@ -1,5 +1,6 @@
 -- The chart of blocks, each a list of slots, where `walk` says in how many minutes a vehicle runs empty from place to place.
-use Rattle.std.specs.Prelude.{ℕ, ◌+◌, Bool, ◌&&◌, nat_le, nat_lt, List, [], ◌∷◌, ◌++◌, map, drop, zip, Option, unwrap_or, if◌then◌else◌, codes}
+use Rattle.std.specs.Prelude.{ℕ, ◌+◌, Bool, ◌&&◌, nat_le, nat_lt, List, [], ◌∷◌, ◌++◌, map, drop, zip, Option, unwrap_or, if◌then◌else◌}
+use Rattle.std.specs.Prelude.{codes}
 use Rattle.std.specs.List.{flat_map, enumerate_from, list_any}
 use Rattle.trip_model.specs.Deficit.{live_moves}
 use Rattle.trip_model.specs.Timetable.{TimetableView, slot_at}
@@ -21,7 +22,8 @@ links block = zip block (drop 1 block)
 -- in some minute of the column a vehicle runs empty along a link: its first trip has ended, the walk to the second has not
 abbrev pub is_walking : TimetableView → (ℕ → ℕ → Option ℕ) → ℕ → ℕ × ℕ → Bool
 is_walking timetable walk column link =
-    let ends = (slot_at timetable link.0).trip.ends in has_minute column ends (ends + unwrap_or (walk_between timetable walk link.0 link.1) 0)
+    let ends = (slot_at timetable link.0).trip.ends in
+    has_minute column ends (ends + unwrap_or (walk_between timetable walk link.0 link.1) 0)
 
 -- a block in a column as one character: `#` where one of its trips runs, else `~` where its vehicle runs empty along a link, else `.`
 abbrev pub block_mark : TimetableView → (ℕ → ℕ → Option ℕ) → List ℕ → ℕ → ℕ

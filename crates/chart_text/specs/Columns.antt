@@ -15,7 +15,9 @@ last_end moves = fold max 0 (map (λ m. m.arrives) moves)
 
 -- the columns in order of number, from that of the first departure to that of the last end, and none without moves
 unfoldable pub columns_of : List Move → List ℕ
-columns_of moves = option_map_or (λ first. range_with_len (first / COLUMN_MINUTES) (last_end moves / COLUMN_MINUTES + 1 - first / COLUMN_MINUTES)) (first_departure moves) []
+columns_of moves = option_map_or
+    (λ first. range_with_len (first / COLUMN_MINUTES) (last_end moves / COLUMN_MINUTES + 1 - first / COLUMN_MINUTES))
+    (first_departure moves) []
 
 -- a column that begins before all trips have ended, or then
 abbrev pub IsColumn : ℕ → Type 0

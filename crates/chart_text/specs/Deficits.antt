@@ -29,7 +29,8 @@ place_line columns name d = map (λ c. mark_of (greatest_in d c)) columns ++ cod
 unfoldable pub chart_of : List ℕ → List (List ℕ) → (ℕ → ℕ → ℤ) → List ℕ
 chart_of [] names d = codes "no trips" ++ 10 ∷ []
 chart_of (first ∷ rest) names d =
-    codes "chart from " ++ minute_digits (COLUMN_MINUTES * first) ++ 10 ∷ [] ++ flat_map (λ place. place_line (first ∷ rest) place.1 (d place.0)) (enumerate_from 0 names)
+    codes "chart from " ++ minute_digits (COLUMN_MINUTES * first) ++ 10 ∷ []
+    ++ flat_map (λ place. place_line (first ∷ rest) place.1 (d place.0)) (enumerate_from 0 names)
 
 -- the chart of the places of a timetable, over the columns of its trips that run
 abbrev pub deficit_chart_text : TimetableView → (ℕ → ℕ → ℤ) → List ℕ

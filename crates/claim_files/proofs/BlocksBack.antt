@@ -1,5 +1,6 @@
 -- Blocks that are written read back.
-use Rattle.std.proofs.Common.{◌≡◌, ℕ, zero, suc, ◌+◌, ◌<◌, ◌≤◌, List, [], ◌∷◌, ◌++◌, length, get_or, map, Some, Ok, refl, sym, ap, ◌∙◌, append_assoc, arith}
+use Rattle.std.proofs.Common.{◌≡◌, ℕ, zero, suc, ◌+◌, ◌<◌, ◌≤◌, List, [], ◌∷◌, ◌++◌, length, get_or, map, Some, Ok, refl, sym, ap, ◌∙◌}
+use Rattle.std.proofs.Common.{append_assoc, arith}
 use Rattle.std.specs.Fmt.{decimal}
 use Rattle.std.specs.List.{AllByRecursion, range_with_len}
 use Rattle.gtfs_tables.specs.declared.fault.FeedFault.TheVariants as fault
@@ -43,25 +44,41 @@ fields-back n block trip minutes block_is trip_is few =
     let text = decimal-name minutes (omega (arith, few)) in
     then (text_in paper.Blocks n column.BlockId block) block _ _ (text_in-utf8 paper.Blocks n column.BlockId block block_is.text)
     (then (text_in paper.Blocks n column.TripId trip) trip _ _ (text_in-utf8 paper.Blocks n column.TripId trip trip_is.text)
-    (then (text_in paper.Blocks n column.Deadhead (decimal minutes)) (decimal minutes) _ _ (text_in-utf8 paper.Blocks n column.Deadhead (decimal minutes) text.text)
+    (then (text_in paper.Blocks n column.Deadhead (decimal minutes)) (decimal minutes) _ _
+    (text_in-utf8 paper.Blocks n column.Deadhead (decimal minutes) text.text)
     (then (filled_in paper.Blocks n column.BlockId block) block _ _ (filled-back paper.Blocks n column.BlockId block block_is.filled)
     (then (filled_in paper.Blocks n column.TripId trip) trip _ _ (filled-back paper.Blocks n column.TripId trip trip_is.filled)
-    (then (filled_in paper.Blocks n column.Deadhead (decimal minutes)) (decimal minutes) _ _ (filled-back paper.Blocks n column.Deadhead (decimal minutes) text.filled)
-    (then (number_in paper.Blocks n column.Deadhead 6 MOST_SHOWN (decimal minutes)) minutes _ _ (number_in-back paper.Blocks n column.Deadhead 6 MOST_SHOWN minutes (omega arith) few (omega (arith, few)) (omega (arith, few)))
+    (then (filled_in paper.Blocks n column.Deadhead (decimal minutes)) (decimal minutes) _ _
+    (filled-back paper.Blocks n column.Deadhead (decimal minutes) text.filled)
+    (then (number_in paper.Blocks n column.Deadhead 6 MOST_SHOWN (decimal minutes)) minutes _ _
+    (number_in-back paper.Blocks n column.Deadhead 6 MOST_SHOWN minutes (omega arith) few (omega (arith, few)) (omega (arith, few)))
     refl))))))
 
 -- one record more
-pub trip-back : (t : TimetableView) (n : ℕ) (before : BlocksRead) (name trip : List ℕ) (minutes block s : ℕ) → IsName name → IsName trip → minutes ≤ MOST_SHOWN
+pub trip-back : (t : TimetableView) (n : ℕ) (before : BlocksRead) (name trip : List ℕ) (minutes block s : ℕ) → IsName name → IsName trip
+    → minutes ≤ MOST_SHOWN
     → length before.rows < MOST_SLOTS → block_number n before.names name ≡ Ok block → running t trip ≡ Some s
     → with_trip t written_columns n before (name ∷ trip ∷ decimal minutes ∷ [])
-    ≡ Ok (record { names = with_name before.names name; rows = before.rows ++ record { block = block; trip = trip; slot = Some s; deadhead = minutes } ∷ [] })
+    ≡ Ok (record {
+      names = with_name before.names name;
+      rows = before.rows ++ record { block = block; trip = trip; slot = Some s; deadhead = minutes } ∷ [];
+    })
 unfolding with_trip
 trip-back t n before name trip minutes block s name_is trip_is small few numbered runs =
-    ap (λ b. provided b (fault.TooManyTrips n) (Ok tt) >>= λ _. trip_in written_columns n (name ∷ trip ∷ decimal minutes ∷ []) >>= λ read. block_number n before.names read.0 >>= λ block.
-    Ok (record { names = with_name before.names read.0; rows = before.rows ++ record { block = block; trip = read.1; slot = running t read.1; deadhead = read.2 } ∷ [] })) (lt-ltb (length before.rows) MOST_SLOTS few)
-    ∙ then (trip_in written_columns n (name ∷ trip ∷ decimal minutes ∷ [])) (name, trip, minutes) _ _ (fields-back n name trip minutes name_is trip_is small)
+    ap (λ b. provided b (fault.TooManyTrips n) (Ok tt) >>= λ _. trip_in written_columns n (name ∷ trip ∷ decimal minutes ∷ []) >>=
+    λ read. block_number n before.names read.0 >>= λ block.
+    Ok (record {
+      names = with_name before.names read.0;
+      rows = before.rows ++ record { block = block; trip = read.1; slot = running t read.1; deadhead = read.2 } ∷ [];
+    }))
+    (lt-ltb (length before.rows) MOST_SLOTS few)
+    ∙ then (trip_in written_columns n (name ∷ trip ∷ decimal minutes ∷ [])) (name, trip, minutes) _ _
+    (fields-back n name trip minutes name_is trip_is small)
     (then (block_number n before.names name) block _ _ numbered
-    (ap (λ slot. Ok (record { names = with_name before.names name; rows = before.rows ++ record { block = block; trip = trip; slot = slot; deadhead = minutes } ∷ [] })) runs))
+    (ap (λ slot. Ok (record {
+      names = with_name before.names name;
+      rows = before.rows ++ record { block = block; trip = trip; slot = slot; deadhead = minutes } ∷ [];
+    })) runs))
 
 -- a trip of a block that can be written
 pub record CanStand (t : TimetableView) (m : MatrixView) (block : List ℕ) (n : ℕ) : Type 0 where
@@ -82,44 +99,64 @@ module _ (t : TimetableView) (m : MatrixView) (prefix : List ℕ) (valid : IsTim
   name-of : (k : ℕ) → k ≤ 4096 → IsName (block_name prefix k)
   name-of k few =
       let number = decimal-name (k + 1) (omega (arith, few)) in
-      record { text = IsUtf8-append prefix (decimal (k + 1)) begun number.text; filled = omega (arith, length-append prefix (decimal (k + 1)), number.filled) }
+      record {
+        text = IsUtf8-append prefix (decimal (k + 1)) begun number.text;
+        filled = omega (arith, length-append prefix (decimal (k + 1)), number.filled);
+      }
 
   -- the first trip of a block
   begins : (n k : ℕ) (block : List ℕ) (rows : List BlockRow) → k ≤ 4095 → CanStand t m block 0 → length rows < MOST_SLOTS
-      → with_trip t written_columns n (after_blocks k rows) (block_record t m prefix k block 0) ≡ Ok (after_blocks (k + 1) (rows ++ written_trip t m k block 0 ∷ []))
+      → with_trip t written_columns n (after_blocks k rows)
+      (block_record t m prefix k block 0) ≡ Ok (after_blocks (k + 1) (rows ++ written_trip t m k block 0 ∷ []))
   begins n k block rows few can room =
-      trip-back t n (after_blocks k rows) (block_name prefix k) (slot_at t (get_or block 0 0)).name (minutes_before t m block 0) k (get_or block 0 0)
-      (name-of k (omega (arith, few))) can.name can.shown room (block-begins prefix n k (omega (arith, few))) (running-back t (get_or block 0 0) valid can.runs)
-      ∙ ap (λ names. Ok (record { names = names; rows = rows ++ written_trip t m k block 0 ∷ [] })) (names-more prefix k (omega (arith, few)))
+      trip-back t n (after_blocks k rows) (block_name prefix k) (slot_at t (get_or block 0 0)).name (minutes_before t m block 0) k
+      (get_or block 0 0)
+      (name-of k (omega (arith, few))) can.name can.shown room (block-begins prefix n k (omega (arith, few)))
+      (running-back t (get_or block 0 0) valid can.runs)
+      ∙ ap (λ names. Ok (record { names = names; rows = rows ++ written_trip t m k block 0 ∷ [] }))
+      (names-more prefix k (omega (arith, few)))
 
   -- one that follows
   follows : (n k : ℕ) (block : List ℕ) (rows : List BlockRow) (j : ℕ) → k ≤ 4095 → CanStand t m block j → length rows < MOST_SLOTS
-      → with_trip t written_columns n (after_blocks (k + 1) rows) (block_record t m prefix k block j) ≡ Ok (after_blocks (k + 1) (rows ++ written_trip t m k block j ∷ []))
+      → with_trip t written_columns n (after_blocks (k + 1) rows)
+      (block_record t m prefix k block j) ≡ Ok (after_blocks (k + 1) (rows ++ written_trip t m k block j ∷ []))
   follows n k block rows j few can room =
-      trip-back t n (after_blocks (k + 1) rows) (block_name prefix k) (slot_at t (get_or block j 0)).name (minutes_before t m block j) k (get_or block j 0)
-      (name-of k (omega (arith, few))) can.name can.shown room (block-goes_on prefix n k few) (running-back t (get_or block j 0) valid can.runs)
+      trip-back t n (after_blocks (k + 1) rows) (block_name prefix k) (slot_at t (get_or block j 0)).name (minutes_before t m block j) k
+      (get_or block j 0)
+      (name-of k (omega (arith, few))) can.name can.shown room (block-goes_on prefix n k few)
+      (running-back t (get_or block j 0) valid can.runs)
       ∙ ap (λ names. Ok (record { names = names; rows = rows ++ written_trip t m k block j ∷ [] })) (names-stay prefix k)
 
   -- the trips of a block after the first
-  follow : (n k : ℕ) (block : List ℕ) (rows : List BlockRow) (js : List ℕ) → k ≤ 4095 → AllByRecursion (CanStand t m block) js → length rows + length js ≤ MOST_SLOTS
-      → each_record (with_trip t written_columns) n (after_blocks (k + 1) rows) (map (block_record t m prefix k block) js) ≡ Ok (after_blocks (k + 1) (rows ++ map (written_trip t m k block) js))
+  follow : (n k : ℕ) (block : List ℕ) (rows : List BlockRow) (js : List ℕ) → k ≤ 4095 → AllByRecursion (CanStand t m block) js
+      → length rows + length js ≤ MOST_SLOTS
+      → each_record (with_trip t written_columns) n (after_blocks (k + 1) rows)
+      (map (block_record t m prefix k block) js) ≡ Ok (after_blocks (k + 1) (rows ++ map (written_trip t m k block) js))
   follow n k block rows js few can room =
-      each-adds (with_trip t written_columns) (after_blocks (k + 1)) (block_record t m prefix k block) (written_trip t m k block) MOST_SLOTS (CanStand t m block)
+      each-adds (with_trip t written_columns) (after_blocks (k + 1)) (block_record t m prefix k block) (written_trip t m k block)
+      MOST_SLOTS (CanStand t m block)
       (λ n rows j good less. follows n k block rows j few good less) n rows js can room
 
   -- all of a block of so many
-  whole : (n k : ℕ) (block : List ℕ) (rows : List BlockRow) (size : ℕ) → k ≤ 4095 → 0 < size → AllByRecursion (CanStand t m block) (range_with_len 0 size) → length rows + size ≤ MOST_SLOTS
-      → each_record (with_trip t written_columns) n (after_blocks k rows) (map (block_record t m prefix k block) (range_with_len 0 size)) ≡ Ok (after_blocks (k + 1) (rows ++ map (written_trip t m k block) (range_with_len 0 size)))
+  whole : (n k : ℕ) (block : List ℕ) (rows : List BlockRow) (size : ℕ) → k ≤ 4095 → 0 < size
+      → AllByRecursion (CanStand t m block) (range_with_len 0 size) → length rows + size ≤ MOST_SLOTS
+      → each_record (with_trip t written_columns) n (after_blocks k rows)
+      (map (block_record t m prefix k block) (range_with_len 0 size)) ≡ Ok (after_blocks (k + 1)
+      (rows ++ map (written_trip t m k block) (range_with_len 0 size)))
   whole n k block rows zero few some can room = absurd (omega arith)
   whole n k block rows (suc size) few some can room =
-      ap (λ here. here >>= λ more. each_record (with_trip t written_columns) (n + 1) more (map (block_record t m prefix k block) (range_with_len (0 + 1) size))) (begins n k block rows few can.0 (omega arith))
+      ap (λ here. here >>= λ more. each_record (with_trip t written_columns) (n + 1) more
+      (map (block_record t m prefix k block) (range_with_len (0 + 1) size))) (begins n k block rows few can.0 (omega arith))
       ∙ follow (n + 1) k block (rows ++ written_trip t m k block 0 ∷ []) (range_with_len (0 + 1) size) few can.1
       (omega (arith, room, length-append rows (written_trip t m k block 0 ∷ []), length-range_with_len (0 + 1) size))
-      ∙ ap (λ rows. Ok (after_blocks (k + 1) rows)) (append_assoc rows (written_trip t m k block 0 ∷ []) (map (written_trip t m k block) (range_with_len (0 + 1) size)))
+      ∙ ap (λ rows. Ok (after_blocks (k + 1) rows))
+      (append_assoc rows (written_trip t m k block 0 ∷ []) (map (written_trip t m k block) (range_with_len (0 + 1) size)))
 
   -- blocks, the first of this number
-  pub all-blocks : (n k : ℕ) (blocks : List (List ℕ)) (rows : List BlockRow) → AllByRecursion (CanBlock t m) blocks → k + length (slots_in blocks) ≤ MOST_SLOTS → length rows + length (slots_in blocks) ≤ MOST_SLOTS
-      → each_record (with_trip t written_columns) n (after_blocks k rows) (on (records_of_block t m prefix) k blocks) ≡ Ok (after_blocks (k + length blocks) (rows ++ on (written_block t m) k blocks))
+  pub all-blocks : (n k : ℕ) (blocks : List (List ℕ)) (rows : List BlockRow) → AllByRecursion (CanBlock t m) blocks
+      → k + length (slots_in blocks) ≤ MOST_SLOTS → length rows + length (slots_in blocks) ≤ MOST_SLOTS
+      → each_record (with_trip t written_columns) n (after_blocks k rows)
+      (on (records_of_block t m prefix) k blocks) ≡ Ok (after_blocks (k + length blocks) (rows ++ on (written_block t m) k blocks))
   all-blocks n k [] rows can few room =
       let same : k ≡ k + 0 = omega arith in
       (λ i. Ok (after_blocks (same i) (sym (append-nil rows) i)))
@@ -130,7 +167,9 @@ module _ (t : TimetableView) (m : MatrixView) (prefix : List ℕ) (valid : IsTim
       let long = length-map-range_with_len (written_trip t m k block) 0 (length block) in
       let next : k + 1 + length blocks ≡ k + suc (length blocks) = omega arith in
       each-append (with_trip t written_columns) n (after_blocks k rows) records (on (records_of_block t m prefix) (k + 1) blocks)
-      ∙ ap (λ first. first >>= λ b. each_record (with_trip t written_columns) (n + length records) b (on (records_of_block t m prefix) (k + 1) blocks))
+      ∙ ap (λ first. first >>= λ b. each_record (with_trip t written_columns) (n + length records) b
+      (on (records_of_block t m prefix) (k + 1) blocks))
       (whole n k block rows (length block) (omega (arith, few, size, can.0.filled)) can.0.filled can.0.trips (omega (arith, room, size)))
-      ∙ all-blocks (n + length records) (k + 1) blocks (rows ++ here) can.1 (omega (arith, few, size, can.0.filled)) (omega (arith, room, size, long, length-append rows here))
+      ∙ all-blocks (n + length records) (k + 1) blocks (rows ++ here) can.1 (omega (arith, few, size, can.0.filled))
+      (omega (arith, room, size, long, length-append rows here))
       ∙ (λ i. Ok (after_blocks (next i) (append_assoc rows here (on (written_block t m) (k + 1) blocks) i)))

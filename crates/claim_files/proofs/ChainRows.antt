@@ -1,5 +1,6 @@
 -- The rows of written blocks, slot after slot, and what they claim: the blocks, the links along them, and the empty minutes.
-use Rattle.std.proofs.Common.{◌≡◌, ℕ, zero, suc, ◌+◌, ◌<◌, ◌==◌, cond, true, false, List, [], ◌∷◌, ◌++◌, length, get_or, map, Option, None, Some, refl, sym, ap, ◌∙◌, add-one, arith}
+use Rattle.std.proofs.Common.{◌≡◌, ℕ, zero, suc, ◌+◌, ◌<◌, ◌==◌, cond, true, false, List, [], ◌∷◌, ◌++◌, length, get_or, map, Option, None}
+use Rattle.std.proofs.Common.{Some, refl, sym, ap, ◌∙◌, add-one, arith}
 use Rattle.std.specs.Prelude.{unwrap_or}
 use Rattle.std.specs.List.{AllByRecursion, range_with_len}
 use Rattle.std.proofs.lemmas.Bool.{eq-eqb, ne_eqb}
@@ -34,22 +35,37 @@ before_trip : List ℕ → ℕ → Option ℕ
 before_trip block zero = None
 before_trip block (suc n) = Some (get_or block n 0)
 
-row-is : (t : TimetableView) (m : MatrixView) (k : ℕ) (block : List ℕ) (n s : ℕ) → get_or block n 0 ≡ s → written_trip t m k block n ≡ row t m k (before_trip block n) s
+row-is : (t : TimetableView) (m : MatrixView) (k : ℕ) (block : List ℕ) (n s : ℕ) → get_or block n 0 ≡ s
+    → written_trip t m k block n ≡ row t m k (before_trip block n) s
 unfolding before_trip
-row-is t m k block zero s is = λ i. record { block = k; trip = (slot_at t (is i)).name; slot = Some (is i); deadhead = (pull_at m.pulls (slot_at t (is i)).trip.from).pull_out }
-row-is t m k block (suc n) s is = λ i. record { block = k; trip = (slot_at t (is i)).name; slot = Some (is i); deadhead = unwrap_or (walk_between t (walk m) (get_or block n 0) (is i)) 0 }
+row-is t m k block zero s is =
+    λ i. record {
+      block = k;
+      trip = (slot_at t (is i)).name;
+      slot = Some (is i);
+      deadhead = (pull_at m.pulls (slot_at t (is i)).trip.from).pull_out;
+    }
+row-is t m k block (suc n) s is =
+    λ i. record {
+      block = k;
+      trip = (slot_at t (is i)).name;
+      slot = Some (is i);
+      deadhead = unwrap_or (walk_between t (walk m) (get_or block n 0) (is i)) 0;
+    }
 
 before-more : (block : List ℕ) (n s : ℕ) → get_or block n 0 ≡ s → before_trip block (n + 1) ≡ Some s
 unfolding before_trip
 before-more block n s is = ap (before_trip block) (add-one n) ∙ ap Some is
 
-rest-chain : (t : TimetableView) (m : MatrixView) (k : ℕ) (block rest : List ℕ) (a : ℕ) → ((j : ℕ) → j < length rest → get_or block (a + j) 0 ≡ get_or rest j 0)
+rest-chain : (t : TimetableView) (m : MatrixView) (k : ℕ) (block rest : List ℕ) (a : ℕ)
+    → ((j : ℕ) → j < length rest → get_or block (a + j) 0 ≡ get_or rest j 0)
     → map (written_trip t m k block) (range_with_len a (length rest)) ≡ chain t m k (before_trip block a) rest
 rest-chain t m k block [] a same = refl
 rest-chain t m k block (s ∷ rest) a same =
     let at : a ≡ a + 0 = omega arith in
     let here : get_or block a 0 ≡ s = ap (λ n. get_or block n 0) at ∙ same 0 (omega arith) in
-    let later = rest-chain t m k block rest (a + 1) (λ j lt. (let next : a + 1 + j ≡ a + suc j = omega arith in ap (λ n. get_or block n 0) next ∙ same (suc j) (omega (arith, lt)))) in
+    let later = rest-chain t m k block rest (a + 1)
+    (λ j lt. (let next : a + 1 + j ≡ a + suc j = omega arith in ap (λ n. get_or block n 0) next ∙ same (suc j) (omega (arith, lt)))) in
     (λ i. row-is t m k block a s here i ∷ (later ∙ ap (λ before. chain t m k before rest) (before-more block a s here)) i)
 
 -- the rows of a written block are those of its slots
@@ -72,7 +88,8 @@ IsChain links [] = ⊥
 IsChain links (i ∷ js) = GoesOn links i js
 
 -- the rows of later blocks are of no block before
-pub later-block : (t : TimetableView) (m : MatrixView) (links : List (Option ℕ)) (k : ℕ) (blocks : List (List ℕ)) → AllByRecursion (IsChain links) blocks → begin_with (rows_on t m (k + 1) blocks) k ≡ false
+pub later-block : (t : TimetableView) (m : MatrixView) (links : List (Option ℕ)) (k : ℕ) (blocks : List (List ℕ))
+    → AllByRecursion (IsChain links) blocks → begin_with (rows_on t m (k + 1) blocks) k ≡ false
 later-block t m links k [] are = refl
 later-block t m links k ([] ∷ blocks) are = absurd are.0
 later-block t m links k ((i ∷ js) ∷ blocks) are = ne_eqb k (k + 1) (λ e. absurd (omega (arith, e)))
@@ -87,13 +104,15 @@ module _ (t : TimetableView) (m : MatrixView) (k : ℕ) where
   same-block = eq-eqb k k refl
 
   -- the block of a chain before later rows
-  pub chain-block : (before : Option ℕ) (s : ℕ) (js : List ℕ) (rest : List BlockRow) → begin_with rest k ≡ false → blocks_in (chain t m k before (s ∷ js) ++ rest) ≡ (s ∷ js) ∷ blocks_in rest
+  pub chain-block : (before : Option ℕ) (s : ℕ) (js : List ℕ) (rest : List BlockRow) → begin_with rest k ≡ false
+      → blocks_in (chain t m k before (s ∷ js) ++ rest) ≡ (s ∷ js) ∷ blocks_in rest
   chain-block before s [] rest apart = ap (λ joins. with_trip_before (blocks_in rest) joins (Some s)) apart ∙ with-alone (blocks_in rest) s
   chain-block before s (j ∷ js) rest apart =
       (λ i. with_trip_before (chain-block (Some s) j js rest apart i) (same-block i) (Some s))
 
   -- the trip after the first of a chain
-  pub after-first : (links : List (Option ℕ)) (before : Option ℕ) (s : ℕ) (js : List ℕ) (rest : List BlockRow) → begin_with rest k ≡ false → GoesOn links s js
+  pub after-first : (links : List (Option ℕ)) (before : Option ℕ) (s : ℕ) (js : List ℕ) (rest : List BlockRow) → begin_with rest k ≡ false
+      → GoesOn links s js
       → slot_after (row t m k before s) (chain t m k (Some s) js ++ rest) ≡ next_of links s
   after-first links before s [] [] apart goes = sym goes
   after-first links before s [] (q ∷ rest) apart goes = ap (λ joins. cond joins q.slot None) apart ∙ sym goes

@@ -1,5 +1,6 @@
 -- Numbers in decimal digits, as they are read.
-use Rattle.std.proofs.Common.{◌≡◌, ℕ, ◌+◌, ◌%◌, ◌<◌, ◌==◌, ◌&&◌, ◌^◌, Bool, true, false, cond, List, [], ◌∷◌, length, reverse, Some, None, refl, ap, ◌∙◌, arith}
+use Rattle.std.proofs.Common.{◌≡◌, ℕ, ◌+◌, ◌%◌, ◌<◌, ◌==◌, ◌&&◌, ◌^◌, Bool, true, false, cond, List, [], ◌∷◌, length, reverse, Some, None}
+use Rattle.std.proofs.Common.{refl, ap, ◌∙◌, arith}
 use Rattle.std.specs.Char.{is_ascii_digit}
 use Rattle.std.specs.Fmt.{decimal}
 use Rattle.std.specs.List.{list_all}
@@ -51,7 +52,8 @@ decimal-digits : (n : ℕ) → n < 2 ^ 64 → list_all is_ascii_digit (decimal n
 decimal-digits n small =
     decimal_by_steps (λ _ ds. list_all is_ascii_digit ds ≡ true)
     (λ n low. true-and _ true (digit-here n low) refl)
-    (λ n ds high so_far. list_all-append is_ascii_digit ds ((48 + n % 10) ∷ []) ∙ true-and _ _ so_far (true-and _ true (digit-here (n % 10) (omega arith)) refl))
+    (λ n ds high so_far. list_all-append is_ascii_digit ds ((48 + n % 10) ∷ [])
+    ∙ true-and _ _ so_far (true-and _ true (digit-here (n % 10) (omega arith)) refl))
     n small
 
 -- a number that is printed reads as the same number
@@ -61,7 +63,8 @@ number-back most n some fits small =
     let is_numeral = decimal_is_IsNumeral n small in
     ap (digits_number most) (digits-bare ds (decimal-digits n small))
     ∙ ap (λ b. cond b (Some (digits_value 10 ds)) None)
-    (true-and _ _ (true-and _ _ (lt-ltb 0 (length ds) (decimal_nonempty n small)) (le-leb (length ds) most (length-decimal-le most n some fits small))) (decimal-digits n small))
+    (true-and _ _ (true-and _ _ (lt-ltb 0 (length ds) (decimal_nonempty n small))
+    (le-leb (length ds) most (length-decimal-le most n some fits small))) (decimal-digits n small))
     ∙ ap Some is_numeral.1
 
 pub decimal-text : (n : ℕ) → n < 2 ^ 64 → IsUtf8 (decimal n)

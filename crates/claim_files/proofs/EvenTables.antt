@@ -14,13 +14,15 @@ use Rattle.gtfs_tables.specs.Table.{is_longer, table_from, unless_too_long, with
 use Rattle.gtfs_tables.specs.Writing.{records_text, ReadBack}
 use Rattle.gtfs_tables.proofs.Written.{records-back}
 
-none-longer : (width n : ℕ) (rows : List (List (List ℕ))) → AllByRecursion (λ fields. length fields ≡ width) rows → position_from (is_longer width) n rows ≡ None
+none-longer : (width n : ℕ) (rows : List (List (List ℕ))) → AllByRecursion (λ fields. length fields ≡ width) rows
+    → position_from (is_longer width) n rows ≡ None
 none-longer width n [] full = refl
 none-longer width n (fields ∷ rows) full =
     let fits = le-ltb width (length fields) (omega (arith, full.0)) in
     rw fits (none-longer width (n + 1) rows full.1)
 
-all-padded : (width : ℕ) (rows : List (List (List ℕ))) → AllByRecursion (λ fields. length fields ≡ width) rows → map (padded width) rows ≡ rows
+all-padded : (width : ℕ) (rows : List (List (List ℕ))) → AllByRecursion (λ fields. length fields ≡ width) rows
+    → map (padded width) rows ≡ rows
 all-padded width [] full = refl
 all-padded width (fields ∷ rows) full =
     let none : width - length fields ≡ 0 = omega (arith, full.0) in
@@ -38,15 +40,23 @@ pub all-of : {X : Type 0} (P : X → Type 0) (xs : List X) → AllByRecursion P 
 all-of P [] each = All-nil P
 all-of P (x ∷ xs) each = All-cons P x xs each.0 (all-of P xs each.1)
 
-filled-rows : (width : ℕ) (rows : List (List (List ℕ))) → 0 < width → AllByRecursion (λ fields. length fields ≡ width) rows → AllByRecursion (λ fields. 0 < length fields) rows
+filled-rows : (width : ℕ) (rows : List (List (List ℕ))) → 0 < width → AllByRecursion (λ fields. length fields ≡ width) rows
+    → AllByRecursion (λ fields. 0 < length fields) rows
 filled-rows width [] some full = tt
 filled-rows width (fields ∷ rows) some full = (omega (arith, some, full.0), filled-rows width rows some full.1)
 
 -- a file of records that are as long as their header, and that begins with no byte-order mark, reads as these records
-pub file-back : {C A : Type 0} (paper : Paper) (columns_in : ColumnsIn C) (step : C → Step A) (start : A) (header : List (List ℕ)) (rows : List (List (List ℕ))) (columns : C)
-    → 0 < length header → AllByRecursion (λ fields. length fields ≡ length header) rows → strip_bom (records_text (header ∷ rows)) ≡ records_text (header ∷ rows) → columns_in header ≡ Ok columns
+pub file-back : {C A : Type 0} (paper : Paper) (columns_in : ColumnsIn C) (step : C → Step A) (start : A) (header : List (List ℕ))
+    (rows : List (List (List ℕ))) (columns : C)
+    → 0 < length header → AllByRecursion (λ fields. length fields ≡ length header) rows
+    → strip_bom (records_text (header ∷ rows)) ≡ records_text (header ∷ rows) → columns_in header ≡ Ok columns
     → paper_read paper columns_in step start (File (records_text (header ∷ rows))) ≡ each_record (step columns) 1 start rows
 file-back paper columns_in step start header rows columns some full unmarked are =
-    let back : ReadBack (header ∷ rows) = record { filled = all-of (λ fields. 0 < length fields) (header ∷ rows) (some, filled-rows (length header) rows some full); unmarked = unmarked } in
-    ap (λ found. or_refused paper found >>= table_read columns_in step start) (ap table_from (records-back (header ∷ rows) back) ∙ even-table header rows full)
+    let back : ReadBack (header ∷ rows) =
+    record {
+      filled = all-of (λ fields. 0 < length fields) (header ∷ rows) (some, filled-rows (length header) rows some full);
+      unmarked = unmarked;
+    } in
+    ap (λ found. or_refused paper found >>= table_read columns_in step start)
+    (ap table_from (records-back (header ∷ rows) back) ∙ even-table header rows full)
     ∙ ap (λ found. found >>= λ columns. each_record (step columns) 1 start rows) are

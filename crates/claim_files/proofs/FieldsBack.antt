@@ -13,15 +13,18 @@ use Rattle.claim_files.specs.Written.{IsName}
 use Rattle.claim_files.proofs.Digits.{number-back, decimal-text}
 
 -- what is read in two parts
-pub then : {A B : Type 0} (read : Result A FeedFault) (x : A) (next : A → Result B FeedFault) (given : Result B FeedFault) → read ≡ Ok x → next x ≡ given → (read >>= next) ≡ given
+pub then : {A B : Type 0} (read : Result A FeedFault) (x : A) (next : A → Result B FeedFault) (given : Result B FeedFault) → read ≡ Ok x
+    → next x ≡ given → (read >>= next) ≡ given
 then read x next given is rest = ap (λ r. r >>= next) is ∙ rest
 
-pub filled-back : (paper : Paper) (number : ℕ) (column : Column) (name : List ℕ) → 0 < length name → filled_in paper number column name ≡ Ok name
+pub filled-back : (paper : Paper) (number : ℕ) (column : Column) (name : List ℕ) → 0 < length name
+    → filled_in paper number column name ≡ Ok name
 filled-back paper number column name some =
     let other : (length name == 0) ≡ false = ne_eqb (length name) 0 (λ e. absurd (omega (arith, some, e))) in
     ap (λ b. cond (not b) (Ok name) (Err (fault.EmptyField paper number column))) other
 
-pub number_in-back : (paper : Paper) (number : ℕ) (column : Column) (digits most value : ℕ) → 0 < digits → value ≤ most → value < 10 ^ digits → value < 2 ^ 64
+pub number_in-back : (paper : Paper) (number : ℕ) (column : Column) (digits most value : ℕ) → 0 < digits → value ≤ most
+    → value < 10 ^ digits → value < 2 ^ 64
     → number_in paper number column digits most (decimal value) ≡ Ok value
 number_in-back paper number column digits most value some small fits wide =
     ap (λ found. ok_or (at_most most found) (fault.BadNumber paper number column)) (number-back digits value some fits wide)

@@ -8,7 +8,8 @@ use Rattle.desk_io.specs.declared.shelf.Found.TheVariants.{File}
 use Rattle.gtfs_tables.specs.declared.paper.Paper.TheVariants as paper
 use Rattle.gtfs_tables.specs.Reading.{◌>>=◌, each_record}
 use Rattle.gtfs_tables.specs.Writing.{records_text}
-use Rattle.block_build.specs.Files.{block_header, block_record, block_records, blocks_text, minutes_before, price_header, prices_text, records_of_block}
+use Rattle.block_build.specs.Files.{block_header, block_record, block_records, blocks_text, minutes_before, price_header, prices_text}
+use Rattle.block_build.specs.Files.{records_of_block}
 use Rattle.deadhead_matrix.specs.Matrix.{MatrixView}
 use Rattle.price_check.specs.Claim.{Runs}
 use Rattle.trip_model.specs.Plain.{live_slots, trip_moves}
@@ -47,7 +48,8 @@ unfolding prices_file.columns_in
 columns-prices = refl
 
 -- each trip of a block can be written
-can-block : (t : TimetableView) (m : MatrixView) (block : List ℕ) → All (λ slot. IsName slot.name) t.slots → 0 < length block → All (Runs t) block
+can-block : (t : TimetableView) (m : MatrixView) (block : List ℕ) → All (λ slot. IsName slot.name) t.slots → 0 < length block
+    → All (Runs t) block
     → ((n : ℕ) → n < length block → minutes_before t m block n ≤ MOST_SHOWN) → CanBlock t m block
 can-block t m block names filled run shown = record {
   filled = filled;
@@ -57,7 +59,8 @@ can-block t m block names filled run shown = record {
       record { runs = runs; name = names (get_or block k 0) _ runs.within; shown = shown k lt });
 }
 
-can-blocks : (t : TimetableView) (m : MatrixView) (blocks : List (List ℕ)) → All (λ slot. IsName slot.name) t.slots → All (λ block. 0 < length block) blocks → All (All (Runs t)) blocks
+can-blocks : (t : TimetableView) (m : MatrixView) (blocks : List (List ℕ)) → All (λ slot. IsName slot.name) t.slots
+    → All (λ block. 0 < length block) blocks → All (All (Runs t)) blocks
     → All (λ block. (n : ℕ) → n < length block → minutes_before t m block n ≤ MOST_SHOWN) blocks → AllByRecursion (CanBlock t m) blocks
 can-blocks t m [] names filled run shown = tt
 can-blocks t m (block ∷ blocks) names filled run shown = (
@@ -67,7 +70,8 @@ can-blocks t m (block ∷ blocks) names filled run shown = (
       (All-tail (λ block. (n : ℕ) → n < length block → minutes_before t m block n ≤ MOST_SHOWN) block blocks shown),
 )
 
-module _ (t : TimetableView) (m : MatrixView) (prefix : List ℕ) (blocks : List (List ℕ)) (leave enter : List ℕ) (valid : IsTimetable t) (can : CanBeWritten t m prefix blocks leave enter) where
+module _ (t : TimetableView) (m : MatrixView) (prefix : List ℕ) (blocks : List (List ℕ)) (leave enter : List ℕ) (valid : IsTimetable t)
+    (can : CanBeWritten t m prefix blocks leave enter) where
   blocks-back : rows_of t (File (blocks_text t m prefix blocks)) ≡ Ok (written_blocks t m blocks)
   unfolding blocks_text block_records
   blocks-back =
@@ -75,10 +79,12 @@ module _ (t : TimetableView) (m : MatrixView) (prefix : List ℕ) (blocks : List
       ap (λ read. read >>= λ read. Ok read.rows)
       (file-back paper.Blocks blocks_file.columns_in (with_trip t) no_blocks block_header rows blocks_back.written_columns (omega arith)
       (each-flat (λ fields. length fields ≡ 3) (λ n. records_of_block t m prefix n (get_or blocks n [])) (range_with_len 0 (length blocks))
-      (λ n. each-map (λ fields. length fields ≡ 3) (block_record t m prefix n (get_or blocks n [])) (range_with_len 0 (length (get_or blocks n []))) (λ k. refl)))
+      (λ n. each-map (λ fields. length fields ≡ 3) (block_record t m prefix n (get_or blocks n []))
+      (range_with_len 0 (length (get_or blocks n []))) (λ k. refl)))
       (unmarked-blocks rows) columns-blocks
       ∙ ap (each_record (with_trip t blocks_back.written_columns) 1 no_blocks) (flat-numbered (records_of_block t m prefix) blocks)
-      ∙ all-blocks t m prefix valid can.begun 1 0 blocks [] (can-blocks t m blocks can.names can.filled can.run can.shown) (omega (arith, can.few)) (omega (arith, can.few)))
+      ∙ all-blocks t m prefix valid can.begun 1 0 blocks [] (can-blocks t m blocks can.names can.filled can.run can.shown)
+      (omega (arith, can.few)) (omega (arith, can.few)))
       ∙ ap Ok (sym (flat-numbered (written_block t m) blocks))
 
   prices-back : prices_of t (File (prices_text t leave enter)) ≡ Ok (written_prices t leave enter)
@@ -92,5 +98,6 @@ module _ (t : TimetableView) (m : MatrixView) (prefix : List ℕ) (blocks : List
       ∙ all-prices t leave enter valid can.names can.left can.entered (slot-within t)
 
   -- the files of blocks and prices that can be written make their claim
-  pub written-back : claimed_of t (File (blocks_text t m prefix blocks)) (File (prices_text t leave enter)) ≡ Ok (written_claim t m blocks leave enter)
+  pub written-back : claimed_of t (File (blocks_text t m prefix blocks))
+      (File (prices_text t leave enter)) ≡ Ok (written_claim t m blocks leave enter)
   written-back = λ i. claimed_by (blocks-back i) (prices-back i)

@@ -28,10 +28,17 @@ name-at prefix k j lt = get_or-map-range_with_len (block_name prefix) 0 k j j []
 
 -- blocks of other numbers have other names
 names-apart : (prefix : List ℕ) (i j : ℕ) → i < j → j ≤ 4096 → block_name prefix i ≢ block_name prefix j
-names-apart prefix i j lt few e = absurd (omega (arith, lt, decimal_injective (i + 1) (j + 1) (omega (arith, lt, few)) (omega (arith, few)) (append_cancel_left prefix _ _ e)))
+names-apart prefix i j lt few e =
+    absurd (omega (
+      arith,
+      lt,
+      decimal_injective (i + 1) (j + 1) (omega (arith, lt, few)) (omega (arith, few))
+          (append_cancel_left prefix _ _ e),
+    ))
 
 -- a block's name after those of the blocks before it
-name-new : (prefix : List ℕ) (k : ℕ) → k ≤ 4096 → (j : ℕ) → j < length (written_names prefix k) → get_or (written_names prefix k) j [] ≢ block_name prefix k
+name-new : (prefix : List ℕ) (k : ℕ) → k ≤ 4096 → (j : ℕ) → j < length (written_names prefix k)
+    → get_or (written_names prefix k) j [] ≢ block_name prefix k
 name-new prefix k few j lt e =
     let less : j < k = omega (arith, lt, names-length prefix k) in
     names-apart prefix j k less few (sym (name-at prefix k j less) ∙ e)
@@ -42,11 +49,13 @@ block-begins prefix n k few =
     ap (numbered n (length (written_names prefix k))) (number-none (written_names prefix k) (block_name prefix k) (name-new prefix k few))
     ∙ ap Ok (names-length prefix k)
 
-pub names-more : (prefix : List ℕ) (k : ℕ) → k ≤ 4096 → with_name (written_names prefix k) (block_name prefix k) ≡ written_names prefix (k + 1)
+pub names-more : (prefix : List ℕ) (k : ℕ) → k ≤ 4096
+    → with_name (written_names prefix k) (block_name prefix k) ≡ written_names prefix (k + 1)
 names-more prefix k few =
     ap (λ b. cond b (written_names prefix k) (written_names prefix k ++ block_name prefix k ∷ []))
     (list_any_none (bytes_eq (block_name prefix k)) (written_names prefix k)
-    (All-from_get_or (λ name. bytes_eq (block_name prefix k) name ≡ false) (written_names prefix k) [] (λ j lt. name-other (block_name prefix k) (get_or (written_names prefix k) j []) (λ e. name-new prefix k few j lt (sym e)))))
+    (All-from_get_or (λ name. bytes_eq (block_name prefix k) name ≡ false) (written_names prefix k) []
+    (λ j lt. name-other (block_name prefix k) (get_or (written_names prefix k) j []) (λ e. name-new prefix k few j lt (sym e)))))
     ∙ sym (map-range_with_len_more (block_name prefix) 0 k k (omega arith))
 
 -- the others go on with it
@@ -63,4 +72,5 @@ names-stay prefix k =
     let names = written_names prefix (k + 1) in
     let size = names-length prefix (k + 1) in
     ap (λ b. cond b names (names ++ block_name prefix k ∷ []))
-    (list_any_at (bytes_eq (block_name prefix k)) names k [] (omega (arith, size)) (ap (bytes_eq (block_name prefix k)) (name-at prefix (k + 1) k (omega arith)) ∙ name-itself (block_name prefix k)))
+    (list_any_at (bytes_eq (block_name prefix k)) names k [] (omega (arith, size))
+    (ap (bytes_eq (block_name prefix k)) (name-at prefix (k + 1) k (omega arith)) ∙ name-itself (block_name prefix k)))

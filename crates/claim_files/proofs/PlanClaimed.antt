@@ -1,5 +1,6 @@
 -- What the written blocks and prices of a certified plan claim is a certificate.
-use Rattle.std.proofs.Common.{◌≡◌, ℕ, ◌==◌, ◌||◌, cond, Bool, true, false, List, [], ◌∷◌, length, map, None, Some, refl, sym, ap, subst, ◌∙◌, arith}
+use Rattle.std.proofs.Common.{◌≡◌, ℕ, ◌==◌, ◌||◌, cond, Bool, true, false, List, [], ◌∷◌, length, map, None, Some, refl, sym, ap, subst}
+use Rattle.std.proofs.Common.{◌∙◌, arith}
 use Rattle.std.specs.Prelude.{IsSome}
 use Rattle.std.proofs.lemmas.Bool.{eqb-true, or_parts}
 use Rattle.std.proofs.lemmas.List.FromFn.{fill_by_all}
@@ -52,14 +53,17 @@ slots-priced t leave enter [] = refl
 slots-priced t leave enter (x ∷ xs) = ap (λ ys. Some x ∷ ys) (slots-priced t leave enter xs)
 
 -- the row of a slot among the rows of slots
-row-among : (t : TimetableView) (leave enter : List ℕ) (s : ℕ) (xs : List ℕ) → row_of (map (written_price t leave enter) xs) s ≡ cond (among s xs) (written_price t leave enter s) (row_of [] s)
+row-among : (t : TimetableView) (leave enter : List ℕ) (s : ℕ) (xs : List ℕ)
+    → row_of (map (written_price t leave enter) xs) s ≡ cond (among s xs) (written_price t leave enter s) (row_of [] s)
 row-among t leave enter s [] = refl
 row-among t leave enter s (x ∷ xs) = by (row-among t leave enter s xs) (x == s) refl
   where
     rest : PriceRow
     rest = row_of (map (written_price t leave enter) xs) s
 
-    by : row_of (map (written_price t leave enter) xs) s ≡ cond (among s xs) (written_price t leave enter s) (row_of [] s) → (b : Bool) → (x == s) ≡ b → cond (x == s) (written_price t leave enter x) rest ≡ cond ((x == s) || among s xs) (written_price t leave enter s) (row_of [] s)
+    by : row_of (map (written_price t leave enter) xs) s ≡ cond (among s xs) (written_price t leave enter s) (row_of [] s) → (b : Bool)
+        → (x == s) ≡ b → cond (x == s) (written_price t leave enter x) rest ≡ cond ((x == s) || among s xs) (written_price t leave enter s)
+        (row_of [] s)
     by later true e =
         ap (λ b. cond b (written_price t leave enter x) rest) e ∙ ap (written_price t leave enter) (eqb-true x s e)
         ∙ sym (ap (λ b. cond (b || among s xs) (written_price t leave enter s) (row_of [] s)) e)
@@ -67,7 +71,8 @@ row-among t leave enter s (x ∷ xs) = by (row-among t leave enter s xs) (x == s
         ap (λ b. cond b (written_price t leave enter x) rest) e ∙ later
         ∙ sym (ap (λ b. cond (b || among s xs) (written_price t leave enter s) (row_of [] s)) e)
 
-module _ (t : TimetableView) (m : MatrixView) (prefix : List ℕ) (plan : Plan) (blocks : List (List ℕ)) (of : AreOfPlan t m prefix plan blocks) where
+module _ (t : TimetableView) (m : MatrixView) (prefix : List ℕ) (plan : Plan) (blocks : List (List ℕ))
+    (of : AreOfPlan t m prefix plan blocks) where
   claim : ClaimedView
   claim = written_claim t m blocks plan.leave plan.enter
 
@@ -80,28 +85,33 @@ module _ (t : TimetableView) (m : MatrixView) (prefix : List ℕ) (plan : Plan) 
   names-blocks : NameOnce (network_of t m).live (block_slots (written_blocks t m blocks))
   names-blocks = record {
     known = subst (λ rows. AreKnown (block_slots rows)) (sym rows-are) (known-claimed t m 0 blocks);
-    once = subst (StandsOnce (network_of t m).live) (sym (ap slots_in claimed-blocks) ∙ slots_in-blocks (written_blocks t m blocks)) (plan-blocking t m prefix plan blocks of).stands;
+    once = subst (StandsOnce (network_of t m).live) (sym (ap slots_in claimed-blocks) ∙ slots_in-blocks (written_blocks t m blocks))
+        (plan-blocking t m prefix plan blocks of).stands;
   }
 
   names-prices : NameOnce (network_of t m).live (price_slots (written_prices t plan.leave plan.enter))
   names-prices =
       let live = live_slots (trip_moves t.slots) in
       record {
-        known = known-at (λ (r : PriceRow). r.slot) (written_prices t plan.leave plan.enter) (each-map (λ (r : PriceRow). IsSome r.slot) (written_price t plan.leave plan.enter) live (λ s. refl));
-        once = subst (StandsOnce (network_of t m).live) (sym (ap slots_named (slots-priced t plan.leave plan.enter live) ∙ named-all live)) (StandsOnce-live_slots (trip_moves t.slots));
+        known = known-at (λ (r : PriceRow). r.slot) (written_prices t plan.leave plan.enter)
+            (each-map (λ (r : PriceRow). IsSome r.slot) (written_price t plan.leave plan.enter) live (λ s. refl));
+        once = subst (StandsOnce (network_of t m).live) (sym (ap slots_named (slots-priced t plan.leave plan.enter live) ∙ named-all live))
+            (StandsOnce-live_slots (trip_moves t.slots));
       }
 
   -- the links that are claimed are those of the plan
   claimed-next : (s : ℕ) → next_of plan.next s ≡ next_in (written_blocks t m blocks) s
   claimed-next s =
       let stands = (plan-blocking t m prefix plan blocks of).stands in
-      sym (ap (λ rows. next_in rows s) rows-are ∙ next-claimed t m plan.next 0 s blocks (plan-chains t m prefix plan blocks of) ∙ by (among s (slots_in blocks)) (dead-among (network_of t m).live (slots_in blocks) s stands))
+      sym (ap (λ rows. next_in rows s) rows-are ∙ next-claimed t m plan.next 0 s blocks (plan-chains t m prefix plan blocks of)
+      ∙ by (among s (slots_in blocks)) (dead-among (network_of t m).live (slots_in blocks) s stands))
     where
       by : (b : Bool) → (b ≡ false → (network_of t m).live s ≡ false) → cond b (next_of plan.next s) None ≡ next_of plan.next s
       by true dead = refl
       by false dead = sym (of.certified.certified.dead s (dead refl)).0
 
-  claimed-row : (s : ℕ) → row_of (written_prices t plan.leave plan.enter) s ≡ cond (among s (live_slots (trip_moves t.slots))) (written_price t plan.leave plan.enter s) (row_of [] s)
+  claimed-row : (s : ℕ) → row_of (written_prices t plan.leave plan.enter) s ≡ cond (among s (live_slots (trip_moves t.slots)))
+      (written_price t plan.leave plan.enter s) (row_of [] s)
   claimed-row s = row-among t plan.leave plan.enter s (live_slots (trip_moves t.slots))
 
   unpriced : (s : ℕ) → among s (live_slots (trip_moves t.slots)) ≡ false → (network_of t m).live s ≡ false
@@ -111,14 +121,16 @@ module _ (t : TimetableView) (m : MatrixView) (prefix : List ℕ) (plan : Plan) 
   claimed-leave : (s : ℕ) → price plan.leave s ≡ (row_of (written_prices t plan.leave plan.enter) s).leave
   claimed-leave s = sym (ap (λ (r : PriceRow). r.leave) (claimed-row s) ∙ by (among s (live_slots (trip_moves t.slots))) (unpriced s))
     where
-      by : (b : Bool) → (b ≡ false → (network_of t m).live s ≡ false) → (cond b (written_price t plan.leave plan.enter s) (row_of [] s)).leave ≡ price plan.leave s
+      by : (b : Bool) → (b ≡ false → (network_of t m).live s ≡ false)
+          → (cond b (written_price t plan.leave plan.enter s) (row_of [] s)).leave ≡ price plan.leave s
       by true dead = refl
       by false dead = sym (of.certified.certified.dead s (dead refl)).1
 
   claimed-enter : (s : ℕ) → price plan.enter s ≡ (row_of (written_prices t plan.leave plan.enter) s).enter
   claimed-enter s = sym (ap (λ (r : PriceRow). r.enter) (claimed-row s) ∙ by (among s (live_slots (trip_moves t.slots))) (unpriced s))
     where
-      by : (b : Bool) → (b ≡ false → (network_of t m).live s ≡ false) → (cond b (written_price t plan.leave plan.enter s) (row_of [] s)).enter ≡ price plan.enter s
+      by : (b : Bool) → (b ≡ false → (network_of t m).live s ≡ false)
+          → (cond b (written_price t plan.leave plan.enter s) (row_of [] s)).enter ≡ price plan.enter s
       by true dead = refl
       by false dead = sym (of.certified.certified.dead s (dead refl)).2
 
@@ -128,8 +140,10 @@ module _ (t : TimetableView) (m : MatrixView) (prefix : List ℕ) (plan : Plan) 
       let n = length t.slots in
       let size = of.certified.slots in
       let next = fill_by_all (next_in (written_blocks t m blocks)) plan.next n None size (λ s lt. claimed-next s) in
-      let leave = fill_by_all (λ s. (row_of (written_prices t plan.leave plan.enter) s).leave) plan.leave n 0 (of.certified.certified.leaves ∙ size) (λ s lt. claimed-leave s) in
-      let enter = fill_by_all (λ s. (row_of (written_prices t plan.leave plan.enter) s).enter) plan.enter n 0 (of.certified.certified.enters ∙ size) (λ s lt. claimed-enter s) in
+      let leave = fill_by_all (λ s. (row_of (written_prices t plan.leave plan.enter) s).leave) plan.leave n 0
+      (of.certified.certified.leaves ∙ size) (λ s lt. claimed-leave s) in
+      let enter = fill_by_all (λ s. (row_of (written_prices t plan.leave plan.enter) s).enter) plan.enter n 0
+      (of.certified.certified.enters ∙ size) (λ s lt. claimed-enter s) in
       λ i. record { next = next i; leave = leave i; enter = enter i }
 
   pub certificate : IsCertificate (network_of t m) (length t.slots) (written_claim t m blocks plan.leave plan.enter)
@@ -138,7 +152,8 @@ module _ (t : TimetableView) (m : MatrixView) (prefix : List ℕ) (plan : Plan) 
     blocks = names-blocks;
     prices = names-prices;
     blocking = subst (IsBlocking (network_of t m)) (sym claimed-blocks) (plan-blocking t m prefix plan blocks of);
-    shown = subst (AreShown (network_of t m)) (sym rows-are) (shown-claimed t m of.valid plan.next blocks (plan-chains t m prefix plan blocks of) (plan-begins t m prefix plan blocks of));
+    shown = subst (AreShown (network_of t m)) (sym rows-are)
+        (shown-claimed t m of.valid plan.next blocks (plan-chains t m prefix plan blocks of) (plan-begins t m prefix plan blocks of));
     certified = subst (IsCertified (network_of t m)) plan-claimed of.certified.certified;
   }
 

@@ -1,5 +1,6 @@
 -- The blocks and the prices of a certified plan can be written.
-use Rattle.std.proofs.Common.{◌≡◌, ℕ, ◌<◌, ◌≤◌, ◌==◌, cond, Bool, true, false, List, [], ◌∷◌, ◌++◌, length, map, All, Option, None, refl, sym, ap, subst, ◌∙◌, arith}
+use Rattle.std.proofs.Common.{◌≡◌, ℕ, ◌<◌, ◌≤◌, ◌==◌, cond, Bool, true, false, List, [], ◌∷◌, ◌++◌, length, map, All, Option, None, refl}
+use Rattle.std.proofs.Common.{sym, ap, subst, ◌∙◌, arith}
 use Rattle.std.specs.List.{AllByRecursion}
 use Rattle.std.proofs.lemmas.Bool.{eq-eqb}
 use Rattle.std.proofs.lemmas.List.{get_or_default, length-map}
@@ -61,20 +62,25 @@ by-blocks P [] each = tt
 by-blocks P (block ∷ blocks) each = let parts = first-part P block (slots_in blocks) each in (parts.0, by-blocks P blocks parts.1)
 
 -- the blocks along links are chains
-chains-along : (links : List (Option ℕ)) → AreChains links → (firsts : List ℕ) → AllByRecursion (IsChain links) (map (block_from links) firsts)
+chains-along : (links : List (Option ℕ)) → AreChains links → (firsts : List ℕ)
+    → AllByRecursion (IsChain links) (map (block_from links) firsts)
 chains-along links chains [] = tt
-chains-along links chains (i ∷ firsts) = (subst (IsChain links) (sym (block_from-is links i)) (chains.goes_on i), chains-along links chains firsts)
+chains-along links chains (i ∷ firsts) =
+    (subst (IsChain links) (sym (block_from-is links i)) (chains.goes_on i), chains-along links chains firsts)
 
-module _ (t : TimetableView) (m : MatrixView) (prefix : List ℕ) (plan : Plan) (blocks : List (List ℕ)) (of : AreOfPlan t m prefix plan blocks) where
+module _ (t : TimetableView) (m : MatrixView) (prefix : List ℕ) (plan : Plan) (blocks : List (List ℕ))
+    (of : AreOfPlan t m prefix plan blocks) where
   moves-day : IsDay (network_of t m) (length t.slots)
   moves-day =
       subst (IsDay (network_of t m)) (length-map t.slots move_of_slot)
-      (IsDay-deadhead (length t.places) (trip_moves t.slots) m (AreMoves-trips t of.valid) of.pulls (omega (arith, of.valid.slots, length-map t.slots move_of_slot)))
+      (IsDay-deadhead (length t.places) (trip_moves t.slots) m (AreMoves-trips t of.valid) of.pulls
+      (omega (arith, of.valid.slots, length-map t.slots move_of_slot)))
 
   pub plan-blocking : IsBlocking (network_of t m) blocks
   plan-blocking =
       subst (IsBlocking (network_of t m)) (sym of.along)
-      (IsBlocking-blocks_along (network_of t m) _ plan.next (by_departure (trip_moves t.slots)) (network-departures t m of.valid) of.certified.certified.links (StandsOnce-by_departure (trip_moves t.slots)))
+      (IsBlocking-blocks_along (network_of t m) _ plan.next (by_departure (trip_moves t.slots)) (network-departures t m of.valid)
+      of.certified.certified.links (StandsOnce-by_departure (trip_moves t.slots)))
 
   pub plan-chains : AllByRecursion (IsChain plan.next) blocks
   plan-chains =
@@ -84,9 +90,12 @@ module _ (t : TimetableView) (m : MatrixView) (prefix : List ℕ) (plan : Plan) 
   plan-live : AllByRecursion (AllByRecursion (λ s. (network_of t m).live s ≡ true)) blocks
   plan-live =
       by-blocks (λ s. (network_of t m).live s ≡ true) blocks
-      (each-to (λ x. 0 < times x (slots_in blocks)) (λ s. (network_of t m).live s ≡ true) (λ x. live-standing (network_of t m).live (slots_in blocks) x plan-blocking.stands) (slots_in blocks) (each-stands (slots_in blocks)))
+      (each-to (λ x. 0 < times x (slots_in blocks)) (λ s. (network_of t m).live s ≡ true)
+      (λ x. live-standing (network_of t m).live (slots_in blocks) x plan-blocking.stands) (slots_in blocks)
+      (each-stands (slots_in blocks)))
 
-  all-begin : (blocks : List (List ℕ)) → AllByRecursion (IsBlock (network_of t m)) blocks → AllByRecursion (AllByRecursion (λ s. (network_of t m).live s ≡ true)) blocks → AllByRecursion (Begins t m of.valid) blocks
+  all-begin : (blocks : List (List ℕ)) → AllByRecursion (IsBlock (network_of t m)) blocks
+      → AllByRecursion (AllByRecursion (λ s. (network_of t m).live s ≡ true)) blocks → AllByRecursion (Begins t m of.valid) blocks
   all-begin [] each live = tt
   all-begin ([] ∷ blocks) each live = absurd each.0
   all-begin ((i ∷ js) ∷ blocks) each live = ((live.0.0, each.0), all-begin blocks each.1 live.1)
@@ -102,27 +111,37 @@ module _ (t : TimetableView) (m : MatrixView) (prefix : List ℕ) (plan : Plan) 
   few-shown (i ∷ js) begins n lt =
       let block = i ∷ js in
       let few = chain-few t m of.valid (length t.slots) 0 None i js moves-day begins.0 begins.1 in
-      let each = all-of (λ (r : BlockRow). r.deadhead ≤ 8191) (written_block t m 0 block) (subst (AllByRecursion (λ (r : BlockRow). r.deadhead ≤ 8191)) (sym (block-chain t m 0 block)) few) in
+      let each = all-of (λ (r : BlockRow). r.deadhead ≤ 8191) (written_block t m 0 block)
+      (subst (AllByRecursion (λ (r : BlockRow). r.deadhead ≤ 8191)) (sym (block-chain t m 0 block)) few) in
       let at = get_or-map-range_with_len (written_trip t m 0 block) 0 (length block) n n (written_trip t m 0 block 0) lt (omega arith) in
-      let here = each n (written_trip t m 0 block 0) (omega (arith, lt, length-map-range_with_len (written_trip t m 0 block) 0 (length block))) in
+      let here = each n (written_trip t m 0 block 0)
+      (omega (arith, lt, length-map-range_with_len (written_trip t m 0 block) 0 (length block))) in
       omega (arith, here, ap (λ (r : BlockRow). r.deadhead) at)
 
   slots-few : length (slots_in blocks) ≤ 4096
   slots-few =
-      let same = sum_by-standing (network_of t m).live (λ _. 1) (slots_in blocks) (live_slots (trip_moves t.slots)) plan-blocking.stands (StandsOnce-live_slots (trip_moves t.slots)) in
+      let same = sum_by-standing (network_of t m).live (λ _. 1) (slots_in blocks) (live_slots (trip_moves t.slots)) plan-blocking.stands
+      (StandsOnce-live_slots (trip_moves t.slots)) in
       omega (arith, same, length-ones (slots_in blocks), length-ones (live_slots (trip_moves t.slots)), live-few t, of.valid.slots)
 
   -- the blocks and the prices of a plan can be written
   pub plan-written : CanBeWritten t m prefix blocks plan.leave plan.enter
   plan-written =
-      let most = certified-most (network_of t m) (length t.slots) plan _ moves-day of.certified.slots of.certified.certified (network-departures t m of.valid) in
+      let most = certified-most (network_of t m) (length t.slots) plan _ moves-day of.certified.slots of.certified.certified
+      (network-departures t m of.valid) in
       record {
         begun = of.begun;
         names = of.names;
-        filled = all-of (λ block. 0 < length block) blocks (each-to (Begins t m of.valid) (λ block. 0 < length block) filled blocks plan-begins);
-        run = all-of (All (Runs t)) blocks (each-to (AllByRecursion (λ s. (network_of t m).live s ≡ true)) (All (Runs t)) (λ block live. all-of (Runs t) block (each-to (λ s. (network_of t m).live s ≡ true) (Runs t) runs-of block live)) blocks plan-live);
+        filled = all-of (λ block. 0 < length block) blocks
+            (each-to (Begins t m of.valid) (λ block. 0 < length block) filled blocks plan-begins);
+        run = all-of (All (Runs t)) blocks
+            (each-to (AllByRecursion (λ s. (network_of t m).live s ≡ true)) (All (Runs t))
+            (λ block live. all-of (Runs t) block (each-to (λ s. (network_of t m).live s ≡ true) (Runs t) runs-of block live)) blocks
+            plan-live);
         few = slots-few;
-        shown = all-of (λ block. (n : ℕ) → n < length block → minutes_before t m block n ≤ 999999) blocks (each-to (Begins t m of.valid) (λ block. (n : ℕ) → n < length block → minutes_before t m block n ≤ 999999) few-shown blocks plan-begins);
+        shown = all-of (λ block. (n : ℕ) → n < length block → minutes_before t m block n ≤ 999999) blocks
+            (each-to (Begins t m of.valid) (λ block. (n : ℕ) → n < length block → minutes_before t m block n ≤ 999999) few-shown blocks
+            plan-begins);
         left = λ s d lt. omega (arith, (most s).0, get_or_default plan.leave s d 0 lt);
         entered = λ s d lt. omega (arith, (most s).1, get_or_default plan.enter s d 0 lt);
       }

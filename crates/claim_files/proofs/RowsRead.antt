@@ -1,5 +1,6 @@
 -- The rows that are read: at most 4,096, which name slots whose trips run, with prices of at most twelve digits.
-use Rattle.std.proofs.Common.{◌≡◌, ℕ, ◌<◌, ◌≤◌, nat_le, nat_lt, cond, Bool, true, false, List, [], ◌∷◌, ◌++◌, length, Option, None, Some, Result, Ok, Err, refl, sym, ap, subst, ◌∙◌, arith}
+use Rattle.std.proofs.Common.{◌≡◌, ℕ, ◌<◌, ◌≤◌, nat_le, nat_lt, cond, Bool, true, false, List, [], ◌∷◌, ◌++◌, length, Option, None, Some}
+use Rattle.std.proofs.Common.{Result, Ok, Err, refl, sym, ap, subst, ◌∙◌, arith}
 use Rattle.std.specs.Bool.{then_some}
 use Rattle.std.specs.Option.{option_and_then, ok_or}
 use Rattle.std.proofs.lemmas.Bool.{leb-true, ltb-true}
@@ -58,7 +59,8 @@ room : (n most : ℕ) (refused : FeedFault) (done : Unit {0}) → provided (nat_
 room n most refused done e = ltb-true n most (provided-parts (nat_lt n most) refused nothing done e).0
 
 -- one more row of a block
-step-blocks : (t : TimetableView) (columns : Columns) (n : ℕ) (before after : BlocksRead) (fields : List (List ℕ)) → AreBlockRows t before.rows
+step-blocks : (t : TimetableView) (columns : Columns) (n : ℕ) (before after : BlocksRead) (fields : List (List ℕ))
+    → AreBlockRows t before.rows
     → with_trip t columns n before fields ≡ Ok after → AreBlockRows t after.rows
 unfolding with_trip
 step-blocks t columns n before after fields are e =
@@ -74,9 +76,11 @@ step-blocks t columns n before after fields are e =
     } in
     subst (λ (read : BlocksRead). AreBlockRows t read.rows) (same_Ok _ after block.2) now
 
-each-blocks : (t : TimetableView) (columns : Columns) (read : BlocksRead) (rows : List (List (List ℕ))) → each_record (with_trip t columns) 1 no_blocks rows ≡ Ok read → AreBlockRows t read.rows
+each-blocks : (t : TimetableView) (columns : Columns) (read : BlocksRead) (rows : List (List (List ℕ)))
+    → each_record (with_trip t columns) 1 no_blocks rows ≡ Ok read → AreBlockRows t read.rows
 each-blocks t columns read rows e =
-    each-keeps (with_trip t columns) (λ read. AreBlockRows t read.rows) (λ n a b fields are is. step-blocks t columns n a b fields are is) 1 no_blocks read rows
+    each-keeps (with_trip t columns) (λ read. AreBlockRows t read.rows) (λ n a b fields are is. step-blocks t columns n a b fields are is)
+    1 no_blocks read rows
     (record { few = omega arith; each = All-nil (λ (r : BlockRow). NamesLive t r.slot) }) e
 
 -- the rows of `blocks.csv`
@@ -88,7 +92,8 @@ blocks-rows t found rows e =
     subst (AreBlockRows t) (same_Ok read.0.rows rows read.2) (each-blocks t columns.0 read.0 table.0.rows columns.2)
 
 -- a number that is read is at most the most
-number-most : (paper : Paper) (number : ℕ) (column : Column) (digits most : ℕ) (text : List ℕ) (value : ℕ) → number_in paper number column digits most text ≡ Ok value → value ≤ most
+number-most : (paper : Paper) (number : ℕ) (column : Column) (digits most : ℕ) (text : List ℕ) (value : ℕ)
+    → number_in paper number column digits most text ≡ Ok value → value ≤ most
 number-most paper number column digits most text value e = by (number_of digits text) e
   where
     refused : FeedFault
@@ -102,7 +107,8 @@ number-most paper number column digits most text value e = by (number_of digits 
     by None e = absurd (cc)
     by (Some v) e = small v (nat_le v most) refl e
 
-read-prices : (columns : price_columns.Columns) (n : ℕ) (fields : List (List ℕ)) (read : List ℕ × ℕ × ℕ) → prices_in columns n fields ≡ Ok read → (read.1 ≤ MOST_PRICE) × (read.2 ≤ MOST_PRICE)
+read-prices : (columns : price_columns.Columns) (n : ℕ) (fields : List (List ℕ)) (read : List ℕ × ℕ × ℕ)
+    → prices_in columns n fields ≡ Ok read → (read.1 ≤ MOST_PRICE) × (read.2 ≤ MOST_PRICE)
 unfolding prices_in
 read-prices columns n fields read e =
     let a = read-parts (text_in paper.Prices n column.TripId (field_at fields columns.trip)) _ read e in
@@ -119,7 +125,8 @@ read-prices columns n fields read e =
     )
 
 -- one more row of prices
-step-prices : (t : TimetableView) (columns : price_columns.Columns) (n : ℕ) (before after : List PriceRow) (fields : List (List ℕ)) → ArePriceRows t before
+step-prices : (t : TimetableView) (columns : price_columns.Columns) (n : ℕ) (before after : List PriceRow) (fields : List (List ℕ))
+    → ArePriceRows t before
     → with_prices t columns n before fields ≡ Ok after → ArePriceRows t after
 unfolding with_prices
 step-prices t columns n before after fields are e =
@@ -135,7 +142,8 @@ step-prices t columns n before after fields are e =
     } in
     subst (ArePriceRows t) (same_Ok _ after read.2) now
 
-each-prices : (t : TimetableView) (columns : price_columns.Columns) (read : List PriceRow) (rows : List (List (List ℕ))) → each_record (with_prices t columns) 1 [] rows ≡ Ok read → ArePriceRows t read
+each-prices : (t : TimetableView) (columns : price_columns.Columns) (read : List PriceRow) (rows : List (List (List ℕ)))
+    → each_record (with_prices t columns) 1 [] rows ≡ Ok read → ArePriceRows t read
 each-prices t columns read rows e =
     each-keeps (with_prices t columns) (ArePriceRows t) (λ n a b fields are is. step-prices t columns n a b fields are is) 1 [] read rows
     (record { few = omega arith; each = All-nil (λ (r : PriceRow). NamesLive t r.slot); priced = All-nil IsPriced }) e
@@ -148,14 +156,17 @@ prices-rows t found rows e =
     each-prices t columns.0 rows table.0.rows columns.2
 
 -- the rows of a claim
-pub claim-rows : (t : TimetableView) (b p : Found) (claimed : ClaimedView) → claimed_of t b p ≡ Ok claimed → AreBlockRows t claimed.blocks × ArePriceRows t claimed.prices
+pub claim-rows : (t : TimetableView) (b p : Found) (claimed : ClaimedView) → claimed_of t b p ≡ Ok claimed
+    → AreBlockRows t claimed.blocks × ArePriceRows t claimed.prices
 claim-rows t b p claimed e = by (blocks.rows_of t b) (prices.prices_of t p) refl refl e
   where
-    by : (rows : Result (List BlockRow) FeedFault) (priced : Result (List PriceRow) FeedFault) → blocks.rows_of t b ≡ rows → prices.prices_of t p ≡ priced → claimed_by rows priced ≡ Ok claimed
+    by : (rows : Result (List BlockRow) FeedFault) (priced : Result (List PriceRow) FeedFault) → blocks.rows_of t b ≡ rows
+        → prices.prices_of t p ≡ priced → claimed_by rows priced ≡ Ok claimed
         → AreBlockRows t claimed.blocks × ArePriceRows t claimed.prices
     by (Ok rows) (Ok priced) is are e =
         let given : ClaimedView = record { blocks = rows; prices = priced } in
         let same : given ≡ claimed = cc in
-        subst (λ (c : ClaimedView). AreBlockRows t c.blocks × ArePriceRows t c.prices) same (blocks-rows t b rows is, prices-rows t p priced are)
+        subst (λ (c : ClaimedView). AreBlockRows t c.blocks × ArePriceRows t c.prices) same
+        (blocks-rows t b rows is, prices-rows t p priced are)
     by (Ok rows) (Err refused) is are e = absurd (cc)
     by (Err refused) priced is are e = absurd (cc)

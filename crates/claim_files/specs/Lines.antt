@@ -6,7 +6,8 @@ use Rattle.gtfs_tables.specs.Papers.{file_name_of}
 use Rattle.gtfs_tables.specs.declared.paper.Paper.{Paper}
 use Rattle.gtfs_tables.specs.declared.paper.Paper.TheVariants as paper
 use Rattle.price_check.specs.declared.verdict.Reason.{Reason}
-use Rattle.price_check.specs.declared.verdict.Reason.TheVariants.{UnknownTrip, TripTwice, TripMissing, NotFit, MinutesDiffer, PriceLow, SumsDiffer}
+use Rattle.price_check.specs.declared.verdict.Reason.TheVariants.{UnknownTrip, TripTwice, TripMissing, NotFit, MinutesDiffer, PriceLow}
+use Rattle.price_check.specs.declared.verdict.Reason.TheVariants.{SumsDiffer}
 use Rattle.price_check.specs.Claim.{ClaimedView, block_row, price_row}
 use Rattle.trip_model.specs.Timetable.{TimetableView, slot_at}
 use Rattle.claim_files.specs.declared.fault.ClaimFault.{ClaimFault}
@@ -56,15 +57,20 @@ IsTold timetable claimed (SumsDiffer prices weights) = ⊤
 
 -- what is printed of a reason
 abbrev pub reason_text_of : TimetableView → ClaimedView → Reason → List ℕ
-reason_text_of timetable claimed (UnknownTrip paper number) = record_text_of paper number (codes "unknown trip " ++ trip_named claimed paper number)
-reason_text_of timetable claimed (TripTwice paper number) = record_text_of paper number (codes "trip " ++ (trip_named claimed paper number ++ codes " twice"))
-reason_text_of timetable claimed (TripMissing paper s) = file_name_of paper ++ (codes ": trip " ++ ((slot_at timetable s).name ++ codes " missing"))
-reason_text_of timetable claimed (NotFit number) = record_text_of paper.Blocks number (trip_named claimed paper.Blocks number ++ codes " does not fit")
+reason_text_of timetable claimed (UnknownTrip paper number) =
+    record_text_of paper number (codes "unknown trip " ++ trip_named claimed paper number)
+reason_text_of timetable claimed (TripTwice paper number) =
+    record_text_of paper number (codes "trip " ++ (trip_named claimed paper number ++ codes " twice"))
+reason_text_of timetable claimed (TripMissing paper s) = file_name_of paper
+    ++ (codes ": trip " ++ ((slot_at timetable s).name ++ codes " missing"))
+reason_text_of timetable claimed (NotFit number) =
+    record_text_of paper.Blocks number (trip_named claimed paper.Blocks number ++ codes " does not fit")
 reason_text_of timetable claimed (MinutesDiffer number shown minutes) =
     record_text_of paper.Blocks number (codes "minutes " ++ (decimal shown ++ (codes ", not " ++ decimal minutes)))
 reason_text_of timetable claimed (PriceLow i j) =
     codes "price of " ++ ((slot_at timetable i).name ++ (codes " to " ++ ((slot_at timetable j).name ++ codes " too low")))
-reason_text_of timetable claimed (SumsDiffer prices weights) = codes "prices sum to " ++ (decimal prices ++ (codes ", weights to " ++ decimal weights))
+reason_text_of timetable claimed (SumsDiffer prices weights) = codes "prices sum to "
+    ++ (decimal prices ++ (codes ", weights to " ++ decimal weights))
 
 -- the whole line of a reason
 abbrev pub reason_line_of : TimetableView → ClaimedView → Reason → List ℕ

@@ -39,11 +39,13 @@ written_block timetable matrix number block = map (written_trip timetable matrix
 
 -- the rows of blocks, block by block
 abbrev pub written_blocks : TimetableView → MatrixView → List (List ℕ) → List BlockRow
-written_blocks timetable matrix blocks = flat_map (λ number. written_block timetable matrix number (slice_index_or blocks number [])) (range_with_len 0 (length blocks))
+written_blocks timetable matrix blocks =
+    flat_map (λ number. written_block timetable matrix number (slice_index_or blocks number [])) (range_with_len 0 (length blocks))
 
 -- the row of a slot: the name of its trip, and its two prices
 abbrev pub written_price : TimetableView → List ℕ → List ℕ → ℕ → PriceRow
-written_price timetable leave enter s = record { trip = (slot_at timetable s).name; slot = Some s; leave = price leave s; enter = price enter s }
+written_price timetable leave enter s =
+    record { trip = (slot_at timetable s).name; slot = Some s; leave = price leave s; enter = price enter s }
 
 -- the rows of the trips that run, slot by slot
 abbrev pub written_prices : TimetableView → List ℕ → List ℕ → List PriceRow
@@ -51,7 +53,8 @@ written_prices timetable leave enter = map (written_price timetable leave enter)
 
 -- the claim of blocks and prices
 abbrev pub written_claim : TimetableView → MatrixView → List (List ℕ) → List ℕ → List ℕ → ClaimedView
-written_claim timetable matrix blocks leave enter = record { blocks = written_blocks timetable matrix blocks; prices = written_prices timetable leave enter }
+written_claim timetable matrix blocks leave enter =
+    record { blocks = written_blocks timetable matrix blocks; prices = written_prices timetable leave enter }
 
 -- what is claimed by the two files as they are written
 abbrev pub written : TimetableView → MatrixView → List ℕ → List (List ℕ) → List ℕ → List ℕ → Result ClaimedView ClaimFault
@@ -65,7 +68,8 @@ pub record IsName (name : List ℕ) : Type 0 where
 
 -- Blocks and prices that can be written. Names and prefix are text. No block is empty, and its trips run; they are at most
 -- 4,096 in all. Empty minutes have at most six digits, and prices at most twelve.
-pub record CanBeWritten (timetable : TimetableView) (matrix : MatrixView) (prefix : List ℕ) (blocks : List (List ℕ)) (leave enter : List ℕ) : Type 0 where
+pub record CanBeWritten (timetable : TimetableView) (matrix : MatrixView) (prefix : List ℕ) (blocks : List (List ℕ))
+    (leave enter : List ℕ) : Type 0 where
   pub begun : IsUtf8 prefix
   pub names : All (λ slot. IsName slot.name) timetable.slots
   pub filled : All (λ block. 0 < length block) blocks
@@ -77,7 +81,8 @@ pub record CanBeWritten (timetable : TimetableView) (matrix : MatrixView) (prefi
 
 -- The blocks of a certified plan are those along its links, by the departures of their first trips. Its timetable and its
 -- matrix are valid, and names and prefix are text.
-pub record AreOfPlan (timetable : TimetableView) (matrix : MatrixView) (prefix : List ℕ) (plan : Plan) (blocks : List (List ℕ)) : Type 0 where
+pub record AreOfPlan (timetable : TimetableView) (matrix : MatrixView) (prefix : List ℕ) (plan : Plan)
+    (blocks : List (List ℕ)) : Type 0 where
   pub valid : IsTimetable timetable
   pub pulls : All IsPull matrix.pulls
   pub certified : IsPlanFor timetable matrix plan

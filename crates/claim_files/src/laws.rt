@@ -24,7 +24,8 @@ pub fn rows_law()
 
 /// The records and the slots whose names are printed of the reason of a no are there.
 pub fn told_law()
-    ensures { (timetable : TimetableView) (matrix : MatrixView) (claimed : ClaimedView) (reason : Reason) → ArePriceRows timetable claimed.prices
+    ensures { (timetable : TimetableView) (matrix : MatrixView) (claimed : ClaimedView) (reason : Reason)
+        → ArePriceRows timetable claimed.prices
         → verdict_of timetable matrix claimed ≡ No reason → IsTold timetable claimed reason }
 {}
 
@@ -41,7 +42,8 @@ pub fn read_back_law()
 pub fn accepted_law()
     ensures certificate { (timetable : TimetableView) (matrix : MatrixView) (prefix : List ℕ) (plan : Plan) (blocks : List (List ℕ))
         → AreOfPlan timetable matrix prefix plan blocks
-        → IsCertificate (network_of timetable matrix) (length timetable.slots) (written_claim timetable matrix blocks plan.leave plan.enter) }
+        → IsCertificate (network_of timetable matrix) (length timetable.slots)
+        (written_claim timetable matrix blocks plan.leave plan.enter) }
     ensures accepted { (timetable : TimetableView) (matrix : MatrixView) (prefix : List ℕ) (plan : Plan) (blocks : List (List ℕ))
         → AreOfPlan timetable matrix prefix plan blocks → IsAccepted timetable matrix prefix blocks plan.leave plan.enter }
 {}

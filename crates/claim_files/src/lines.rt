@@ -1,7 +1,8 @@
 ghost use Rattle.std.specs.Prelude.{◌≡◌, ◌≢◌, ◌++◌, IfOk, codes, string_bytes};
 ghost use Rattle.gtfs_tables.specs.Faults.{record_text_of};
 ghost use Rattle.gtfs_tables.specs.Papers.{file_name_of};
-ghost use Rattle.claim_files.specs.Lines.{HasRecord, IsTold, claim_line_of, claim_text_of, no_line, reason_line_of, reason_text_of, trip_named};
+ghost use Rattle.claim_files.specs.Lines.{HasRecord, IsTold, claim_line_of, claim_text_of, no_line, reason_line_of, reason_text_of};
+ghost use Rattle.claim_files.specs.Lines.{trip_named};
 
 use crate::fault::ClaimFault;
 use desk_io::{Memory, Text};

@@ -8,7 +8,8 @@ use Rattle.trip_model.specs.Timetable.{TimetableView, IsTimetable}
 use Rattle.deadhead_matrix.specs.Posts.{Class, has_class, with_class, classes_met}
 
 -- the classes after one place more
-pub classes_more : (places : List Place) (i : ℕ) (before after : List Class) (class : Class) → i < length places → before ≡ classes_met (take i places)
+pub classes_more : (places : List Place) (i : ℕ) (before after : List Class) (class : Class) → i < length places
+    → before ≡ classes_met (take i places)
     → class ≡ class_of places i → after ≡ with_class before class → after ≡ classes_met (take (i + 1) places)
 unfolding class_of
 classes_more places i before after class lt met at with =
@@ -16,14 +17,16 @@ classes_more places i before after class lt met at with =
     ∙ sym (fold_more (λ (classes : List Class) (place : Place). with_class classes place.class) [] places i (terminal_place [] 0) lt)
 
 -- a class of a place of a classed timetable has no `/`
-pub class-named : (t : TimetableView) (i : ℕ) → IsTimetable t → t.classed ≡ true → i < length t.places → has_slash (class_of t.places i) ≡ false
+pub class-named : (t : TimetableView) (i : ℕ) → IsTimetable t → t.classed ≡ true → i < length t.places
+    → has_slash (class_of t.places i) ≡ false
 unfolding class_of
 class-named t i valid classed lt =
     let place = place_in t.places i in
     (subst (λ b. IsPostOrTerminal b place) classed (valid.each i (terminal_place [] 0) lt).is).1
 
 -- nor have those of the places
-pub classes-named : (classes : List Class) (class : Class) → All (λ class. has_slash class ≡ false) classes → has_slash class ≡ false → All (λ class. has_slash class ≡ false) (with_class classes class)
+pub classes-named : (classes : List Class) (class : Class) → All (λ class. has_slash class ≡ false) classes → has_slash class ≡ false
+    → All (λ class. has_slash class ≡ false) (with_class classes class)
 classes-named classes class named is = by (has_class classes class)
   where
     by : (has : Bool) → All (λ class. has_slash class ≡ false) (if has then classes else classes ++ class ∷ [])

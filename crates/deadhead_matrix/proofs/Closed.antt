@@ -17,7 +17,8 @@ pub record AreClosed (entries : List Entry) (start : ℕ) (dist : ℕ → Option
   pub closed : (e : Entry) (m : ℕ) → Contains entries e → dist e.from ≡ Some m → IsWithin (dist e.to) (m + e.minutes)
 
 -- every walk on from a place that is reached takes at least as long as the end is far
-along : (entries : List Entry) (start : ℕ) (dist : ℕ → Option ℕ) → AreClosed entries start dist → (es : List Entry) (a b m : ℕ) → IsWalk entries a es b → dist a ≡ Some m
+along : (entries : List Entry) (start : ℕ) (dist : ℕ → Option ℕ) → AreClosed entries start dist → (es : List Entry) (a b m : ℕ)
+    → IsWalk entries a es b → dist a ≡ Some m
     → IsWithin (dist b) (m + walk_minutes es)
 along entries start dist closed [] a b m walk at = (m, ap dist (sym walk) ∙ at, omega arith)
 along entries start dist closed (e ∷ es) a b m walk at =
@@ -25,7 +26,8 @@ along entries start dist closed (e ∷ es) a b m walk at =
     let rest = along entries start dist closed es e.to b next.0 walk.2 next.1 in
     (rest.0, rest.1, omega (arith, rest.2, next.2, sum_by-cons (λ (e : Entry). e.minutes) e es))
 
-pub IsLeastWalk-closed : (entries : List Entry) (start : ℕ) (dist : ℕ → Option ℕ) → AreClosed entries start dist → (b : ℕ) → IsLeastWalk entries start b (dist b)
+pub IsLeastWalk-closed : (entries : List Entry) (start : ℕ) (dist : ℕ → Option ℕ) → AreClosed entries start dist → (b : ℕ)
+    → IsLeastWalk entries start b (dist b)
 IsLeastWalk-closed entries start dist closed b = by (dist b) refl
   where
     by : (found : Option ℕ) → dist b ≡ found → IsLeastWalk entries start b found

@@ -1,5 +1,6 @@
 -- The network of deadheads is one of one day, and along trips that fit departures rise.
-use Rattle.std.proofs.Common.{◌≡◌, ℕ, ◌+◌, ◌<◌, ◌≤◌, nat_le, Bool, true, false, List, length, inl, inr, ◌⊎◌, Option, None, Some, if◌then◌else◌, refl, ap, arith}
+use Rattle.std.proofs.Common.{◌≡◌, ℕ, ◌+◌, ◌<◌, ◌≤◌, nat_le, Bool, true, false, List, length, inl, inr, ◌⊎◌, Option, None, Some}
+use Rattle.std.proofs.Common.{if◌then◌else◌, refl, ap, arith}
 use Rattle.std.specs.List.{All}
 use Rattle.std.specs.Option.{is_some}
 use Rattle.std.proofs.lemmas.Bool.{cases_lt, leb-true}
@@ -28,11 +29,14 @@ timed : (a b : Move) (found : Option ℕ) (minutes : ℕ) → in_time a b found 
 timed a b None minutes e = absurd (none-some minutes e)
 timed a b (Some k) minutes e = by (nat_le (a.arrives + k) b.leaves) refl e
   where
-    by : (test : Bool) → nat_le (a.arrives + k) b.leaves ≡ test → (if test then Some k else None) ≡ Some minutes → a.arrives + minutes ≤ b.leaves
-    by true passed e = let same : k ≡ minutes = same_Some k minutes e in let le = leb-true (a.arrives + k) b.leaves passed in omega (arith, same, le)
+    by : (test : Bool) → nat_le (a.arrives + k) b.leaves ≡ test → (if test then Some k else None) ≡ Some minutes
+        → a.arrives + minutes ≤ b.leaves
+    by true passed e = let same : k ≡ minutes = same_Some k minutes e in let le = leb-true (a.arrives + k) b.leaves passed in
+        omega (arith, same, le)
     by false passed e = absurd (none-some minutes e)
 
-reached : (walk : ℕ → ℕ → Option ℕ) (m n : Option Move) (minutes : ℕ) → empty_between walk m n ≡ Some minutes → (a : Move) × (b : Move) × IsReached m n minutes a b
+reached : (walk : ℕ → ℕ → Option ℕ) (m n : Option Move) (minutes : ℕ) → empty_between walk m n ≡ Some minutes
+    → (a : Move) × (b : Move) × IsReached m n minutes a b
 reached walk (Some a) (Some b) minutes e = (a, b, record { first = refl; second = refl; reached = timed a b (walk a.to b.from) minutes e })
 reached walk (Some a) None minutes e = absurd (none-some minutes e)
 reached walk None (Some b) minutes e = absurd (none-some minutes e)
@@ -76,7 +80,8 @@ home-short : (pulls : List Pull) (m : Option Move) → All IsPull pulls → home
 home-short pulls None are = omega arith
 home-short pulls (Some m) are = (IsPull-at pulls m.to are).pull_in
 
-pub IsDay-deadhead : (places : ℕ) (moves : List (Option Move)) (matrix : MatrixView) → AreMoves places moves → All IsPull matrix.pulls → length moves ≤ 4096
+pub IsDay-deadhead : (places : ℕ) (moves : List (Option Move)) (matrix : MatrixView) → AreMoves places moves → All IsPull matrix.pulls
+    → length moves ≤ 4096
     → IsDay (deadhead_network moves matrix) (length moves)
 IsDay-deadhead places moves matrix are pulls few = record {
   few = few;

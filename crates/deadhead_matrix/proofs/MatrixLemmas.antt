@@ -1,5 +1,6 @@
 -- What a matrix of entries and rows of minutes is seen as.
-use Rattle.std.proofs.Common.{◌≡◌, ℕ, ◌<◌, ◌≤◌, nat_lt, Bool, true, false, List, [], ◌∷◌, length, map, get_or, Option, None, Some, if◌then◌else◌, refl, sym, ap, subst, ◌∙◌, arith}
+use Rattle.std.proofs.Common.{◌≡◌, ℕ, ◌<◌, ◌≤◌, nat_lt, Bool, true, false, List, [], ◌∷◌, length, map, get_or, Option, None, Some}
+use Rattle.std.proofs.Common.{if◌then◌else◌, refl, sym, ap, subst, ◌∙◌, arith}
 use Rattle.std.specs.List.{range_with_len}
 use Rattle.std.specs.Prelude.{IfSome, replicate}
 use Rattle.std.proofs.lemmas.Bool.{eq-eqb, ne_eqb, ltb-true}
@@ -14,7 +15,8 @@ use Rattle.deadhead_matrix.specs.Search.{far, dist_at, found_at, walks_in, AreLe
 use Rattle.deadhead_matrix.specs.Matrix.{MatrixView, walk, standing, empty_matrix, matrix_from, AreLeastWalks, IsSquare}
 
 -- as many walks as rows
-pub length-walks : (entries : List Entry) (rows : List (List ℕ)) (pulls : List Pull) → length (matrix_from entries rows pulls).walks ≡ length rows
+pub length-walks : (entries : List Entry) (rows : List (List ℕ)) (pulls : List Pull)
+    → length (matrix_from entries rows pulls).walks ≡ length rows
 length-walks entries rows pulls = length-map rows _
 
 pub walk-from : (entries : List Entry) (rows : List (List ℕ)) (pulls : List Pull) (a b : ℕ) → a < length rows → b < length rows
@@ -23,7 +25,8 @@ walk-from entries rows pulls a b a_in b_in =
     ap (λ row. get_or row b None) (get_or-map (λ row. walks_in row (length rows)) rows a [] [] a_in)
     ∙ get_or-map-range_with_len (found_at (get_or rows a [])) 0 (length rows) b b None b_in (omega arith)
 
-pub AreLeastWalks-from : (entries : List Entry) (rows : List (List ℕ)) (pulls : List Pull) → AreLeastRows entries rows → AreLeastWalks (matrix_from entries rows pulls)
+pub AreLeastWalks-from : (entries : List Entry) (rows : List (List ℕ)) (pulls : List Pull) → AreLeastRows entries rows
+    → AreLeastWalks (matrix_from entries rows pulls)
 AreLeastWalks-from entries rows pulls are = λ a b a_in b_in.
     let a_row : a < length rows = omega (arith, a_in, length-walks entries rows pulls) in
     let b_row : b < length rows = omega (arith, b_in, length-walks entries rows pulls) in
@@ -55,24 +58,28 @@ row-standing rows are a a_in =
     let n = length rows in
     let far = found_at (get_or rows a []) in
     let len = length-map-range_with_len far 0 n in
-    ext_get_or None (map far (range_with_len 0 n)) (map (standing a) (range_with_len 0 n)) (len ∙ sym (length-map-range_with_len (standing a) 0 n))
+    ext_get_or None (map far (range_with_len 0 n)) (map (standing a) (range_with_len 0 n))
+    (len ∙ sym (length-map-range_with_len (standing a) 0 n))
     (λ b b_in. let within : b < n = omega (arith, b_in, len) in
     get_or-map-range_with_len far 0 n b b None within (omega arith)
     ∙ least-standing a b (far b) (are.least a b a_in)
     ∙ sym (get_or-map-range_with_len (standing a) 0 n b b None within (omega arith)))
 
-walks-standing : (rows : List (List ℕ)) (pulls : List Pull) → AreLeastRows [] rows → (matrix_from [] rows pulls).walks ≡ (empty_matrix (length rows)).walks
+walks-standing : (rows : List (List ℕ)) (pulls : List Pull) → AreLeastRows [] rows
+    → (matrix_from [] rows pulls).walks ≡ (empty_matrix (length rows)).walks
 walks-standing rows pulls are =
     let n = length rows in
     let len = length-walks [] rows pulls in
-    ext_get_or [] (matrix_from [] rows pulls).walks (empty_matrix n).walks (len ∙ sym (length-map-range_with_len (λ a. map (standing a) (range_with_len 0 n)) 0 n))
+    ext_get_or [] (matrix_from [] rows pulls).walks (empty_matrix n).walks
+    (len ∙ sym (length-map-range_with_len (λ a. map (standing a) (range_with_len 0 n)) 0 n))
     (λ a a_in. let within : a < n = omega (arith, a_in, len) in
     get_or-map (λ row. walks_in row n) rows a [] [] within
     ∙ row-standing rows are a within
     ∙ sym (get_or-map-range_with_len (λ a. map (standing a) (range_with_len 0 n)) 0 n a a [] within (omega arith)))
 
 -- without entries and pulls the matrix is the empty one
-pub matrix-standing : (entries : List Entry) (rows : List (List ℕ)) (pulls : List Pull) → AreLeastRows entries rows → entries ≡ [] → pulls ≡ replicate (length rows) NO_PULL
+pub matrix-standing : (entries : List Entry) (rows : List (List ℕ)) (pulls : List Pull) → AreLeastRows entries rows → entries ≡ []
+    → pulls ≡ replicate (length rows) NO_PULL
     → matrix_from entries rows pulls ≡ empty_matrix (length rows)
 matrix-standing entries rows pulls are none zero =
     let walks = walks-standing rows pulls (subst (λ (es : List Entry). AreLeastRows es rows) none are) in
@@ -85,7 +92,8 @@ IsSquare-from entries rows pulls =
     (λ a row a_in. length-map-range_with_len (found_at (get_or rows a row)) 0 (length rows) ∙ sym (length-walks entries rows pulls))
 
 -- a least walk takes one number of minutes
-one-walk : (entries : List Entry) (a b : ℕ) (one other : Option ℕ) → IsLeastWalk entries a b one → IsLeastWalk entries a b other → one ≡ other
+one-walk : (entries : List Entry) (a b : ℕ) (one other : Option ℕ) → IsLeastWalk entries a b one → IsLeastWalk entries a b other
+    → one ≡ other
 one-walk entries a b None None none none' = refl
 one-walk entries a b None (Some m) none least = absurd (none least.reached.0 least.reached.1)
 one-walk entries a b (Some m) None least none = absurd (none least.reached.0 least.reached.1)
@@ -99,9 +107,13 @@ pub one-matrix : (one other : MatrixView) → one.entries ≡ other.entries → 
     → IsSquare one → IsSquare other → AreLeastWalks one → AreLeastWalks other → one ≡ other
 one-matrix one other entries pulls count square square' least least' =
     let width : (a : ℕ) → a < length one.walks → length (get_or one.walks a []) ≡ length one.walks = λ a h. square a [] h in
-    let width' : (a : ℕ) → a < length one.walks → length (get_or other.walks a []) ≡ length one.walks = λ a h. square' a [] (omega (arith, h, count)) ∙ sym count in
-    let rows : one.walks ≡ other.walks = ext_get_or [] one.walks other.walks count (λ a a_in. ext_get_or None (get_or one.walks a []) (get_or other.walks a []) (width a a_in ∙ sym (width' a a_in))
+    let width' : (a : ℕ) → a < length one.walks
+    → length (get_or other.walks a []) ≡ length one.walks = λ a h. square' a [] (omega (arith, h, count)) ∙ sym count in
+    let rows : one.walks ≡ other.walks =
+    ext_get_or [] one.walks other.walks count
+    (λ a a_in. ext_get_or None (get_or one.walks a []) (get_or other.walks a []) (width a a_in ∙ sym (width' a a_in))
     (λ b b_in. let b_one : b < length one.walks = omega (arith, b_in, width a a_in) in
     one-walk one.entries a b (walk one a b) (walk other a b) (least a b a_in b_one)
-    (subst (λ (es : List Entry). IsLeastWalk es a b (walk other a b)) (sym entries) (least' a b (omega (arith, a_in, count)) (omega (arith, b_one, count)))))) in
+    (subst (λ (es : List Entry). IsLeastWalk es a b (walk other a b)) (sym entries)
+    (least' a b (omega (arith, a_in, count)) (omega (arith, b_one, count)))))) in
     λ i. record { entries = entries i; walks = rows i; pulls = pulls i }

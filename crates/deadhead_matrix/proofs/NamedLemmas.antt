@@ -22,7 +22,8 @@ module _ (Named : Place → Type 0) where
   gained-none t = record { more = []; is = ap (λ places. record t { places = places }) (sym (append-nil t.places)); named = All-nil Named }
 
   -- one place was gained
-  pub gained-one : (t after : TimetableView) (place : Place) → after ≡ record t { places = t.places ++ place ∷ [] } → Named place → HasGained Named t after
+  pub gained-one : (t after : TimetableView) (place : Place) → after ≡ record t { places = t.places ++ place ∷ [] } → Named place
+      → HasGained Named t after
   gained-one t after place is named = record { more = place ∷ []; is = is; named = All-push Named [] place (All-nil Named) named }
 
   -- places were gained twice
@@ -35,7 +36,8 @@ module _ (Named : Place → Type 0) where
   }
 
 -- the places gained are named otherwise too
-pub gained-as : (Named Other : Place → Type 0) (t after : TimetableView) → ((place : Place) → Named place → Other place) → HasGained Named t after → HasGained Other t after
+pub gained-as : (Named Other : Place → Type 0) (t after : TimetableView) → ((place : Place) → Named place → Other place)
+    → HasGained Named t after → HasGained Other t after
 gained-as Named Other t after also gained = record { more = gained.more; is = gained.is; named = λ k d lt. also _ (gained.named k d lt) }
 
 -- the places gained are still posts, or still terminals
@@ -43,13 +45,19 @@ gained-classed : (Named : Place → Type 0) (t after : TimetableView) → HasGai
 gained-classed Named t after gained = ap (λ (t : TimetableView). t.classed) gained.is
 
 -- a terminal has gained its place for one class more
-pub class-gained : (classed : Bool) (classes : List Class) (terminal : List ℕ) (class : Class) (t between after : TimetableView) → t.classed ≡ classed → Contains classes class
-    → HasGained (IsPlaceOf classed classes terminal) t between → HasGained (λ place. place ≡ place_for between.classed terminal class) between after
+pub class-gained : (classed : Bool) (classes : List Class) (terminal : List ℕ) (class : Class) (t between after : TimetableView)
+    → t.classed ≡ classed → Contains classes class
+    → HasGained (IsPlaceOf classed classes terminal) t between
+    → HasGained (λ place. place ≡ place_for between.classed terminal class) between after
     → HasGained (IsPlaceOf classed classes terminal) t after
 class-gained classed classes terminal class t between after is among first second =
     gained-both (IsPlaceOf classed classes terminal) t between after first
     (gained-as (λ place. place ≡ place_for between.classed terminal class) (IsPlaceOf classed classes terminal) between after
-    (λ place same. record { class = class; among = among; is = same ∙ ap (λ b. place_for b terminal class) (gained-classed _ t between first ∙ is) }) second)
+    (λ place same. record {
+      class = class;
+      among = among;
+      is = same ∙ ap (λ b. place_for b terminal class) (gained-classed _ t between first ∙ is);
+    }) second)
 
 -- a record has gained places of its first terminal, and then of its second
 pub record-gained : (classes : List Class) (columns : Columns) (fields : List (List ℕ)) (from to : List ℕ) (t between after : TimetableView)
@@ -58,10 +66,13 @@ pub record-gained : (classes : List Class) (columns : Columns) (fields : List (L
 record-gained classes columns fields from to t between after from_is to_is first second =
     gained-both (IsNamedBy t.classed classes columns fields) t between after
     (gained-as _ _ t between (λ place of. inl (subst (λ terminal. IsPlaceOf t.classed classes terminal place) from_is of)) first)
-    (gained-as _ _ between after (λ place of. inr (subst (λ terminal. IsPlaceOf t.classed classes terminal place) to_is (subst (λ b. IsPlaceOf b classes to place) (gained-classed _ t between first) of))) second)
+    (gained-as _ _ between after (λ place of. inr
+    (subst (λ terminal. IsPlaceOf t.classed classes terminal place) to_is
+    (subst (λ b. IsPlaceOf b classes to place) (gained-classed _ t between first) of))) second)
 
 -- records add no places but those that one of them names
-rows-named : (Named : Place → Type 0) (classed : Bool) (classes : List Class) (columns : Columns) (before after : ReadingView) (rows : List (List (List ℕ)))
+rows-named : (Named : Place → Type 0) (classed : Bool) (classes : List Class) (columns : Columns) (before after : ReadingView)
+    (rows : List (List (List ℕ)))
     → before.timetable.classed ≡ classed
     → ((fields : List (List ℕ)) (place : Place) → Contains rows fields → IsNamedBy classed classes columns fields place → Named place)
     → AreChanged (GainsNamed classes columns) before rows after → HasGained Named before.timetable after.timetable
@@ -71,13 +82,15 @@ rows-named Named classed classes columns before after (fields ∷ rows) is named
     subst (λ (a : ReadingView). HasGained Named before.timetable a.timetable) (sym same) (gained-none Named before.timetable)
 rows-named Named classed classes columns before after (fields ∷ rows) is named (inr (between, gains, changed)) =
     let here = gained-as (IsNamedBy before.timetable.classed classes columns fields) Named before.timetable between.timetable
-    (λ place by. named fields place (Contains-get_or (fields ∷ rows) 0 fields (omega arith)) (subst (λ b. IsNamedBy b classes columns fields place) is by)) gains in
+    (λ place by. named fields place (Contains-get_or (fields ∷ rows) 0 fields (omega arith))
+    (subst (λ b. IsNamedBy b classes columns fields place) is by)) gains in
     let rest = rows-named Named classed classes columns between after rows (gained-classed _ before.timetable between.timetable gains ∙ is)
     (λ other place among by. named other place (Contains-append_right (fields ∷ []) rows other among) by) changed in
     gained-both Named before.timetable between.timetable after.timetable here rest
 
 -- a table adds no places but those that the file names
-table-named : (found : Found) (t : TimetableView) (before after : ReadingView) (table : TableView) → table_in paper.Deadheads found ≡ Ok table → before.timetable ≡ t
+table-named : (found : Found) (t : TimetableView) (before after : ReadingView) (table : TableView)
+    → table_in paper.Deadheads found ≡ Ok table → before.timetable ≡ t
     → IsTableChanged columns_in (GainsNamed (classes_of t)) before table after → HasGained (IsNamed found t) t after.timetable
 table-named found t before after table read is (inl same) =
     subst (λ (a : ReadingView). HasGained (IsNamed found t) t a.timetable) (sym same)
@@ -85,14 +98,25 @@ table-named found t before after table read is (inl same) =
 table-named found t before after table read is (inr (columns, header, changed)) =
     subst (λ (b : TimetableView). HasGained (IsNamed found t) b after.timetable) is
     (rows-named (IsNamed found t) t.classed (classes_of t) columns before after table.rows (ap (λ (t : TimetableView). t.classed) is)
-    (λ fields place among by. record { table = table; read = read; columns = columns; header = header; fields = fields; row = among; named = by }) changed)
+    (λ fields place among by. record {
+      table = table;
+      read = read;
+      columns = columns;
+      header = header;
+      fields = fields;
+      row = among;
+      named = by;
+    }) changed)
 
 -- the file adds no places but those that it names, once it was judged as a table
-pub file-named : (found : Found) (t : TimetableView) (before after : ReadingView) → before.timetable ≡ t → judged paper.Deadheads found ≡ nothing
-    → ((table : TableView) → table_in paper.Deadheads found ≡ Ok table → IsTableChanged columns_in (GainsNamed (classes_of t)) before table after)
+pub file-named : (found : Found) (t : TimetableView) (before after : ReadingView) → before.timetable ≡ t
+    → judged paper.Deadheads found ≡ nothing
+    → ((table : TableView) → table_in paper.Deadheads found ≡ Ok table
+    → IsTableChanged columns_in (GainsNamed (classes_of t)) before table after)
     → HasGained (IsNamed found t) t after.timetable
 file-named found t before after is judges each = by (table_in paper.Deadheads found) refl judges
   where
-    by : (table : Result TableView FeedFault) → table_in paper.Deadheads found ≡ table → (table >>= λ _. nothing) ≡ nothing → HasGained (IsNamed found t) t after.timetable
+    by : (table : Result TableView FeedFault) → table_in paper.Deadheads found ≡ table → (table >>= λ _. nothing) ≡ nothing
+        → HasGained (IsNamed found t) t after.timetable
     by (Ok table) read judges = table-named found t before after table read is (each table read)
     by (Err refused) read judges = cc judges

@@ -16,11 +16,14 @@ use Rattle.deadhead_matrix.specs.Pulls.{IsPull}
 use Rattle.deadhead_matrix.proofs.Days.{AreDepartures-deadhead, IsDay-deadhead}
 use Rattle.assignment_model.proofs.Duality.{IsLeast-certified}
 
-pub IsLeast-plan : (t : TimetableView) (matrix : MatrixView) (plan : Plan) → IsTimetable t → All IsPull matrix.pulls → IsPlanFor t matrix plan
+pub IsLeast-plan : (t : TimetableView) (matrix : MatrixView) (plan : Plan) → IsTimetable t → All IsPull matrix.pulls
+    → IsPlanFor t matrix plan
     → IsLeast (network_of t matrix) (blocks_along plan.next (by_departure (trip_moves t.slots)))
 IsLeast-plan t matrix plan valid pulls proved =
     let moves = trip_moves t.slots in
     let are = AreMoves-trips t valid in
     let size = length-map t.slots move_of_slot in
-    IsLeast-certified (deadhead_network moves matrix) (length moves) plan (λ s. minute_left (move_at moves s)) (IsDay-deadhead (length t.places) moves matrix are pulls (omega (arith, size, valid.slots)))
-    (proved.slots ∙ sym size) proved.certified (AreDepartures-deadhead (length t.places) moves matrix are) (by_departure moves) (StandsOnce-by_departure moves)
+    IsLeast-certified (deadhead_network moves matrix) (length moves) plan (λ s. minute_left (move_at moves s))
+    (IsDay-deadhead (length t.places) moves matrix are pulls (omega (arith, size, valid.slots)))
+    (proved.slots ∙ sym size) proved.certified (AreDepartures-deadhead (length t.places) moves matrix are) (by_departure moves)
+    (StandsOnce-by_departure moves)

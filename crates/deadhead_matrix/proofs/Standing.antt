@@ -1,5 +1,6 @@
 -- The matrix without entries.
-use Rattle.std.proofs.Common.{◌≡◌, ℕ, zero, suc, ◌+◌, ◌<◌, ◌==◌, ◌&&◌, nat_le, Bool, true, false, List, [], ◌∷◌, length, map, replicate, get_or, Option, None, Some, if◌then◌else◌, refl, sym, ap, ◌∙◌, arith}
+use Rattle.std.proofs.Common.{◌≡◌, ℕ, zero, suc, ◌+◌, ◌<◌, ◌==◌, ◌&&◌, nat_le, Bool, true, false, List, [], ◌∷◌, length, map, replicate}
+use Rattle.std.proofs.Common.{get_or, Option, None, Some, if◌then◌else◌, refl, sym, ap, ◌∙◌, arith}
 use Rattle.std.specs.List.{range_with_len}
 use Rattle.std.proofs.lemmas.Bool.{eq-eqb, ne_eqb}
 use Rattle.std.proofs.lemmas.List.FromFn.{get_or-map-range_with_len, length-map-range_with_len}
@@ -20,14 +21,17 @@ length-empty places = length-map-range_with_len (λ a. map (standing a) (range_w
 -- it has the walks that need no entries
 walk-empty : (places a b : ℕ) → a < places → b < places → walk (empty_matrix places) a b ≡ standing a b
 walk-empty places a b a_in b_in =
-    ap (λ row. get_or row b None) (get_or-map-range_with_len (λ a. map (standing a) (range_with_len 0 places)) 0 places a a [] a_in (omega arith))
+    ap (λ row. get_or row b None) (get_or-map-range_with_len (λ a. map (standing a) (range_with_len 0 places)) 0 places a a [] a_in
+    (omega arith))
     ∙ get_or-map-range_with_len (standing a) 0 places b b None b_in (omega arith)
 
-pub walk-same : (matrix : MatrixView) (places a b : ℕ) → empty_matrix places ≡ matrix → a < places → b < places → a ≡ b → Some 0 ≡ walk matrix a b
+pub walk-same : (matrix : MatrixView) (places a b : ℕ) → empty_matrix places ≡ matrix → a < places → b < places → a ≡ b
+    → Some 0 ≡ walk matrix a b
 walk-same matrix places a b is a_in b_in same =
     sym (ap (λ m. walk m a b) (sym is) ∙ walk-empty places a b a_in b_in ∙ ap (λ t. if t then Some 0 else None) (eq-eqb a b same))
 
-pub walk-other : (matrix : MatrixView) (places a b : ℕ) → empty_matrix places ≡ matrix → a < places → b < places → (a ≡ b → ⊥) → None ≡ walk matrix a b
+pub walk-other : (matrix : MatrixView) (places a b : ℕ) → empty_matrix places ≡ matrix → a < places → b < places → (a ≡ b → ⊥)
+    → None ≡ walk matrix a b
 walk-other matrix places a b is a_in b_in other =
     sym (ap (λ m. walk m a b) (sym is) ∙ walk-empty places a b a_in b_in ∙ ap (λ t. if t then Some 0 else None) (ne_eqb a b other))
 
@@ -45,11 +49,13 @@ in_time-standing places a b a_in b_in = ap (in_time a b) (walk-empty places a.to
     by true = let none : a.arrives + 0 ≡ a.arrives = omega arith in ap (λ n. if nat_le n b.leaves then Some 0 else None) none
     by false = refl
 
-empty-standing : (places : ℕ) (moves : List (Option Move)) → AreMoves places moves → (i j : ℕ) (m n : Option Move) → move_at moves i ≡ m → move_at moves j ≡ n
+empty-standing : (places : ℕ) (moves : List (Option Move)) → AreMoves places moves → (i j : ℕ) (m n : Option Move) → move_at moves i ≡ m
+    → move_at moves j ≡ n
     → empty_between (walk (empty_matrix places)) m n ≡ (if meets m n then Some 0 else None)
 empty-standing places moves are i j None n first second = refl
 empty-standing places moves are i j (Some a) None first second = refl
-empty-standing places moves are i j (Some a) (Some b) first second = in_time-standing places a b (are.each i a first).to (are.each j b second).from
+empty-standing places moves are i j (Some a) (Some b) first second =
+    in_time-standing places a b (are.each i a first).to (are.each j b second).from
 
 no_pull-at : (places place : ℕ) → pull_at (replicate places NO_PULL) place ≡ NO_PULL
 no_pull-at zero place = refl
@@ -64,7 +70,8 @@ home-standing : (places : ℕ) (m : Option Move) → home_after (empty_matrix pl
 home-standing places None = refl
 home-standing places (Some m) = ap (λ (pull : Pull). pull.pull_in) (no_pull-at places m.to)
 
-pub network-standing : (places : ℕ) (moves : List (Option Move)) → AreMoves places moves → deadhead_network moves (empty_matrix places) ≡ plain_network moves
+pub network-standing : (places : ℕ) (moves : List (Option Move)) → AreMoves places moves
+    → deadhead_network moves (empty_matrix places) ≡ plain_network moves
 network-standing places moves are = λ k. record {
   live = λ s. is_some (move_at moves s);
   empty = λ i j. empty-standing places moves are i j (move_at moves i) (move_at moves j) refl refl k;

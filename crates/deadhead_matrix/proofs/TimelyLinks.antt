@@ -18,17 +18,20 @@ by-test true is = refl
 by-test false is = absurd (false≢true is)
 
 -- a vehicle that needs some minutes to a trip and is in time is so without them
-timely : (walk : ℕ → ℕ → Option ℕ) (m n : Option Move) → IsSome (empty_between walk m n) → IsSome {T = ℕ} (if is_in_time m n then Some 0 else None)
+timely : (walk : ℕ → ℕ → Option ℕ) (m n : Option Move) → IsSome (empty_between walk m n)
+    → IsSome {T = ℕ} (if is_in_time m n then Some 0 else None)
 timely walk None n is = absurd (false≢true is)
 timely walk (Some a) None is = absurd (false≢true is)
 timely walk (Some a) (Some b) is = by (walk a.to b.from) is
   where
     by : (found : Option ℕ) → IsSome (in_time a b found) → IsSome {T = ℕ} (if nat_le a.arrives b.leaves then Some 0 else None)
     by None is = absurd (false≢true is)
-    by (Some m) is = by-test (nat_le a.arrives b.leaves) (le-leb a.arrives b.leaves (omega (arith, leb-true (a.arrives + m) b.leaves (found-by (nat_le (a.arrives + m) b.leaves) m is))))
+    by (Some m) is = by-test (nat_le a.arrives b.leaves)
+        (le-leb a.arrives b.leaves (omega (arith, leb-true (a.arrives + m) b.leaves (found-by (nat_le (a.arrives + m) b.leaves) m is))))
 
 -- links along which vehicles may run empty lead to trips that begin in time
-pub timely-links : (moves : List (Option Move)) (matrix : MatrixView) (links : List (Option ℕ)) → AreLinks (deadhead_network moves matrix) links → AreLinks (timely_network moves) links
+pub timely-links : (moves : List (Option Move)) (matrix : MatrixView) (links : List (Option ℕ))
+    → AreLinks (deadhead_network moves matrix) links → AreLinks (timely_network moves) links
 timely-links moves matrix links are = record {
   fits = λ i j next. timely (walk matrix) (move_at moves i) (move_at moves j) (are.fits i j next);
   once = are.once;

@@ -1,9 +1,11 @@
 -- Rows of minutes tell the entries that were entered.
-use Rattle.std.proofs.Common.{◌≡◌, ◌≢◌, ℕ, ◌<◌, ◌≤◌, ◌==◌, ◌&&◌, Bool, true, false, not, List, [], ◌∷◌, ◌++◌, length, set, get_or, take, drop, replicate, refl, sym, ap, subst, ◌∙◌, ⊎_elim, ◌⊎◌, inl, inr, arith}
+use Rattle.std.proofs.Common.{◌≡◌, ◌≢◌, ℕ, ◌<◌, ◌≤◌, ◌==◌, ◌&&◌, Bool, true, false, not, List, [], ◌∷◌, ◌++◌, length, set, get_or, take}
+use Rattle.std.proofs.Common.{drop, replicate, refl, sym, ap, subst, ◌∙◌, ⊎_elim, ◌⊎◌, inl, inr, arith}
 use Rattle.std.specs.List.{Contains}
 use Rattle.std.proofs.lemmas.Bool.{cases_eq, cases_lt, false≢true, eq-eqb, eqb-true, ne_eqb}
 use Rattle.std.proofs.Math.Seq.{take-length, drop-length}
-use Rattle.std.proofs.lemmas.List.{append-nil, length-set, length-replicate, get_or-replicate, get_or_past, get_or-set_same, get_or-set_other}
+use Rattle.std.proofs.lemmas.List.{append-nil, length-set, length-replicate, get_or-replicate, get_or_past, get_or-set_same}
+use Rattle.std.proofs.lemmas.List.{get_or-set_other}
 use Rattle.std.proofs.lemmas.List.Elements.{Contains-append_left, Contains-push, Contains-push_cases}
 use Rattle.std.proofs.lemmas.List.Folds.{Any-from_list_any, list_any_at}
 use Rattle.deadhead_matrix.specs.declared.entry.Entry.{Entry}
@@ -26,7 +28,8 @@ zero-at n b = ⊎_elim
 pub way-zeros : (n m a b : ℕ) → way (replicate n (replicate m 0)) a b ≡ 0
 way-zeros n m a b = ⊎_elim
     (λ (h : a < n). ap (λ row. get_or row b 0) (get_or-replicate n a (replicate m 0) [] h) ∙ zero-at m b)
-    (λ (h : n ≤ a). ap (λ row. get_or row b 0) (get_or_past (replicate n (replicate m 0)) a [] (omega (arith, length-replicate {A = List ℕ} n (replicate m 0)))))
+    (λ (h : n ≤ a). ap (λ row. get_or row b 0)
+    (get_or_past (replicate n (replicate m 0)) a [] (omega (arith, length-replicate {A = List ℕ} n (replicate m 0)))))
     (cases_lt a n)
 
 -- without entries
@@ -58,7 +61,8 @@ both a b c d e = by (a == c) (b == d) refl refl e
 both-true : (a b c d : ℕ) → a ≡ c → b ≡ d → ((a == c) && (b == d)) ≡ true
 both-true a b c d first second = (λ i. eq-eqb a c first i && eq-eqb b d second i)
 
-pub has_entry-from : (entries : List Entry) (a b : ℕ) → has_entry entries a b ≡ true → (e : Entry) × Contains entries e × (e.from ≡ a) × (e.to ≡ b)
+pub has_entry-from : (entries : List Entry) (a b : ℕ) → has_entry entries a b ≡ true
+    → (e : Entry) × Contains entries e × (e.from ≡ a) × (e.to ≡ b)
 has_entry-from entries a b has =
     let some = Any-from_list_any (λ (e : Entry). (e.from == a) && (e.to == b)) entries has in
     let ends = both some.1.from some.1.to a b some.4 in
@@ -69,20 +73,24 @@ has_entry-of entries e within = list_any_at (λ (x : Entry). (x.from == e.from) 
     (ap (λ (x : Entry). (x.from == e.from) && (x.to == e.to)) within.2 ∙ both-true e.from e.to e.from e.to refl refl)
 
 -- the rows tell whether an entry leads from one place to another
-pub has_entry-told : (entries : List Entry) (ways : List (List ℕ)) (a b : ℕ) → AreTold entries ways → not (way ways a b == 0) ≡ has_entry entries a b
+pub has_entry-told : (entries : List Entry) (ways : List (List ℕ)) (a b : ℕ) → AreTold entries ways
+    → not (way ways a b == 0) ≡ has_entry entries a b
 has_entry-told entries ways a b are = by (has_entry entries a b) refl
   where
     by : (has : Bool) → has_entry entries a b ≡ has → not (way ways a b == 0) ≡ has
     by true has =
         let some = has_entry-from entries a b has in
-        let leads : way ways a b ≢ 0 = (λ zero. are.told.lasting some.0 some.1 (sym (are.told.told some.0 some.1) ∙ (λ i. way ways (some.2 i) (some.3 i)) ∙ zero)) in
+        let leads : way ways a b ≢ 0 =
+        (λ zero. are.told.lasting some.0 some.1 (sym (are.told.told some.0 some.1) ∙ (λ i. way ways (some.2 i) (some.3 i)) ∙ zero)) in
         ap not (ne_eqb (way ways a b) 0 leads)
     by false has = ⊎_elim
         (λ (zero : way ways a b ≡ 0). ap not (eq-eqb (way ways a b) 0 zero))
-        (λ (leads : way ways a b ≢ 0). absurd (false≢true (sym has ∙ has_entry-of entries (record { from = a; to = b; minutes = way ways a b }) (are.told.entry a b leads))))
+        (λ (leads : way ways a b ≢ 0). absurd
+        (false≢true (sym has ∙ has_entry-of entries (record { from = a; to = b; minutes = way ways a b }) (are.told.entry a b leads))))
         (cases_eq (way ways a b) 0)
 
-module _ (entries : List Entry) (ways : List (List ℕ)) (e : Entry) (are : AreTold entries ways) (from_in : e.from < 512) (to_in : e.to < 512) where
+module _ (entries : List Entry) (ways : List (List ℕ)) (e : Entry) (are : AreTold entries ways) (from_in : e.from < 512)
+    (to_in : e.to < 512) where
   -- the rows with the entry
   abbrev pub with_way : List (List ℕ)
   with_way = set ways e.from (set (get_or ways e.from []) e.to e.minutes)
@@ -97,7 +105,8 @@ module _ (entries : List Entry) (ways : List (List ℕ)) (e : Entry) (are : AreT
   row_other a differs = get_or-set_other ways e.from a (set (get_or ways e.from []) e.to e.minutes) [] differs
 
   way_same : way with_way e.from e.to ≡ e.minutes
-  way_same = ap (λ row. get_or row e.to 0) row_same ∙ get_or-set_same (get_or ways e.from []) e.to e.minutes 0 (omega (arith, are.rows.columns e.from from_in, to_in))
+  way_same = ap (λ row. get_or row e.to 0) row_same
+      ∙ get_or-set_same (get_or ways e.from []) e.to e.minutes 0 (omega (arith, are.rows.columns e.from from_in, to_in))
 
   way_other : (a b : ℕ) → ((a ≡ e.from) × (b ≡ e.to) → ⊥) → way with_way a b ≡ way ways a b
   way_other a b differ = by (cases_eq a e.from)
@@ -126,16 +135,23 @@ module _ (entries : List Entry) (ways : List (List ℕ)) (e : Entry) (are : AreT
     };
     short = λ a b. short_at a b (cases_way a b);
     told = record {
-      from = λ x within. ⊎_elim (λ (old : Contains entries x). are.told.from x old) (λ (is : e ≡ x). subst (λ (y : Entry). y.from < 512) is from_in) (Contains-push_cases entries e x within);
-      to = λ x within. ⊎_elim (λ (old : Contains entries x). are.told.to x old) (λ (is : e ≡ x). subst (λ (y : Entry). y.to < 512) is to_in) (Contains-push_cases entries e x within);
-      told = λ x within. ⊎_elim (λ (old : Contains entries x). way_other x.from x.to (other x old) ∙ are.told.told x old) (λ (is : e ≡ x). subst (λ (y : Entry). way with_way y.from y.to ≡ y.minutes) is way_same) (Contains-push_cases entries e x within);
-      lasting = λ x within. ⊎_elim (λ (old : Contains entries x). are.told.lasting x old) (λ (is : e ≡ x). subst (λ (y : Entry). y.minutes ≢ 0) is (λ (zero : e.minutes ≡ 0). omega arith)) (Contains-push_cases entries e x within);
+      from = λ x within. ⊎_elim (λ (old : Contains entries x). are.told.from x old)
+          (λ (is : e ≡ x). subst (λ (y : Entry). y.from < 512) is from_in) (Contains-push_cases entries e x within);
+      to = λ x within. ⊎_elim (λ (old : Contains entries x). are.told.to x old)
+          (λ (is : e ≡ x). subst (λ (y : Entry). y.to < 512) is to_in) (Contains-push_cases entries e x within);
+      told = λ x within. ⊎_elim (λ (old : Contains entries x). way_other x.from x.to (other x old) ∙ are.told.told x old)
+          (λ (is : e ≡ x). subst (λ (y : Entry). way with_way y.from y.to ≡ y.minutes) is way_same)
+          (Contains-push_cases entries e x within);
+      lasting = λ x within. ⊎_elim (λ (old : Contains entries x). are.told.lasting x old)
+          (λ (is : e ≡ x). subst (λ (y : Entry). y.minutes ≢ 0) is (λ (zero : e.minutes ≡ 0). omega arith))
+          (Contains-push_cases entries e x within);
       entry = λ a b leads. entry_at a b leads (cases_way a b);
     };
   }
     where
       columns : (a : ℕ) → a < 512 → (a ≡ e.from) ⊎ (a ≢ e.from) → length (get_or with_way a []) ≡ 512
-      columns a within (inl same) = ap (λ x. length (get_or with_way x [])) same ∙ ap length row_same ∙ length-set (get_or ways e.from []) e.to e.minutes ∙ are.rows.columns e.from from_in
+      columns a within (inl same) = ap (λ x. length (get_or with_way x [])) same ∙ ap length row_same
+          ∙ length-set (get_or ways e.from []) e.to e.minutes ∙ are.rows.columns e.from from_in
       columns a within (inr differs) = ap length (row_other a differs) ∙ are.rows.columns a within
 
       short_at : (a b : ℕ) → ((a ≡ e.from) × (b ≡ e.to)) ⊎ ((a ≡ e.from) × (b ≡ e.to) → ⊥) → way with_way a b ≤ 1440
@@ -149,12 +165,14 @@ module _ (entries : List Entry) (ways : List (List ℕ)) (e : Entry) (are : AreT
           → Contains (entries ++ e ∷ []) (record { from = a; to = b; minutes = way with_way a b })
       entry_at a b leads (inl same) =
           let minutes : way with_way a b ≡ e.minutes = (λ i. way with_way (same.0 i) (same.1 i)) ∙ way_same in
-          let is : ◌≡◌ {A = Entry} e (record { from = a; to = b; minutes = way with_way a b }) = (λ i. record { from = sym same.0 i; to = sym same.1 i; minutes = sym minutes i }) in
+          let is : ◌≡◌ {A = Entry} e (record { from = a; to = b; minutes = way with_way a b }) =
+          (λ i. record { from = sym same.0 i; to = sym same.1 i; minutes = sym minutes i }) in
           subst (λ (x : Entry). Contains (entries ++ e ∷ []) x) is (Contains-push entries e)
       entry_at a b leads (inr differ) =
           let is = way_other a b differ in
           let old = are.told.entry a b (λ zero. leads (is ∙ zero)) in
-          subst (λ m. Contains (entries ++ e ∷ []) (record { from = a; to = b; minutes = m })) (sym is) (Contains-append_left entries (e ∷ []) _ old)
+          subst (λ m. Contains (entries ++ e ∷ []) (record { from = a; to = b; minutes = m })) (sym is)
+          (Contains-append_left entries (e ∷ []) _ old)
 
 -- rows that were lent as a slice and given back
 pub given-back : (n : ℕ) (new old : List (List ℕ)) → length new ≡ length old → length old ≡ n → take n (new ++ drop (length new) old) ≡ new

@@ -1,5 +1,6 @@
 -- The entries that `deadheads.csv` allows, and the places that it names.
-use Rattle.std.specs.Prelude.{ℕ, not, ◌==◌, ◌&&◌, nat_lt, Bool, List, [], ◌∷◌, ◌++◌, length, map, Option, None, Some, Result, Ok, String, string_bytes}
+use Rattle.std.specs.Prelude.{ℕ, not, ◌==◌, ◌&&◌, nat_lt, Bool, List, [], ◌∷◌, ◌++◌, length, map, Option, None, Some, Result, Ok, String}
+use Rattle.std.specs.Prelude.{string_bytes}
 use Rattle.std.specs.List.{list_any}
 use Rattle.std.specs.Str.{bytes_eq}
 use Rattle.desk_io.specs.declared.shelf.Found.{Found}
@@ -48,7 +49,8 @@ with_place timetable place = or_new_place timetable place (number_of (place_name
 abbrev pub with_places : List ℕ → TimetableView → List ℕ → List Class → Result (TimetableView × List ℕ) FeedFault
 with_places terminal timetable numbers [] = Ok (timetable, numbers)
 with_places terminal timetable numbers (class ∷ classes) =
-    with_place timetable (place_for timetable.classed terminal class) >>= λ here. with_places terminal here.0 (numbers ++ here.1 ∷ []) classes
+    with_place timetable (place_for timetable.classed terminal class) >>= λ here. with_places terminal here.0 (numbers ++ here.1 ∷ [])
+    classes
 
 -- whether an entry leads from one place to the other
 abbrev pub has_entry : List Entry → ℕ → ℕ → Bool
@@ -56,7 +58,8 @@ has_entry entries from to = list_any (λ e. (e.from == from) && (e.to == to)) en
 
 -- the entries with that of a record, which no earlier record may have between its two places
 abbrev pub with_entry : ℕ → List Entry → Entry → Result (List Entry) FeedFault
-with_entry number before entry = provided (not (has_entry before entry.from entry.to)) (fault.DuplicateRow paper.Deadheads number) (Ok (before ++ entry ∷ []))
+with_entry number before entry =
+    provided (not (has_entry before entry.from entry.to)) (fault.DuplicateRow paper.Deadheads number) (Ok (before ++ entry ∷ []))
 
 -- the entries with those of a record, from each of these places to the one beside it
 abbrev pub with_entries : ℕ → ℕ → List Entry → List ℕ → List ℕ → Result (List Entry) FeedFault

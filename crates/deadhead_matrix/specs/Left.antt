@@ -19,7 +19,8 @@ left_after (Err refused) next here = here
 -- the timetable that a terminal leaves, with its place for each class in turn as far as there is room
 abbrev pub left_places : List ℕ → TimetableView → List Class → TimetableView
 left_places terminal timetable [] = timetable
-left_places terminal timetable (class ∷ classes) = left_after (with_place timetable (place_for timetable.classed terminal class)) (λ here. left_places terminal here.0 classes) timetable
+left_places terminal timetable (class ∷ classes) =
+    left_after (with_place timetable (place_for timetable.classed terminal class)) (λ here. left_places terminal here.0 classes) timetable
 
 -- the timetable that a record leaves, also where it is refused. Where the fields are of their form, it has the places of the
 -- first terminal. It also has those of the second where there was room for all of the first
@@ -38,7 +39,8 @@ left_by_each classes columns number before (fields ∷ rows) =
 
 -- the timetable that the records of a table leave after others, up to its first refusal
 abbrev pub left_by_table : List Class → ReadingView → TableView → TimetableView
-left_by_table classes before table = left_after (columns_in table.header) (λ columns. left_by_each classes columns 1 before table.rows) before.timetable
+left_by_table classes before table =
+    left_after (columns_in table.header) (λ columns. left_by_each classes columns 1 before table.rows) before.timetable
 
 -- the timetable that a paper leaves
 abbrev pub left_by_paper : List Class → Found → ReadingView → TimetableView

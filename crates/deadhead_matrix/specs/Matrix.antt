@@ -35,4 +35,8 @@ standing a b = if a == b then Some 0 else None
 
 -- the matrix of so many places without entries and pulls
 abbrev pub empty_matrix : ℕ → MatrixView
-empty_matrix places = record { entries = []; walks = map (λ a. map (standing a) (range_with_len 0 places)) (range_with_len 0 places); pulls = replicate places NO_PULL }
+empty_matrix places = record {
+  entries = [];
+  walks = map (λ a. map (standing a) (range_with_len 0 places)) (range_with_len 0 places);
+  pulls = replicate places NO_PULL;
+}

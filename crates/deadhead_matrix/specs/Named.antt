@@ -39,4 +39,5 @@ pub record HasGained (Named : Place → Type 0) (before after : TimetableView) :
 
 -- a record adds places that it names
 abbrev pub GainsNamed : List Class → Columns → List (List ℕ) → ReadingView → ReadingView → Type 0
-GainsNamed classes columns fields before after = HasGained (IsNamedBy before.timetable.classed classes columns fields) before.timetable after.timetable
+GainsNamed classes columns fields before after =
+    HasGained (IsNamedBy before.timetable.classed classes columns fields) before.timetable after.timetable

@@ -1,5 +1,6 @@
 -- The search for least walks from one place: how far the places are so far, and which are done.
-use Rattle.std.specs.Prelude.{◌≡◌, ◌≢◌, ℕ, ◌+◌, ◌*◌, ◌<◌, ◌≤◌, nat_lt, Bool, true, false, not, List, [], length, map, slice_index_or, count_by, Contains, Option, Some, None, if◌then◌else◌}
+use Rattle.std.specs.Prelude.{◌≡◌, ◌≢◌, ℕ, ◌+◌, ◌*◌, ◌<◌, ◌≤◌, nat_lt, Bool, true, false, not, List, [], length, map, slice_index_or}
+use Rattle.std.specs.Prelude.{count_by, Contains, Option, Some, None, if◌then◌else◌}
 use Rattle.std.specs.List.{range_with_len}
 use Rattle.trip_model.specs.declared.limits.TheConstants.{MOST_PLACES}
 use Rattle.deadhead_matrix.specs.declared.limits.TheConstants.{LONGEST_WALK}
@@ -62,11 +63,13 @@ pub record IsSearch (ways : List (List ℕ)) (start reach : ℕ) (done : List Bo
   pub begins : dist_at dist start ≡ 0
   pub walks : (entries : List Entry) (b : ℕ) → AreWays (length dist) entries ways → dist_at dist b < far
       → (es : List Entry) × IsWalk entries start es b × (walk_minutes es ≡ dist_at dist b)
-  pub closed : (a b : ℕ) → a < length dist → b < length dist → is_done done a ≡ true → way ways a b ≢ 0 → dist_at dist b ≤ dist_at dist a + way ways a b
+  pub closed : (a b : ℕ) → a < length dist → b < length dist → is_done done a ≡ true → way ways a b ≢ 0
+      → dist_at dist b ≤ dist_at dist a + way ways a b
   pub before : (a : ℕ) → a < length dist → is_done done a ≡ true → dist_at dist a ≤ reach
   pub later : (a : ℕ) → a < length dist → is_done done a ≡ false → reach ≤ dist_at dist a
   pub bounded : (b : ℕ) → dist_at dist b < far → dist_at dist b + MOST_DEADHEAD * count_by not done ≤ MOST_DEADHEAD * length dist
-  pub ahead : (a : ℕ) → a < length dist → is_done done a ≡ true → dist_at dist a + MOST_DEADHEAD * (count_by not done + 1) ≤ MOST_DEADHEAD * length dist
+  pub ahead : (a : ℕ) → a < length dist → is_done done a ≡ true
+      → dist_at dist a + MOST_DEADHEAD * (count_by not done + 1) ≤ MOST_DEADHEAD * length dist
 
 -- the minutes to a place, where one is reached
 abbrev pub found_at : List ℕ → ℕ → Option ℕ
@@ -87,7 +90,8 @@ pub record AreRows (places : ℕ) (ways : List (List ℕ)) : Type 0 where
 
 -- the minutes from a place are those of least walks of the entries that the rows tell
 abbrev pub AreLeastFrom : List (List ℕ) → ℕ → List ℕ → Type 0
-AreLeastFrom ways start dist = (entries : List Entry) → AreWays (length dist) entries ways → (b : ℕ) → IsLeastWalk entries start b (found_at dist b)
+AreLeastFrom ways start dist = (entries : List Entry) → AreWays (length dist) entries ways → (b : ℕ)
+    → IsLeastWalk entries start b (found_at dist b)
 
 -- rows of minutes between 512 places tell the entries
 pub record AreTold (entries : List Entry) (ways : List (List ℕ)) : Type 0 where

@@ -56,7 +56,8 @@ pub fn terminal_law()
     ensures terminals { (found : Found) (timetable after : TimetableView) (entries : List Entry) → IsTimetable timetable → IsTimetable after
         → deadheads_of found timetable ≡ Ok (after, entries) → (a b : ℕ) → a < length after.places → b < length after.places
         → class_of after.places a ≡ class_of after.places b
-        → (m : Option ℕ) → IsLeastWalk entries a b m ↔ IsLeastTerminalWalk found (terminal_at after.places a) (terminal_at after.places b) m }
+        → (m : Option ℕ) → IsLeastWalk entries a b m ↔ IsLeastTerminalWalk found (terminal_at after.places a) (terminal_at after.places b)
+        m }
     ensures none { (found : Found) (timetable after : TimetableView) (entries : List Entry) → IsTimetable timetable
         → deadheads_of found timetable ≡ Ok (after, entries) → (a b : ℕ) → class_of after.places a ≢ class_of after.places b
         → IsLeastWalk entries a b None }

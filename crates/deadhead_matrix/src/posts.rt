@@ -95,7 +95,8 @@ fn place_of(
     class: &str,
 ) -> Result<u16, FeedFault>
     requires { has_slash class.now ≡ false }
-    ensures gives { Gives (λ place. (timetable.new, place)) result (spec.with_place timetable.old (posts.place_for timetable.old.classed terminal.now class.now)) }
+    ensures gives { Gives (λ place. (timetable.new, place)) result
+        (spec.with_place timetable.old (posts.place_for timetable.old.classed terminal.now class.now)) }
     ensures err { OnErr result (timetable.new ≡ timetable.old) }
     ensures gained { HasGained (λ place. place ≡ posts.place_for timetable.old.classed terminal.now class.now) timetable.old timetable.new }
     ensures within { IfOk result (λ place. place < MOST_PLACES) }

@@ -1,6 +1,7 @@
 ghost use Rattle.std.specs.Prelude.{◌≡◌, ◌≢◌, ℕ, ◌+◌, ◌<◌, ◌≤◌, false, List, length, IfSome, IfNone, IfOk};
 ghost use Rattle.trip_model.specs.declared.limits.TheConstants.{MOST_PLACES};
-ghost use Rattle.deadhead_matrix.specs.Search.{far, dist_at, is_done, AreRelaxed, IsNearest, AreShort, AreRows, IsSearch, IsBounded, AreLeastFrom};
+ghost use Rattle.deadhead_matrix.specs.Search.{far, dist_at, is_done, AreRelaxed, IsNearest, AreShort, AreRows, IsSearch, IsBounded};
+ghost use Rattle.deadhead_matrix.specs.Search.{AreLeastFrom};
 
 use crate::distances::FAR;
 use crate::ways::Ways;

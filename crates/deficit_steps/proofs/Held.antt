@@ -1,5 +1,6 @@
 -- The moves of the trips that run, one slot after the other.
-use Rattle.std.proofs.Common.{◌≡◌, ℕ, ◌+◌, ◌<◌, ◌≤◌, true, false, Bool, cond, List, [], ◌∷◌, ◌++◌, length, map, get_or, take, refl, sym, ap, ◌∙◌, arith}
+use Rattle.std.proofs.Common.{◌≡◌, ℕ, ◌+◌, ◌<◌, ◌≤◌, true, false, Bool, cond, List, [], ◌∷◌, ◌++◌, length, map, get_or, take, refl, sym}
+use Rattle.std.proofs.Common.{ap, ◌∙◌, arith}
 use Rattle.std.specs.Prelude.{filter, ℤ, pos, negsuc, neg_ℤ, ◌≤ℤ◌, ◌<ℤ◌}
 use Rattle.std.proofs.lemmas.Int.{ints}
 use Rattle.std.proofs.lemmas.List.{take_more, length-take}
@@ -14,27 +15,36 @@ abbrev pub own_move : Bool → Trip → List Move
 own_move true trip = move_of trip ∷ []
 own_move false trip = []
 
-live_moves-push : (slots : List Slot) (slot : Slot) → live_moves (slots ++ slot ∷ []) ≡ live_moves slots ++ own_move slot.trip.live slot.trip
+live_moves-push : (slots : List Slot) (slot : Slot)
+    → live_moves (slots ++ slot ∷ []) ≡ live_moves slots ++ own_move slot.trip.live slot.trip
 live_moves-push [] slot =
-    elim slot.trip.live as (λ b. map (λ (s : Slot). move_of s.trip) (cond b (slot ∷ []) []) ≡ own_move b slot.trip) [ true ↦ refl | false ↦ refl ]
+    elim slot.trip.live as (λ b. map (λ (s : Slot). move_of s.trip) (cond b (slot ∷ []) []) ≡ own_move b slot.trip)
+    [ true ↦ refl | false ↦ refl ]
 live_moves-push (first ∷ slots) slot =
-    elim first.trip.live as (λ b. map (λ (s : Slot). move_of s.trip) (cond b (first ∷ filter (λ (s : Slot). s.trip.live) (slots ++ slot ∷ [])) (filter (λ (s : Slot). s.trip.live) (slots ++ slot ∷ [])))
-    ≡ map (λ (s : Slot). move_of s.trip) (cond b (first ∷ filter (λ (s : Slot). s.trip.live) slots) (filter (λ (s : Slot). s.trip.live) slots)) ++ own_move slot.trip.live slot.trip) [
+    elim first.trip.live as (λ b. map (λ (s : Slot). move_of s.trip)
+    (cond b (first ∷ filter (λ (s : Slot). s.trip.live) (slots ++ slot ∷ [])) (filter (λ (s : Slot). s.trip.live) (slots ++ slot ∷ [])))
+    ≡ map (λ (s : Slot). move_of s.trip)
+    (cond b (first ∷ filter (λ (s : Slot). s.trip.live) slots) (filter (λ (s : Slot). s.trip.live) slots))
+    ++ own_move slot.trip.live slot.trip) [
       | true ↦ ap (λ rest. move_of first.trip ∷ rest) (live_moves-push slots slot)
       | false ↦ live_moves-push slots slot
     ]
 
 -- the moves up to and including a slot, by the trip that was read there
-pub live_moves_more : (slots : List Slot) (s : ℕ) (d : Slot) (trip : Trip) (live : Bool) → s < length slots → trip ≡ (get_or slots s d).trip → trip.live ≡ live
+pub live_moves_more : (slots : List Slot) (s : ℕ) (d : Slot) (trip : Trip) (live : Bool) → s < length slots
+    → trip ≡ (get_or slots s d).trip → trip.live ≡ live
     → live_moves (take (s + 1) slots) ≡ live_moves (take s slots) ++ own_move live trip
 live_moves_more slots s d trip live lt is runs =
     ap live_moves (take_more slots s d lt) ∙ live_moves-push (take s slots) (get_or slots s d)
-    ∙ ap (λ (t : Trip). live_moves (take s slots) ++ own_move t.live t) (sym is) ∙ ap (λ b. live_moves (take s slots) ++ own_move b trip) runs
+    ∙ ap (λ (t : Trip). live_moves (take s slots) ++ own_move t.live t) (sym is)
+    ∙ ap (λ b. live_moves (take s slots) ++ own_move b trip) runs
 
 length-live_moves : (slots : List Slot) → length (live_moves slots) ≤ length slots
 length-live_moves [] = omega arith
 length-live_moves (slot ∷ slots) =
-    elim slot.trip.live as (λ b. length (map (λ (s : Slot). move_of s.trip) (cond b (slot ∷ filter (λ (s : Slot). s.trip.live) slots) (filter (λ (s : Slot). s.trip.live) slots))) ≤ length (slot ∷ slots)) [
+    elim slot.trip.live as (λ b. length
+    (map (λ (s : Slot). move_of s.trip)
+    (cond b (slot ∷ filter (λ (s : Slot). s.trip.live) slots) (filter (λ (s : Slot). s.trip.live) slots))) ≤ length (slot ∷ slots)) [
       | true ↦ omega (arith, length-live_moves slots)
       | false ↦ omega (arith, length-live_moves slots)
     ]

@@ -1,5 +1,6 @@
 -- The leaves of a tree as the changes of a place: what is read and written there, and what its greatest prefix sum is.
-use Rattle.std.proofs.Common.{◌≡◌, ℕ, ◌+◌, ◌<◌, List, length, get_or, set, take, fold, All, ℤ, pos, ◌+ℤ◌, ◌≤ℤ◌, ◌<ℤ◌, sym, ap, subst, ◌∙◌, ⊎_elim, arith}
+use Rattle.std.proofs.Common.{◌≡◌, ℕ, ◌+◌, ◌<◌, List, length, get_or, set, take, fold, All, ℤ, pos, ◌+ℤ◌, ◌≤ℤ◌, ◌<ℤ◌, sym, ap, subst, ◌∙◌}
+use Rattle.std.proofs.Common.{⊎_elim, arith}
 use Rattle.std.specs.Prelude.{Option, Some, None, IfNone, option_map, slice_get}
 use Rattle.std.specs.Int.{int_max}
 use Rattle.std.proofs.lemmas.Int.{ints, clamps}
@@ -17,18 +18,22 @@ use Rattle.deficit_steps.specs.NextMaximum.{IsNextMaximum, NoNextMaximum}
 use Rattle.deficit_steps.proofs.RowLemmas.{value-first, same_number}
 
 -- a leaf that is read sums the change of its minute
-leaf_read : (leaves : List MaxPrefix) (n : ℕ) (leaf : MaxPrefix) → slice_get leaves n ≡ Some leaf → get_or (sums leaves) n (pos 0) ≡ leaf.sum
+leaf_read : (leaves : List MaxPrefix) (n : ℕ) (leaf : MaxPrefix) → slice_get leaves n ≡ Some leaf
+    → get_or (sums leaves) n (pos 0) ≡ leaf.sum
 leaf_read leaves n leaf read =
-    get_or_from_slice_get (sums leaves) n leaf.sum (pos 0) (slice_get-map (λ (l : MaxPrefix). l.sum) leaves n ∙ ap (λ (o : Option MaxPrefix). option_map (λ (l : MaxPrefix). l.sum) o) read)
+    get_or_from_slice_get (sums leaves) n leaf.sum (pos 0)
+    (slice_get-map (λ (l : MaxPrefix). l.sum) leaves n ∙ ap (λ (o : Option MaxPrefix). option_map (λ (l : MaxPrefix). l.sum) o) read)
 
 -- the same, of the changes that the leaves sum
-pub change_read : (leaves : List MaxPrefix) (changes : List ℤ) (n : ℕ) (leaf : MaxPrefix) → sums leaves ≡ changes → slice_get leaves n ≡ Some leaf → get_or changes n (pos 0) ≡ leaf.sum
+pub change_read : (leaves : List MaxPrefix) (changes : List ℤ) (n : ℕ) (leaf : MaxPrefix) → sums leaves ≡ changes
+    → slice_get leaves n ≡ Some leaf → get_or changes n (pos 0) ≡ leaf.sum
 change_read leaves changes n leaf same read = sym (ap (λ xs. get_or xs n (pos 0)) same) ∙ leaf_read leaves n leaf read
 
 -- the prefix sums of the leaves are the values
 pub prefix_value : (leaves : List MaxPrefix) (n : ℕ) → prefix_sum leaves n ≡ value_in (sums leaves) n
 prefix_value leaves n =
-    sym (ap (λ xs. fold ◌+ℤ◌ (pos 0) xs) (take-map (λ (l : MaxPrefix). l.sum) (n + 1) leaves) ∙ fold-map ◌+ℤ◌ (λ (l : MaxPrefix). l.sum) (pos 0) (take (n + 1) leaves))
+    sym (ap (λ xs. fold ◌+ℤ◌ (pos 0) xs) (take-map (λ (l : MaxPrefix). l.sum) (n + 1) leaves)
+    ∙ fold-map ◌+ℤ◌ (λ (l : MaxPrefix). l.sum) (pos 0) (take (n + 1) leaves))
 
 -- leaves that are all units have no changes
 pub no_changes : (leaves : List MaxPrefix) → length leaves ≡ 8192 → All (λ leaf. leaf ≡ no_leaf) leaves → All (λ c. c ≡ pos 0) (sums leaves)
@@ -45,7 +50,8 @@ AreChanges-none changes len none = record {
 }
 
 -- the greatest prefix sum is the greatest value, since the first change is not below 0
-pub greatest_value : (leaves : List MaxPrefix) (high : ℤ) → AreChanges (sums leaves) → IsGreatestPrefix leaves high → (first_maximum (value_in (sums leaves))).0 ≡ high
+pub greatest_value : (leaves : List MaxPrefix) (high : ℤ) → AreChanges (sums leaves) → IsGreatestPrefix leaves high
+    → (first_maximum (value_in (sums leaves))).0 ≡ high
 greatest_value leaves high valid greatest =
     let d = value_in (sums leaves) in
     let top = IsFirstMaximum-first_maximum d in
@@ -54,12 +60,15 @@ greatest_value leaves high valid greatest =
     let below : prefix_sum leaves (first_maximum d).1 ≤ℤ high = greatest.above_all (first_maximum d).1 (omega arith) in
     same_number _ _ (subst (λ v. v ≤ℤ high) (prefix_value leaves (first_maximum d).1 ∙ top.reached) below)
     (⊎_elim
-    (λ (zero_high : high ≡ pos 0). subst (λ v. v ≤ℤ (first_maximum d).0) (sym zero_high) (first_maximum-le d (subst (λ v. pos 0 ≤ℤ v) (sym (value-first (sums leaves) valid)) valid.begins)))
-    (λ (there : (place : ℕ) × (place < length leaves) × (prefix_sum leaves place ≡ high)). subst (λ v. v ≤ℤ (first_maximum d).0) (sym (prefix_value leaves there.0) ∙ there.2) (top.greatest there.0 (let h = there.1 in omega arith)))
+    (λ (zero_high : high ≡ pos 0). subst (λ v. v ≤ℤ (first_maximum d).0) (sym zero_high)
+    (first_maximum-le d (subst (λ v. pos 0 ≤ℤ v) (sym (value-first (sums leaves) valid)) valid.begins)))
+    (λ (there : (place : ℕ) × (place < length leaves) × (prefix_sum leaves place ≡ high)). subst (λ v. v ≤ℤ (first_maximum d).0)
+    (sym (prefix_value leaves there.0) ∙ there.2) (top.greatest there.0 (let h = there.1 in omega arith)))
     greatest.attained)
 
 -- the first place from some minute on that reaches the greatest prefix sum is the first one with the greatest value
-pub IsNextMaximum-reaching : (leaves : List MaxPrefix) (high : ℤ) (from at : ℕ) → AreChanges (sums leaves) → IsGreatestPrefix leaves high → IsFirstReaching leaves from high at
+pub IsNextMaximum-reaching : (leaves : List MaxPrefix) (high : ℤ) (from at : ℕ) → AreChanges (sums leaves) → IsGreatestPrefix leaves high
+    → IsFirstReaching leaves from high at
     → IsNextMaximum (value_in (sums leaves)) from at
 IsNextMaximum-reaching leaves high from at valid greatest found =
     let d = value_in (sums leaves) in
@@ -69,18 +78,22 @@ IsNextMaximum-reaching leaves high from at valid greatest found =
       not_before = found.not_before;
       within = (let r = found.in_range in omega arith);
       reached = sym (prefix_value leaves at) ∙ same_number _ _ (greatest.above_all at found.in_range) found.reaches ∙ sym top;
-      first = λ t after before. subst (λ h. d t <ℤ h) (sym top) (subst (λ v. v <ℤ high) (prefix_value leaves t) (found.first t after before));
+      first = λ t after before. subst (λ h. d t <ℤ h) (sym top)
+          (subst (λ v. v <ℤ high) (prefix_value leaves t) (found.first t after before));
     }
 
-pub NoNextMaximum-reaching : (leaves : List MaxPrefix) (high : ℤ) (from : ℕ) → AreChanges (sums leaves) → IsGreatestPrefix leaves high → NoneReaches leaves from high
+pub NoNextMaximum-reaching : (leaves : List MaxPrefix) (high : ℤ) (from : ℕ) → AreChanges (sums leaves) → IsGreatestPrefix leaves high
+    → NoneReaches leaves from high
     → NoNextMaximum (value_in (sums leaves)) from
 NoNextMaximum-reaching leaves high from valid greatest none = λ t after within.
     let d = value_in (sums leaves) in
     let len : length leaves ≡ 8192 = sym (length-map leaves (λ (l : MaxPrefix). l.sum)) ∙ valid.minutes in
-    subst (λ h. d t <ℤ h) (sym (greatest_value leaves high valid greatest)) (subst (λ v. v <ℤ high) (prefix_value leaves t) (none t after (omega arith)))
+    subst (λ h. d t <ℤ h) (sym (greatest_value leaves high valid greatest))
+    (subst (λ v. v <ℤ high) (prefix_value leaves t) (none t after (omega arith)))
 
 -- some place reaches it
-pub some_reach : (leaves : List MaxPrefix) (high : ℤ) → AreChanges (sums leaves) → IsGreatestPrefix leaves high → NoneReaches leaves 0 high → ⊥
+pub some_reach : (leaves : List MaxPrefix) (high : ℤ) → AreChanges (sums leaves) → IsGreatestPrefix leaves high → NoneReaches leaves 0 high
+    → ⊥
 some_reach leaves high valid greatest none =
     let d = value_in (sums leaves) in
     let top = IsFirstMaximum-first_maximum d in
@@ -89,7 +102,8 @@ some_reach leaves high valid greatest none =
     absurd (grind (arith, ints))
 
 -- and the first of all that does is the first maximum
-pub first_maximum-reaching : (leaves : List MaxPrefix) (high : ℤ) (at : ℕ) → AreChanges (sums leaves) → IsGreatestPrefix leaves high → IsFirstReaching leaves 0 high at
+pub first_maximum-reaching : (leaves : List MaxPrefix) (high : ℤ) (at : ℕ) → AreChanges (sums leaves) → IsGreatestPrefix leaves high
+    → IsFirstReaching leaves 0 high at
     → first_maximum (value_in (sums leaves)) ≡ (high, at)
 first_maximum-reaching leaves high at valid greatest found =
     let d = value_in (sums leaves) in
@@ -103,7 +117,8 @@ first_maximum-reaching leaves high at valid greatest found =
     })
 
 -- one leaf changed changes one change
-pub leaf_written : (leaves : List MaxPrefix) (changes : List ℤ) (n : ℕ) (by : ℤ) (leaf : MaxPrefix) → sums leaves ≡ changes → leaf.sum ≡ get_or changes n (pos 0) +ℤ by
+pub leaf_written : (leaves : List MaxPrefix) (changes : List ℤ) (n : ℕ) (by : ℤ) (leaf : MaxPrefix) → sums leaves ≡ changes
+    → leaf.sum ≡ get_or changes n (pos 0) +ℤ by
     → sums (set leaves n leaf) ≡ with_change_in changes n by
 leaf_written leaves changes n by leaf same raised =
     map-set (λ (l : MaxPrefix). l.sum) leaves n leaf ∙ (λ i. set (same i) n (raised i))

@@ -1,5 +1,6 @@
 -- The changes of deficits: for each place the number by which its deficit rises or falls in each minute.
-use Rattle.std.specs.Prelude.{◌≡◌, ℕ, ◌+◌, ◌^◌, ◌<◌, List, [], length, slice_index_or, slice_set, take, fold, All, ℤ, pos, neg_ℤ, ◌+ℤ◌, ◌≤ℤ◌}
+use Rattle.std.specs.Prelude.{◌≡◌, ℕ, ◌+◌, ◌^◌, ◌<◌, List, [], length, slice_index_or, slice_set, take, fold, All, ℤ, pos, neg_ℤ, ◌+ℤ◌}
+use Rattle.std.specs.Prelude.{◌≤ℤ◌}
 use Rattle.terminal_maxima.specs.declared.max_prefix.TheConstants.{MOST_CHANGE}
 use Rattle.trip_model.specs.declared.limits.TheConstants.{MINUTES}
 use Rattle.trip_model.specs.declared.trip.Move.{Move}

@@ -22,11 +22,13 @@ get-middle (y ∷ xs) x ys = get-middle xs x ys
 
 last-appended : {X : Type 0} (xs : List X) (x : X) → last_item (xs ++ x ∷ []) ≡ Some x
 last-appended xs x =
-    ap (slice_get (xs ++ x ∷ [])) (let last : length (xs ++ x ∷ []) - 1 ≡ length xs = omega (arith, length-append xs (x ∷ [])) in last) ∙ get-middle xs x []
+    ap (slice_get (xs ++ x ∷ [])) (let last : length (xs ++ x ∷ []) - 1 ≡ length xs = omega (arith, length-append xs (x ∷ [])) in last)
+    ∙ get-middle xs x []
 
 front-appended : {X : Type 0} (xs : List X) (x : X) → all_but_last (xs ++ x ∷ []) ≡ xs
 front-appended xs x =
-    ap (λ n. take n (xs ++ x ∷ [])) (let last : length (xs ++ x ∷ []) - 1 ≡ length xs = omega (arith, length-append xs (x ∷ [])) in last) ∙ take-append_seam xs (x ∷ [])
+    ap (λ n. take n (xs ++ x ∷ [])) (let last : length (xs ++ x ∷ []) - 1 ≡ length xs = omega (arith, length-append xs (x ∷ [])) in last)
+    ∙ take-append_seam xs (x ∷ [])
 
 -- a list that is not empty has a last item
 some-last : {X : Type 0} (xs : List X) → 0 < length xs → (x : X) × (last_item xs ≡ Some x)
@@ -91,18 +93,28 @@ slot-is (Extra trip from to departs arrives) t slot trips told = same_Some slot 
 slot-is edit t slot trips told = absurd trips
 
 -- and the plan is repaired there
-pub plans-edited : (edit : Edit) (before after : TimetableView) (matrix : MatrixView) (old new : PlansView) (slot : ℕ) → EditsTrip edit → IsSlotOf edit before (Some slot)
+pub plans-edited : (edit : Edit) (before after : TimetableView) (matrix : MatrixView) (old new : PlansView) (slot : ℕ) → EditsTrip edit
+    → IsSlotOf edit before (Some slot)
     → new.plan ≡ plan_repaired edit slot after matrix old.plan → IsKept old new → new ≡ plans_after edit before after matrix old
 plans-edited edit before after matrix old new slot trips told found kept = by edit trips due
   where
-    due : new ≡ record { plan = plan_repaired edit (edited_slot edit before) after matrix old.plan; earlier = latest_items (old.earlier ++ old.plan ∷ []); later = [] }
+    due : new ≡ record {
+      plan = plan_repaired edit (edited_slot edit before) after matrix old.plan;
+      earlier = latest_items (old.earlier ++ old.plan ∷ []);
+      later = [];
+    }
     due = λ i. record {
       plan = (found ∙ ap (λ s. plan_repaired edit s after matrix old.plan) (slot-is edit before slot trips told)) i;
       earlier = kept.earlier i;
       later = kept.later i;
     }
 
-    by : (edit : Edit) → EditsTrip edit → new ≡ record { plan = plan_repaired edit (edited_slot edit before) after matrix old.plan; earlier = latest_items (old.earlier ++ old.plan ∷ []); later = [] }
+    by : (edit : Edit) → EditsTrip edit
+        → new ≡ record {
+          plan = plan_repaired edit (edited_slot edit before) after matrix old.plan;
+          earlier = latest_items (old.earlier ++ old.plan ∷ []);
+          later = [];
+        }
         → new ≡ plans_after edit before after matrix old
     by Undo trips due = absurd trips
     by Redo trips due = absurd trips
@@ -110,8 +122,10 @@ plans-edited edit before after matrix old new slot trips told found kept = by ed
     by edit trips due = due
 
 -- so the plan before it is kept
-pub kept-of : (edit : Edit) (before after : TimetableView) (matrix : MatrixView) (old new : PlansView) → EditsTrip edit → new ≡ plans_after edit before after matrix old → IsKept old new
+pub kept-of : (edit : Edit) (before after : TimetableView) (matrix : MatrixView) (old new : PlansView) → EditsTrip edit
+    → new ≡ plans_after edit before after matrix old → IsKept old new
 kept-of Undo before after matrix old new trips is = absurd trips
 kept-of Redo before after matrix old new trips is = absurd trips
 kept-of Show before after matrix old new trips is = absurd trips
-kept-of edit before after matrix old new trips is = record { earlier = ap (λ (plans : PlansView). plans.earlier) is; later = ap (λ (plans : PlansView). plans.later) is }
+kept-of edit before after matrix old new trips is =
+    record { earlier = ap (λ (plans : PlansView). plans.earlier) is; later = ap (λ (plans : PlansView). plans.later) is }

@@ -1,8 +1,10 @@
 -- At moments with equal standing lists a desk has the same timetable and the same plan.
-use Rattle.std.proofs.Common.{◌≡◌, ℕ, zero, suc, ◌+◌, ◌-◌, ◌<◌, ◌≤◌, List, [], ◌∷◌, ◌++◌, length, take, drop, reverse, slice_get, All, Some, refl, sym, ap, subst, ◌∙◌, ⊎_elim, arith}
+use Rattle.std.proofs.Common.{◌≡◌, ℕ, zero, suc, ◌+◌, ◌-◌, ◌<◌, ◌≤◌, List, [], ◌∷◌, ◌++◌, length, take, drop, reverse, slice_get, All}
+use Rattle.std.proofs.Common.{Some, refl, sym, ap, subst, ◌∙◌, ⊎_elim, arith}
 use Rattle.std.specs.Prelude.{Bool, true, false, nat_lt, Ok, Err, if◌then◌else◌}
 use Rattle.std.proofs.lemmas.Bool.{cases_lt}
-use Rattle.std.proofs.lemmas.List.{append_assoc, append-nil, length-append, length-drop, length-reverse, length-take-le, reverse-append, take-append-le, take-append-drop}
+use Rattle.std.proofs.lemmas.List.{append_assoc, append-nil, length-append, length-drop, length-reverse, length-take-le, reverse-append}
+use Rattle.std.proofs.lemmas.List.{take-append-le, take-append-drop}
 use Rattle.std.proofs.lemmas.List.Elements.{All-append, All-cons, All-head, All-nil, All-tail, All-weaker}
 use Rattle.std.proofs.lemmas.Option.{same_Some}
 use Rattle.std.proofs.Math.Seq.{take-length, take-append_seam}
@@ -28,7 +30,8 @@ along earlier x later = earlier ++ x ∷ reverse later
 
 -- an undo and a redo leave the whole
 along-back : {X : Type 0} (earlier later : List X) (x y : X) → along earlier x (later ++ y ∷ []) ≡ along (earlier ++ x ∷ []) y later
-along-back earlier later x y = ap (λ rest. earlier ++ x ∷ rest) (reverse-append later (y ∷ [])) ∙ sym (append_assoc earlier (x ∷ []) (y ∷ reverse later))
+along-back earlier later x y = ap (λ rest. earlier ++ x ∷ rest) (reverse-append later (y ∷ []))
+    ∙ sym (append_assoc earlier (x ∷ []) (y ∷ reverse later))
 
 short-reverse : {X : Type 0} (xs : List X) → length xs ≤ 1 → reverse xs ≡ xs
 short-reverse [] short = refl
@@ -40,7 +43,8 @@ length-last_alone xs = omega (arith, length-drop (length xs - 1) xs)
 
 numbers-moved : (front back undone : List ℕ) → length back ≤ 1 → numbers_along front (undone ++ back) ≡ numbers_along (front ++ back) undone
 numbers-moved front back undone short =
-    ap (λ rest. front ++ rest) (reverse-append undone back ∙ ap (λ b. b ++ reverse undone) (short-reverse back short)) ∙ sym (append_assoc front back (reverse undone))
+    ap (λ rest. front ++ rest) (reverse-append undone back ∙ ap (λ b. b ++ reverse undone) (short-reverse back short))
+    ∙ sym (append_assoc front back (reverse undone))
 
 -- items of lists
 get-left : {X : Type 0} (xs ys : List X) (i : ℕ) → i < length xs → slice_get (xs ++ ys) i ≡ slice_get xs i
@@ -103,7 +107,8 @@ record IsSound (d : DeskView) : Type 0 where
 record IsAfter (a d : DeskView) : Type 0 where
   pub sound : IsSound d
   pub past : All (λ n. n ≤ d.script.last) a.script.standing
-  pub agreed : (i : ℕ) (t : TimetableView) (p : Plan) → slice_get (timetables d) i ≡ Some t → slice_get (plans d) i ≡ Some p → take (sound.base + i) (numbers d) ≡ a.script.standing
+  pub agreed : (i : ℕ) (t : TimetableView) (p : Plan) → slice_get (timetables d) i ≡ Some t → slice_get (plans d) i ≡ Some p
+      → take (sound.base + i) (numbers d) ≡ a.script.standing
       → (t ≡ a.script.timetable) × (p ≡ a.plan)
 
 -- a desk comes after itself
@@ -124,15 +129,29 @@ after-self d sound = record {
         length-reverse d.script.later,
         length-append d.script.standing (reverse d.script.undone),
         length-reverse d.script.undone,
-        length-take-le (sound.base + i) (numbers d) (omega (arith, sound.standing, sound.undone, within, length-append d.script.earlier (d.script.timetable ∷ reverse d.script.later), length-reverse d.script.later, length-append d.script.standing (reverse d.script.undone), length-reverse d.script.undone)),
+        length-take-le (sound.base + i) (numbers d)
+            (omega (
+              arith,
+              sound.standing,
+              sound.undone,
+              within,
+              length-append d.script.earlier
+                  (d.script.timetable ∷ reverse d.script.later),
+              length-reverse d.script.later,
+              length-append d.script.standing
+                  (reverse d.script.undone),
+              length-reverse d.script.undone,
+            )),
       ) in (
-        same_Some t d.script.timetable (sym ti ∙ (ap (slice_get (timetables d)) here ∙ get-middle d.script.earlier d.script.timetable (reverse d.script.later))),
+        same_Some t d.script.timetable
+            (sym ti ∙ (ap (slice_get (timetables d)) here ∙ get-middle d.script.earlier d.script.timetable (reverse d.script.later))),
         same_Some p d.plan (sym pi ∙ (ap (slice_get (plans d)) (here ∙ sym sound.earlier) ∙ get-middle d.earlier d.plan (reverse d.later))),
       );
 }
 
 -- a desk whose numbers, timetables and plans are the same ones along
-after-same : (a d e : DeskView) (is : IsAfter a d) → is.sound.base + length e.script.earlier ≡ length e.script.standing → length e.script.undone ≡ length e.script.later
+after-same : (a d e : DeskView) (is : IsAfter a d) → is.sound.base + length e.script.earlier ≡ length e.script.standing
+    → length e.script.undone ≡ length e.script.later
     → length e.earlier ≡ length e.script.earlier → length e.later ≡ length e.script.later
     → numbers e ≡ numbers d → timetables e ≡ timetables d → plans e ≡ plans d → e.script.last ≡ d.script.last → IsAfter a e
 after-same a d e is standing undone earlier later same_numbers same_timetables same_plans same_last =
@@ -148,13 +167,16 @@ after-same a d e is standing undone earlier later same_numbers same_timetables s
       };
       past = subst (λ m. P m a.script.standing) (sym same_last) is.past;
       agreed = λ i t p ti pi same.
-          is.agreed i t p (ap (λ ts. slice_get ts i) (sym same_timetables) ∙ ti) (ap (λ ps. slice_get ps i) (sym same_plans) ∙ pi) (ap (take (is.sound.base + i)) (sym same_numbers) ∙ same);
+          is.agreed i t p (ap (λ ts. slice_get ts i) (sym same_timetables) ∙ ti) (ap (λ ps. slice_get ps i) (sym same_plans) ∙ pi)
+          (ap (take (is.sound.base + i)) (sym same_numbers) ∙ same);
     }
 
-after-shown : (a d e : DeskView) → IsAfter a d → (shows : ℕ) → e.script ≡ record d.script { shows = shows } → plans_of e ≡ plans_of d → IsAfter a e
+after-shown : (a d e : DeskView) → IsAfter a d → (shows : ℕ) → e.script ≡ record d.script { shows = shows } → plans_of e ≡ plans_of d
+    → IsAfter a e
 after-shown a d e is shows script shown =
     after-same a d e is
-    (ap (λ (s : ScriptView). is.sound.base + length s.earlier) script ∙ (is.sound.standing ∙ sym (ap (λ (s : ScriptView). length s.standing) script)))
+    (ap (λ (s : ScriptView). is.sound.base + length s.earlier) script
+    ∙ (is.sound.standing ∙ sym (ap (λ (s : ScriptView). length s.standing) script)))
     (ap (λ (s : ScriptView). length s.undone) script ∙ (is.sound.undone ∙ sym (ap (λ (s : ScriptView). length s.later) script)))
     (ap (λ (p : PlansView). length p.earlier) shown ∙ (is.sound.earlier ∙ sym (ap (λ (s : ScriptView). length s.earlier) script)))
     (ap (λ (p : PlansView). length p.later) shown ∙ (is.sound.later ∙ sym (ap (λ (s : ScriptView). length s.later) script)))
@@ -168,17 +190,41 @@ after-undone : (a d e : DeskView) → IsAfter a d → IsStepBack d.script e.scri
 after-undone a d e is back undone =
     let s = d.script in
     let whole : all_but_last s.earlier ++ back.timetable ∷ [] ≡ s.earlier = take_last_item s.earlier back.timetable back.last in
-    let front : length (all_but_last s.earlier) + 1 ≡ length s.earlier = omega (arith, ap length whole, length-append (all_but_last s.earlier) (back.timetable ∷ [])) in
+    let front : length (all_but_last s.earlier) + 1 ≡ length s.earlier =
+    omega (arith, ap length whole, length-append (all_but_last s.earlier) (back.timetable ∷ [])) in
     let left : length (all_but_last s.standing) ≡ length s.standing - 1 = length-take-le (length s.standing - 1) s.standing (omega arith) in
     let one = length-drop (length s.standing - 1) s.standing in
     after-same a d e is
     (omega (arith, is.sound.standing, front, left, ap length back.earlier, ap length back.standing))
-    (omega (arith, is.sound.standing, is.sound.undone, front, one, ap length back.undone, ap length back.later, length-append s.undone (last_alone s.standing), length-append s.later (s.timetable ∷ [])))
+    (omega (
+      arith,
+      is.sound.standing,
+      is.sound.undone,
+      front,
+      one,
+      ap length back.undone,
+      ap length back.later,
+      length-append s.undone
+          (last_alone s.standing),
+      length-append s.later (s.timetable ∷ []),
+    ))
     (omega (arith, is.sound.earlier, front, ap length back.earlier, ap length undone.earlier, length-append e.earlier (e.plan ∷ [])))
-    (omega (arith, is.sound.later, ap length back.later, ap length undone.later, length-append s.later (s.timetable ∷ []), length-append d.later (d.plan ∷ [])))
-    ((λ i. numbers_along (back.standing i) (back.undone i)) ∙ (numbers-moved (all_but_last s.standing) (last_alone s.standing) s.undone (length-last_alone s.standing) ∙ ap (λ st. numbers_along st s.undone) (take-append-drop (length s.standing - 1) s.standing)))
-    ((λ i. along (back.earlier i) (back.stands i) (back.later i)) ∙ (along-back (all_but_last s.earlier) s.later back.timetable s.timetable ∙ ap (λ ts. along ts s.timetable s.later) whole))
-    (ap (along e.earlier e.plan) undone.later ∙ (along-back e.earlier d.later e.plan d.plan ∙ ap (λ ps. along ps d.plan d.later) (sym undone.earlier)))
+    (omega (
+      arith,
+      is.sound.later,
+      ap length back.later,
+      ap length undone.later,
+      length-append s.later (s.timetable ∷ []),
+      length-append
+          d.later (d.plan ∷ []),
+    ))
+    ((λ i. numbers_along (back.standing i) (back.undone i))
+    ∙ (numbers-moved (all_but_last s.standing) (last_alone s.standing) s.undone (length-last_alone s.standing)
+    ∙ ap (λ st. numbers_along st s.undone) (take-append-drop (length s.standing - 1) s.standing)))
+    ((λ i. along (back.earlier i) (back.stands i) (back.later i))
+    ∙ (along-back (all_but_last s.earlier) s.later back.timetable s.timetable ∙ ap (λ ts. along ts s.timetable s.later) whole))
+    (ap (along e.earlier e.plan) undone.later
+    ∙ (along-back e.earlier d.later e.plan d.plan ∙ ap (λ ps. along ps d.plan d.later) (sym undone.earlier)))
     back.greatest
 
 -- a redo
@@ -186,29 +232,61 @@ after-redone : (a d e : DeskView) → IsAfter a d → IsStepForth d.script e.scr
 after-redone a d e is forth redone =
     let s = d.script in
     let whole : all_but_last s.later ++ forth.timetable ∷ [] ≡ s.later = take_last_item s.later forth.timetable forth.last in
-    let front : length (all_but_last s.later) + 1 ≡ length s.later = omega (arith, ap length whole, length-append (all_but_last s.later) (forth.timetable ∷ [])) in
+    let front : length (all_but_last s.later) + 1 ≡ length s.later =
+    omega (arith, ap length whole, length-append (all_but_last s.later) (forth.timetable ∷ [])) in
     let left : length (all_but_last s.undone) ≡ length s.undone - 1 = length-take-le (length s.undone - 1) s.undone (omega arith) in
     let one = length-drop (length s.undone - 1) s.undone in
     after-same a d e is
-    (omega (arith, is.sound.standing, is.sound.undone, front, one, ap length forth.earlier, ap length forth.standing, length-append s.standing (last_alone s.undone), length-append s.earlier (s.timetable ∷ [])))
+    (omega (
+      arith,
+      is.sound.standing,
+      is.sound.undone,
+      front,
+      one,
+      ap length forth.earlier,
+      ap length forth.standing,
+      length-append
+          s.standing (last_alone s.undone),
+      length-append s.earlier (s.timetable ∷ []),
+    ))
     (omega (arith, is.sound.undone, front, left, ap length forth.undone, ap length forth.later))
-    (omega (arith, is.sound.earlier, ap length forth.earlier, ap length redone.earlier, length-append s.earlier (s.timetable ∷ []), length-append d.earlier (d.plan ∷ [])))
+    (omega (
+      arith,
+      is.sound.earlier,
+      ap length forth.earlier,
+      ap length redone.earlier,
+      length-append s.earlier (s.timetable ∷ []),
+      length-append d.earlier (d.plan ∷ []),
+    ))
     (omega (arith, is.sound.later, front, ap length forth.later, ap length redone.later, length-append e.later (e.plan ∷ [])))
-    ((λ i. numbers_along (forth.standing i) (forth.undone i)) ∙ (sym (numbers-moved s.standing (last_alone s.undone) (all_but_last s.undone) (length-last_alone s.undone)) ∙ ap (numbers_along s.standing) (take-append-drop (length s.undone - 1) s.undone)))
-    ((λ i. along (forth.earlier i) (forth.stands i) (forth.later i)) ∙ (sym (along-back s.earlier (all_but_last s.later) s.timetable forth.timetable) ∙ ap (along s.earlier s.timetable) whole))
-    (ap (λ ps. along ps e.plan e.later) redone.earlier ∙ (sym (along-back d.earlier e.later d.plan e.plan) ∙ ap (along d.earlier d.plan) (sym redone.later)))
+    ((λ i. numbers_along (forth.standing i) (forth.undone i))
+    ∙ (sym (numbers-moved s.standing (last_alone s.undone) (all_but_last s.undone) (length-last_alone s.undone))
+    ∙ ap (numbers_along s.standing) (take-append-drop (length s.undone - 1) s.undone)))
+    ((λ i. along (forth.earlier i) (forth.stands i) (forth.later i))
+    ∙ (sym (along-back s.earlier (all_but_last s.later) s.timetable forth.timetable) ∙ ap (along s.earlier s.timetable) whole))
+    (ap (λ ps. along ps e.plan e.later) redone.earlier
+    ∙ (sym (along-back d.earlier e.later d.plan e.plan) ∙ ap (along d.earlier d.plan) (sym redone.later)))
     forth.greatest
 
 -- an edit of a trip, whose number is above all before it
 edited-due : (a d : DeskView) (number : ℕ) (t : TimetableView) (m : MatrixView) (plan : Plan) → IsAfter a d → d.script.last < number
-    → IsAfter a (record { script = with_edit d.script number t; matrix = m; plan = plan; earlier = latest_items (d.earlier ++ d.plan ∷ []); later = [] })
+    → IsAfter a (record {
+      script = with_edit d.script number t;
+      matrix = m;
+      plan = plan;
+      earlier = latest_items (d.earlier ++ d.plan ∷ []);
+      later = [];
+    })
 edited-due a d number t m plan is above =
     let s = d.script in
     let n = length (s.earlier ++ s.timetable ∷ []) - 256 in
     let whole : length (s.earlier ++ s.timetable ∷ []) ≡ length s.earlier + 1 = length-append s.earlier (s.timetable ∷ []) in
     let whole_plans : length (d.earlier ++ d.plan ∷ []) ≡ length d.earlier + 1 = length-append d.earlier (d.plan ∷ []) in
-    let kept : length (latest_items (s.earlier ++ s.timetable ∷ [])) ≡ length (s.earlier ++ s.timetable ∷ []) - n = length-drop n (s.earlier ++ s.timetable ∷ []) in
-    let kept_plans : length (latest_items (d.earlier ++ d.plan ∷ [])) ≡ length (d.earlier ++ d.plan ∷ []) - (length (d.earlier ++ d.plan ∷ []) - 256) = length-drop (length (d.earlier ++ d.plan ∷ []) - 256) (d.earlier ++ d.plan ∷ []) in
+    let kept : length (latest_items (s.earlier ++ s.timetable ∷ [])) ≡ length (s.earlier ++ s.timetable ∷ []) - n =
+    length-drop n (s.earlier ++ s.timetable ∷ []) in
+    let kept_plans : length (latest_items (d.earlier ++ d.plan ∷ [])) ≡ length
+    (d.earlier ++ d.plan ∷ []) - (length (d.earlier ++ d.plan ∷ []) - 256) =
+    length-drop (length (d.earlier ++ d.plan ∷ []) - 256) (d.earlier ++ d.plan ∷ []) in
     let stood : All (λ k. k ≤ s.last) s.standing = All-left (λ k. k ≤ s.last) s.standing (reverse s.undone) is.sound.most in
     let stand : length (s.standing ++ number ∷ []) ≡ length s.standing + 1 = length-append s.standing (number ∷ []) in
     record {
@@ -219,15 +297,19 @@ edited-due a d number t m plan is above =
         earlier = omega (arith, is.sound.earlier, whole, whole_plans, kept, kept_plans);
         later = refl;
         most = subst (All (λ k. k ≤ number)) (sym (append-nil (s.standing ++ number ∷ [])))
-            (All-append (λ k. k ≤ number) s.standing (number ∷ []) (All-weaker (λ k. k ≤ s.last) (λ k. k ≤ number) (λ k h. omega arith) s.standing stood) (All-cons (λ k. k ≤ number) number [] (omega arith) (All-nil (λ k. k ≤ number))));
+            (All-append (λ k. k ≤ number) s.standing (number ∷ [])
+            (All-weaker (λ k. k ≤ s.last) (λ k. k ≤ number) (λ k h. omega arith) s.standing stood)
+            (All-cons (λ k. k ≤ number) number [] (omega arith) (All-nil (λ k. k ≤ number))));
       };
       past = All-weaker (λ k. k ≤ s.last) (λ k. k ≤ number) (λ k h. omega arith) a.script.standing is.past;
       agreed = λ i u p ui pi same. ⊎_elim
           (λ (h : i < length (latest_items (s.earlier ++ s.timetable ∷ []))).
           is.agreed (n + i) u p
           (sym (get-latest s.earlier s.later s.timetable t i h) ∙ ui)
-          (ap (slice_get (plans d)) (let k : n + i ≡ length (d.earlier ++ d.plan ∷ []) - 256 + i = omega (arith, is.sound.earlier, whole, whole_plans) in k)
-          ∙ (sym (get-latest d.earlier d.later d.plan plan i (omega (arith, h, is.sound.earlier, whole, whole_plans, kept, kept_plans))) ∙ pi))
+          (ap (slice_get (plans d)) (let k : n + i ≡ length (d.earlier ++ d.plan ∷ []) - 256 + i = omega
+          (arith, is.sound.earlier, whole, whole_plans) in k)
+          ∙ (sym (get-latest d.earlier d.later d.plan plan i (omega (arith, h, is.sound.earlier, whole, whole_plans, kept, kept_plans)))
+          ∙ pi))
           (ap (λ k. take k (numbers d)) (let k : is.sound.base + (n + i) ≡ is.sound.base + n + i = omega arith in k)
           ∙ (take-append-le (is.sound.base + n + i) s.standing (reverse s.undone) (omega (arith, h, is.sound.standing, whole, kept))
           ∙ (sym (take-append-le (is.sound.base + n + i) s.standing (number ∷ []) (omega (arith, h, is.sound.standing, whole, kept)))
@@ -235,27 +317,54 @@ edited-due a d number t m plan is above =
           (λ (h : length (latest_items (s.earlier ++ s.timetable ∷ [])) ≤ i).
           let within = get-within (along (latest_items (s.earlier ++ s.timetable ∷ [])) t []) i u ui in
           let all : is.sound.base + n + i ≡ length (s.standing ++ number ∷ []) =
-          omega (arith, h, within, is.sound.standing, whole, kept, stand, length-append (latest_items (s.earlier ++ s.timetable ∷ [])) (t ∷ [])) in
+          omega (
+            arith,
+            h,
+            within,
+            is.sound.standing,
+            whole,
+            kept,
+            stand,
+            length-append (latest_items (s.earlier ++ s.timetable ∷ []))
+                (t ∷ []),
+          ) in
           let stands : s.standing ++ number ∷ [] ≡ a.script.standing =
-          sym (take-length (s.standing ++ number ∷ [])) ∙ (ap (λ k. take k (s.standing ++ number ∷ [])) (sym all) ∙ (ap (take (is.sound.base + n + i)) (sym (append-nil (s.standing ++ number ∷ []))) ∙ same)) in
-          let low : number ≤ s.last = All-head (λ k. k ≤ s.last) number [] (All-right (λ k. k ≤ s.last) s.standing (number ∷ []) (subst (All (λ k. k ≤ s.last)) (sym stands) is.past)) in
+          sym (take-length (s.standing ++ number ∷ []))
+          ∙ (ap (λ k. take k (s.standing ++ number ∷ [])) (sym all)
+          ∙ (ap (take (is.sound.base + n + i)) (sym (append-nil (s.standing ++ number ∷ []))) ∙ same)) in
+          let low : number ≤ s.last = All-head (λ k. k ≤ s.last) number []
+          (All-right (λ k. k ≤ s.last) s.standing (number ∷ []) (subst (All (λ k. k ≤ s.last)) (sym stands) is.past)) in
           absurd (omega (arith, low, above)))
           (cases_lt i (length (latest_items (s.earlier ++ s.timetable ∷ []))));
     }
 
-after-edited : (a d e : DeskView) (number : ℕ) → IsAfter a d → d.script.last < number → IsEdited d.script e.script number → IsKept (plans_of d) (plans_of e) → IsAfter a e
+after-edited : (a d e : DeskView) (number : ℕ) → IsAfter a d → d.script.last < number → IsEdited d.script e.script number
+    → IsKept (plans_of d) (plans_of e) → IsAfter a e
 after-edited a d e number is above edited kept =
     let s = d.script in
     let t = edited.timetable in
-    let due : DeskView = record { script = with_edit s number t; matrix = e.matrix; plan = e.plan; earlier = latest_items (d.earlier ++ d.plan ∷ []); later = [] } in
-    let same : due ≡ e = λ i. record { script = sym edited.is i; matrix = e.matrix; plan = e.plan; earlier = sym kept.earlier i; later = sym kept.later i } in
+    let due : DeskView = record {
+      script = with_edit s number t;
+      matrix = e.matrix;
+      plan = e.plan;
+      earlier = latest_items (d.earlier ++ d.plan ∷ []);
+      later = [];
+    } in
+    let same : due ≡ e = λ i. record {
+      script = sym edited.is i;
+      matrix = e.matrix;
+      plan = e.plan;
+      earlier = sym kept.earlier i;
+      later = sym kept.later i;
+    } in
     subst (IsAfter a) same (edited-due a d number t e.matrix e.plan is above)
 
 -- a show counts up
 stepped-show : (s next : ScriptView) → if_shown s ≡ Ok next → (shows : ℕ) × (next ≡ record s { shows = shows })
 stepped-show s next e = by (nat_lt s.shows 64) e
   where
-    by : (few : Bool) → (if few then Ok (record s { shows = s.shows + 1 }) else Err fault.TooManyShows) ≡ Ok next → (shows : ℕ) × (next ≡ record s { shows = shows })
+    by : (few : Bool) → (if few then Ok (record s { shows = s.shows + 1 }) else Err fault.TooManyShows) ≡ Ok next
+        → (shows : ℕ) × (next ≡ record s { shows = shows })
     by true e = (s.shows + 1, cc)
     by false e = absurd (cc)
 
@@ -263,11 +372,17 @@ stepped-show s next e = by (nat_lt s.shows 64) e
 kept-by : (d e : DeskView) (number : ℕ) (edit : Edit) → EditsTrip edit → IsDone number edit d e → IsKept (plans_of d) (plans_of e)
 kept-by d e number edit trips done = kept-of edit d.script.timetable e.script.timetable d.matrix (plans_of d) (plans_of e) trips done.plans
 
-after-done : (a d e : DeskView) (number : ℕ) (edit : Edit) → IsAfter a d → IsNext d.script number edit → IsDone number edit d e → IsAfter a e
-after-done a d e number (Shift trip by) is next done = after-edited a d e number is next (edited-any d.script e.script number _ done.script) (kept-by d e number (Shift trip by) tt done)
-after-done a d e number (Cancel trip) is next done = after-edited a d e number is next (edited-any d.script e.script number _ done.script) (kept-by d e number (Cancel trip) tt done)
-after-done a d e number (Restore trip) is next done = after-edited a d e number is next (edited-any d.script e.script number _ done.script) (kept-by d e number (Restore trip) tt done)
-after-done a d e number (Extra trip from to departs arrives) is next done = after-edited a d e number is next (edited-any d.script e.script number _ done.script) (kept-by d e number (Extra trip from to departs arrives) tt done)
+after-done : (a d e : DeskView) (number : ℕ) (edit : Edit) → IsAfter a d → IsNext d.script number edit → IsDone number edit d e
+    → IsAfter a e
+after-done a d e number (Shift trip by) is next done =
+    after-edited a d e number is next (edited-any d.script e.script number _ done.script) (kept-by d e number (Shift trip by) tt done)
+after-done a d e number (Cancel trip) is next done =
+    after-edited a d e number is next (edited-any d.script e.script number _ done.script) (kept-by d e number (Cancel trip) tt done)
+after-done a d e number (Restore trip) is next done =
+    after-edited a d e number is next (edited-any d.script e.script number _ done.script) (kept-by d e number (Restore trip) tt done)
+after-done a d e number (Extra trip from to departs arrives) is next done =
+    after-edited a d e number is next (edited-any d.script e.script number _ done.script)
+    (kept-by d e number (Extra trip from to departs arrives) tt done)
 after-done a d e number Undo is next done =
     let back = stepped-undo d.script e.script number done.script in
     let within = get-within d.script.earlier (length d.script.earlier - 1) back.timetable back.last in
@@ -281,7 +396,8 @@ after-done a d e number Show is next done = let to = stepped-show d.script e.scr
 -- and all that follows
 after-led : (a d e : DeskView) (moments : List DeskView) → IsAfter a d → IsLed d moments e → IsAfter a e
 after-led a d e [] is led = subst (IsAfter a) (sym led) is
-after-led a d e (next ∷ moments) is led = after-led a next e moments (after-done a d next led.0.number led.0.edit is led.0.next led.0.done) led.1
+after-led a d e (next ∷ moments) is led =
+    after-led a next e moments (after-done a d next led.0.number led.0.edit is led.0.next led.0.done) led.1
 
 -- a desk to which nothing was done
 sound-opened : (d : DeskView) → IsOpened d → IsSound d
@@ -295,7 +411,8 @@ sound-opened d is = record {
 }
 
 -- equal standing lists give equal timetables and plans
-pub standing-equal : (start one two : DeskView) (before between : List DeskView) → IsOpened start → IsLed start before one → IsLed one between two → one.script.standing ≡ two.script.standing
+pub standing-equal : (start one two : DeskView) (before between : List DeskView) → IsOpened start → IsLed start before one
+    → IsLed one between two → one.script.standing ≡ two.script.standing
     → (one.script.timetable ≡ two.script.timetable) × (one.plan ≡ two.plan)
 standing-equal start one two before between opened led further same =
     let first = after-led start start one before (after-self start (sound-opened start opened)) led in

@@ -17,7 +17,8 @@ first_plan timetable matrix = solved (pairs_of timetable matrix None)
 
 -- the plan for a timetable after the edit of the trip in a slot: that trip is taken out, added, or taken out and then added
 abbrev pub plan_repaired : Edit → ℕ → TimetableView → MatrixView → Plan → Plan
-plan_repaired (Shift trip by) s timetable matrix plan = plan_replaced (pairs_of timetable matrix (Some s)) (pairs_of timetable matrix None) s plan
+plan_repaired (Shift trip by) s timetable matrix plan =
+    plan_replaced (pairs_of timetable matrix (Some s)) (pairs_of timetable matrix None) s plan
 plan_repaired (Cancel trip) s timetable matrix plan = plan_taken (pairs_of timetable matrix None) s plan
 plan_repaired (Restore trip) s timetable matrix plan = plan_added (pairs_of timetable matrix None) s plan
 plan_repaired (Extra trip from to departs arrives) s timetable matrix plan = plan_added (pairs_of timetable matrix None) s plan

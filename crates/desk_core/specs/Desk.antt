@@ -27,7 +27,8 @@ pub record DeskView : Type 0 where
 
 -- the desk of a script, a matrix and a history
 abbrev pub desk_seen : ScriptView → MatrixView → HistoryView → DeskView
-desk_seen script matrix history = record { script = script; matrix = matrix; plan = history.plan; earlier = history.earlier; later = history.later }
+desk_seen script matrix history =
+    record { script = script; matrix = matrix; plan = history.plan; earlier = history.earlier; later = history.later }
 
 -- as many plans as timetables, each for the one beside it
 abbrev pub ArePlansFor : MatrixView → List TimetableView → List Plan → Type 0

@@ -24,7 +24,8 @@ pub record MayAdd (t : TimetableView) (m : MatrixView) (s : ℕ) (plan : Plan) :
 -- a plan can be repaired
 abbrev pub MayRepair : Edit → ℕ → TimetableView → MatrixView → Plan → Type 0
 MayRepair (Shift trip by) s t m plan =
-    MayTake t m (Some s) s plan × ((mid : Plan) → IsCertified (pairs_network (pairs_of t m (Some s))) mid → IsCertifiedWithout (pairs_of t m None) s mid)
+    MayTake t m (Some s) s plan × ((mid : Plan) → IsCertified (pairs_network (pairs_of t m (Some s))) mid
+    → IsCertifiedWithout (pairs_of t m None) s mid)
 MayRepair (Cancel trip) s t m plan = MayTake t m None s plan
 MayRepair (Restore trip) s t m plan = MayAdd t m s plan
 MayRepair (Extra trip from to departs arrives) s t m plan = MayAdd t m s plan

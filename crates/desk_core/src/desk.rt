@@ -131,7 +131,8 @@ impl Desk {
 
     /// The sum of the greatest deficits of all places: the vehicles that suffice where none runs empty.
     pub fn fixed(&self) -> u32
-        ensures { pos result ≡ sum_of_maxima (deficit (live_moves self.now.script.timetable.slots)) (length self.now.script.timetable.places) }
+        ensures { pos result ≡ sum_of_maxima (deficit (live_moves self.now.script.timetable.slots))
+            (length self.now.script.timetable.places) }
     {
         held_law();
         // Their clauses say that the timetable and the deficits are valid.
@@ -160,7 +161,8 @@ impl Desk {
     /// nothing is kept.
     pub fn last_change(&self) -> Option<&[Changed]>
         ensures none { IsNone result ↔ (self.now.earlier ≡ []) }
-        ensures changes { IfSome result (λ changes. (plan : PlanView) → last_item self.now.earlier ≡ Some plan → changes.now ≡ differences plan self.now.plan) }
+        ensures changes { IfSome result
+            (λ changes. (plan : PlanView) → last_item self.now.earlier ≡ Some plan → changes.now ≡ differences plan self.now.plan) }
     {
         self.history.last_change()
     }

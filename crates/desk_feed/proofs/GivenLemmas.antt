@@ -17,11 +17,13 @@ use Rattle.desk_feed.specs.Judging.{Does, EndsBy, FeedAsked, IsGivenOf, Judges, 
 use Rattle.desk_feed.specs.Showing.{PutsBehind, TextAsked, showing, stands_with}
 
 -- an accepted feed says what was read
-pub says-of : (read : ReadView) (judged : Judged) (feed : Feed) → judged ≡ Accepted feed → Judges read judged → said_in read ≡ Ok (said_of feed)
+pub says-of : (read : ReadView) (judged : Judged) (feed : Feed) → judged ≡ Accepted feed → Judges read judged
+    → said_in read ≡ Ok (said_of feed)
 says-of read judged feed is judges = (subst (Judges read) is judges).0
 
 -- what is given of an accepted feed is given of what was read
-pub given-of : {E : Type 0} (asks : FeedAsked) (read : ReadView) (said : FeedView) → said_in read ≡ Ok said → (result : Result OutcomeView E)
+pub given-of : {E : Type 0} (asks : FeedAsked) (read : ReadView) (said : FeedView) → said_in read ≡ Ok said
+    → (result : Result OutcomeView E)
     → IfOk result (IsGivenOf asks read said) → IfOk result (IsGiven (of_feed asks) read)
 given-of asks read said says (Err e) given = tt
 given-of asks read said says (Ok outcome) given = record {
@@ -31,15 +33,23 @@ given-of asks read said says (Ok outcome) given = record {
 }
 
 -- a text behind the lines of refused records, of a timetable after its script
-pub text-given : {E : Type 0} (asks : TextAsked) (said : Said) (edited : Edited) → IsEdited said.timetable said.lines.now edited → (result : Result OutcomeView E)
-    → IfOk result (PutsBehind asks edited.refused edited.ending (stands_with said.settings.now edited.script.timetable said.deadheads.now said.pulls))
+pub text-given : {E : Type 0} (asks : TextAsked) (said : Said) (edited : Edited) → IsEdited said.timetable said.lines.now edited
+    → (result : Result OutcomeView E)
+    → IfOk result (PutsBehind asks edited.refused edited.ending
+    (stands_with said.settings.now edited.script.timetable said.deadheads.now said.pulls))
     → IfOk result (IsGivenOf (showing asks) said.read.now (said_to said))
 text-given asks lent edited is (Err e) put = tt
 text-given asks lent edited is (Ok outcome) put =
     let said = said_to lent in
-    let here : outcome ≡ refusing_first (refused_of said) put.text (ending_of said) = put.alone ∙ (λ i. refusing_first (is.refused i) put.text (is.ending i)) in
+    let here : outcome ≡ refusing_first (refused_of said) put.text (ending_of said) = put.alone
+    ∙ (λ i. refusing_first (is.refused i) put.text (is.ending i)) in
     record {
-      gives = record { text = put.text; shown = subst (λ (t : TimetableView). asks.Shows (stands_with said.settings t said.entries said.pulls) put.text) is.timetable put.shown; alone = here };
+      gives = record {
+        text = put.text;
+        shown = subst (λ (t : TimetableView). asks.Shows (stands_with said.settings t said.entries said.pulls) put.text) is.timetable
+            put.shown;
+        alone = here;
+      };
       ends = ap (λ (o : OutcomeView). o.ending) here;
       unkept = λ _. ap (λ (o : OutcomeView). o.lines) here;
     }

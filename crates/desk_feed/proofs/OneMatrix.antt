@@ -6,7 +6,9 @@ use Rattle.deadhead_matrix.specs.Matrix.{MatrixView}
 use Rattle.deadhead_matrix.proofs.MatrixLemmas.{one-matrix}
 use Rattle.desk_feed.specs.Schedule.{IsMatrixOf}
 
-pub matrix-same : (entries : List Entry) (pulls : List Pull) (places : ℕ) (one other : MatrixView) → IsMatrixOf entries pulls places one → IsMatrixOf entries pulls places other → one ≡ other
+pub matrix-same : (entries : List Entry) (pulls : List Pull) (places : ℕ) (one other : MatrixView) → IsMatrixOf entries pulls places one
+    → IsMatrixOf entries pulls places other → one ≡ other
 matrix-same entries pulls places one other first second =
-    one-matrix one other (first.entries_are ∙ sym second.entries_are) (first.pulls_are ∙ sym second.pulls_are) (first.count ∙ sym second.count)
+    one-matrix one other (first.entries_are ∙ sym second.entries_are) (first.pulls_are ∙ sym second.pulls_are)
+    (first.count ∙ sym second.count)
     first.square second.square first.walks second.walks

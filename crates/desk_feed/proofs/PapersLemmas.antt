@@ -10,4 +10,5 @@ among-first : (further : List Paper) → AllByRecursion (IsAmong (feed_papers ++
 among-first further = (refl, (refl, (refl, (refl, (refl, (refl, (refl, (refl, (refl, (refl, tt))))))))))
 
 pub has-papers : (further : List Paper) (pages : List Page) → papers_of pages ≡ feed_papers ++ further → HasPapers pages
-has-papers further pages read = subst (λ (papers : List Paper). AllByRecursion (IsAmong papers) feed_papers) (sym read) (among-first further)
+has-papers further pages read =
+    subst (λ (papers : List Paper). AllByRecursion (IsAmong papers) feed_papers) (sym read) (among-first further)

@@ -25,13 +25,15 @@ module _ (found : Paper → Found) (settings : SettingsView) where
   module _ (known : settings_in found ≡ Ok settings) where
     said_with_settings : said_by found ≡ (timetable_in found settings >>= with_timetable)
     unfolding said_by
-    said_with_settings = ap (λ read. read >>= λ s. timetable_in found s >>= λ t. deadheads_in found t >>= λ d. pulls_in found d.0 >>= λ p. lines_in found
+    said_with_settings = ap (λ read. read >>= λ s. timetable_in found s >>= λ t. deadheads_in found t >>= λ d. pulls_in found d.0 >>=
+        λ p. lines_in found
         >>= λ lines. Ok (said_with s d.0 d.1 p lines)) known
 
     -- the timetable is refused
     pub said-no_timetable : (refused : FeedFault) → Fails refused (timetable_in found settings) → Fails refused (said_by found)
     said-no_timetable refused due =
-        Fails-equal refused (timetable_in found settings >>= with_timetable) (said_by found) (sym said_with_settings) (Fails->>= refused (timetable_in found settings) with_timetable due)
+        Fails-equal refused (timetable_in found settings >>= with_timetable) (said_by found) (sym said_with_settings)
+        (Fails->>= refused (timetable_in found settings) with_timetable due)
 
     module _ (timetable : TimetableView) (read : timetable_in found settings ≡ Ok timetable) where
       said_with_timetable : said_by found ≡ with_timetable timetable
@@ -40,7 +42,8 @@ module _ (found : Paper → Found) (settings : SettingsView) where
       -- the deadheads are refused
       pub said-no_deadheads : (refused : FeedFault) → Fails refused (deadheads_in found timetable) → Fails refused (said_by found)
       said-no_deadheads refused due =
-          Fails-equal refused (with_timetable timetable) (said_by found) (sym said_with_timetable) (Fails->>= refused (deadheads_in found timetable) with_deadheads due)
+          Fails-equal refused (with_timetable timetable) (said_by found) (sym said_with_timetable)
+          (Fails->>= refused (deadheads_in found timetable) with_deadheads due)
 
       module _ (deadheads : TimetableView × List Entry) (entered : deadheads_in found timetable ≡ Ok deadheads) where
         said_with_deadheads : said_by found ≡ with_deadheads deadheads
@@ -49,10 +52,13 @@ module _ (found : Paper → Found) (settings : SettingsView) where
         -- the pulls are refused
         pub said-no_pulls : (refused : FeedFault) → Fails refused (pulls_in found deadheads.0) → Fails refused (said_by found)
         said-no_pulls refused due =
-            Fails-equal refused (with_deadheads deadheads) (said_by found) (sym said_with_deadheads) (Fails->>= refused (pulls_in found deadheads.0) (with_pulls deadheads) due)
+            Fails-equal refused (with_deadheads deadheads) (said_by found) (sym said_with_deadheads)
+            (Fails->>= refused (pulls_in found deadheads.0) (with_pulls deadheads) due)
 
         -- the script is refused
-        pub said-no_lines : (pulls : List Pull) (refused : FeedFault) → pulls_in found deadheads.0 ≡ Ok pulls → Fails refused (lines_in found) → Fails refused (said_by found)
+        pub said-no_lines : (pulls : List Pull) (refused : FeedFault) → pulls_in found deadheads.0 ≡ Ok pulls
+            → Fails refused (lines_in found) → Fails refused (said_by found)
         said-no_lines pulls refused pulled due =
-            Fails-equal refused (with_pulls deadheads pulls) (said_by found) (sym (said_with_deadheads ∙ ap (λ read. read >>= with_pulls deadheads) pulled))
+            Fails-equal refused (with_pulls deadheads pulls) (said_by found)
+            (sym (said_with_deadheads ∙ ap (λ read. read >>= with_pulls deadheads) pulled))
             (Fails->>= refused (lines_in found) (λ lines. Ok (said_with settings deadheads.0 deadheads.1 pulls lines)) due)

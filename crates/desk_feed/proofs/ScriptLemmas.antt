@@ -1,5 +1,6 @@
 -- A script follows the edit machine over the records of a feed, and no edit changes the places.
-use Rattle.std.proofs.Common.{◌≡◌, ◌≢◌, ℕ, suc, ◌+◌, Bool, true, false, not, List, [], ◌∷◌, ◌++◌, length, fold, Option, None, Some, Result, Ok, Err, nat_lt, ◌||◌, ℤ, pos, refl, sym, ap, subst, ◌∙◌, arith}
+use Rattle.std.proofs.Common.{◌≡◌, ◌≢◌, ℕ, suc, ◌+◌, Bool, true, false, not, List, [], ◌∷◌, ◌++◌, length, fold, Option, None, Some, Result}
+use Rattle.std.proofs.Common.{Ok, Err, nat_lt, ◌||◌, ℤ, pos, refl, sym, ap, subst, ◌∙◌, arith}
 use Rattle.std.specs.Prelude.{IsOk, int_le, is_some, ◌+ℤ◌}
 use Rattle.std.specs.Str.{bytes_eq}
 use Rattle.std.proofs.lemmas.Bool.{false≢true}
@@ -13,11 +14,13 @@ use Rattle.edit_script.specs.declared.edit.Line.{Line}
 use Rattle.edit_script.specs.declared.edit.Line.TheVariants as line
 use Rattle.edit_script.specs.declared.fault.EditFault.{EditFault}
 use Rattle.edit_script.specs.declared.fault.EditFault.TheVariants as fault
-use Rattle.edit_script.specs.Changes.{cancelled_at, edited, extra_from, extra_new, extra_to, extra_trip, is_within, provided, restored_at, shifted_at, with_extra, with_live}
+use Rattle.edit_script.specs.Changes.{cancelled_at, edited, extra_from, extra_new, extra_to, extra_trip, is_within, provided, restored_at}
+use Rattle.edit_script.specs.Changes.{shifted_at, with_extra, with_live}
 use Rattle.edit_script.specs.Follow.{IsLineAt}
 use Rattle.edit_script.specs.Machine.{IsAt, Numbered, State, after_line, after_record, machine, or_same}
 use Rattle.edit_script.specs.Script.{IsRefusal, ScriptView}
-use Rattle.desk_feed.specs.Script.{AreRefusals, IsStepped, first_records, line_at, record_at, refusal_in, refusal_text, refused_to, some_refused, standing_at, state_at, step_at}
+use Rattle.desk_feed.specs.Script.{AreRefusals, IsStepped, first_records, line_at, record_at, refusal_in, refusal_text, refused_to}
+use Rattle.desk_feed.specs.Script.{some_refused, standing_at, state_at, step_at}
 
 -- the records of a moment, and what was put of them
 pub first-none : (lines : List Line) → first_records lines 0 ≡ []
@@ -32,7 +35,8 @@ pub refused-none : (base : TimetableView) (lines : List Line) → refused_to bas
 unfolding refused_to
 refused-none base lines = refl
 
-pub refused-next : (base : TimetableView) (lines : List Line) (n k : ℕ) → k ≡ n + 1 → refused_to base lines k ≡ refused_to base lines n ++ refusal_text (n + 1) (line_at lines n) (refusal_in (step_at base lines n))
+pub refused-next : (base : TimetableView) (lines : List Line) (n k : ℕ) → k ≡ n + 1
+    → refused_to base lines k ≡ refused_to base lines n ++ refusal_text (n + 1) (line_at lines n) (refusal_in (step_at base lines n))
 unfolding refused_to
 refused-next base lines n k e = let next : k ≡ suc n = omega (arith, e) in ap (refused_to base lines) next
 
@@ -40,7 +44,8 @@ pub some-none : (base : TimetableView) (lines : List Line) → some_refused base
 unfolding some_refused
 some-none base lines = refl
 
-pub some-next : (base : TimetableView) (lines : List Line) (n k : ℕ) → k ≡ n + 1 → some_refused base lines k ≡ (some_refused base lines n || is_some (refusal_in (step_at base lines n)))
+pub some-next : (base : TimetableView) (lines : List Line) (n k : ℕ) → k ≡ n + 1
+    → some_refused base lines k ≡ (some_refused base lines n || is_some (refusal_in (step_at base lines n)))
 unfolding some_refused
 some-next base lines n k e = let next : k ≡ suc n = omega (arith, e) in ap (some_refused base lines) next
 
@@ -50,30 +55,37 @@ none-refused (Ok m) is = refl
 none-refused (Err refused) is = absurd (false≢true is)
 
 -- a refusal that is not lack of memory is that of the script
-pub refusal-named : (refused : EditFault) (edit : Edit) (due : Result ScriptView EditFault) → refused ≢ fault.Memory → IsRefusal refused edit due → due ≡ Err refused
+pub refusal-named : (refused : EditFault) (edit : Edit) (due : Result ScriptView EditFault) → refused ≢ fault.Memory
+    → IsRefusal refused edit due → due ≡ Err refused
 refusal-named fault.Memory edit due named is = absurd (named refl)
 refusal-named refused edit due named is = is
 
 -- what a record does is that of its place
-pub IsStepped-at : (lines : List Line) (n number : ℕ) (l : Line) (refused : Option EditFault) (old new : ScriptView) → number ≡ n + 1 → IsLineAt lines n l → IsStepped number l refused old new → IsStepped (n + 1) (line_at lines n) refused old new
+pub IsStepped-at : (lines : List Line) (n number : ℕ) (l : Line) (refused : Option EditFault) (old new : ScriptView) → number ≡ n + 1
+    → IsLineAt lines n l → IsStepped number l refused old new → IsStepped (n + 1) (line_at lines n) refused old new
 IsStepped-at lines n number l refused old new number_is at stepped =
-    subst (λ number. IsStepped number (line_at lines n) refused old new) number_is (subst (λ l. IsStepped number l refused old new) (at.is line.NotAnEdit) stepped)
+    subst (λ number. IsStepped number (line_at lines n) refused old new) number_is
+    (subst (λ l. IsStepped number l refused old new) (at.is line.NotAnEdit) stepped)
 
 -- before the first record, and after one more
-pub refusals-none : (base : TimetableView) (lines : List Line) (script : ScriptView) → IsAt base (machine base []) script → AreRefusals base lines 0 script [] false
+pub refusals-none : (base : TimetableView) (lines : List Line) (script : ScriptView) → IsAt base (machine base []) script
+    → AreRefusals base lines 0 script [] false
 refusals-none base lines script at = record {
   at = subst (λ records. IsAt base (machine base records) script) (sym (first-none lines)) at;
   text_is = sym (refused-none base lines);
   some_is = sym (some-none base lines);
 }
 
-pub refusals-next : (base : TimetableView) (lines : List Line) (n : ℕ) (refused : Option EditFault) (old new : ScriptView) (text more : List ℕ) (some some_more : Bool) → AreRefusals base lines n old text some
-    → IsStepped (n + 1) (line_at lines n) refused old new → more ≡ text ++ refusal_text (n + 1) (line_at lines n) refused → some_more ≡ (some || is_some refused) → AreRefusals base lines (n + 1) new more some_more
+pub refusals-next : (base : TimetableView) (lines : List Line) (n : ℕ) (refused : Option EditFault) (old new : ScriptView)
+    (text more : List ℕ) (some some_more : Bool) → AreRefusals base lines n old text some
+    → IsStepped (n + 1) (line_at lines n) refused old new → more ≡ text ++ refusal_text (n + 1) (line_at lines n) refused
+    → some_more ≡ (some || is_some refused) → AreRefusals base lines (n + 1) new more some_more
 refusals-next base lines n refused old new text more some some_more so_far stepped put some_is =
     let step = stepped base (first_records lines n) so_far.at in
     record {
       at = subst (λ records. IsAt base (machine base records) new) (sym (first-next lines n (n + 1) refl)) step.1;
-      text_is = put ∙ (λ i. so_far.text_is i ++ refusal_text (n + 1) (line_at lines n) (step.0 i)) ∙ sym (refused-next base lines n (n + 1) refl);
+      text_is = put ∙ (λ i. so_far.text_is i ++ refusal_text (n + 1) (line_at lines n) (step.0 i))
+          ∙ sym (refused-next base lines n (n + 1) refl);
       some_is = some_is ∙ (λ i. so_far.some_is i || is_some (step.0 i)) ∙ sym (some-next base lines n (n + 1) refl);
     }
 
@@ -81,7 +93,8 @@ refusals-next base lines n refused old new text more some some_more so_far stepp
 abbrev Keeps : TimetableView → Result TimetableView EditFault → Type 0
 Keeps t due = (or_same t due).places ≡ t.places
 
-keeps-provided : (t : TimetableView) (holds : Bool) (refused : EditFault) (rest : Result TimetableView EditFault) → Keeps t rest → Keeps t (provided holds refused rest)
+keeps-provided : (t : TimetableView) (holds : Bool) (refused : EditFault) (rest : Result TimetableView EditFault) → Keeps t rest
+    → Keeps t (provided holds refused rest)
 keeps-provided t true refused rest keeps = keeps
 keeps-provided t false refused rest keeps = refl
 
@@ -92,7 +105,8 @@ module _ (t : TimetableView) where
       let trip = (slot_at t s).trip in
       let kept : Result TimetableView EditFault = Ok (with_shift t s by) in
       let late : Result TimetableView EditFault = provided (int_le (pos 0) (pos trip.departs +ℤ by)) fault.BeforeMidnight kept in
-      let far : Result TimetableView EditFault = provided (is_within trip (trip.offset +ℤ by)) (fault.OutsideTolerance (trip.offset +ℤ by)) late in
+      let far : Result TimetableView EditFault =
+      provided (is_within trip (trip.offset +ℤ by)) (fault.OutsideTolerance (trip.offset +ℤ by)) late in
       keeps-provided t trip.live fault.NotLive far
       (keeps-provided t (is_within trip (trip.offset +ℤ by)) (fault.OutsideTolerance (trip.offset +ℤ by)) late
       (keeps-provided t (int_le (pos 0) (pos trip.departs +ℤ by)) fault.BeforeMidnight kept refl))
@@ -112,7 +126,8 @@ module _ (t : TimetableView) where
       let many : Result TimetableView EditFault = provided (nat_lt (length t.slots) MOST_SLOTS) fault.TooManyTrips kept in
       let back : Result TimetableView EditFault = provided (nat_lt departs arrives) fault.NotForward many in
       keeps-provided t (bytes_eq (class_of t.places from) (class_of t.places to)) fault.ClassesDiffer back
-      (keeps-provided t (nat_lt departs arrives) fault.NotForward many (keeps-provided t (nat_lt (length t.slots) MOST_SLOTS) fault.TooManyTrips kept refl))
+      (keeps-provided t (nat_lt departs arrives) fault.NotForward many
+      (keeps-provided t (nat_lt (length t.slots) MOST_SLOTS) fault.TooManyTrips kept refl))
 
   keeps-from : (name to : List ℕ) (departs arrives : ℕ) (from : Option ℕ) → Keeps t (extra_from t name to departs arrives from)
   keeps-from name to departs arrives None = refl

@@ -23,7 +23,8 @@ use Rattle.desk_feed.specs.declared.feed.Feed.{Feed}
 
 -- the papers of a feed, in the order in which they are read and judged
 abbrev pub feed_papers : List Paper
-feed_papers = paper.Settings ∷ paper.Terminals ∷ paper.Tolerances ∷ paper.Calendar ∷ paper.CalendarDates ∷ paper.Trips ∷ paper.StopTimes ∷ paper.Deadheads ∷ paper.Depot ∷ paper.Edits ∷ []
+feed_papers = paper.Settings ∷ paper.Terminals ∷ paper.Tolerances ∷ paper.Calendar ∷ paper.CalendarDates ∷ paper.Trips ∷ paper.StopTimes
+    ∷ paper.Deadheads ∷ paper.Depot ∷ paper.Edits ∷ []
 
 -- what the papers of a feed say. The settings, where there is a date with the services alone that run on it. The base
 -- timetable, the lines of the script, the entries of the deadheads, and the pulls of each place

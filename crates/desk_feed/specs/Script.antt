@@ -1,5 +1,6 @@
 -- The script of a feed: the state at each moment, the timetable that stands then, and what is printed of refused records.
-use Rattle.std.specs.Prelude.{◌≡◌, ℕ, zero, suc, ◌+◌, ◌≤◌, Bool, false, List, [], ◌∷◌, ◌++◌, length, All, Option, None, Some, Result, Ok, Err, codes, slice_index_or, is_some, ◌||◌, if◌then◌else◌}
+use Rattle.std.specs.Prelude.{◌≡◌, ℕ, zero, suc, ◌+◌, ◌≤◌, Bool, false, List, [], ◌∷◌, ◌++◌, length, All, Option, None, Some, Result, Ok}
+use Rattle.std.specs.Prelude.{Err, codes, slice_index_or, is_some, ◌||◌, if◌then◌else◌}
 use Rattle.std.specs.Fmt.{decimal}
 use Rattle.gtfs_tables.specs.declared.paper.TheConstants.{MOST_RECORDS}
 use Rattle.edit_script.specs.Edits.{IsLineInForm, trip_of}
@@ -87,7 +88,8 @@ ending_by refused = if refused then ending.EditsRefused else ending.Done
 -- A script that is as the machine after some records is so after one more. Where that one is refused, it is known why.
 abbrev pub IsStepped : ℕ → Line → Option EditFault → ScriptView → ScriptView → Type 0
 IsStepped number line refused old new = (base : TimetableView) (records : List Numbered) → IsAt base (machine base records) old
-    → (refused ≡ refusal_in (state_after base (machine base records) (numbered number line))) × IsAt base (machine base (records ++ numbered number line ∷ [])) new
+    → (refused ≡ refusal_in (state_after base (machine base records) (numbered number line)))
+    × IsAt base (machine base (records ++ numbered number line ∷ [])) new
 
 -- A script is as the machine after so many of the records, with the lines of those that were refused, and whether one was.
 pub record AreRefusals (base : TimetableView) (lines : List Line) (n : ℕ) (script : ScriptView) (text : List ℕ) (some : Bool) : Type 0 where

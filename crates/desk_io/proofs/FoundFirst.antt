@@ -17,11 +17,13 @@ bytes_eq-sym xs ys false e =
     ] (λ i. bytes_eq ys xs)
 
 -- the entry has the name
-pub find-here : {X : Type 0} (name : List ℕ) (e : List ℕ × X) (es : List (List ℕ × X)) → bytes_eq e.0 name ≡ true → find (slice_cmp nat_cmp) name (e ∷ es) ≡ Some e.1
+pub find-here : {X : Type 0} (name : List ℕ) (e : List ℕ × X) (es : List (List ℕ × X)) → bytes_eq e.0 name ≡ true
+    → find (slice_cmp nat_cmp) name (e ∷ es) ≡ Some e.1
 find-here name e es same =
     ap (λ b. cond b (Some e.1) (find (slice_cmp nat_cmp) name es)) (is_eq-slice_cmp name e.0 ∙ bytes_eq-sym e.0 name true same)
 
 -- the entry has another name
-pub find-other : {X : Type 0} (name : List ℕ) (e : List ℕ × X) (es : List (List ℕ × X)) → bytes_eq e.0 name ≡ false → find (slice_cmp nat_cmp) name (e ∷ es) ≡ find (slice_cmp nat_cmp) name es
+pub find-other : {X : Type 0} (name : List ℕ) (e : List ℕ × X) (es : List (List ℕ × X)) → bytes_eq e.0 name ≡ false
+    → find (slice_cmp nat_cmp) name (e ∷ es) ≡ find (slice_cmp nat_cmp) name es
 find-other name e es other =
     ap (λ b. cond b (Some e.1) (find (slice_cmp nat_cmp) name es)) (is_eq-slice_cmp name e.0 ∙ bytes_eq-sym e.0 name false other)

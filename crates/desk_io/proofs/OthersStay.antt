@@ -13,7 +13,8 @@ use Rattle.desk_io.specs.Shelf.{Files, OthersStay}
 names-apart : (name other : List ℕ) → other ≢ name → eq_by_cmp (slice_cmp nat_cmp) other name ≡ false
 names-apart name other apart = is_eq-slice_cmp other name ∙ false_from_ne_true _ (λ same. apart ((bytes_eq-Decides other name).0 same))
 
-pub others_stay : (name bytes : List ℕ) (files now : Files) → Some now ≡ Some (insert files name bytes) → OthersStay name (Some files) (Some now)
+pub others_stay : (name bytes : List ℕ) (files now : Files) → Some now ≡ Some (insert files name bytes)
+    → OthersStay name (Some files) (Some now)
 others_stay name bytes files now is = λ other apart.
     ap (λ found. get (unwrap_or found files) other) is ∙ get-insert nat_list_cmp_total files name bytes other
     ∙ ap (λ b. cond b (Some bytes) (get files other)) (names-apart name other apart)

@@ -78,7 +78,8 @@ impl<'a, R: Files> FolderShelf<'a, R> {
         ensures opened { IfOk opened (λ file. result ≡ Ok (Some file)) }
         ensures missing { IfErr opened (λ error. error_kind error ≡ ErrorKind.NotFound → result ≡ Ok None) }
         ensures memory { IfErr opened (λ error. error_kind error ≡ ErrorKind.OutOfMemory → result ≡ Err ShelfFault.Memory) }
-        ensures failed { IfErr opened (λ error. error_kind error ≢ ErrorKind.NotFound → error_kind error ≢ ErrorKind.OutOfMemory → result ≡ Err ShelfFault.Failed) }
+        ensures failed { IfErr opened (λ error. error_kind error ≢ ErrorKind.NotFound → error_kind error ≢ ErrorKind.OutOfMemory
+            → result ≡ Err ShelfFault.Failed) }
     {
         match opened {
             Ok(file) => Ok(Some(file)),
@@ -112,8 +113,12 @@ impl<'a, R: Files> FolderShelf<'a, R> {
     fn answer_create<W>(&mut self, created: io::Result<W>) -> Result<W, ShelfFault>
         ensures history { folder_history_of self.new ≡ folder_history_of self.old }
         ensures opened { IfOk created (λ file. (result ≡ Ok file) × (folder_state_of self.new ≡ folder_state_of self.old)) }
-        ensures memory { IfErr created (λ error. error_kind error ≡ ErrorKind.OutOfMemory → (result ≡ Err ShelfFault.Memory) × (folder_state_of self.new ≡ folder_state_of self.old)) }
-        ensures failed { IfErr created (λ error. error_kind error ≢ ErrorKind.OutOfMemory → (result ≡ Err ShelfFault.Failed) × WriteFailed [] (folder_state_of self.old) (folder_state_of self.new)) }
+        ensures memory { IfErr created
+            (λ error. error_kind error ≡ ErrorKind.OutOfMemory
+            → (result ≡ Err ShelfFault.Memory) × (folder_state_of self.new ≡ folder_state_of self.old)) }
+        ensures failed { IfErr created
+            (λ error. error_kind error ≢ ErrorKind.OutOfMemory
+            → (result ≡ Err ShelfFault.Failed) × WriteFailed [] (folder_state_of self.old) (folder_state_of self.new)) }
     {
         match created {
             Ok(file) => Ok(file),
@@ -130,7 +135,8 @@ impl<'a, R: Files> FolderShelf<'a, R> {
     fn answer_write(&mut self, written: &io::Result<()>) -> Result<(), ShelfFault>
         ensures history { folder_history_of self.new ≡ folder_history_of self.old }
         ensures done { OnOk written.now ((IsOk result) × (folder_state_of self.new ≡ folder_state_of self.old)) }
-        ensures failed { OnErr written.now ((result ≡ Err ShelfFault.Failed) × WriteFailed [] (folder_state_of self.old) (folder_state_of self.new)) }
+        ensures failed { OnErr written.now
+            ((result ≡ Err ShelfFault.Failed) × WriteFailed [] (folder_state_of self.old) (folder_state_of self.new)) }
     {
         if written.is_err() {
             self.write_faults = self.write_faults.saturating_add(1);

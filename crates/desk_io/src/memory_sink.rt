@@ -1,4 +1,5 @@
-ghost use Rattle.std.specs.Prelude.{◌≡◌, ◌+◌, ◌-◌, ◌<◌, ◌≤◌, ◌↔◌, [], true, length, take, vec_len, vec_capacity, IfOk, OnOk, OnErr, IsErr, Some};
+ghost use Rattle.std.specs.Prelude.{◌≡◌, ◌+◌, ◌-◌, ◌<◌, ◌≤◌, ◌↔◌, [], true, length, take, vec_len, vec_capacity, IfOk, OnOk, OnErr, IsErr};
+ghost use Rattle.std.specs.Prelude.{Some};
 ghost use Rattle.desk_io.specs.Sink.{put_bytes, PutFailed};
 ghost use Rattle.desk_io.specs.Calls.{calls_at_first, after_call};
 

@@ -53,7 +53,8 @@ impl MemoryKeeper {
         ensures journal { journal_of self.new ≡ journal_of self.old }
         ensures fails { IsErr result ↔ (fails_next (calls_of self.old) ≡ true) }
         ensures counted { OnOk result (calls_of self.new ≡ after_call (calls_of self.old)) }
-        ensures once { IfErr result (λ fault. (fault ≡ KeeperFault.Failed) × (calls_of self.new ≡ after_fault (after_call (calls_of self.old)))) }
+        ensures once { IfErr result (λ fault. (fault ≡ KeeperFault.Failed)
+            × (calls_of self.new ≡ after_fault (after_call (calls_of self.old)))) }
         ensures never_falls { (calls_of self.old).faults ≤ (calls_of self.new).faults }
         ensures history { keeper_history_of self.new ≡ keeper_history_of self.old }
     {

@@ -1,5 +1,6 @@
 -- Which command the words name, and what that asks.
-use Rattle.std.specs.Prelude.{ℕ, ◌≤◌, ◌==◌, ◌&&◌, nat_le, nat_lt, List, [], ◌∷◌, length, Option, None, Some, option_map, codes, if◌then◌else◌, ⊤}
+use Rattle.std.specs.Prelude.{ℕ, ◌≤◌, ◌==◌, ◌&&◌, nat_le, nat_lt, List, [], ◌∷◌, length, Option, None, Some, option_map, codes}
+use Rattle.std.specs.Prelude.{if◌then◌else◌, ⊤}
 use Rattle.std.specs.Str.{bytes_eq}
 use Rattle.desk_run.specs.Commands.{Asked}
 use Rattle.feed_commands.specs.Deficits.{deficits_asked}
@@ -19,7 +20,8 @@ use Rattle.sample_command.specs.Sample.{sample_asked}
 use Rattle.journal_commands.specs.Keep.{keep_asked}
 use Rattle.journal_commands.specs.Kept.{kept_asked}
 use Rattle.desk_program.specs.declared.command.CommandName.{CommandName}
-use Rattle.desk_program.specs.declared.command.CommandName.TheVariants.{Deficits, Fixed, Blocks, Check, Write, Chart, Chains, Shifts, Keep, Kept, Joined, Planners, Audit, Sample}
+use Rattle.desk_program.specs.declared.command.CommandName.TheVariants.{Deficits, Fixed, Blocks, Check, Write, Chart, Chains, Shifts, Keep}
+use Rattle.desk_program.specs.declared.command.CommandName.TheVariants.{Kept, Joined, Planners, Audit, Sample}
 
 -- the command of that name
 abbrev pub command_named : List ℕ → Option CommandName

@@ -16,13 +16,15 @@ usage_line = codes "usage: blockdesk deficits|fixed|blocks|check|write|chart|cha
 
 -- the usage line was put, or a prefix of it; and nothing else changed
 pub record PutsUsage (before after : World) (status : ℕ) : Type 0 where
-  pub put : ((status ≡ USAGE) × (after.sink ≡ put_bytes usage_line before.sink)) ⊎ ((status ≡ WRITE_FAULT) × PutsPrefix usage_line before.sink after.sink)
+  pub put : ((status ≡ USAGE) × (after.sink ≡ put_bytes usage_line before.sink))
+      ⊎ ((status ≡ WRITE_FAULT) × PutsPrefix usage_line before.sink after.sink)
   pub shelf : after.shelf ≡ before.shelf
   pub keeper : after.keeper ≡ before.keeper
 
 -- words of no form end as such, where no count rose, or by a fault of the sink
 abbrev pub HasUsageCause : World → World → ℕ → Type 0
-HasUsageCause before after status = ((status ≡ USAGE) × NoCountRose before after) ⊎ ((status ≡ WRITE_FAULT) × Rose before.sink.faults after.sink.faults)
+HasUsageCause before after status = ((status ≡ USAGE) × NoCountRose before after)
+    ⊎ ((status ≡ WRITE_FAULT) × Rose before.sink.faults after.sink.faults)
 
 -- the puts of the usage line came, all of them or the first ones; and no other call
 pub record UsageInOrder (status : ℕ) (before after : Histories) : Type 0 where

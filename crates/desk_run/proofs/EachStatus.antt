@@ -1,5 +1,6 @@
 -- When each status of a command comes, from what its run did.
-use Rattle.std.proofs.Common.{◌≡◌, ◌⊎◌, ℕ, inl, inr, Bool, true, false, List, [], ◌∷◌, get_or, take, Some, None, refl, sym, ap, ◌∙◌, subst, arith}
+use Rattle.std.proofs.Common.{◌≡◌, ◌⊎◌, ℕ, inl, inr, Bool, true, false, List, [], ◌∷◌, get_or, take, Some, None, refl, sym, ap, ◌∙◌, subst}
+use Rattle.std.proofs.Common.{arith}
 use Rattle.std.specs.Prelude.{Option, IsSome, is_some}
 use Rattle.std.proofs.lemmas.List.Folds.{map_fixed}
 use Rattle.std.proofs.lemmas.Simd.{map-map}
@@ -21,13 +22,16 @@ use Rattle.desk_run.specs.declared.status.Ending.TheVariants as ending
 use Rattle.desk_run.specs.declared.status.TheConstants.{USAGE}
 
 -- the pages that a shelf tells are those that stand in its files
-pub pages_told : (files : Files) (papers : List Paper) (pages : List Page) → AreRead (Some files) papers pages → pages ≡ pages_in papers files
+pub pages_told : (files : Files) (papers : List Paper) (pages : List Page) → AreRead (Some files) papers pages
+    → pages ≡ pages_in papers files
 pages_told files papers pages read =
-    sym (map_fixed (λ (page : Page). page_in files page.paper) pages (λ k d lt i. record { paper = (get_or pages k d).paper; found = sym (read.told k d lt) i }))
+    sym (map_fixed (λ (page : Page). page_in files page.paper) pages
+    (λ k d lt i. record { paper = (get_or pages k d).paper; found = sym (read.told k d lt) i }))
     ∙ sym (map-map (page_in files) (λ (page : Page). page.paper) pages) ∙ ap (λ ps. pages_in ps files) read.named
 
 -- what was read of the papers and of the journal that a command asks for is what it reads of the world
-pub read_in : (asked : Asked) (before : World) (papers : List Paper) (keeps : Bool) (read : ReadView) → papers ≡ asked.papers → keeps ≡ asked.keeps
+pub read_in : (asked : Asked) (before : World) (papers : List Paper) (keeps : Bool) (read : ReadView) → papers ≡ asked.papers
+    → keeps ≡ asked.keeps
     → AreRead before.shelf.files papers read.pages → IsLoaded keeps before.keeper.journal read.journal → IsReadIn asked before read
 read_in asked before papers keeps read papers_are keeps_are pages loaded = record {
   pages = subst (λ papers. AreRead before.shelf.files papers read.pages) papers_are pages;
@@ -41,7 +45,8 @@ no_usage ending.FeedRefused is = omega (arith, is)
 no_usage ending.No is = omega (arith, is)
 
 -- no write raises a count, and no append
-written_quiet : (writes : List Writing) (shelf : ShelfState) → ((with_writings writes shelf).read_faults ≡ shelf.read_faults) × ((with_writings writes shelf).write_faults ≡ shelf.write_faults)
+written_quiet : (writes : List Writing) (shelf : ShelfState)
+    → ((with_writings writes shelf).read_faults ≡ shelf.read_faults) × ((with_writings writes shelf).write_faults ≡ shelf.write_faults)
 written_quiet [] shelf = (refl, refl)
 written_quiet (writing ∷ writes) shelf = written_quiet writes (with_file writing.name writing.bytes shelf)
 
@@ -73,9 +78,11 @@ module _ (asked : Asked) (found : Option ReadView) (before after : World) (statu
         keeper_faults = ap (λ (w : World). w.keeper.faults) ended.carried ∙ appended_quiet outcome.lines before.keeper;
       }
 
-  write_rose : IsCutShort asked found before after → Rose before.shelf.write_faults after.shelf.write_faults ⊎ Rose before.sink.faults after.sink.faults
+  write_rose : IsCutShort asked found before after
+      → Rose before.shelf.write_faults after.shelf.write_faults ⊎ Rose before.sink.faults after.sink.faults
   write_rose (chosen, inl file) =
-      inl (subst (λ n. Rose n after.shelf.write_faults) (written_quiet (take file.shelf.count chosen.outcome.writes) before.shelf).1 file.shelf.shelf.rose)
+      inl (subst (λ n. Rose n after.shelf.write_faults) (written_quiet (take file.shelf.count chosen.outcome.writes) before.shelf).1
+      file.shelf.shelf.rose)
   write_rose (chosen, inr text) = inr text.sink.rose
 
   keeper_rose : IsUnkept asked found before after → (asked.keeps ≡ true) × Rose before.keeper.faults after.keeper.faults

@@ -1,5 +1,6 @@
 -- The calls of a run, in their order, from the calls of its parts.
-use Rattle.std.proofs.Common.{◌≡◌, inr, ℕ, ◌<◌, Bool, true, false, List, [], ◌∷◌, ◌++◌, length, drop, Option, None, Some, Result, Ok, Err, refl, sym, ap, subst, ◌∙◌, append_assoc, arith}
+use Rattle.std.proofs.Common.{◌≡◌, inr, ℕ, ◌<◌, Bool, true, false, List, [], ◌∷◌, ◌++◌, length, drop, Option, None, Some, Result, Ok, Err}
+use Rattle.std.proofs.Common.{refl, sym, ap, subst, ◌∙◌, append_assoc, arith}
 use Rattle.std.proofs.lemmas.List.{append-nil, drop_all}
 use Rattle.std.proofs.lemmas.List.Sums.{fold-append}
 use Rattle.desk_io.specs.History.{Call, Put, ComeFirst}
@@ -8,7 +9,8 @@ use Rattle.desk_keeper.specs.Keeper.{Journal}
 use Rattle.gtfs_tables.specs.declared.paper.Paper.{Paper}
 use Rattle.desk_run.specs.Becomes.{Becomes}
 use Rattle.desk_run.specs.Commands.{Asked, Chosen}
-use Rattle.desk_run.specs.Order.{CallsToCarry, IsInOrder, MakesFirst, append_of, carrying, load_of, reading, reads_of, status_by, with_call, with_calls, writes_of}
+use Rattle.desk_run.specs.Order.{CallsToCarry, IsInOrder, MakesFirst, append_of, carrying, load_of, reading, reads_of, status_by}
+use Rattle.desk_run.specs.Order.{with_call, with_calls, writes_of}
 use Rattle.desk_run.specs.Outcome.{OutcomeView}
 use Rattle.desk_run.specs.Outside.{Histories, Outside}
 use Rattle.desk_run.specs.Reading.{ReadView}
@@ -92,32 +94,39 @@ all_first calls before after came = record { made = calls; left = []; order = sy
 
 -- the first ones of some calls, before others that were not made
 module _ (h : Histories) (calls rest : List Call) where
-  first_on_shelf : (now : List Call) → Each ForShelf calls → ComeFirst calls h.shelf now → MakesFirst (calls ++ rest) h (record h { shelf = now })
+  first_on_shelf : (now : List Call) → Each ForShelf calls → ComeFirst calls h.shelf now
+      → MakesFirst (calls ++ rest) h (record h { shelf = now })
   first_on_shelf now each come = record {
     made = come.made;
     left = come.left ++ rest;
     order = ap (λ calls. calls ++ rest) come.order ∙ append_assoc come.made come.left rest;
-    noted = ap (λ calls. record h { shelf = calls }) come.came ∙ sym (on_shelf h come.made (each_first ForShelf come.made come.left (subst (Each ForShelf) come.order each)));
+    noted = ap (λ calls. record h { shelf = calls }) come.came
+        ∙ sym (on_shelf h come.made (each_first ForShelf come.made come.left (subst (Each ForShelf) come.order each)));
   }
 
-  first_on_keeper : (now : List Call) → Each ForKeeper calls → ComeFirst calls h.keeper now → MakesFirst (calls ++ rest) h (record h { keeper = now })
+  first_on_keeper : (now : List Call) → Each ForKeeper calls → ComeFirst calls h.keeper now
+      → MakesFirst (calls ++ rest) h (record h { keeper = now })
   first_on_keeper now each come = record {
     made = come.made;
     left = come.left ++ rest;
     order = ap (λ calls. calls ++ rest) come.order ∙ append_assoc come.made come.left rest;
-    noted = ap (λ calls. record h { keeper = calls }) come.came ∙ sym (on_keeper h come.made (each_first ForKeeper come.made come.left (subst (Each ForKeeper) come.order each)));
+    noted = ap (λ calls. record h { keeper = calls }) come.came
+        ∙ sym (on_keeper h come.made (each_first ForKeeper come.made come.left (subst (Each ForKeeper) come.order each)));
   }
 
-first_on_sink : (h : Histories) (calls now : List Call) → Each ForSink calls → ComeFirst calls h.sink now → MakesFirst calls h (record h { sink = now })
+first_on_sink : (h : Histories) (calls now : List Call) → Each ForSink calls → ComeFirst calls h.sink now
+    → MakesFirst calls h (record h { sink = now })
 first_on_sink h calls now each come = record {
   made = come.made;
   left = come.left;
   order = come.order;
-  noted = ap (λ calls. record h { sink = calls }) come.came ∙ sym (on_sink h come.made (each_first ForSink come.made come.left (subst (Each ForSink) come.order each)));
+  noted = ap (λ calls. record h { sink = calls }) come.came
+      ∙ sym (on_sink h come.made (each_first ForSink come.made come.left (subst (Each ForSink) come.order each)));
 }
 
 -- some calls, and then the first ones of others
-then_first : (h mid after : Histories) (calls others : List Call) → mid ≡ with_calls h calls → MakesFirst others mid after → MakesFirst (calls ++ others) h after
+then_first : (h mid after : Histories) (calls others : List Call) → mid ≡ with_calls h calls → MakesFirst others mid after
+    → MakesFirst (calls ++ others) h after
 then_first h mid after calls others all first = record {
   made = calls ++ first.made;
   left = first.left;
@@ -127,10 +136,17 @@ then_first h mid after calls others all first = record {
 
 -- where an outcome was carried out in part, and where it was carried out whole
 module _ (outcome : OutcomeView) (h : Histories) where
-  pub ends_at_file : {T E : Type 0} (fault : E) (shelf : List Call) → ComeFirst (writes_of outcome.writes) h.shelf shelf → CallsToCarry {T = T} outcome (Err fault) h (record h { shelf = shelf })
+  pub ends_at_file : {T E : Type 0} (fault : E) (shelf : List Call) → ComeFirst (writes_of outcome.writes) h.shelf shelf
+      → CallsToCarry {T = T} outcome (Err fault) h (record h { shelf = shelf })
   ends_at_file fault shelf come =
       let text = some_puts outcome.text in
-      record { puts = text.puts; are = text.are; first = first_on_shelf h (writes_of outcome.writes) (append_of outcome.lines ++ text.puts) shelf (each_write outcome.writes) come; whole = tt }
+      record {
+        puts = text.puts;
+        are = text.are;
+        first = first_on_shelf h (writes_of outcome.writes) (append_of outcome.lines ++ text.puts) shelf (each_write outcome.writes)
+            come;
+        whole = tt;
+      }
 
   module _ (shelf : List Call) (written : shelf ≡ h.shelf ++ writes_of outcome.writes) where
     abbrev mid : Histories
@@ -139,36 +155,50 @@ module _ (outcome : OutcomeView) (h : Histories) where
     all_written : mid ≡ with_calls h (writes_of outcome.writes)
     all_written = ap (λ calls. record h { shelf = calls }) written ∙ sym (on_shelf h (writes_of outcome.writes) (each_write outcome.writes))
 
-    pub ends_at_lines : {T E : Type 0} (fault : E) (keeper : List Call) → ComeFirst (append_of outcome.lines) h.keeper keeper → CallsToCarry {T = T} outcome (Err fault) h (record h { shelf = shelf; keeper = keeper })
+    pub ends_at_lines : {T E : Type 0} (fault : E) (keeper : List Call) → ComeFirst (append_of outcome.lines) h.keeper keeper
+        → CallsToCarry {T = T} outcome (Err fault) h (record h { shelf = shelf; keeper = keeper })
     ends_at_lines fault keeper come =
         let text = some_puts outcome.text in
         record {
           puts = text.puts;
           are = text.are;
-          first = then_first h mid (record h { shelf = shelf; keeper = keeper }) (writes_of outcome.writes) (append_of outcome.lines ++ text.puts) all_written
+          first = then_first h mid (record h { shelf = shelf; keeper = keeper }) (writes_of outcome.writes)
+              (append_of outcome.lines ++ text.puts) all_written
               (first_on_keeper mid (append_of outcome.lines) text.puts keeper (each_append outcome.lines) come);
           whole = tt;
         }
 
-    to_text : (keeper sink : List Call) (puts : List Call) → keeper ≡ h.keeper ++ append_of outcome.lines → ArePuts outcome.text [] puts → ComeFirst puts h.sink sink
+    to_text : (keeper sink : List Call) (puts : List Call) → keeper ≡ h.keeper ++ append_of outcome.lines → ArePuts outcome.text [] puts
+        → ComeFirst puts h.sink sink
         → MakesFirst (carrying outcome puts) h (record { shelf = shelf; sink = sink; keeper = keeper })
     to_text keeper sink puts appended are come =
         let kept : Histories = record h { shelf = shelf; keeper = keeper } in
-        then_first h mid (record { shelf = shelf; sink = sink; keeper = keeper }) (writes_of outcome.writes) (append_of outcome.lines ++ puts) all_written
+        then_first h mid (record { shelf = shelf; sink = sink; keeper = keeper }) (writes_of outcome.writes)
+        (append_of outcome.lines ++ puts) all_written
         (then_first mid kept (record { shelf = shelf; sink = sink; keeper = keeper }) (append_of outcome.lines) puts
         (ap (λ calls. record mid { keeper = calls }) appended ∙ sym (on_keeper mid (append_of outcome.lines) (each_append outcome.lines)))
         (first_on_sink kept puts sink (each_put outcome.text [] puts are) come))
 
     module _ (keeper sink : List Call) (appended : keeper ≡ h.keeper ++ append_of outcome.lines) where
-      pub ends_at_text : {T U E F : Type 0} (fault : F) (other : E) → PutsCome {T = U} outcome.text (Err other) h.sink sink → CallsToCarry {T = T} outcome (Err fault) h (record { shelf = shelf; sink = sink; keeper = keeper })
-      ends_at_text fault other put = record { puts = put.puts; are = put.are; first = to_text keeper sink put.puts appended put.are put.come; whole = tt }
+      pub ends_at_text : {T U E F : Type 0} (fault : F) (other : E) → PutsCome {T = U} outcome.text (Err other) h.sink sink
+          → CallsToCarry {T = T} outcome (Err fault) h (record { shelf = shelf; sink = sink; keeper = keeper })
+      ends_at_text fault other put =
+          record { puts = put.puts; are = put.are; first = to_text keeper sink put.puts appended put.are put.come; whole = tt }
 
-      pub ends_whole : {T U E F : Type 0} (status : T) (answer : U) → PutsCome {E = E} outcome.text (Ok answer) h.sink sink → CallsToCarry {E = F} outcome (Ok status) h (record { shelf = shelf; sink = sink; keeper = keeper })
+      pub ends_whole : {T U E F : Type 0} (status : T) (answer : U) → PutsCome {E = E} outcome.text (Ok answer) h.sink sink
+          → CallsToCarry {E = F} outcome (Ok status) h (record { shelf = shelf; sink = sink; keeper = keeper })
       unfolding to_text then_first first_on_sink all_first
-      ends_whole status answer put = record { puts = put.puts; are = put.are; first = to_text keeper sink put.puts appended put.are (all_first put.puts h.sink sink put.come); whole = refl }
+      ends_whole status answer put =
+          record {
+            puts = put.puts;
+            are = put.are;
+            first = to_text keeper sink put.puts appended put.are (all_first put.puts h.sink sink put.come);
+            whole = refl;
+          }
 
 -- where not all was read, and where all was
-module _ (asked : Asked) (h : Histories) (papers : List Paper) (keeps : Bool) (papers_are : papers ≡ asked.papers) (keeps_are : keeps ≡ asked.keeps) (shelf : List Call) where
+module _ (asked : Asked) (h : Histories) (papers : List Paper) (keeps : Bool) (papers_are : papers ≡ asked.papers)
+    (keeps_are : keeps ≡ asked.keeps) (shelf : List Call) where
   pub ends_at_paper : ComeFirst (reads_of papers) h.shelf shelf → MakesFirst (reading asked) h (record h { shelf = shelf })
   ends_at_paper come =
       subst (λ papers. MakesFirst (reads_of papers ++ load_of asked.keeps) h (record h { shelf = shelf })) papers_are
@@ -198,7 +228,8 @@ module _ (asked : Asked) (h : Histories) (papers : List Paper) (keeps : Bool) (p
 
     pub all_read : keeper ≡ h.keeper ++ load_of keeps → loaded ≡ with_calls h (reading asked)
     unfolding to_load then_first first_on_keeper all_first
-    all_read came = (to_load (all_first (load_of keeps) h.keeper keeper came)).noted ∙ ap (with_calls h) (ap (λ calls. reads_of papers ++ calls) (sym (append-nil (load_of keeps))) ∙ as_asked)
+    all_read came = (to_load (all_first (load_of keeps) h.keeper keeper came)).noted
+        ∙ ap (with_calls h) (ap (λ calls. reads_of papers ++ calls) (sym (append-nil (load_of keeps))) ∙ as_asked)
 
 pub fails_above : (fault : RunFault) → NO < status_by (Err fault)
 fails_above run_fault.Read = omega arith
@@ -207,8 +238,10 @@ fails_above run_fault.Keeper = omega arith
 fails_above run_fault.Memory = omega arith
 
 -- a run that gave an outcome
-pub carried_in_order : (asked : Asked) (found : Option ReadView) (before after : Outside) (result : Result ℕ RunFault) (chosen : Chosen asked found before.world) (read : Histories) → read ≡ with_calls before.calls (reading asked)
-    → CallsToCarry chosen.outcome result read after.calls → Becomes chosen.outcome result before.world after.world → IsInOrder asked found before after (status_by result)
+pub carried_in_order : (asked : Asked) (found : Option ReadView) (before after : Outside) (result : Result ℕ RunFault)
+    (chosen : Chosen asked found before.world) (read : Histories) → read ≡ with_calls before.calls (reading asked)
+    → CallsToCarry chosen.outcome result read after.calls → Becomes chosen.outcome result before.world after.world
+    → IsInOrder asked found before after (status_by result)
 unfolding then_first
 carried_in_order asked found before after result chosen read is carries becomes =
     inr (record {

@@ -14,7 +14,8 @@ pub record HasCause (asked : Asked) (found : Option ReadView) (before after : Wo
   -- a read failed
   pub read_fault : status ≡ READ_FAULT → Rose before.shelf.read_faults after.shelf.read_faults
   -- a write or a put failed
-  pub write_fault : status ≡ WRITE_FAULT → Rose before.shelf.write_faults after.shelf.write_faults ⊎ Rose before.sink.faults after.sink.faults
+  pub write_fault : status ≡ WRITE_FAULT
+      → Rose before.shelf.write_faults after.shelf.write_faults ⊎ Rose before.sink.faults after.sink.faults
   -- the keeper failed, of a command that asks for the journal
   pub keeper_fault : status ≡ KEEPER_FAULT → (asked.keeps ≡ true) × Rose before.keeper.faults after.keeper.faults
   -- no fault is passed over

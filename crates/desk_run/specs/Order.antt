@@ -1,5 +1,6 @@
 -- In which order a run calls the shelf, the sink and the keeper.
-use Rattle.std.specs.Prelude.{◌≡◌, ◌⊎◌, ℕ, ◌<◌, Bool, true, false, List, [], ◌∷◌, ◌++◌, fold, map, IfOk, Option, None, Some, Result, Ok, Err}
+use Rattle.std.specs.Prelude.{◌≡◌, ◌⊎◌, ℕ, ◌<◌, Bool, true, false, List, [], ◌∷◌, ◌++◌, fold, map, IfOk, Option, None, Some, Result, Ok}
+use Rattle.std.specs.Prelude.{Err}
 use Rattle.desk_io.specs.History.{Call, Read, Write, Put, Load, Append}
 use Rattle.desk_io.specs.Sink.{ArePuts}
 use Rattle.desk_keeper.specs.Keeper.{Journal}

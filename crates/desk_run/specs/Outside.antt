@@ -13,13 +13,15 @@ pub record Histories : Type 0 where
   pub keeper : List Call
 
 abbrev pub histories : {S O K : Type 0} → (S → List Call) → (O → List Call) → (K → List Call) → S → O → K → Histories
-histories shelf_calls sink_calls keeper_calls shelf out keeper = record { shelf = shelf_calls shelf; sink = sink_calls out; keeper = keeper_calls keeper }
+histories shelf_calls sink_calls keeper_calls shelf out keeper =
+    record { shelf = shelf_calls shelf; sink = sink_calls out; keeper = keeper_calls keeper }
 
 pub record Outside : Type 0 where
   pub world : World
   pub calls : Histories
 
-abbrev pub outside : {S O K : Type 0} → (S → ShelfState) → (S → List Call) → (O → SinkState) → (O → List Call) → (K → KeeperState) → (K → List Call) → S → O → K → Outside
+abbrev pub outside : {S O K : Type 0} → (S → ShelfState) → (S → List Call) → (O → SinkState) → (O → List Call) → (K → KeeperState)
+    → (K → List Call) → S → O → K → Outside
 outside shelf_state shelf_calls sink_state sink_calls keeper_state keeper_calls shelf out keeper = record {
   world = world shelf_state sink_state keeper_state shelf out keeper;
   calls = histories shelf_calls sink_calls keeper_calls shelf out keeper;

@@ -1,5 +1,6 @@
 -- What a command reads: papers, by their names, and the journal.
-use Rattle.std.specs.Prelude.{◌≡◌, ◌≤◌, nat_le, Bool, true, false, List, [], ◌∷◌, length, map, All, Option, None, Some, if◌then◌else◌, Result, Ok, Err}
+use Rattle.std.specs.Prelude.{◌≡◌, ◌≤◌, nat_le, Bool, true, false, List, [], ◌∷◌, length, map, All, Option, None, Some, if◌then◌else◌}
+use Rattle.std.specs.Prelude.{Result, Ok, Err}
 use Rattle.std.specs.List.{list_any}
 use Rattle.std.specs.Str.{bytes_eq}
 use Rattle.desk_io.specs.Shelf.{Files, ShelfState, Tells, ReadFailed, found_in}

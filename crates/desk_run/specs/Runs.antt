@@ -17,11 +17,13 @@ pub record HasEnded (asked : Asked) (found : Option ReadView) (before after : Wo
 
 -- a write of one outcome failed: at one of its files, or at its text
 abbrev pub IsCutShort : Asked → Option ReadView → World → World → Type 0
-IsCutShort asked found before after = (chosen : Chosen asked found before) × (EndsAtFile chosen.outcome before after ⊎ EndsAtText chosen.outcome before after)
+IsCutShort asked found before after = (chosen : Chosen asked found before)
+    × (EndsAtFile chosen.outcome before after ⊎ EndsAtText chosen.outcome before after)
 
 -- the journal was not loaded, or the lines of one outcome were not appended
 abbrev pub IsUnkept : Asked → Option ReadView → World → World → Type 0
-IsUnkept asked found before after = IsUnloaded asked.keeps before after ⊎ ((chosen : Chosen asked found before) × EndsAtLines chosen.outcome before after)
+IsUnkept asked found before after = IsUnloaded asked.keeps before after
+    ⊎ ((chosen : Chosen asked found before) × EndsAtLines chosen.outcome before after)
 
 -- memory was wanted: nothing has changed, but that files of one outcome may be whole
 abbrev pub IsStopped : Asked → Option ReadView → World → World → Type 0

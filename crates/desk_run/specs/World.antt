@@ -11,7 +11,8 @@ pub record World : Type 0 where
   pub keeper : KeeperState
 
 abbrev pub world : {S O K : Type 0} → (S → ShelfState) → (O → SinkState) → (K → KeeperState) → S → O → K → World
-world shelf_state sink_state keeper_state shelf out keeper = record { shelf = shelf_state shelf; sink = sink_state out; keeper = keeper_state keeper }
+world shelf_state sink_state keeper_state shelf out keeper =
+    record { shelf = shelf_state shelf; sink = sink_state out; keeper = keeper_state keeper }
 
 -- no count of faults rose: each is as it was before the run
 pub record NoCountRose (before after : World) : Type 0 where

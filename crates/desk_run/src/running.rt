@@ -22,9 +22,11 @@ fn attempt<C: Command, S: Shelf, O: Sink, K: Keeper, L: Ledger>(
     keeper: &mut K,
     steps: &mut Steps<L>,
 ) -> Result<u8, RunFault>
-    ensures { let at = outside S.state S.history O.state O.history K.state K.history in let before = at shelf.old out.old keeper.old in let after = at shelf.new out.new keeper.new in
+    ensures { let at = outside S.state S.history O.state O.history K.state K.history in let before = at shelf.old out.old keeper.old in
+        let after = at shelf.new out.new keeper.new in
         Follows (C.asked command.now) before.world
-        (λ found. Attempts (C.asked command.now) found result before.world after.world × IsInOrder (C.asked command.now) found before after (status_by result)) steps.old steps.new }
+        (λ found. Attempts (C.asked command.now) found result before.world after.world
+        × IsInOrder (C.asked command.now) found before after (status_by result)) steps.old steps.new }
 {
     let pages = read_papers(alloc, shelf, command.papers())?;
     let journal = load(alloc, keeper, command.keeps())?;
@@ -42,9 +44,11 @@ fn answered<C: Command, S: Shelf, O: Sink, K: Keeper, L: Ledger>(
     keeper: &mut K,
     steps: &mut Steps<L>,
 ) -> u8
-    ensures { let at = outside S.state S.history O.state O.history K.state K.history in let before = at shelf.old out.old keeper.old in let after = at shelf.new out.new keeper.new in
+    ensures { let at = outside S.state S.history O.state O.history K.state K.history in let before = at shelf.old out.old keeper.old in
+        let after = at shelf.new out.new keeper.new in
         Follows (C.asked command.now) before.world
-        (λ found. RunsAs (C.asked command.now) found before.world after.world result × IsInOrder (C.asked command.now) found before after result) steps.old steps.new }
+        (λ found. RunsAs (C.asked command.now) found before.world after.world result
+        × IsInOrder (C.asked command.now) found before after result) steps.old steps.new }
 {
     match attempt(command, alloc, shelf, out, keeper, steps) {
         Ok(status) => status,

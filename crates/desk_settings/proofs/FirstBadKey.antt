@@ -1,5 +1,6 @@
 -- Where members ascend, the key at which the desk is refused is the least of the bad ones.
-use Rattle.std.proofs.Common.{◌≡◌, Bool, true, false, cond, not, Option, Some, None, is_some, option_map, Err, refl, sym, ap, subst, ◌∙◌, inl, inr, Ordering, Less, Equal, Greater, nat_cmp, codes}
+use Rattle.std.proofs.Common.{◌≡◌, Bool, true, false, cond, not, Option, Some, None, is_some, option_map, Err, refl, sym, ap, subst, ◌∙◌}
+use Rattle.std.proofs.Common.{inl, inr, Ordering, Less, Equal, Greater, nat_cmp, codes}
 use Rattle.std.specs.Cmp.{tied_itself}
 use Rattle.std.specs.Cmp.Lexicographic.{slice_cmp}
 use Rattle.std.specs.Option.{ok_or}
@@ -18,7 +19,8 @@ map-some : {A B C : Type 0} (f : A → B) (g : A → C) (o : Option A) → is_so
 map-some f g None = refl
 map-some f g (Some x) = refl
 
-either-some : {A : Type 0} (b : Bool) (x y u v : Option A) → is_some x ≡ is_some u → is_some y ≡ is_some v → is_some (cond b x y) ≡ is_some (cond b u v)
+either-some : {A : Type 0} (b : Bool) (x y u v : Option A) → is_some x ≡ is_some u → is_some y ≡ is_some v
+    → is_some (cond b x y) ≡ is_some (cond b u v)
 either-some true x y u v here there = here
 either-some false x y u v here there = there
 
@@ -53,9 +55,11 @@ none-before key (member next value rest) front ascend =
   where
     before-rest : (low high : Name) (ms : Members) → slice_cmp nat_cmp low high ≡ Less → is_before high ms ≡ true → is_before low ms ≡ true
     before-rest low high no_members less front = refl
-    before-rest low high (member next value rest) less front = ap is_lt (nat_list_cmp_total.trans low high next less (lt_from (slice_cmp nat_cmp high next) front))
+    before-rest low high (member next value rest) less front =
+        ap is_lt (nat_list_cmp_total.trans low high next less (lt_from (slice_cmp nat_cmp high next) front))
 
-here-refused : (key bad : Name) (value : Data) (rest : Members) → key ≡ bad → is_bad key value ≡ true → is_before key rest ≡ true → Ascend rest
+here-refused : (key bad : Name) (value : Data) (rest : Members) → key ≡ bad → is_bad key value ≡ true → is_before key rest ≡ true
+    → Ascend rest
     → HasBad bad (member key value rest) × NoBadBefore bad (member key value rest)
 here-refused key bad value rest same is front ascend =
     subst (λ first. HasBad first (member key value rest) × NoBadBefore first (member key value rest)) same
@@ -65,8 +69,10 @@ later-refused : (key bad : Name) (value : Data) (rest : Members) → is_bad key 
     → HasBad bad (member key value rest) × NoBadBefore bad (member key value rest)
 later-refused key bad value rest good later = (inr later.0, ((λ is. absurd (true≢false (sym is ∙ good))), later.1))
 
-refused-by : (o : Option DeskTable) (key bad : Name) (value : Data) (rest : Members) → is_some o ≡ is_some (with_key standard_desk key value)
-    → is_before key rest ≡ true → Ascend rest → ((desk : DeskTable) → desk_from desk rest ≡ Err (fault.BadSettings bad) → HasBad bad rest × NoBadBefore bad rest)
+refused-by : (o : Option DeskTable) (key bad : Name) (value : Data) (rest : Members)
+    → is_some o ≡ is_some (with_key standard_desk key value)
+    → is_before key rest ≡ true → Ascend rest
+    → ((desk : DeskTable) → desk_from desk rest ≡ Err (fault.BadSettings bad) → HasBad bad rest × NoBadBefore bad rest)
     → (ok_or o (fault.BadSettings key) >>= λ more. desk_from more rest) ≡ Err (fault.BadSettings bad)
     → HasBad bad (member key value rest) × NoBadBefore bad (member key value rest)
 refused-by None key bad value rest same front ascend later is =
@@ -75,7 +81,9 @@ refused-by (Some desk) key bad value rest same front ascend later is =
     later-refused key bad value rest (sym (ap not same)) (later desk is)
 
 -- the key at which the desk is refused is a bad one, and no bad one comes before it
-pub first_bad : (desk : DeskTable) (ms : Members) (bad : Name) → Ascend ms → desk_from desk ms ≡ Err (fault.BadSettings bad) → HasBad bad ms × NoBadBefore bad ms
+pub first_bad : (desk : DeskTable) (ms : Members) (bad : Name) → Ascend ms → desk_from desk ms ≡ Err (fault.BadSettings bad)
+    → HasBad bad ms × NoBadBefore bad ms
 first_bad desk no_members bad ascend is = absurd cc
 first_bad desk (member key value rest) bad ascend is =
-    refused-by (with_key desk key value) key bad value rest (bad-anywhere desk standard_desk key value) ascend.0 ascend.1 (λ next. λ refused. first_bad next rest bad ascend.1 refused) is
+    refused-by (with_key desk key value) key bad value rest (bad-anywhere desk standard_desk key value) ascend.0 ascend.1
+    (λ next. λ refused. first_bad next rest bad ascend.1 refused) is

@@ -1,5 +1,6 @@
 -- What `desk.toml` says. The members of its table are in the byte order of their keys.
-use Rattle.std.specs.Prelude.{◌≡◌, ◌⊎◌, ℕ, ◌==◌, ◌&&◌, Bool, true, false, not, ⊤, ◌++◌, ℤ, pos, List, [], ◌∷◌, length, nat_le, Option, Some, None, is_some, option_map, option_and_then, Result, Ok, codes, if◌then◌else◌}
+use Rattle.std.specs.Prelude.{◌≡◌, ◌⊎◌, ℕ, ◌==◌, ◌&&◌, Bool, true, false, not, ⊤, ◌++◌, ℤ, pos, List, [], ◌∷◌, length, nat_le, Option}
+use Rattle.std.specs.Prelude.{Some, None, is_some, option_map, option_and_then, Result, Ok, codes, if◌then◌else◌}
 use Rattle.std.specs.Cmp.Lexicographic.{slice_cmp}
 use Rattle.std.specs.Option.{ok_or}
 use Rattle.std.specs.Ordering.{nat_cmp, is_lt}
@@ -48,7 +49,8 @@ names_in value = option_and_then (names_from []) (as_array value)
 -- the names of a table with their values, each of a form, after those before them
 abbrev pub entries_from : {X : Type 0} → (Data → Option X) → Entries X → Members → Option (Entries X)
 entries_from value_in before no_members = Some before
-entries_from value_in before (member name value rest) = option_and_then (λ x. entries_from value_in (before ++ (name, x) ∷ []) rest) (value_in value)
+entries_from value_in before (member name value rest) =
+    option_and_then (λ x. entries_from value_in (before ++ (name, x) ∷ []) rest) (value_in value)
 
 -- a value that is a table from places to minutes of layover
 abbrev pub layovers_in : Data → Option (Entries ℕ)

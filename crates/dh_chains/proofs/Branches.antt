@@ -11,23 +11,28 @@ use Rattle.dh_chains.specs.Search.{IsBranch, IsFirstBranch, IsFirstTail, IsNext,
 
 -- there is one next minute of a maximum, or none
 pub some-not-none : (d : ℕ → ℤ) (from at : ℕ) → IsNextMaximum d from at → NoNextMaximum d from → ⊥
-some-not-none d from at is none = let below = none at is.not_before is.within in let reached = is.reached in omega (arith, ints, below, reached)
+some-not-none d from at is none = let below = none at is.not_before is.within in let reached = is.reached in
+    omega (arith, ints, below, reached)
 
 pub one-next : (d : ℕ → ℤ) (from a b : ℕ) → IsNextMaximum d from a → IsNextMaximum d from b → a ≡ b
 one-next d from a b is other = ⊎_elim
-    (λ (less : a < b). let below = other.first a is.not_before less in let reached = is.reached in absurd (omega (arith, ints, below, reached)))
+    (λ (less : a < b). let below = other.first a is.not_before less in let reached = is.reached in
+    absurd (omega (arith, ints, below, reached)))
     (λ (h : b ≤ a). ⊎_elim
-    (λ (less : b < a). let below = is.first b other.not_before less in let reached = other.reached in absurd (omega (arith, ints, below, reached)))
+    (λ (less : b < a). let below = is.first b other.not_before less in let reached = other.reached in
+    absurd (omega (arith, ints, below, reached)))
     (λ (k : a ≤ b). let same : a ≡ b = omega arith in same)
     (cases_lt b a))
     (cases_lt a b)
 
 -- a next deadhead from one place is the same as any other from there
-pub same-next : (places : Places) (had : List ℕ) (to arrives : ℕ) (m n : Deadhead) → IsNext places had to arrives m → IsNext places had to arrives n → m.from ≡ n.from → m ≡ n
+pub same-next : (places : Places) (had : List ℕ) (to arrives : ℕ) (m n : Deadhead) → IsNext places had to arrives m
+    → IsNext places had to arrives n → m.from ≡ n.from → m ≡ n
 same-next places had to arrives m n is other from =
     let into : m.to ≡ n.to = is.into ∙ sym other.into in
     let on_time : m.arrives ≡ n.arrives = is.on_time ∙ sym other.on_time in
-    let minutes : is.deadhead.minutes ≡ other.deadhead.minutes = same_Some _ _ (sym is.deadhead.walk ∙ (λ i. places.walk (from i) (into i)) ∙ other.deadhead.walk) in
+    let minutes : is.deadhead.minutes ≡ other.deadhead.minutes =
+    same_Some _ _ (sym is.deadhead.walk ∙ (λ i. places.walk (from i) (into i)) ∙ other.deadhead.walk) in
     let leaves : m.leaves ≡ n.leaves = omega (arith, is.deadhead.leaves, other.deadhead.leaves, minutes, on_time) in
     λ i. record { from = from i; to = into i; leaves = leaves i; arrives = on_time i }
 
@@ -40,18 +45,23 @@ below-absent places most had to arrives from below absent = λ next rest h few b
     (cases_lt next.from from)
 
 -- one place more, from which one leads there, but the chain goes on in no way behind it
-pub below-dead : (places : Places) (most : ℕ) (had : List ℕ) (to arrives from : ℕ) (m : Deadhead) → NoBranchBelow places most had to arrives from
-    → m.from ≡ from → IsNext places had to arrives m → NoTail places most (m.from ∷ had) m → NoBranchBelow places most had to arrives (from + 1)
+pub below-dead : (places : Places) (most : ℕ) (had : List ℕ) (to arrives from : ℕ) (m : Deadhead)
+    → NoBranchBelow places most had to arrives from
+    → m.from ≡ from → IsNext places had to arrives m → NoTail places most (m.from ∷ had) m
+    → NoBranchBelow places most had to arrives (from + 1)
 below-dead places most had to arrives from m below is next dead = λ n rest h few branch. ⊎_elim
     (λ (less : n.from < from). below n rest less few branch)
     (λ (here : from ≤ n.from).
-    let same : n ≡ m = same-next places had to arrives n m branch.arriving next (let from_same : n.from ≡ m.from = omega arith in from_same) in
+    let same : n ≡ m = same-next places had to arrives n m branch.arriving next
+    (let from_same : n.from ≡ m.from = omega arith in from_same) in
     dead rest few (subst (λ (x : Deadhead). IsTail places (x.from ∷ had) x rest) same branch.tail))
     (cases_lt n.from from)
 
 -- the first way behind the first deadhead that has one
-pub first-branch : (places : Places) (most : ℕ) (had : List ℕ) (to arrives from : ℕ) (m : Deadhead) (rest : List Deadhead) → NoBranchBelow places most had to arrives from
-    → m.from ≡ from → IsNext places had to arrives m → IsFirstTail places most (m.from ∷ had) m rest → IsFirstBranch places most had to arrives m rest
+pub first-branch : (places : Places) (most : ℕ) (had : List ℕ) (to arrives from : ℕ) (m : Deadhead) (rest : List Deadhead)
+    → NoBranchBelow places most had to arrives from
+    → m.from ≡ from → IsNext places had to arrives m → IsFirstTail places most (m.from ∷ had) m rest
+    → IsFirstBranch places most had to arrives m rest
 first-branch places most had to arrives from m rest below is next first = record {
   few = first.few;
   branch = record { arriving = next; tail = first.tail };
@@ -64,18 +74,22 @@ first-branch places most had to arrives from m rest below is next first = record
 }
 
 -- past the last place there is none
-pub none-below-all : (places : Places) (most : ℕ) (had : List ℕ) (to arrives from : ℕ) → places.count ≤ from → NoBranchBelow places most had to arrives from → NoBranch places most had to arrives
-none-below-all places most had to arrives from all below = λ next rest few branch. below next rest (omega (arith, branch.arriving.deadhead.from)) few branch
+pub none-below-all : (places : Places) (most : ℕ) (had : List ℕ) (to arrives from : ℕ) → places.count ≤ from
+    → NoBranchBelow places most had to arrives from → NoBranch places most had to arrives
+none-below-all places most had to arrives from all below =
+    λ next rest few branch. below next rest (omega (arith, branch.arriving.deadhead.from)) few branch
 
 -- where the place is below its maximum from then on, the chain ends there
-pub first-end : (places : Places) (most : ℕ) (had : List ℕ) (m : Deadhead) → NoNextMaximum (places.deficit m.from) m.leaves → IsFirstTail places most had m []
+pub first-end : (places : Places) (most : ℕ) (had : List ℕ) (m : Deadhead) → NoNextMaximum (places.deficit m.from) m.leaves
+    → IsFirstTail places most had m []
 first-end places most had m none = record { few = omega arith; tail = none; least = λ other few tail before. nothing (left other) before }
   where
     nothing : (ps : List ℕ) → IsBefore ps [] → ⊥
     nothing ps before = before
 
 -- where it is not, it does not end there
-pub no-end : (places : Places) (had : List ℕ) (m : Deadhead) (at : ℕ) → IsNextMaximum (places.deficit m.from) m.leaves at → NoTail places 0 had m
+pub no-end : (places : Places) (had : List ℕ) (m : Deadhead) (at : ℕ) → IsNextMaximum (places.deficit m.from) m.leaves at
+    → NoTail places 0 had m
 no-end places had m at is [] few tail = some-not-none (places.deficit m.from) m.leaves at is tail
 no-end places had m at is (next ∷ rest) few tail = absurd (omega arith)
 
@@ -83,20 +97,27 @@ moved : (places : Places) (had : List ℕ) (to a b : ℕ) (m : Deadhead) → a �
 moved places had to a b m same is = subst (λ t. IsNext places had to t m) same is
 
 -- how a chain goes on behind a deadhead is how it goes on with the next one, which arrives at that minute
-branch-of : (places : Places) (had : List ℕ) (m : Deadhead) (at : ℕ) (next : Deadhead) (rest : List Deadhead) → IsNextMaximum (places.deficit m.from) m.leaves at
+branch-of : (places : Places) (had : List ℕ) (m : Deadhead) (at : ℕ) (next : Deadhead) (rest : List Deadhead)
+    → IsNextMaximum (places.deficit m.from) m.leaves at
     → IsTail places had m (next ∷ rest) → IsBranch places had m.from at next rest
 branch-of places had m at next rest is tail = record {
   arriving = moved places had m.from next.arrives at next (one-next (places.deficit m.from) m.leaves next.arrives at tail.0 is) tail.1;
   tail = tail.2;
 }
 
-tail-of : (places : Places) (had : List ℕ) (m : Deadhead) (at : ℕ) (next : Deadhead) (rest : List Deadhead) → IsNextMaximum (places.deficit m.from) m.leaves at
+tail-of : (places : Places) (had : List ℕ) (m : Deadhead) (at : ℕ) (next : Deadhead) (rest : List Deadhead)
+    → IsNextMaximum (places.deficit m.from) m.leaves at
     → IsBranch places had m.from at next rest → IsTail places had m (next ∷ rest)
 tail-of places had m at next rest is branch =
-    let on_time : at ≡ next.arrives = sym branch.arriving.on_time in
-    (subst (IsNextMaximum (places.deficit m.from) m.leaves) on_time is, moved places had m.from at next.arrives next on_time branch.arriving, branch.tail)
+    let on_time : at ≡ next.arrives = sym branch.arriving.on_time in (
+      subst (IsNextMaximum (places.deficit m.from) m.leaves) on_time is,
+      moved places had m.from at next.arrives next on_time
+          branch.arriving,
+      branch.tail,
+    )
 
-pub first-onward : (places : Places) (most : ℕ) (had : List ℕ) (m : Deadhead) (at : ℕ) (next : Deadhead) (rest : List Deadhead) → IsNextMaximum (places.deficit m.from) m.leaves at
+pub first-onward : (places : Places) (most : ℕ) (had : List ℕ) (m : Deadhead) (at : ℕ) (next : Deadhead) (rest : List Deadhead)
+    → IsNextMaximum (places.deficit m.from) m.leaves at
     → IsFirstBranch places most had m.from at next rest → IsFirstTail places (suc most) had m (next ∷ rest)
 first-onward places most had m at next rest is first = record {
   few = omega (arith, first.few);

@@ -30,28 +30,34 @@ none-agree d e from same none = λ t h within.
     let here = same t within in
     omega (arith, ints, less, here, maximum)
 
-goes_on-agree : (places : Places) (e : ℕ → ℕ → ℤ) (last : Deadhead) (rest : List Deadhead) → ((k t : ℕ) → k < places.count → t ≤ 8191 → places.deficit k t ≡ e k t)
+goes_on-agree : (places : Places) (e : ℕ → ℕ → ℤ) (last : Deadhead) (rest : List Deadhead)
+    → ((k t : ℕ) → k < places.count → t ≤ 8191 → places.deficit k t ≡ e k t)
     → last.from < places.count → All (IsDeadhead places) rest → GoesOn places last rest → GoesOn (record places { deficit = e }) last rest
-goes_on-agree places e last [] same within deadheads goes = none-agree (places.deficit last.from) (e last.from) last.leaves (λ t h. same last.from t within h) goes
+goes_on-agree places e last [] same within deadheads goes =
+    none-agree (places.deficit last.from) (e last.from) last.leaves (λ t h. same last.from t within h) goes
 goes_on-agree places e last (next ∷ rest) same within deadheads goes = (
   goes.0,
   next-agree (places.deficit last.from) (e last.from) last.leaves next.arrives (λ t h. same last.from t within h) goes.1,
-  goes_on-agree places e next rest same (All-head (IsDeadhead places) next rest deadheads).from (All-tail (IsDeadhead places) next rest deadheads) goes.2,
+  goes_on-agree places e next rest same (All-head (IsDeadhead places) next rest deadheads).from
+      (All-tail (IsDeadhead places) next rest deadheads) goes.2,
 )
 
 deadhead-agree : (places : Places) (e : ℕ → ℕ → ℤ) (m : Deadhead) → IsDeadhead places m → IsDeadhead (record places { deficit = e }) m
 deadhead-agree places e m is = record { from = is.from; minutes = is.minutes; walk = is.walk; lasting = is.lasting; leaves = is.leaves }
 
-pub chain-agree : (places : Places) (e : ℕ → ℕ → ℤ) (first : Deadhead) (rest : List Deadhead) → ((k t : ℕ) → k < places.count → t ≤ 8191 → places.deficit k t ≡ e k t)
+pub chain-agree : (places : Places) (e : ℕ → ℕ → ℤ) (first : Deadhead) (rest : List Deadhead)
+    → ((k t : ℕ) → k < places.count → t ≤ 8191 → places.deficit k t ≡ e k t)
     → IsUnitChain places first rest → IsUnitChain (record places { deficit = e }) first rest
 chain-agree places e first rest same chain =
     let maximum = first_maximum-agree (places.deficit first.to) (e first.to) (λ t h. same first.to t chain.target h) in
     record {
       few = chain.few;
-      deadheads = All-weaker (IsDeadhead places) (IsDeadhead (record places { deficit = e })) (deadhead-agree places e) (first ∷ rest) chain.deadheads;
+      deadheads = All-weaker (IsDeadhead places) (IsDeadhead (record places { deficit = e })) (deadhead-agree places e) (first ∷ rest)
+          chain.deadheads;
       distinct = chain.distinct;
       target = chain.target;
       wanting = subst (λ (m : ℤ × ℕ). pos 0 <ℤ m.0) maximum chain.wanting;
       in_time = chain.in_time ∙ ap (λ (m : ℤ × ℕ). m.1) maximum;
-      goes_on = goes_on-agree places e first rest same (All-head (IsDeadhead places) first rest chain.deadheads).from (All-tail (IsDeadhead places) first rest chain.deadheads) chain.goes_on;
+      goes_on = goes_on-agree places e first rest same (All-head (IsDeadhead places) first rest chain.deadheads).from
+          (All-tail (IsDeadhead places) first rest chain.deadheads) chain.goes_on;
     }

@@ -7,18 +7,22 @@ use Rattle.dh_chains.specs.declared.chain.Deadhead.{Deadhead}
 use Rattle.dh_chains.specs.Chains.{following}
 use Rattle.dh_chains.specs.Lines.{deadhead_text, further_text}
 
-pub none-written : (timetable : TimetableView) (before : List ℕ) (second third : Option Deadhead) → second ≡ None → before ≡ before ++ further_text timetable (following second third)
+pub none-written : (timetable : TimetableView) (before : List ℕ) (second third : Option Deadhead) → second ≡ None
+    → before ≡ before ++ further_text timetable (following second third)
 unfolding further_text
-none-written timetable before second third none = sym (append-nil before) ∙ ap (λ (o : Option Deadhead). before ++ further_text timetable (following o third)) (sym none)
+none-written timetable before second third none = sym (append-nil before)
+    ∙ ap (λ (o : Option Deadhead). before ++ further_text timetable (following o third)) (sym none)
 
-pub one-written : (timetable : TimetableView) (before after : List ℕ) (second third : Option Deadhead) (m : Deadhead) → second ≡ Some m → third ≡ None
+pub one-written : (timetable : TimetableView) (before after : List ℕ) (second third : Option Deadhead) (m : Deadhead) → second ≡ Some m
+    → third ≡ None
     → after ≡ before ++ (codes "; " ++ deadhead_text timetable m) → after ≡ before ++ further_text timetable (following second third)
 unfolding further_text
 one-written timetable before after second third m some none written =
     written ∙ ap (λ xs. before ++ xs) (sym (append-nil (codes "; " ++ deadhead_text timetable m)))
     ∙ (λ i. before ++ further_text timetable (following (sym some i) (sym none i)))
 
-pub two-written : (timetable : TimetableView) (before between after : List ℕ) (second third : Option Deadhead) (m n : Deadhead) → second ≡ Some m → third ≡ Some n
+pub two-written : (timetable : TimetableView) (before between after : List ℕ) (second third : Option Deadhead) (m n : Deadhead)
+    → second ≡ Some m → third ≡ Some n
     → between ≡ before ++ (codes "; " ++ deadhead_text timetable m) → after ≡ between ++ (codes "; " ++ deadhead_text timetable n)
     → after ≡ before ++ further_text timetable (following second third)
 unfolding further_text

@@ -19,7 +19,8 @@ pairs-head p ps pairs = λ k d within. pairs 0 (suc k) d (omega arith) (omega ar
 pairs-tail : (p : ℕ) (ps : List ℕ) → AllPairs (λ p q. p ≢ q) (p ∷ ps) → AllPairs (λ p q. p ≢ q) ps
 pairs-tail p ps pairs = λ i j d below within. pairs (suc i) (suc j) d (omega arith) (omega arith)
 
-pub to-tail : (places : Places) (had : List ℕ) (last : Deadhead) (rest : List Deadhead) → All (IsDeadhead places) rest → AllPairs (λ p q. p ≢ q) (left rest)
+pub to-tail : (places : Places) (had : List ℕ) (last : Deadhead) (rest : List Deadhead) → All (IsDeadhead places) rest
+    → AllPairs (λ p q. p ≢ q) (left rest)
     → All (IsApart (left rest)) had → GoesOn places last rest → IsTail places had last rest
 to-tail places had last [] deadheads distinct apart goes = goes
 to-tail places had last (next ∷ rest) deadheads distinct apart goes = (
@@ -28,10 +29,12 @@ to-tail places had last (next ∷ rest) deadheads distinct apart goes = (
     deadhead = All-head (IsDeadhead places) next rest deadheads;
     into = goes.0;
     on_time = refl;
-    fresh = λ has. All-head (λ q. next.from ≢ q) next.from (left rest) (All-contains (IsApart (left (next ∷ rest))) had next.from apart has) refl;
+    fresh = λ has. All-head (λ q. next.from ≢ q) next.from (left rest)
+        (All-contains (IsApart (left (next ∷ rest))) had next.from apart has) refl;
   },
   to-tail places (next.from ∷ had) next rest (All-tail (IsDeadhead places) next rest deadheads) (pairs-tail next.from (left rest) distinct)
-      (All-cons (IsApart (left rest)) next.from had (pairs-head next.from (left rest) distinct) (λ k d within. All-tail (λ q. get_or had k d ≢ q) next.from (left rest) (apart k d within))) goes.2,
+      (All-cons (IsApart (left rest)) next.from had (pairs-head next.from (left rest) distinct)
+      (λ k d within. All-tail (λ q. get_or had k d ≢ q) next.from (left rest) (apart k d within))) goes.2,
 )
 
 -- what a chain is behind a deadhead, each part by itself
@@ -41,7 +44,8 @@ pub record IsFlat (places : Places) (had : List ℕ) (last : Deadhead) (rest : L
   pub apart : All (IsApart (left rest)) had
   pub goes_on : GoesOn places last rest
 
-pub from-tail : (places : Places) (had : List ℕ) (last : Deadhead) (rest : List Deadhead) → IsTail places had last rest → IsFlat places had last rest
+pub from-tail : (places : Places) (had : List ℕ) (last : Deadhead) (rest : List Deadhead) → IsTail places had last rest
+    → IsFlat places had last rest
 from-tail places had last [] tail = record {
   deadheads = All-nil (IsDeadhead places);
   distinct = λ i j d below within. absurd (omega arith);
@@ -72,15 +76,18 @@ branch-of-chain places first rest chain =
         on_time = chain.in_time;
         fresh = λ has. All-head (λ q. first.to ≢ q) first.from (left rest) apart (only first.to first.from has);
       };
-      tail = to-tail places (first.from ∷ first.to ∷ []) first rest (All-tail (IsDeadhead places) first rest chain.deadheads) (pairs-tail first.from (left rest) behind)
+      tail = to-tail places (first.from ∷ first.to ∷ []) first rest (All-tail (IsDeadhead places) first rest chain.deadheads)
+          (pairs-tail first.from (left rest) behind)
           (All-cons (IsApart (left rest)) first.from (first.to ∷ []) (pairs-head first.from (left rest) behind)
-          (All-cons (IsApart (left rest)) first.to [] (All-tail (λ q. first.to ≢ q) first.from (left rest) apart) (All-nil (IsApart (left rest))))) chain.goes_on;
+          (All-cons (IsApart (left rest)) first.to [] (All-tail (λ q. first.to ≢ q) first.from (left rest) apart)
+          (All-nil (IsApart (left rest))))) chain.goes_on;
     }
   where
     only : (p q : ℕ) → Contains (p ∷ []) q → p ≡ q
     only p q has = All-contains (λ x. p ≡ x) (p ∷ []) q (All-cons (λ x. p ≡ x) p [] refl (All-nil (λ x. p ≡ x))) has
 
-pub chain-of-branch : (places : Places) (target : ℕ) (first : Deadhead) (rest : List Deadhead) → target < places.count → pos 0 <ℤ (first_maximum (places.deficit target)).0 → length rest ≤ 2
+pub chain-of-branch : (places : Places) (target : ℕ) (first : Deadhead) (rest : List Deadhead) → target < places.count
+    → pos 0 <ℤ (first_maximum (places.deficit target)).0 → length rest ≤ 2
     → IsBranch places (target ∷ []) target (first_maximum (places.deficit target)).1 first rest → IsUnitChain places first rest
 chain-of-branch places target first rest within wanting few branch =
     let into = branch.arriving.into in
@@ -92,7 +99,8 @@ chain-of-branch places target first rest within wanting few branch =
       deadheads = All-cons (IsDeadhead places) first rest branch.arriving.deadhead flat.deadheads;
       distinct = subst (λ k. AllPairs (λ p q. p ≢ q) (k ∷ left (first ∷ rest))) (sym into)
           (AllPairs-cons (λ p q. p ≢ q) target (left (first ∷ rest)) (All-cons (λ q. target ≢ q) first.from (left rest) other apart)
-          (AllPairs-cons (λ p q. p ≢ q) first.from (left rest) (All-head (IsApart (left rest)) first.from (target ∷ []) flat.apart) flat.distinct));
+          (AllPairs-cons (λ p q. p ≢ q) first.from (left rest) (All-head (IsApart (left rest)) first.from (target ∷ []) flat.apart)
+          flat.distinct));
       target = subst (λ k. k < places.count) (sym into) within;
       wanting = subst (λ k. pos 0 <ℤ (first_maximum (places.deficit k)).0) (sym into) wanting;
       in_time = branch.arriving.on_time ∙ ap (λ k. (first_maximum (places.deficit k)).1) (sym into);
@@ -105,7 +113,8 @@ branch-to places target first rest to chain =
     subst (λ k. IsBranch places (k ∷ []) k (first_maximum (places.deficit k)).1 first rest) to (branch-of-chain places first rest chain)
 
 -- the first chain to a place, where the maximum and its first minute are these
-pub first-to : (places : Places) (target high at : ℕ) (first : Deadhead) (rest : List Deadhead) → target < places.count → first_maximum (places.deficit target) ≡ (pos high, at) → 0 < high
+pub first-to : (places : Places) (target high at : ℕ) (first : Deadhead) (rest : List Deadhead) → target < places.count
+    → first_maximum (places.deficit target) ≡ (pos high, at) → 0 < high
     → IsFirstBranch places 2 (target ∷ []) target at first rest → IsFirstChainTo places target first rest
 first-to places target high at first rest within maximum wanting is =
     let value : (first_maximum (places.deficit target)).0 ≡ pos high = ap (λ (m : ℤ × ℕ). m.0) maximum in
@@ -122,6 +131,8 @@ first-to places target high at first rest within maximum wanting is =
           before);
     }
 
-pub none-to : (places : Places) (target high at : ℕ) → first_maximum (places.deficit target) ≡ (pos high, at) → NoBranch places 2 (target ∷ []) target at → NoChainTo places target
+pub none-to : (places : Places) (target high at : ℕ) → first_maximum (places.deficit target) ≡ (pos high, at)
+    → NoBranch places 2 (target ∷ []) target at → NoChainTo places target
 none-to places target high at maximum none = λ first rest to chain.
-    none first rest chain.few (subst (λ t. IsBranch places (target ∷ []) target t first rest) (ap (λ (m : ℤ × ℕ). m.1) maximum) (branch-to places target first rest to chain))
+    none first rest chain.few (subst (λ t. IsBranch places (target ∷ []) target t first rest) (ap (λ (m : ℤ × ℕ). m.1) maximum)
+    (branch-to places target first rest to chain))

@@ -1,5 +1,6 @@
 -- The chains of deadheads with which the sum of the maxima of the deficits is smaller by one, and the first of them.
-use Rattle.std.specs.Prelude.{◌≡◌, ◌≢◌, ◌⊎◌, ⊤, ℕ, ◌+◌, ◌<◌, ◌≤◌, List, [], ◌∷◌, length, map, All, AllPairs, Option, None, Some, ℤ, pos, ◌+ℤ◌, ◌<ℤ◌}
+use Rattle.std.specs.Prelude.{◌≡◌, ◌≢◌, ◌⊎◌, ⊤, ℕ, ◌+◌, ◌<◌, ◌≤◌, List, [], ◌∷◌, length, map, All, AllPairs, Option, None, Some, ℤ, pos}
+use Rattle.std.specs.Prelude.{◌+ℤ◌, ◌<ℤ◌}
 use Rattle.trip_model.specs.Deficit.{deficit}
 use Rattle.trip_model.specs.Maximum.{first_maximum}
 use Rattle.trip_model.specs.declared.trip.Move.{Move}
@@ -36,7 +37,8 @@ pub record IsDeadhead (places : Places) (m : Deadhead) : Type 0 where
 -- at which the place is at its maximum. Where there is no such minute, none follows.
 abbrev pub GoesOn : Places → Deadhead → List Deadhead → Type 0
 GoesOn places last [] = NoNextMaximum (places.deficit last.from) last.leaves
-GoesOn places last (next ∷ rest) = (next.to ≡ last.from) × IsNextMaximum (places.deficit last.from) last.leaves next.arrives × GoesOn places next rest
+GoesOn places last (next ∷ rest) = (next.to ≡ last.from) × IsNextMaximum (places.deficit last.from) last.leaves next.arrives
+    × GoesOn places next rest
 
 -- the places that deadheads leave
 abbrev pub left : List Deadhead → List ℕ

@@ -8,7 +8,8 @@ use Rattle.dh_chains.specs.declared.chain.Deadhead.{Deadhead}
 
 -- behind a deadhead that leaves a place before a minute, a chain has no end with at most so many more
 abbrev pub EndsFrom : Places → ℕ → ℕ → ℕ → Type 0
-EndsFrom places most place minute = (m : Deadhead) (had : List ℕ) → m.from ≡ place → m.leaves < minute → Contains had place → NoTail places most had m
+EndsFrom places most place minute = (m : Deadhead) (had : List ℕ) → m.from ≡ place → m.leaves < minute → Contains had place
+    → NoTail places most had m
 
 -- such minutes for all places
 abbrev pub AreEarliest : Places → ℕ → List ℕ → Type 0
@@ -31,7 +32,8 @@ IsPassed from to m = (m.from < from) ⊎ ((m.from ≡ from) × (m.to < to))
 
 -- of these, none with which a chain goes on to its end arrives before the minute of the place where it arrives
 abbrev pub PassedArriveFrom : Places → ℕ → List ℕ → ℕ → ℕ → Type 0
-PassedArriveFrom places most minutes from to = (m : Deadhead) → IsPassed from to m → IsOnward places most m → slice_index minutes m.to ≤ m.arrives
+PassedArriveFrom places most minutes from to = (m : Deadhead) → IsPassed from to m → IsOnward places most m
+    → slice_index minutes m.to ≤ m.arrives
 
 -- none with which a chain goes on to its end arrives before the minute of the place where it arrives
 abbrev pub ArriveFrom : Places → ℕ → List ℕ → Type 0

@@ -16,7 +16,8 @@ pub record IsBetween (places : ℕ) (m : Deadhead) : Type 0 where
 -- a deadhead: the place that it leaves, the minute, `to`, the place where it arrives, and the minute
 unfoldable pub deadhead_text : TimetableView → Deadhead → List ℕ
 deadhead_text timetable m =
-    (place_at timetable m.from).name ++ codes " " ++ minute_digits m.leaves ++ codes " to " ++ (place_at timetable m.to).name ++ codes " " ++ minute_digits m.arrives
+    (place_at timetable m.from).name ++ codes " " ++ minute_digits m.leaves ++ codes " to " ++ (place_at timetable m.to).name ++ codes " "
+    ++ minute_digits m.arrives
 
 -- deadheads, each behind a semicolon
 unfoldable pub further_text : TimetableView → List Deadhead → List ℕ
@@ -25,4 +26,5 @@ further_text timetable ms = flat_map (λ (m : Deadhead). codes "; " ++ deadhead_
 -- the chain of that number: its deadheads, and the sum of the maxima with it
 unfoldable pub chain_text : TimetableView → ℕ → Chain → ℕ → List ℕ
 chain_text timetable number chain sum =
-    codes "chain " ++ decimal number ++ codes ": " ++ deadhead_text timetable chain.first ++ further_text timetable (following chain.second chain.third) ++ codes ", sum " ++ decimal sum ++ 10 ∷ []
+    codes "chain " ++ decimal number ++ codes ": " ++ deadhead_text timetable chain.first
+    ++ further_text timetable (following chain.second chain.third) ++ codes ", sum " ++ decimal sum ++ 10 ∷ []

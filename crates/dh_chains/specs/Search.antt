@@ -43,7 +43,8 @@ NoBranch places most had to arrives =
     (next : Deadhead) (rest : List Deadhead) → length rest ≤ most → IsBranch places had to arrives next rest → ⊥
 
 -- the first with no more than so many deadheads behind the next one
-pub record IsFirstBranch (places : Places) (most : ℕ) (had : List ℕ) (to arrives : ℕ) (next : Deadhead) (rest : List Deadhead) : Type 0 where
+pub record IsFirstBranch (places : Places) (most : ℕ) (had : List ℕ) (to arrives : ℕ) (next : Deadhead)
+    (rest : List Deadhead) : Type 0 where
   pub few : length rest ≤ most
   pub branch : IsBranch places had to arrives next rest
   pub least : (m : Deadhead) (ms : List Deadhead) → length ms ≤ most → IsBranch places had to arrives m ms

@@ -22,10 +22,16 @@ use Rattle.edit_script.proofs.MinuteText.{minute-some, minute_in-back}
 use Rattle.edit_script.proofs.ShiftBack.{shift-back}
 
 -- a record that is written is read as it stands
-record-back : (fields : List (List ℕ)) → 0 < length fields → strip_bom (record_text fields) ≡ record_text fields → records (record_text fields) ≡ fields ∷ []
+record-back : (fields : List (List ℕ)) → 0 < length fields → strip_bom (record_text fields) ≡ record_text fields
+    → records (record_text fields) ≡ fields ∷ []
 record-back fields some unmarked =
     let same = append-nil (record_text fields) in
-    let back : ReadBack (fields ∷ []) = record { filled = All-cons (λ (fields : List (List ℕ)). 0 < length fields) fields [] some (All-nil (λ (fields : List (List ℕ)). 0 < length fields)); unmarked = ap strip_bom same ∙ unmarked ∙ sym same } in
+    let back : ReadBack (fields ∷ []) =
+    record {
+      filled = All-cons (λ (fields : List (List ℕ)). 0 < length fields) fields [] some
+          (All-nil (λ (fields : List (List ℕ)). 0 < length fields));
+      unmarked = ap strip_bom same ∙ unmarked ∙ sym same;
+    } in
     ap records (sym same) ∙ records-back (fields ∷ []) back
 
 -- no canonical line begins with a byte-order mark: each begins with its word
@@ -59,13 +65,16 @@ last-filled : (n so_far : ℕ) (last : List ℕ) → (length last == 0) ≡ fals
 last-filled n so_far last some = ap (λ b. cond b so_far (n + 1)) some
 
 -- what is read of a field, and then of the others
-then : {A B : Type 0} (read : Option A) (x : A) (next : A → Option B) (given : Option B) → read ≡ Some x → next x ≡ given → option_and_then next read ≡ given
+then : {A B : Type 0} (read : Option A) (x : A) (next : A → Option B) (given : Option B) → read ≡ Some x → next x ≡ given
+    → option_and_then next read ≡ given
 then read x next given is rest = ap (option_and_then next) is ∙ rest
 
 edit-back : (edit : Edit) → InForm edit → HasTexts edit → edit_of (fields_of edit) ≡ Some edit
 edit-back (Shift trip by) form texts =
-    ap (λ n. edit_by n (codes "shift") (fields_of (Shift trip by))) (last-filled 2 _ (signed_text by) (not-empty (signed_text by) (omega arith)))
-    ∙ then (name_in trip) trip (λ trip. option_map (Shift trip) (shift_in (signed_text by))) (Some (Shift trip by)) (name-back trip form.0 texts)
+    ap (λ n. edit_by n (codes "shift") (fields_of (Shift trip by)))
+    (last-filled 2 _ (signed_text by) (not-empty (signed_text by) (omega arith)))
+    ∙ then (name_in trip) trip (λ trip. option_map (Shift trip) (shift_in (signed_text by))) (Some (Shift trip by))
+    (name-back trip form.0 texts)
     (ap (option_map (Shift trip)) (shift-back by form.1 form.2))
 edit-back (Cancel trip) form texts =
     ap (λ n. edit_by n (codes "cancel") (fields_of (Cancel trip))) (last-filled 1 _ trip (not-empty trip form))
@@ -74,7 +83,8 @@ edit-back (Restore trip) form texts =
     ap (λ n. edit_by n (codes "restore") (fields_of (Restore trip))) (last-filled 1 _ trip (not-empty trip form))
     ∙ ap (option_and_then (named_edit (codes "restore"))) (name-back trip form texts)
 edit-back (Extra trip from to departs arrives) form texts =
-    ap (λ n. edit_by n (codes "extra") (fields_of (Extra trip from to departs arrives))) (last-filled 5 _ (minute_digits arrives) (minute-some arrives))
+    ap (λ n. edit_by n (codes "extra") (fields_of (Extra trip from to departs arrives)))
+    (last-filled 5 _ (minute_digits arrives) (minute-some arrives))
     ∙ then (name_in trip) trip _ (Some (Extra trip from to departs arrives)) (name-back trip form.0 texts.0)
     (then (text_in from) from _ (Some (Extra trip from to departs arrives)) (text-utf8 from texts.1)
     (then (text_in to) to _ (Some (Extra trip from to departs arrives)) (text-utf8 to texts.2)
@@ -84,5 +94,6 @@ edit-back Undo form texts = refl
 edit-back Redo form texts = refl
 edit-back Show form texts = refl
 
-pub line-back : (edit : Edit) → InForm edit → HasTexts edit → (records (record_text (fields_of edit)) ≡ fields_of edit ∷ []) × (edit_of (fields_of edit) ≡ Some edit)
+pub line-back : (edit : Edit) → InForm edit → HasTexts edit
+    → (records (record_text (fields_of edit)) ≡ fields_of edit ∷ []) × (edit_of (fields_of edit) ≡ Some edit)
 line-back edit form texts = (record-back (fields_of edit) (some-fields edit) (unmarked edit), edit-back edit form texts)

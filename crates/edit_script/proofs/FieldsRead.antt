@@ -9,4 +9,5 @@ pub text-utf8 : (field : List ℕ) → IsUtf8 field → text_in field ≡ Some f
 text-utf8 field is = ap (λ b. cond b (Some field) None) (is_utf8-from_IsUtf8 field is)
 
 pub text-other : (field : List ℕ) → ¬ IsUtf8 field → text_in field ≡ None
-text-other field is_not = ap (λ b. cond b (Some field) None) (false_from_ne_true (is_utf8 field) (λ is. is_not (IsUtf8-from_is_utf8 field is)))
+text-other field is_not = ap (λ b. cond b (Some field) None)
+    (false_from_ne_true (is_utf8 field) (λ is. is_not (IsUtf8-from_is_utf8 field is)))

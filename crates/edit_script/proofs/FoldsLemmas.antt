@@ -1,6 +1,7 @@
 -- The records that stand after a script fold, whatever was undone and redone: what stands and then what can be redone is one list
 -- of edits, each of which was accepted over those before it.
-use Rattle.std.proofs.Common.{◌≡◌, suc, ◌+◌, ◌-◌, ◌==◌, Bool, true, false, List, [], ◌∷◌, ◌++◌, drop, fold, length, reverse, Result, Ok, Err, refl, sym, ap, subst, ◌∙◌, arith, if◌then◌else◌}
+use Rattle.std.proofs.Common.{◌≡◌, suc, ◌+◌, ◌-◌, ◌==◌, Bool, true, false, List, [], ◌∷◌, ◌++◌, drop, fold, length, reverse, Result, Ok}
+use Rattle.std.proofs.Common.{Err, refl, sym, ap, subst, ◌∙◌, arith, if◌then◌else◌}
 use Rattle.std.specs.Prelude.{IsOk, nat_lt}
 use Rattle.std.proofs.lemmas.List.{append-nil, append_assoc, reverse-append, take-append-drop}
 use Rattle.trip_model.specs.Timetable.{TimetableView}
@@ -13,10 +14,12 @@ use Rattle.edit_script.specs.declared.fault.EditFault.{EditFault}
 use Rattle.edit_script.specs.declared.fault.EditFault.TheVariants as fault
 use Rattle.edit_script.specs.Changes.{edited}
 use Rattle.edit_script.specs.Folds.{Folds, IsAccepted}
-use Rattle.edit_script.specs.Machine.{Numbered, State, after_record, begun, if_accepted, machine, or_stays, state_by, timetable_at, with_record, with_redo, with_undo}
+use Rattle.edit_script.specs.Machine.{Numbered, State, after_record, begun, if_accepted, machine, or_stays, state_by, timetable_at}
+use Rattle.edit_script.specs.Machine.{with_record, with_redo, with_undo}
 use Rattle.edit_script.specs.Script.{all_but_last, last_alone}
 
-folds-append : (t : TimetableView) (one other : List Numbered) → Folds t one → Folds (fold after_record t one) other → Folds t (one ++ other)
+folds-append : (t : TimetableView) (one other : List Numbered) → Folds t one → Folds (fold after_record t one) other
+    → Folds t (one ++ other)
 folds-append t [] other first second = second
 folds-append t (r ∷ one) other first second = (first.0, folds-append (after_record t r) one other first.1 second)
 
@@ -43,7 +46,8 @@ history m = m.standing ++ reverse m.undone
 
 history-undo : (m : State) → history (with_undo m) ≡ history m
 history-undo m =
-    ap (λ rs. all_but_last m.standing ++ rs) (reverse-append m.undone (last_alone m.standing) ∙ ap (λ rs. rs ++ reverse m.undone) (last-reverse m.standing))
+    ap (λ rs. all_but_last m.standing ++ rs)
+    (reverse-append m.undone (last_alone m.standing) ∙ ap (λ rs. rs ++ reverse m.undone) (last-reverse m.standing))
     ∙ sym (append_assoc (all_but_last m.standing) (last_alone m.standing) (reverse m.undone))
     ∙ ap (λ rs. rs ++ reverse m.undone) (parted m.standing)
 
@@ -51,13 +55,15 @@ history-redo : (m : State) → history (with_redo m) ≡ history m
 history-redo m =
     append_assoc m.standing (last_alone m.undone) (reverse (all_but_last m.undone))
     ∙ ap (λ rs. m.standing ++ rs)
-    (ap (λ rs. rs ++ reverse (all_but_last m.undone)) (sym (last-reverse m.undone)) ∙ sym (reverse-append (all_but_last m.undone) (last_alone m.undone)) ∙ ap reverse (parted m.undone))
+    (ap (λ rs. rs ++ reverse (all_but_last m.undone)) (sym (last-reverse m.undone))
+    ∙ sym (reverse-append (all_but_last m.undone) (last_alone m.undone)) ∙ ap reverse (parted m.undone))
 
 module _ (base : TimetableView) (m : State) (r : Numbered) (folds : Folds base (history m)) where
   abbrev Stays : Result State EditFault → Type 0
   Stays due = Folds base (history (or_stays m due))
 
-  edit-stays : (edit : Edit) → r.line ≡ line.Edit edit → (due : Result TimetableView EditFault) → edited (timetable_at base m) edit ≡ due → Stays (if_accepted m r due)
+  edit-stays : (edit : Edit) → r.line ≡ line.Edit edit → (due : Result TimetableView EditFault) → edited (timetable_at base m) edit ≡ due
+      → Stays (if_accepted m r due)
   edit-stays edit is (Err refused) e = folds
   edit-stays edit is (Ok changed) e =
       subst (Folds base) (sym (append-nil (m.standing ++ r ∷ [])))
@@ -84,9 +90,11 @@ module _ (base : TimetableView) (m : State) (r : Numbered) (folds : Folds base (
   line-stays (line.Edit (Shift trip by)) is = edit-stays (Shift trip by) is (edited (timetable_at base m) (Shift trip by)) refl
   line-stays (line.Edit (Cancel trip)) is = edit-stays (Cancel trip) is (edited (timetable_at base m) (Cancel trip)) refl
   line-stays (line.Edit (Restore trip)) is = edit-stays (Restore trip) is (edited (timetable_at base m) (Restore trip)) refl
-  line-stays (line.Edit (Extra trip from to departs arrives)) is = edit-stays (Extra trip from to departs arrives) is (edited (timetable_at base m) (Extra trip from to departs arrives)) refl
+  line-stays (line.Edit (Extra trip from to departs arrives)) is =
+      edit-stays (Extra trip from to departs arrives) is (edited (timetable_at base m) (Extra trip from to departs arrives)) refl
 
-records-fold : (base : TimetableView) (m : State) (records : List Numbered) → Folds base (history m) → Folds base (history (fold (with_record base) m records))
+records-fold : (base : TimetableView) (m : State) (records : List Numbered) → Folds base (history m)
+    → Folds base (history (fold (with_record base) m records))
 records-fold base m [] folds = folds
 records-fold base m (r ∷ records) folds = records-fold base (with_record base m r) records (line-stays base m r folds r.line refl)
 

@@ -12,7 +12,8 @@ use Rattle.edit_script.specs.Edits.{EditsTrip}
 use Rattle.edit_script.specs.Made.{IsJudged}
 use Rattle.edit_script.specs.Script.{IsRefusal, ScriptView, TakesMemory, if_edited, stepped}
 
-pub stepped-edit : (s : ScriptView) (number : ℕ) (edit : Edit) → EditsTrip edit → stepped s number edit ≡ if_edited s number (edited s.timetable edit)
+pub stepped-edit : (s : ScriptView) (number : ℕ) (edit : Edit) → EditsTrip edit
+    → stepped s number edit ≡ if_edited s number (edited s.timetable edit)
 stepped-edit s number Undo trips = absurd trips
 stepped-edit s number Redo trips = absurd trips
 stepped-edit s number Show trips = absurd trips
@@ -28,7 +29,8 @@ module _ (s : ScriptView) (number : ℕ) (edit : Edit) (trips : EditsTrip edit) 
   some-edited (Ok t) ok = refl
   some-edited (Err refused) ok = absurd (false≢true ok)
 
-  refused-edited : (refused : EditFault) → IsJudged (Err refused) s.timetable edit → IsRefusal refused edit (if_edited s number (edited s.timetable edit))
+  refused-edited : (refused : EditFault) → IsJudged (Err refused) s.timetable edit
+      → IsRefusal refused edit (if_edited s number (edited s.timetable edit))
   refused-edited fault.Memory ok = (takes-memory edit trips, some-edited (edited s.timetable edit) ok)
   refused-edited refused is = ap (if_edited s number) is
 

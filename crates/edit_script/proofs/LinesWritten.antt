@@ -14,7 +14,8 @@ front_of fields = row_body record_writer fields ++ cond (is_blank record_writer 
 pub record-ends : (fields : List (List ℕ)) → record_text fields ≡ front_of fields ++ 10 ∷ []
 record-ends fields = sym (append_assoc (row_body record_writer fields) (cond (is_blank record_writer fields) (34 ∷ 34 ∷ []) []) (10 ∷ []))
 
-pub copied-line : {E : Type 0} (result : Result (List ℕ) E) (line text : List ℕ) → IfOk result (λ copy. copy ≡ line) → line ++ 10 ∷ [] ≡ text → IfOk result (λ copy. copy ++ 10 ∷ [] ≡ text)
+pub copied-line : {E : Type 0} (result : Result (List ℕ) E) (line text : List ℕ) → IfOk result (λ copy. copy ≡ line)
+    → line ++ 10 ∷ [] ≡ text → IfOk result (λ copy. copy ++ 10 ∷ [] ≡ text)
 copied-line (Ok copy) line text is whole = ap (λ l. l ++ 10 ∷ []) is ∙ whole
 copied-line (Err e) line text is whole = tt
 
@@ -24,6 +25,8 @@ two-texts a b first second = All-cons IsUtf8 a (b ∷ []) first (All-cons IsUtf8
 pub three-texts : (a b c : List ℕ) → IsUtf8 a → IsUtf8 b → IsUtf8 c → All IsUtf8 (a ∷ b ∷ c ∷ [])
 three-texts a b c first second third = All-cons IsUtf8 a (b ∷ c ∷ []) first (two-texts b c second third)
 
-pub six-texts : (a b c d e f : List ℕ) → IsUtf8 a → IsUtf8 b → IsUtf8 c → IsUtf8 d → IsUtf8 e → IsUtf8 f → All IsUtf8 (a ∷ b ∷ c ∷ d ∷ e ∷ f ∷ [])
+pub six-texts : (a b c d e f : List ℕ) → IsUtf8 a → IsUtf8 b → IsUtf8 c → IsUtf8 d → IsUtf8 e → IsUtf8 f
+    → All IsUtf8 (a ∷ b ∷ c ∷ d ∷ e ∷ f ∷ [])
 six-texts a b c d e f first second third fourth fifth sixth =
-    All-cons IsUtf8 a (b ∷ c ∷ d ∷ e ∷ f ∷ []) first (All-cons IsUtf8 b (c ∷ d ∷ e ∷ f ∷ []) second (All-cons IsUtf8 c (d ∷ e ∷ f ∷ []) third (three-texts d e f fourth fifth sixth)))
+    All-cons IsUtf8 a (b ∷ c ∷ d ∷ e ∷ f ∷ []) first
+    (All-cons IsUtf8 b (c ∷ d ∷ e ∷ f ∷ []) second (All-cons IsUtf8 c (d ∷ e ∷ f ∷ []) third (three-texts d e f fourth fifth sixth)))

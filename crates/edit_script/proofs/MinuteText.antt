@@ -24,5 +24,7 @@ minute-some minute = ne_eqb _ 0 (λ e. absurd (omega (arith, e, length-append (t
 pub minute_in-back : (minute : ℕ) → minute ≤ 5999 → minute_in (minute_digits minute) ≡ Some minute
 minute_in-back minute small =
     let ascii : IsAscii (minute_digits minute) =
-    IsAscii-append (two_digits (minute / 60)) (58 ∷ two_digits (minute % 60)) (two-ascii (minute / 60) (omega arith)) (IsAscii-cons 58 (two_digits (minute % 60)) (omega arith) (two-ascii (minute % 60) (omega arith))) in
-    ap (option_and_then minute_of) (text-utf8 (minute_digits minute) (IsUtf8-from_ascii (minute_digits minute) ascii)) ∙ minute-back minute small
+    IsAscii-append (two_digits (minute / 60)) (58 ∷ two_digits (minute % 60)) (two-ascii (minute / 60) (omega arith))
+    (IsAscii-cons 58 (two_digits (minute % 60)) (omega arith) (two-ascii (minute % 60) (omega arith))) in
+    ap (option_and_then minute_of) (text-utf8 (minute_digits minute) (IsUtf8-from_ascii (minute_digits minute) ascii))
+    ∙ minute-back minute small

@@ -1,5 +1,6 @@
 -- A shift that is written reads as the same shift.
-use Rattle.std.proofs.Common.{◌≡◌, ℕ, suc, ◌+◌, ◌%◌, ◌<◌, ◌≤◌, ◌==◌, ◌&&◌, ◌^◌, not, Bool, true, false, cond, List, [], ◌∷◌, length, reverse, ℤ, pos, negsuc, neg_ℤ, Some, None, refl, ap, ◌∙◌, arith}
+use Rattle.std.proofs.Common.{◌≡◌, ℕ, suc, ◌+◌, ◌%◌, ◌<◌, ◌≤◌, ◌==◌, ◌&&◌, ◌^◌, not, Bool, true, false, cond, List, [], ◌∷◌, length}
+use Rattle.std.proofs.Common.{reverse, ℤ, pos, negsuc, neg_ℤ, Some, None, refl, ap, ◌∙◌, arith}
 use Rattle.std.specs.Prelude.{unsigned_abs}
 use Rattle.std.specs.Char.{is_ascii_digit}
 use Rattle.std.specs.Fmt.{decimal}
@@ -70,7 +71,8 @@ decimal-digits : (n : ℕ) → n < 2 ^ 64 → list_all is_ascii_digit (decimal n
 decimal-digits n small =
     decimal_by_steps (λ _ ds. list_all is_ascii_digit ds ≡ true)
     (λ n low. true-and _ true (digit-here n low) refl)
-    (λ n ds high so_far. list_all-append is_ascii_digit ds ((48 + n % 10) ∷ []) ∙ true-and _ _ so_far (true-and _ true (digit-here (n % 10) (omega arith)) refl))
+    (λ n ds high so_far. list_all-append is_ascii_digit ds ((48 + n % 10) ∷ [])
+    ∙ true-and _ _ so_far (true-and _ true (digit-here (n % 10) (omega arith)) refl))
     n small
 
 -- minutes that are written read as the same minutes
@@ -81,7 +83,8 @@ minutes-back n some few =
     let is_numeral = decimal_is_IsNumeral n wide in
     let number : digits_number 3 ds ≡ Some n =
     ap (λ b. cond b (Some (digits_value 10 ds)) None)
-    (true-and _ _ (true-and _ _ (lt-ltb 0 (length ds) (decimal_nonempty n wide)) (le-leb (length ds) 3 (length-decimal-le 3 n (omega arith) (omega (arith, few)) wide))) (decimal-digits n wide))
+    (true-and _ _ (true-and _ _ (lt-ltb 0 (length ds) (decimal_nonempty n wide))
+    (le-leb (length ds) 3 (length-decimal-le 3 n (omega arith) (omega (arith, few)) wide))) (decimal-digits n wide))
     ∙ ap Some is_numeral.1 in
     ap shiftable number
     ∙ ap (λ b. cond b (Some n) None) (true-and _ _ (lt-ltb 0 n some) (le-leb n MOST_SHIFT few))

@@ -1,5 +1,6 @@
 -- The forms of the records of a script, and the edits that they are.
-use Rattle.std.specs.Prelude.{◌≡◌, ℕ, ◌+◌, ◌==◌, ◌&&◌, ℤ, pos, neg_ℤ, List, [], ◌∷◌, length, map, codes, Option, Some, None, Result, Ok, Err, IsSome, nat_lt, nat_le, if◌then◌else◌}
+use Rattle.std.specs.Prelude.{◌≡◌, ℕ, ◌+◌, ◌==◌, ◌&&◌, ℤ, pos, neg_ℤ, List, [], ◌∷◌, length, map, codes, Option, Some, None, Result, Ok}
+use Rattle.std.specs.Prelude.{Err, IsSome, nat_lt, nat_le, if◌then◌else◌}
 use Rattle.std.specs.Option.{option_map, option_and_then}
 use Rattle.std.specs.Str.{bytes_eq, is_utf8}
 use Rattle.gtfs_tables.specs.Numbers.{digits_number}
@@ -90,7 +91,8 @@ extra_edit row =
     option_and_then (λ from.
     option_and_then (λ to.
     option_and_then (λ departs.
-    option_map (Extra trip from to departs) (minute_in (field_at row 5))) (minute_in (field_at row 4))) (text_in (field_at row 3))) (text_in (field_at row 2))) (name_in (field_at row 1))
+    option_map (Extra trip from to departs) (minute_in (field_at row 5))) (minute_in (field_at row 4))) (text_in (field_at row 3)))
+    (text_in (field_at row 2))) (name_in (field_at row 1))
 
 -- the edit of a word in a record of so many fields
 abbrev pub edit_by : ℕ → List ℕ → List (List ℕ) → Option Edit

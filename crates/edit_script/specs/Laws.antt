@@ -9,4 +9,5 @@ use Rattle.edit_script.specs.Lines.{fields_of}
 
 -- the canonical line of an edit, with a line feed, is one record, and that record is the same edit
 abbrev pub EditReadsBack : Type 0
-EditReadsBack = (edit : Edit) → InForm edit → HasTexts edit → (records (record_text (fields_of edit)) ≡ fields_of edit ∷ []) × (edit_of (fields_of edit) ≡ Some edit)
+EditReadsBack = (edit : Edit) → InForm edit → HasTexts edit
+    → (records (record_text (fields_of edit)) ≡ fields_of edit ∷ []) × (edit_of (fields_of edit) ≡ Some edit)

@@ -1,5 +1,6 @@
 -- The edit machine: what stands, and what can be undone and redone, after the records of a script.
-use Rattle.std.specs.Prelude.{◌≡◌, ℕ, ◌+◌, ◌-◌, ◌==◌, min, List, [], ◌∷◌, ◌++◌, length, drop, fold, map, Result, Ok, Err, nat_lt, if◌then◌else◌}
+use Rattle.std.specs.Prelude.{◌≡◌, ℕ, ◌+◌, ◌-◌, ◌==◌, min, List, [], ◌∷◌, ◌++◌, length, drop, fold, map, Result, Ok, Err, nat_lt}
+use Rattle.std.specs.Prelude.{if◌then◌else◌}
 use Rattle.trip_model.specs.Timetable.{TimetableView}
 use Rattle.undo_log.specs.declared.log.TheConstants.{UNDO_DEPTH}
 use Rattle.edit_script.specs.declared.edit.Edit.{Edit}

@@ -1,5 +1,6 @@
 -- What was done to the trip in a slot, made and taken back.
-use Rattle.std.specs.Prelude.{◌≡◌, ℕ, ◌+◌, ◌<◌, ◌≤◌, ℤ, neg_ℤ, unsigned_abs, true, false, List, length, take, Contains, Some, IsOk, Result, Ok, Err}
+use Rattle.std.specs.Prelude.{◌≡◌, ℕ, ◌+◌, ◌<◌, ◌≤◌, ℤ, neg_ℤ, unsigned_abs, true, false, List, length, take, Contains, Some, IsOk, Result}
+use Rattle.std.specs.Prelude.{Ok, Err}
 use Rattle.trip_model.specs.declared.limits.TheConstants.{MOST_SLOTS}
 use Rattle.trip_model.specs.declared.trip.Trip.{Trip}
 use Rattle.trip_model.specs.Timetable.{TimetableView, slot_at, slot_names}

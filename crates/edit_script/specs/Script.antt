@@ -1,5 +1,6 @@
 -- What a script is seen as, and one step of it.
-use Rattle.std.specs.Prelude.{◌≡◌, ◌≢◌, ℕ, ◌+◌, ◌-◌, ◌<◌, ◌≤◌, List, [], ◌∷◌, ◌++◌, length, drop, take, reverse, All, AllPairs, slice_get, Option, Some, None, IsOk, Result, Ok, Err, nat_lt, if◌then◌else◌, ⊤}
+use Rattle.std.specs.Prelude.{◌≡◌, ◌≢◌, ℕ, ◌+◌, ◌-◌, ◌<◌, ◌≤◌, List, [], ◌∷◌, ◌++◌, length, drop, take, reverse, All, AllPairs, slice_get}
+use Rattle.std.specs.Prelude.{Option, Some, None, IsOk, Result, Ok, Err, nat_lt, if◌then◌else◌, ⊤}
 use Rattle.std.specs.Option.{option_map}
 use Rattle.trip_model.specs.Timetable.{TimetableView, slot_at, with_trip}
 use Rattle.trip_model.specs.declared.trip.Trip.{Trip}

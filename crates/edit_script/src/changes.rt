@@ -1,6 +1,7 @@
 ghost use Rattle.std.specs.Prelude.{◌≡◌, ◌≤◌, ◌<◌, ◌++◌, ◌∷◌, [], IfOk, OnErr, Some, unsigned_abs, int_le, pos, ◌+ℤ◌};
 ghost use Rattle.edit_script.specs.Changes.{is_within};
-ghost use Rattle.edit_script.specs.Made.{CanMake, CanUnmake, IsJudged, MayMake, WasMade, with_change, with_made, without_change, without_made};
+ghost use Rattle.edit_script.specs.Made.{CanMake, CanUnmake, IsJudged, MayMake, WasMade, with_change, with_made, without_change};
+ghost use Rattle.edit_script.specs.Made.{without_made};
 ghost use Rattle.edit_script.specs.Script.{IsTouched, all_but_last, trip_in};
 ghost use Rattle.trip_model.specs.declared.limits.TheConstants.{LAST_DEPARTURE};
 ghost use Rattle.edit_script.specs.declared.edit.Edit.TheVariants.{Cancel, Extra, Restore, Shift};

@@ -17,13 +17,17 @@ pub fn read_back_law()
 pub fn machine_law()
     ensures start { (base : TimetableView) → IsAt base (machine base []) (opened base) }
     // an edit that is accepted is accepted by the machine
-    ensures accepted { (base : TimetableView) (records : List Numbered) (s next : ScriptView) (number : ℕ) (edit : Edit) → IsAt base (machine base records) s
+    ensures accepted { (base : TimetableView) (records : List Numbered) (s next : ScriptView) (number : ℕ) (edit : Edit)
+        → IsAt base (machine base records) s
         → stepped s number edit ≡ Ok next
-        → IsOk (state_after base (machine base records) (edit_record number edit)) × IsAt base (machine base (records ++ edit_record number edit ∷ [])) next }
+        → IsOk (state_after base (machine base records) (edit_record number edit))
+        × IsAt base (machine base (records ++ edit_record number edit ∷ [])) next }
     // one that is refused is refused by the machine for the same reason
-    ensures refused { (base : TimetableView) (records : List Numbered) (s : ScriptView) (number : ℕ) (edit : Edit) (refused : EditFault) → IsAt base (machine base records) s
+    ensures refused { (base : TimetableView) (records : List Numbered) (s : ScriptView) (number : ℕ) (edit : Edit) (refused : EditFault)
+        → IsAt base (machine base records) s
         → stepped s number edit ≡ Err refused
-        → (state_after base (machine base records) (edit_record number edit) ≡ Err refused) × IsAt base (machine base (records ++ edit_record number edit ∷ [])) s }
+        → (state_after base (machine base records) (edit_record number edit) ≡ Err refused)
+        × IsAt base (machine base (records ++ edit_record number edit ∷ [])) s }
     // a record of no form changes nothing
     ensures no_edit { (base : TimetableView) (records : List Numbered) (s : ScriptView) (number : ℕ) → IsAt base (machine base records) s
         → IsAt base (machine base (records ++ no_edit_record number ∷ [])) s }

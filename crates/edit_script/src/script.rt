@@ -48,7 +48,8 @@ impl Script {
     ghost use Rattle.edit_script.specs.Changes.{IsSlotOf};
     ghost use Rattle.edit_script.specs.Edits.{EditsTrip, InForm};
     ghost use Rattle.edit_script.specs.Made.{CanDo, IsJudged, with_judged};
-    ghost use Rattle.edit_script.specs.Script.{IsNext, IsRefusal, IsRising, IsTouched, if_redone, if_shown, if_undone, numbers_along, opened, stepped, with_edit};
+    ghost use Rattle.edit_script.specs.Script.{IsNext, IsRefusal, IsRising, IsTouched, if_redone, if_shown, if_undone, numbers_along};
+    ghost use Rattle.edit_script.specs.Script.{opened, stepped, with_edit};
     ghost use Rattle.undo_log.specs.Log.{last_item};
 
     /// A script over a timetable, to which nothing was done.

@@ -21,7 +21,8 @@ standing_matrix timetable pulls = record (empty_matrix (length timetable.places)
 
 -- the lines of the blocks, and then their number
 abbrev pub fixed_text : TimetableView → List Pull → List ℕ → List (List ℕ) → List ℕ
-fixed_text timetable pulls prefix blocks = block_text timetable (standing_matrix timetable pulls) prefix blocks ++ (codes "fixed " ++ (decimal (length blocks) ++ 10 ∷ []))
+fixed_text timetable pulls prefix blocks = block_text timetable (standing_matrix timetable pulls) prefix blocks
+    ++ (codes "fixed " ++ (decimal (length blocks) ++ 10 ∷ []))
 
 -- The text is that of the blocks which the rule of first in, first out makes. No blocking without deadheads has fewer, and
 -- they are as many as the sum of the maxima.

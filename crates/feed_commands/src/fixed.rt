@@ -26,7 +26,8 @@ use trip_model::laws::plain_law;
 fn fixed_blocks(alloc: Global, timetable: &Timetable) -> Result<Blocks, Memory>
     ensures rule { IfOk result (λ blocks. blocks ≡ blocks_along
         (first_in_first_out (trip_moves timetable.now.slots)) (by_departure (trip_moves timetable.now.slots))) }
-    ensures linked { IfOk result (λ blocks. AreLinks (plain_network (trip_moves timetable.now.slots)) (first_in_first_out (trip_moves timetable.now.slots))) }
+    ensures linked { IfOk result (λ blocks. AreLinks (plain_network (trip_moves timetable.now.slots))
+        (first_in_first_out (trip_moves timetable.now.slots))) }
     ensures fewest { IfOk result (IsFewest (plain_network (trip_moves timetable.now.slots))) }
     ensures number { IfOk result (λ blocks. pos (length blocks) ≡ deficit_sum timetable.now) }
     ensures within { IfOk result (All (All (λ s. s < length timetable.now.slots))) }

@@ -16,7 +16,8 @@ use Rattle.feed_desk.specs.declared.draw.Drawn.{Drawn}
 use Rattle.feed_desk.specs.declared.follow.Followed.{Followed}
 use Rattle.feed_desk.proofs.MomentsLemmas.{refusals-are}
 
-module _ (base : TimetableView) (lines : List Line) (matrix : MatrixView) (plan : Plan) (blocks : List (List ℕ)) (drawn : IsDrawn base lines matrix plan blocks) where
+module _ (base : TimetableView) (lines : List Line) (matrix : MatrixView) (plan : Plan) (blocks : List (List ℕ))
+    (drawn : IsDrawn base lines matrix plan blocks) where
   last-planned : IsPlannedAt (standing_after base lines) matrix plan
   last-planned = subst (IsPlannedAt (standing_after base lines) matrix) (sym drawn.last) (drawn.are.planned (length lines) (omega arith))
 
@@ -29,8 +30,10 @@ module _ (base : TimetableView) (lines : List Line) (matrix : MatrixView) (plan 
   drawn-scheduled = subst (IsScheduled (standing_after base lines) matrix plan) (sym drawn.along) last-planned.scheduled
 
 -- the blocks of the desk that has followed a script are drawn
-pub has-drawn : (base : TimetableView) (lines : List Line) (matrix : MatrixView) (followed : Followed) (drawn : Drawn) → HasFollowed refusals base lines matrix followed
-    → drawn.desk ≡ followed.desk → drawn.blocks ≡ blocks_in followed.desk.script.timetable followed.desk.plan → drawn.refused ≡ string_bytes followed.text → drawn.ending ≡ followed.ending
+pub has-drawn : (base : TimetableView) (lines : List Line) (matrix : MatrixView) (followed : Followed) (drawn : Drawn)
+    → HasFollowed refusals base lines matrix followed
+    → drawn.desk ≡ followed.desk → drawn.blocks ≡ blocks_in followed.desk.script.timetable followed.desk.plan
+    → drawn.refused ≡ string_bytes followed.text → drawn.ending ≡ followed.ending
     → HasDrawn base lines matrix drawn
 has-drawn base lines matrix followed drawn has desk blocks refused end = record {
   plan = record {

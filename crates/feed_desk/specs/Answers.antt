@@ -18,4 +18,5 @@ module _ (answer : Answer) (base : TimetableView) (lines : List Line) where
   -- what is put of so many of the first records, by the plans of all moments
   unfoldable pub answers_by : (ℕ → Plan) → ℕ → List ℕ
   answers_by plans zero = []
-  answers_by plans (suc n) = answers_by plans n ++ answer (n + 1) (line_at lines n) (standing_at base lines (suc n)) (plans (suc n)) (refusal_in (step_at base lines n))
+  answers_by plans (suc n) = answers_by plans n
+      ++ answer (n + 1) (line_at lines n) (standing_at base lines (suc n)) (plans (suc n)) (refusal_in (step_at base lines n))

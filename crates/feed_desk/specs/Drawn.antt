@@ -13,7 +13,8 @@ use Rattle.feed_desk.specs.declared.follow.Followed.{Followed}
 use Rattle.feed_desk.specs.declared.draw.Drawn.{Drawn}
 
 -- A desk has followed a script. It is where the script ends, with the last of its plans. This was put of the records.
-pub record HasFollowed (answer : Answer) (base : TimetableView) (lines : List Line) (matrix : MatrixView) (followed : Followed) : Type 0 where
+pub record HasFollowed (answer : Answer) (base : TimetableView) (lines : List Line) (matrix : MatrixView)
+    (followed : Followed) : Type 0 where
   pub are : ArePlanned base lines matrix
   pub pulls : All IsPull matrix.pulls
   pub timetable : followed.desk.script.timetable ≡ standing_after base lines

@@ -34,7 +34,8 @@ pub record IsMoment (base : TimetableView) (lines : List Line) (matrix : MatrixV
   pub valid : IsTimetable desk.script.timetable
 
 -- the desks at the moments from a first to a last one
-pub record AreMoments (base : TimetableView) (lines : List Line) (first : DeskView) (m : ℕ) (last : DeskView) (desks : ℕ → DeskView) : Type 0 where
+pub record AreMoments (base : TimetableView) (lines : List Line) (first : DeskView) (m : ℕ) (last : DeskView)
+    (desks : ℕ → DeskView) : Type 0 where
   pub begins : desks 0 ≡ first
   pub ends : desks m ≡ last
   pub each : (k : ℕ) → k ≤ m → IsMoment base lines first.matrix k (desks k)
@@ -42,7 +43,8 @@ pub record AreMoments (base : TimetableView) (lines : List Line) (first : DeskVi
 
 -- What was put of the records from a first moment to a last one, and whether one was refused. And how many steps there were
 -- before and are now.
-pub record IsAnswered (answer : Answer) (base : TimetableView) (lines : List Line) (first : DeskView) (had m : ℕ) (last : DeskView) (text : List ℕ) (some : Bool) (steps : ℕ) : Type 0 where
+pub record IsAnswered (answer : Answer) (base : TimetableView) (lines : List Line) (first : DeskView) (had m : ℕ) (last : DeskView)
+    (text : List ℕ) (some : Bool) (steps : ℕ) : Type 0 where
   pub desks : ℕ → DeskView
   pub are : AreMoments base lines first m last desks
   pub put : text ≡ answers_by answer base lines (λ k. (desks k).plan) m

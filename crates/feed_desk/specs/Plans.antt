@@ -52,7 +52,8 @@ module _ (base : TimetableView) (lines : List Line) (matrix : MatrixView) where
   -- the plans after so many of the first records, computed record by record
   unfoldable pub plans_at : ℕ → PlansView
   plans_at zero = record { plan = first_plan base matrix; earlier = []; later = [] }
-  plans_at (suc n) = plans_by (line_at lines n) (refusal_in (step_at base lines n)) (standing_at base lines n) (standing_at base lines (suc n)) matrix (plans_at n)
+  plans_at (suc n) = plans_by (line_at lines n) (refusal_in (step_at base lines n)) (standing_at base lines n)
+      (standing_at base lines (suc n)) matrix (plans_at n)
 
   -- the plan then
   abbrev pub plan_at : ℕ → Plan
@@ -65,10 +66,12 @@ pub record ArePlanned (base : TimetableView) (lines : List Line) (matrix : Matri
   pub planned : (m : ℕ) → m ≤ length lines → IsPlannedAt (standing_at base lines m) matrix (plan_at base lines matrix m)
   pub restored : (m k : ℕ) → m ≤ length lines → k ≤ length lines → (state_at base lines m).standing ≡ (state_at base lines k).standing
       → plan_at base lines matrix m ≡ plan_at base lines matrix k
-  pub unchanged : (n : ℕ) → n < length lines → IsSome (refusal_in (step_at base lines n)) → plan_at base lines matrix (suc n) ≡ plan_at base lines matrix n
+  pub unchanged : (n : ℕ) → n < length lines → IsSome (refusal_in (step_at base lines n))
+      → plan_at base lines matrix (suc n) ≡ plan_at base lines matrix n
   pub folds : (m : ℕ) → m ≤ length lines → Folds base (state_at base lines m).standing
   pub repaired : (n : ℕ) → n < length lines
-      → AreRelinked (line_at lines n) (refusal_in (step_at base lines n)) (standing_at base lines n) (plan_at base lines matrix n).next (plan_at base lines matrix (suc n)).next
+      → AreRelinked (line_at lines n) (refusal_in (step_at base lines n)) (standing_at base lines n) (plan_at base lines matrix n).next
+      (plan_at base lines matrix (suc n)).next
 
 -- the most steps of a record, with so many slots after it: none where it is refused
 abbrev pub most_of : Line → ℕ → Option EditFault → ℕ
@@ -78,7 +81,8 @@ most_of line slots refused = 0
 -- and of so many of the first records
 unfoldable pub most_to : TimetableView → List Line → ℕ → ℕ
 most_to base lines zero = 0
-most_to base lines (suc n) = most_to base lines n + most_of (line_at lines n) (length (standing_at base lines (suc n)).slots) (refusal_in (step_at base lines n))
+most_to base lines (suc n) = most_to base lines n + most_of (line_at lines n) (length (standing_at base lines (suc n)).slots)
+    (refusal_in (step_at base lines n))
 
 -- the most steps of all plans: those of the first one, and then those of each record
 abbrev pub most_steps_of : FeedView → ℕ

@@ -83,7 +83,8 @@ impl<A: Answers, L: Ledger> Follower<Steps<L>> for Following<A> {
     ghost IsReady = { λ following number. following.desk.script.last < number };
 
     ghost Stands = { λ was had lines n now steps. (now.answers ≡ was.answers)
-        × IsAnswered (A.answer was.answers was.desk.matrix) was.desk.script.timetable lines was.desk had n now.desk (string_bytes now.text) now.some steps };
+        × IsAnswered (A.answer was.answers was.desk.matrix) was.desk.script.timetable lines was.desk had n now.desk (string_bytes now.text)
+        now.some steps };
 
     ghost Stops = { λ was had lines steps. steps ≤ had + most_to was.desk.script.timetable lines (length lines) };
 

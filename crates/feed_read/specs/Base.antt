@@ -21,7 +21,8 @@ use Rattle.feed_read.specs.FeedTrips.{feed_trips_in}
 -- of the terminal
 abbrev pub place_of : SettingsView → Name → Name → Place
 place_of settings terminal class =
-    if is_classed settings then post_place terminal class (layover_at settings terminal) else terminal_place terminal (layover_at settings terminal)
+    if is_classed settings then post_place terminal class (layover_at settings terminal)
+    else terminal_place terminal (layover_at settings terminal)
 
 -- the place from which a trip runs, and the place to which it runs
 abbrev pub start_of : SettingsView → FeedTrip → Place

@@ -1,5 +1,6 @@
 -- The selected trips as the feed has them.
-use Rattle.std.specs.Prelude.{◌≡◌, ℕ, ◌+◌, ◌<◌, ◌≤◌, Bool, false, not, ◌||◌, ◌==◌, nat_lt, nat_le, List, [], ◌∷◌, ◌++◌, length, map, filter, fold, slice_index_or, All, Contains, Option, Some, None, Result, Ok, Err, if◌then◌else◌}
+use Rattle.std.specs.Prelude.{◌≡◌, ℕ, ◌+◌, ◌<◌, ◌≤◌, Bool, false, not, ◌||◌, ◌==◌, nat_lt, nat_le, List, [], ◌∷◌, ◌++◌, length, map}
+use Rattle.std.specs.Prelude.{filter, fold, slice_index_or, All, Contains, Option, Some, None, Result, Ok, Err, if◌then◌else◌}
 use Rattle.std.specs.List.{list_any}
 use Rattle.std.specs.Option.{ok_or}
 use Rattle.desk_io.specs.declared.shelf.Found.{Found}
@@ -94,7 +95,8 @@ feed_trip_of settings name class stop_times =
 -- the trips, and that of the next slot, whose class is at that slot
 abbrev pub with_feed_trip : SettingsView → List Name → List StopTimeView → ℕ → List FeedTrip → Name → Result (List FeedTrip) FeedFault
 with_feed_trip settings classes stop_times slot before name =
-    feed_trip_of settings name (slice_index_or classes slot []) (stop_times_of slot stop_times) >>= λ feed_trip. Ok (before ++ feed_trip ∷ [])
+    feed_trip_of settings name (slice_index_or classes slot []) (stop_times_of slot stop_times) >>=
+    λ feed_trip. Ok (before ++ feed_trip ∷ [])
 
 -- the selected trips, slot by slot
 abbrev pub feed_trips_of : SettingsView → Selected → List StopTimeView → Result (List FeedTrip) FeedFault

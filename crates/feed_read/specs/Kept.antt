@@ -1,5 +1,6 @@
 -- What is kept of the stop times of each trip as the records of `stop_times.txt` are met.
-use Rattle.std.specs.Prelude.{◌≡◌, ℕ, ◌||◌, nat_eq, Bool, false, List, [], ◌∷◌, ◌++◌, map, slice_get, slice_index_or, slice_set, Option, Some, None, option_map, Result, Ok, Err, if◌then◌else◌}
+use Rattle.std.specs.Prelude.{◌≡◌, ℕ, ◌||◌, nat_eq, Bool, false, List, [], ◌∷◌, ◌++◌, map, slice_get, slice_index_or, slice_set, Option}
+use Rattle.std.specs.Prelude.{Some, None, option_map, Result, Ok, Err, if◌then◌else◌}
 use Rattle.std.specs.List.{list_any}
 use Rattle.gtfs_tables.specs.declared.fault.FeedFault.{FeedFault}
 use Rattle.gtfs_tables.specs.declared.paper.Column.TheVariants as column
@@ -39,7 +40,8 @@ with_kept kept stop_time = record {
 abbrev pub with_kept_of : Columns → ℕ → List Kept → List (List ℕ) → Option ℕ → Result (List Kept) FeedFault
 with_kept_of columns number before fields None = Ok before
 with_kept_of columns number before fields (Some trip) =
-    stop_time_in columns number trip fields >>= λ stop_time. Ok (slice_set before stop_time.trip (with_kept (slice_index_or before stop_time.trip nothing_kept) stop_time))
+    stop_time_in columns number trip fields >>=
+    λ stop_time. Ok (slice_set before stop_time.trip (with_kept (slice_index_or before stop_time.trip nothing_kept) stop_time))
 
 -- what is kept of each trip with that of one record, among selected trips of these names
 unfoldable pub with_record_kept : List Name → Columns → ℕ → List Kept → List (List ℕ) → Result (List Kept) FeedFault
@@ -52,7 +54,12 @@ abbrev pub end_seen : End → StopTimeView
 end_seen end = record { trip = end.trip; stop = end.stop; arrival = end.arrival; departure = end.departure; sequence = end.sequence }
 
 abbrev pub trip_ends_seen : TripEnds → Kept
-trip_ends_seen trip_ends = record { sequences = trip_ends.sequences.keys; repeated = trip_ends.repeated; first = option_map end_seen trip_ends.first; last = option_map end_seen trip_ends.last }
+trip_ends_seen trip_ends = record {
+  sequences = trip_ends.sequences.keys;
+  repeated = trip_ends.repeated;
+  first = option_map end_seen trip_ends.first;
+  last = option_map end_seen trip_ends.last;
+}
 
 -- this is kept of these stop times
 pub record AreTripEnds (stop_times : List StopTimeView) (kept : Kept) : Type 0 where

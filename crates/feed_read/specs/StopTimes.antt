@@ -21,7 +21,13 @@ pub record StopTimeView : Type 0 where
 
 -- what a clause sees of a stop time
 abbrev pub seen : StopTime → StopTimeView
-seen stop_time = record { trip = stop_time.trip; stop = stop_time.stop.now; arrival = stop_time.arrival; departure = stop_time.departure; sequence = stop_time.sequence }
+seen stop_time = record {
+  trip = stop_time.trip;
+  stop = stop_time.stop.now;
+  arrival = stop_time.arrival;
+  departure = stop_time.departure;
+  sequence = stop_time.sequence;
+}
 
 -- where the required columns are
 unfoldable pub columns_in : List (List ℕ) → Result Columns FeedFault
@@ -50,7 +56,8 @@ stop_time_in columns number trip fields = do
 -- the stop times, and that of a record of the trip of that slot; of a record of no selected trip nothing more is examined
 abbrev pub with_stop_time_of : Columns → ℕ → List StopTimeView → List (List ℕ) → Option ℕ → Result (List StopTimeView) FeedFault
 with_stop_time_of columns number before fields None = Ok before
-with_stop_time_of columns number before fields (Some trip) = stop_time_in columns number trip fields >>= λ stop_time. Ok (before ++ stop_time ∷ [])
+with_stop_time_of columns number before fields (Some trip) =
+    stop_time_in columns number trip fields >>= λ stop_time. Ok (before ++ stop_time ∷ [])
 
 -- the stop times with that of one record, among selected trips of these names
 unfoldable pub with_stop_time : List Name → Columns → ℕ → List StopTimeView → List (List ℕ) → Result (List StopTimeView) FeedFault

@@ -71,7 +71,8 @@ with_trip settings columns number before fields = chosen_in settings columns num
 abbrev pub with_chosen_class : SettingsView → ClassedColumns → ℕ → Selected → List (List ℕ) → Option Name → Result Selected FeedFault
 with_chosen_class settings columns number before fields None = Ok before
 with_chosen_class settings columns number before fields (Some name) =
-    text_in paper.Trips number column.RouteId (field_at fields columns.route) >>= λ route. with_selected number before name (class_of settings route)
+    text_in paper.Trips number column.RouteId (field_at fields columns.route) >>= λ route. with_selected number before name
+    (class_of settings route)
 
 -- the selected trips with that of a record, where vehicles are of classes
 unfoldable pub with_classed_trip : SettingsView → ClassedColumns → ℕ → Selected → List (List ℕ) → Result Selected FeedFault

@@ -40,7 +40,8 @@ fn feed_trip_between(
     last: &End,
 ) -> Result<FeedTrip, FeedFault>
     requires { has_slash class.now ≡ false }
-    ensures gives { Gives (λ feed_trip. feed_trip) result (spec.feed_trip_between settings.now name.now class.now (end_seen first.now) (end_seen last.now)) }
+    ensures gives { Gives (λ feed_trip. feed_trip) result
+        (spec.feed_trip_between settings.now name.now class.now (end_seen first.now) (end_seen last.now)) }
     ensures valid { IfOk result spec.IsFeedTrip }
     ensures name { IfOk result (λ feed_trip. feed_trip.name ≡ name.now) }
 {
@@ -78,7 +79,8 @@ fn feed_trip_of(
     trip_ends: &TripEnds,
 ) -> Result<FeedTrip, FeedFault>
     requires { has_slash class.now ≡ false }
-    ensures gives { (stop_times : List StopTimeView) → AreTripEnds stop_times (trip_ends_seen trip_ends.now) → Gives (λ feed_trip. feed_trip) result (spec.feed_trip_of settings.now name.now class.now stop_times) }
+    ensures gives { (stop_times : List StopTimeView) → AreTripEnds stop_times (trip_ends_seen trip_ends.now)
+        → Gives (λ feed_trip. feed_trip) result (spec.feed_trip_of settings.now name.now class.now stop_times) }
     ensures valid { IfOk result spec.IsFeedTrip }
     ensures name { IfOk result (λ feed_trip. feed_trip.name ≡ name.now) }
 {

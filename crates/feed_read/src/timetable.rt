@@ -30,7 +30,8 @@ fn find_place(
     terminal: &Text,
     class: &Text,
 ) -> Result<Option<u16>, Memory>
-    ensures number { IfOk result (λ place. place ≡ number_of (place_names timetable.now) (spec.place_of settings.now terminal.now class.now).name) }
+    ensures number { IfOk result (λ place. place ≡ number_of (place_names timetable.now)
+        (spec.place_of settings.now terminal.now class.now).name) }
     ensures within { IfOk result (λ place. IfSome place (λ p. p < length timetable.now.places)) }
 {
     if settings.classed() {
@@ -79,7 +80,8 @@ fn push_place(
     ensures pushed { OnOk result (timetable.new ≡ record timetable.old {
       places = spec.with_place timetable.old.places (spec.place_of settings.now terminal.now class.now);
     }) }
-    ensures full { IfErr result (spec.IsFullOrMemory (spec.with_place timetable.old.places (spec.place_of settings.now terminal.now class.now))) }
+    ensures full { IfErr result (spec.IsFullOrMemory
+        (spec.with_place timetable.old.places (spec.place_of settings.now terminal.now class.now))) }
 {
     match find_place(alloc, settings, timetable, terminal, class)? {
         Some(_) => Ok(()),
@@ -99,7 +101,8 @@ fn push_places(
 ) -> Result<(), FeedFault>
     requires empty { timetable.old ≡ spec.timetable_over settings.now [] [] }
     requires valid { All IsFeedTrip feed_trips.now }
-    ensures pushed { OnOk result (timetable.new ≡ spec.timetable_over settings.now (spec.places_met (spec.ends_of settings.now feed_trips.now)) []) }
+    ensures pushed { OnOk result (timetable.new ≡ spec.timetable_over settings.now
+        (spec.places_met (spec.ends_of settings.now feed_trips.now)) []) }
     ensures full { IfErr result (spec.IsFullOrMemory (spec.places_met (spec.ends_of settings.now feed_trips.now))) }
 {
     for trip in feed_trips {
@@ -120,7 +123,8 @@ fn push_trips(
     requires few { length feed_trips.now ≤ MOST_SLOTS }
     requires distinct { AreDistinct (map (λ feed_trip. feed_trip.name) feed_trips.now) }
     requires valid { All IsFeedTrip feed_trips.now }
-    ensures { OnOk result (timetable.new ≡ spec.timetable_over settings.now (spec.places_met (spec.ends_of settings.now feed_trips.now)) feed_trips.now) }
+    ensures { OnOk result (timetable.new ≡ spec.timetable_over settings.now (spec.places_met (spec.ends_of settings.now feed_trips.now))
+        feed_trips.now) }
 {
     for feed_trip in feed_trips {
         let from = find_place(

@@ -33,7 +33,8 @@ fn kept(alloc: Global, stop_time: &StopTime) -> Result<End, Memory>
 
 // The end of the lesser number, of the one that is least so far and a stop time.
 fn sooner(alloc: Global, least: Option<End>, stop_time: &StopTime) -> Result<Option<End>, Memory>
-    ensures { IfOk result (λ end. option_map spec.end_seen end ≡ feed_trips.sooner (option_map spec.end_seen least) (seen stop_time.now)) }
+    ensures { IfOk result (λ end. option_map spec.end_seen end ≡ feed_trips.sooner (option_map spec.end_seen least)
+        (seen stop_time.now)) }
 {
     match least {
         Some(least) if least.sequence <= stop_time.sequence => Ok(Some(least)),
@@ -43,7 +44,8 @@ fn sooner(alloc: Global, least: Option<End>, stop_time: &StopTime) -> Result<Opt
 
 // The end of the greater number, of the one that is greatest so far and a stop time.
 fn later(alloc: Global, greatest: Option<End>, stop_time: &StopTime) -> Result<Option<End>, Memory>
-    ensures { IfOk result (λ end. option_map spec.end_seen end ≡ feed_trips.later (option_map spec.end_seen greatest) (seen stop_time.now)) }
+    ensures { IfOk result (λ end. option_map spec.end_seen end ≡ feed_trips.later (option_map spec.end_seen greatest)
+        (seen stop_time.now)) }
 {
     match greatest {
         Some(greatest) if greatest.sequence >= stop_time.sequence => Ok(Some(greatest)),

@@ -21,7 +21,9 @@ trip_line i = codes "R,W,S" ++ (decimal i ++ 10 ∷ [])
 -- the record of a stop of a trip: its arrival and its departure are at the same minute
 unfoldable pub stop_line : ℕ → ℕ → ℕ → ℕ → List ℕ
 stop_line i minute place sequence =
-    codes "S" ++ (decimal i ++ (codes "," ++ (minute_digits minute ++ (codes ":00," ++ (minute_digits minute ++ (codes ":00,P" ++ (decimal place ++ (codes "," ++ (decimal sequence ++ 10 ∷ [])))))))))
+    codes "S" ++ (decimal i ++ (codes ","
+    ++ (minute_digits minute ++ (codes ":00,"
+    ++ (minute_digits minute ++ (codes ":00,P" ++ (decimal place ++ (codes "," ++ (decimal sequence ++ 10 ∷ [])))))))))
 
 -- the records of the two stops of a trip
 unfoldable pub stop_lines : ℕ → List ℕ
@@ -33,7 +35,8 @@ distance a b = (a - b) + (b - a)
 
 -- the record of the deadhead between two places; from a place to itself there is none
 unfoldable pub deadhead_line : ℕ → ℕ → List ℕ
-deadhead_line a b = if a == b then [] else codes "P" ++ (decimal a ++ (codes ",P" ++ (decimal b ++ (codes "," ++ (decimal (5 + 2 * distance a b) ++ 10 ∷ [])))))
+deadhead_line a b = if a == b then []
+    else codes "P" ++ (decimal a ++ (codes ",P" ++ (decimal b ++ (codes "," ++ (decimal (5 + 2 * distance a b) ++ 10 ∷ [])))))
 
 -- the records of so many of the first trips, and of so many of the first pairs of places
 unfoldable pub trip_lines_to : ℕ → List ℕ
@@ -64,7 +67,8 @@ edits_text = codes "cancel,S0" ++ 10 ∷ codes "undo" ++ 10 ∷ []
 -- the files, with a script where there is a trip
 abbrev pub feed_files : ℕ → Files
 feed_files trips =
-    insert (insert (insert empty (file_name_of paper.Trips) (trips_text trips)) (file_name_of paper.StopTimes) (stop_times_text trips)) (file_name_of paper.Deadheads) deadheads_text
+    insert (insert (insert empty (file_name_of paper.Trips) (trips_text trips)) (file_name_of paper.StopTimes) (stop_times_text trips))
+    (file_name_of paper.Deadheads) deadheads_text
 
 abbrev pub sample_files : ℕ → Files
 sample_files trips = if nat_lt 0 trips then insert (feed_files trips) (file_name_of paper.Edits) edits_text else feed_files trips

@@ -1,9 +1,12 @@
 -- The links of the rule leave as many blocks as the sum of the maxima, and no more.
-use Rattle.std.proofs.Common.{◌≡◌, ◌≢◌, ℕ, zero, suc, ◌+◌, ◌<◌, ◌≤◌, ◌==◌, ◌&&◌, nat_le, Bool, true, false, cond, List, [], ◌∷◌, ◌++◌, length, set, replicate, fold, sum_by, Option, None, Some, if◌then◌else◌, refl, sym, ap, subst, ◌∙◌, append_assoc, ⊎_elim, arith}
+use Rattle.std.proofs.Common.{◌≡◌, ◌≢◌, ℕ, zero, suc, ◌+◌, ◌<◌, ◌≤◌, ◌==◌, ◌&&◌, nat_le, Bool, true, false, cond, List, [], ◌∷◌, ◌++◌}
+use Rattle.std.proofs.Common.{length, set, replicate, fold, sum_by, Option, None, Some, if◌then◌else◌, refl, sym, ap, subst, ◌∙◌}
+use Rattle.std.proofs.Common.{append_assoc, ⊎_elim, arith}
 use Rattle.std.specs.List.{AllByRecursion}
 use Rattle.std.specs.Option.{is_some, is_none}
 use Rattle.std.proofs.lemmas.Bool.{cases_eq, cases_lt, eq-eqb, ne_eqb, and_parts, and_from, eqb-true, le-leb, false≢true}
-use Rattle.std.proofs.lemmas.List.{length-set, length-replicate, get_or-replicate, get_or-set_same, get_or-set_other, get_or_past, append-nil}
+use Rattle.std.proofs.lemmas.List.{length-set, length-replicate, get_or-replicate, get_or-set_same, get_or-set_other, get_or_past}
+use Rattle.std.proofs.lemmas.List.{append-nil}
 use Rattle.std.proofs.lemmas.List.Sums.{sum_by-cons, sum_by-append, sum_by_push}
 use Rattle.std.proofs.lemmas.Option.{none-some, same_Some}
 use Rattle.trip_model.specs.declared.trip.Move.{Move}
@@ -14,7 +17,8 @@ use Rattle.trip_model.specs.Network.{Fits}
 use Rattle.trip_model.specs.Order.{minute_left, by_departure, RiseBy}
 use Rattle.trip_model.specs.Plain.{move_at, made, meets, plain_network, AreMoves}
 use Rattle.trip_model.proofs.Chains.{IsBlocking-blocks_along, blocks-and-links}
-use Rattle.trip_model.proofs.Counting.{sum_below, sum_below-le, sum_below-add, sum_below-same, sum_below-zero, sum_below-raised, sum_below-list, sum_below-made, over, sum_by-made_standing, runs-within}
+use Rattle.trip_model.proofs.Counting.{sum_below, sum_below-le, sum_below-add, sum_below-same, sum_below-zero, sum_below-raised}
+use Rattle.trip_model.proofs.Counting.{sum_below-list, sum_below-made, over, sum_by-made_standing, runs-within}
 use Rattle.trip_model.proofs.OrderLemmas.{StandsOnce-by_departure, RiseBy-by_departure}
 use Rattle.trip_model.proofs.PlainLemmas.{AreDepartures-plain}
 use Rattle.fixed_fleet.specs.Rule.{forerunner, with_link, first_in_first_out, IsForerunner}
@@ -41,11 +45,14 @@ times-more : (j s : ℕ) (done : List ℕ) → times j (done ++ s ∷ []) ≡ ti
 times-more j s done = sum_by_push (λ x. cond (x == j) 1 0) done s
 
 -- where no vehicle is free, each that has come to the place in time has gone on
-none-free : (moves : List (Option Move)) (links : List (Option ℕ)) (j : ℕ) (b : Move) → move_at moves j ≡ Some b → IsForerunner moves links j None
-    → (s : ℕ) → s < length moves → over (arrives_by b.from b.leaves) (move_at moves s) ≤ cond (is_some (next_of links s)) (over (stops_at b.from) (move_at moves s)) 0
+none-free : (moves : List (Option Move)) (links : List (Option ℕ)) (j : ℕ) (b : Move) → move_at moves j ≡ Some b
+    → IsForerunner moves links j None
+    → (s : ℕ) → s < length moves → over (arrives_by b.from b.leaves) (move_at moves s) ≤ cond (is_some (next_of links s))
+    (over (stops_at b.from) (move_at moves s)) 0
 none-free moves links j b here none s h = by (move_at moves s) refl (next_of links s) refl
   where
-    free : (a : Move) → (t : Bool) → ((a.to == b.from) && nat_le a.arrives b.leaves) ≡ t → ((meets (Some a) (Some b) ≡ true) → ⊥) → ◌≤◌ (cond t 1 0) 0
+    free : (a : Move) → (t : Bool) → ((a.to == b.from) && nat_le a.arrives b.leaves) ≡ t → ((meets (Some a) (Some b) ≡ true) → ⊥)
+        → ◌≤◌ (cond t 1 0) 0
     free a true e never = absurd (never e)
     free a false e never = omega arith
 
@@ -54,14 +61,18 @@ none-free moves links j b here none s h = by (move_at moves s) refl (next_of lin
     gone true false = omega arith
     gone false y = omega arith
 
-    by : (m : Option Move) → move_at moves s ≡ m → (next : Option ℕ) → next_of links s ≡ next → over (arrives_by b.from b.leaves) m ≤ cond (is_some next) (over (stops_at b.from) m) 0
+    by : (m : Option Move) → move_at moves s ≡ m → (next : Option ℕ) → next_of links s ≡ next
+        → over (arrives_by b.from b.leaves) m ≤ cond (is_some next) (over (stops_at b.from) m) 0
     by None e next goes = omega arith
     by (Some a) e (Some n) goes = gone (a.to == b.from) (nat_le a.arrives b.leaves)
-    by (Some a) e None goes = free a _ refl (λ meet. none s h (and_from (is_none (next_of links s)) _ (ap is_none goes) ((λ i. meets (e i) (here i)) ∙ meet)))
+    by (Some a) e None goes = free a _ refl
+        (λ meet. none s h (and_from (is_none (next_of links s)) _ (ap is_none goes) ((λ i. meets (e i) (here i)) ∙ meet)))
 
 -- a trip without a forerunner
-state-none : (moves : List (Option Move)) (high : ℕ → ℕ) (done : List ℕ) (links : List (Option ℕ)) (j : ℕ) (b : Move) → AreMaxima (made moves) high → IsState moves high done links
-    → move_at moves j ≡ Some b → b.leaves ≤ 8191 → sum_by (λ s. over (begins_at b.from) (move_at moves s)) (done ++ j ∷ []) ≤ departures (made moves) b.from b.leaves
+state-none : (moves : List (Option Move)) (high : ℕ → ℕ) (done : List ℕ) (links : List (Option ℕ)) (j : ℕ) (b : Move)
+    → AreMaxima (made moves) high → IsState moves high done links
+    → move_at moves j ≡ Some b → b.leaves ≤ 8191
+    → sum_by (λ s. over (begins_at b.from) (move_at moves s)) (done ++ j ∷ []) ≤ departures (made moves) b.from b.leaves
     → IsForerunner moves links j None → IsState moves high (done ++ j ∷ []) links
 state-none moves high done links j b are state here in_day demand none = record {
   len = state.len;
@@ -69,9 +80,11 @@ state-none moves high done links j b are state here in_day demand none = record 
   once = state.once;
   linked = λ i n e. omega (arith, times-more n j done, state.linked i n e);
   supply = λ k. ⊎_elim
-      (λ (same : b.from ≡ k). subst (λ k. sum_by (λ s. over (begins_at k) (move_at moves s)) (done ++ j ∷ []) ≤ used moves links k + high k) same enough)
+      (λ (same : b.from ≡ k). subst (λ k. sum_by (λ s. over (begins_at k) (move_at moves s)) (done ++ j ∷ []) ≤ used moves links k + high
+      k) same enough)
       (λ (other : b.from ≡ k → ⊥).
-      let no_more : over (begins_at k) (move_at moves j) ≡ 0 = ap (over (begins_at k)) here ∙ ap (λ t. cond t 1 0) (ne_eqb b.from k other) in
+      let no_more : over (begins_at k) (move_at moves j) ≡ 0 = ap (over (begins_at k)) here
+      ∙ ap (λ t. cond t 1 0) (ne_eqb b.from k other) in
       omega (arith, sum_by_push (λ s. over (begins_at k) (move_at moves s)) done j, no_more, state.supply k))
       (cases_eq b.from k);
 }
@@ -79,7 +92,9 @@ state-none moves high done links j b are state here in_day demand none = record 
     enough : sum_by (λ s. over (begins_at b.from) (move_at moves s)) (done ++ j ∷ []) ≤ used moves links b.from + high b.from
     enough =
         let come = sum_below-made (arrives_by b.from b.leaves) moves in
-        let gone = sum_below-le (λ s. over (arrives_by b.from b.leaves) (move_at moves s)) (λ s. cond (is_some (next_of links s)) (over (stops_at b.from) (move_at moves s)) 0) (length moves) (none-free moves links j b here none) in
+        let gone = sum_below-le (λ s. over (arrives_by b.from b.leaves) (move_at moves s))
+        (λ s. cond (is_some (next_of links s)) (over (stops_at b.from) (move_at moves s)) 0) (length moves)
+        (none-free moves links j b here none) in
         omega (arith, demand, come, gone, maximum-bounds (made moves) high are b.from b.leaves in_day)
 
 -- the next trip of a slot after one link more
@@ -102,8 +117,10 @@ no_next None e = refl
 no_next (Some j) e = absurd (false≢true e)
 
 -- a trip with a forerunner
-state-some : (moves : List (Option Move)) (high : ℕ → ℕ) (done : List ℕ) (links : List (Option ℕ)) (j i : ℕ) (b : Move) → IsState moves high done links
-    → move_at moves j ≡ Some b → times j done ≡ 0 → IsForerunner moves links j (Some i) → IsState moves high (done ++ j ∷ []) (set links i (Some j))
+state-some : (moves : List (Option Move)) (high : ℕ → ℕ) (done : List ℕ) (links : List (Option ℕ)) (j i : ℕ) (b : Move)
+    → IsState moves high done links
+    → move_at moves j ≡ Some b → times j done ≡ 0 → IsForerunner moves links j (Some i)
+    → IsState moves high (done ++ j ∷ []) (set links i (Some j))
 state-some moves high done links j i b state here new found =
     let parts = and_parts (is_none (next_of links i)) (meets (move_at moves i) (move_at moves j)) found.1 in
     let free : next_of links i ≡ None = no_next (next_of links i) parts.0 in
@@ -116,7 +133,8 @@ state-some moves high done links j i b state here new found =
       fits = λ h n e. ⊎_elim
           (λ (same : h ≡ i).
           let is : j ≡ n = same_Some j n (sym (next-set links i j h within same) ∙ e) in
-          subst (λ h. Fits (plain_network moves) h n) (sym same) (subst (λ n. Fits (plain_network moves) i n) is (plain-fits moves i j parts.1)))
+          subst (λ h. Fits (plain_network moves) h n) (sym same)
+          (subst (λ n. Fits (plain_network moves) i n) is (plain-fits moves i j parts.1)))
           (λ (other : h ≡ i → ⊥). state.fits h n (sym (next-kept links i j h other) ∙ e))
           (cases_eq h i);
       once = λ g h n e f. ⊎_elim
@@ -144,7 +162,8 @@ state-some moves high done links j i b state here new found =
           let old : ℕ → ℕ = λ s. cond (is_some (next_of links s)) (over (stops_at k) (move_at moves s)) 0 in
           let now : ℕ → ℕ = λ s. cond (is_some (next_of (set links i (Some j)) s)) (over (stops_at k) (move_at moves s)) 0 in
           let was : old i ≡ 0 = ap (λ n. cond (is_some n) (over (stops_at k) (move_at moves i)) 0) free in
-          let is : now i ≡ over (stops_at k) (move_at moves i) = ap (λ n. cond (is_some n) (over (stops_at k) (move_at moves i)) 0) (next-set links i j i within refl) in
+          let is : now i ≡ over (stops_at k) (move_at moves i) =
+          ap (λ n. cond (is_some n) (over (stops_at k) (move_at moves i)) 0) (next-set links i j i within refl) in
           let raised = sum_below-raised old now (length moves) i (over (stops_at k) (move_at moves i)) found.0 (omega (arith, was, is))
           (λ s other. ap (λ n. cond (is_some n) (over (stops_at k) (move_at moves s)) 0) (next-kept links i j s other)) in
           let stops : over (stops_at k) (move_at moves i) ≡ over (begins_at k) (move_at moves j) =
@@ -152,10 +171,13 @@ state-some moves high done links j i b state here new found =
           omega (arith, sum_by_push (λ s. over (begins_at k) (move_at moves s)) done j, raised, stops, state.supply k);
     }
 
-state-step : (moves : List (Option Move)) (high : ℕ → ℕ) (done : List ℕ) (links : List (Option ℕ)) (j : ℕ) (b : Move) → AreMaxima (made moves) high → IsState moves high done links
-    → move_at moves j ≡ Some b → b.leaves ≤ 8191 → times j done ≡ 0 → sum_by (λ s. over (begins_at b.from) (move_at moves s)) (done ++ j ∷ []) ≤ departures (made moves) b.from b.leaves
+state-step : (moves : List (Option Move)) (high : ℕ → ℕ) (done : List ℕ) (links : List (Option ℕ)) (j : ℕ) (b : Move)
+    → AreMaxima (made moves) high → IsState moves high done links
+    → move_at moves j ≡ Some b → b.leaves ≤ 8191 → times j done ≡ 0
+    → sum_by (λ s. over (begins_at b.from) (move_at moves s)) (done ++ j ∷ []) ≤ departures (made moves) b.from b.leaves
     → (found : Option ℕ) → IsForerunner moves links j found → IsState moves high (done ++ j ∷ []) (with_link links found j)
-state-step moves high done links j b are state here in_day new demand None is = state-none moves high done links j b are state here in_day demand is
+state-step moves high done links j b are state here in_day new demand None is =
+    state-none moves high done links j b are state here in_day demand is
 state-step moves high done links j b are state here in_day new demand (Some i) is = state-some moves high done links j i b state here new is
 
 -- what holds of all elements holds of one in the middle
@@ -164,7 +186,8 @@ all-middle P [] x rest all = all.0
 all-middle P (y ∷ front) x rest all = all-middle P front x rest all.1
 
 -- those before a slot have no greater key
-rise-front : (key : ℕ → ℕ) (front : List ℕ) (x : ℕ) (rest : List ℕ) → RiseBy key (front ++ x ∷ rest) → AllByRecursion (λ y. key y ≤ key x) (front ++ x ∷ [])
+rise-front : (key : ℕ → ℕ) (front : List ℕ) (x : ℕ) (rest : List ℕ) → RiseBy key (front ++ x ∷ rest)
+    → AllByRecursion (λ y. key y ≤ key x) (front ++ x ∷ [])
 rise-front key [] x rest rise = ((let le : key x ≤ key x = omega arith in le), tt)
 rise-front key (y ∷ front) x rest rise = (all-middle (λ z. key y ≤ key z) front x rest rise.0, rise-front key front x rest rise.1)
 
@@ -191,13 +214,15 @@ live-one true h = refl
 live-one false h = absurd (omega arith)
 
 -- trip by trip, to the end of the order
-state-run : (places : ℕ) (moves : List (Option Move)) (high : ℕ → ℕ) → AreMoves places moves → AreMaxima (made moves) high → (rest done : List ℕ) (links : List (Option ℕ))
+state-run : (places : ℕ) (moves : List (Option Move)) (high : ℕ → ℕ) → AreMoves places moves → AreMaxima (made moves) high
+    → (rest done : List ℕ) (links : List (Option ℕ))
     → by_departure moves ≡ done ++ rest → IsState moves high done links
     → IsState moves high (by_departure moves) (fold (λ links j. with_link links (forerunner moves links j) j) links rest)
 state-run places moves high moving are [] done links is state = subst (λ xs. IsState moves high xs links) (sym (is ∙ append-nil done)) state
 state-run places moves high moving are (j ∷ rest) done links is state =
     let stands = StandsOnce-by_departure moves in
-    let count : times j (by_departure moves) ≡ times j done + times j (j ∷ rest) = ap (times j) is ∙ sum_by-append (λ x. cond (x == j) 1 0) done (j ∷ rest) in
+    let count : times j (by_departure moves) ≡ times j done + times j (j ∷ rest) = ap (times j) is
+    ∙ sum_by-append (λ x. cond (x == j) 1 0) done (j ∷ rest) in
     let mine : ◌≡◌ {A = ℕ} (cond (j == j) 1 0) 1 = ap (λ t. cond t 1 0) (eq-eqb j j refl) in
     let here = sum_by-cons (λ x. cond (x == j) 1 0) j rest in
     let live = live-one (is_some (move_at moves j)) (omega (arith, stands.once j, count, mine, here)) in
@@ -206,16 +231,21 @@ state-run places moves high moving are (j ∷ rest) done links is state =
     let new : times j done ≡ 0 = omega (arith, stands.once j, count, mine, here, one) in
     let move = moving.each j b.0 b.1 in
     let minute : minute_left (move_at moves j) ≡ b.0.leaves = ap minute_left b.1 in
-    let rise = rise-front (λ s. minute_left (move_at moves s)) done j rest (subst (RiseBy (λ s. minute_left (move_at moves s))) is (RiseBy-by_departure moves)) in
-    let so_far = sum-le-all (λ s. over (begins_at b.0.from) (move_at moves s)) (λ s. over (leaves_by b.0.from b.0.leaves) (move_at moves s)) (λ s. minute_left (move_at moves s) ≤ minute_left (move_at moves j))
+    let rise = rise-front (λ s. minute_left (move_at moves s)) done j rest
+    (subst (RiseBy (λ s. minute_left (move_at moves s))) is (RiseBy-by_departure moves)) in
+    let so_far = sum-le-all (λ s. over (begins_at b.0.from) (move_at moves s))
+    (λ s. over (leaves_by b.0.from b.0.leaves) (move_at moves s)) (λ s. minute_left (move_at moves s) ≤ minute_left (move_at moves j))
     (λ s h. begins-leaves b.0.from b.0.leaves (move_at moves s) (omega (arith, h, minute))) (done ++ j ∷ []) rise in
     let all = sum_by-made_standing (leaves_by b.0.from b.0.leaves) moves (by_departure moves) stands in
     let regroup : by_departure moves ≡ (done ++ j ∷ []) ++ rest = is ∙ sym (append_assoc done (j ∷ []) rest) in
-    let split = ap (sum_by (λ s. over (leaves_by b.0.from b.0.leaves) (move_at moves s))) regroup ∙ sum_by-append (λ s. over (leaves_by b.0.from b.0.leaves) (move_at moves s)) (done ++ j ∷ []) rest in
+    let split = ap (sum_by (λ s. over (leaves_by b.0.from b.0.leaves) (move_at moves s))) regroup
+    ∙ sum_by-append (λ s. over (leaves_by b.0.from b.0.leaves) (move_at moves s)) (done ++ j ∷ []) rest in
     let in_day : b.0.leaves ≤ 8191 = omega (arith, move.forward, move.in_day) in
-    let demand : sum_by (λ s. over (begins_at b.0.from) (move_at moves s)) (done ++ j ∷ []) ≤ departures (made moves) b.0.from b.0.leaves = omega (arith, so_far, all, split) in
+    let demand : sum_by (λ s. over (begins_at b.0.from) (move_at moves s)) (done ++ j ∷ []) ≤ departures (made moves) b.0.from b.0.leaves =
+    omega (arith, so_far, all, split) in
     state-run places moves high moving are rest (done ++ j ∷ []) (with_link links (forerunner moves links j) j) regroup
-    (state-step moves high done links j b.0 are state b.1 in_day new demand (forerunner moves links j) (IsForerunner-forerunner moves links j))
+    (state-step moves high done links j b.0 are state b.1 in_day new demand (forerunner moves links j)
+    (IsForerunner-forerunner moves links j))
 
 pub none-linked : (n i : ℕ) → next_of (replicate n None) i ≡ None
 none-linked n i = ⊎_elim
@@ -224,7 +254,8 @@ none-linked n i = ⊎_elim
     (cases_lt i n)
 
 -- the links of the rule
-fifo-state : (places : ℕ) (moves : List (Option Move)) (high : ℕ → ℕ) → AreMoves places moves → AreMaxima (made moves) high → IsState moves high (by_departure moves) (first_in_first_out moves)
+fifo-state : (places : ℕ) (moves : List (Option Move)) (high : ℕ → ℕ) → AreMoves places moves → AreMaxima (made moves) high
+    → IsState moves high (by_departure moves) (first_in_first_out moves)
 unfolding first_in_first_out
 fifo-state places moves high moving are =
     state-run places moves high moving are (by_departure moves) [] (replicate (length moves) None) refl (record {
@@ -236,14 +267,16 @@ fifo-state places moves high moving are =
     })
 
 -- links of trips that meet, none of which is the next of two
-pub AreLinks-fifo : (places : ℕ) (moves : List (Option Move)) (high : ℕ → ℕ) → AreMoves places moves → AreMaxima (made moves) high → AreLinks (plain_network moves) (first_in_first_out moves)
+pub AreLinks-fifo : (places : ℕ) (moves : List (Option Move)) (high : ℕ → ℕ) → AreMoves places moves → AreMaxima (made moves) high
+    → AreLinks (plain_network moves) (first_in_first_out moves)
 AreLinks-fifo places moves high moving are =
     let state = fifo-state places moves high moving are in record { fits = state.fits; once = state.once }
 
 -- the sums over places and slots, either way round
 sum_below-swap : (f : ℕ → ℕ → ℕ) (m n : ℕ) → sum_below (λ k. sum_below (f k) n) m ≡ sum_below (λ s. sum_below (λ k. f k s) m) n
 sum_below-swap f m zero = sum_below-zero (λ k. 0) m (λ s h. refl)
-sum_below-swap f m (suc n) = sum_below-add (λ k. sum_below (f k) n) (λ k. f k n) m ∙ ap (λ x. x + sum_below (λ k. f k n) m) (sum_below-swap f m n)
+sum_below-swap f m (suc n) = sum_below-add (λ k. sum_below (f k) n) (λ k. f k n) m
+    ∙ ap (λ x. x + sum_below (λ k. f k n) m) (sum_below-swap f m n)
 
 one_stop : (a n : ℕ) → sum_below (λ k. cond (a == k) 1 0) n ≤ 1
 one_stop a zero = omega arith
@@ -257,19 +290,27 @@ one_stop a (suc n) = ⊎_elim
     omega (arith, one_stop a n, none))
     (cases_eq a n)
 
-stops-below : (n : ℕ) (next : Option ℕ) (m : Option Move) → sum_below (λ k. cond (is_some next) (over (stops_at k) m) 0) n ≤ cond (is_some next) 1 0
+stops-below : (n : ℕ) (next : Option ℕ) (m : Option Move)
+    → sum_below (λ k. cond (is_some next) (over (stops_at k) m) 0) n ≤ cond (is_some next) 1 0
 stops-below n None m = omega (arith, sum_below-zero (λ k. 0) n (λ s h. refl))
 stops-below n (Some j) None = omega (arith, sum_below-zero (λ k. 0) n (λ s h. refl))
 stops-below n (Some j) (Some a) = one_stop a.to n
 
 -- as many slots are used, over all places, as there are links
-used-all : (moves : List (Option Move)) (links : List (Option ℕ)) (places : ℕ) → length links ≡ length moves → sum_below (used moves links) places ≤ link_count links
+used-all : (moves : List (Option Move)) (links : List (Option ℕ)) (places : ℕ) → length links ≡ length moves
+    → sum_below (used moves links) places ≤ link_count links
 used-all moves links places len =
-    let each = sum_below-le (λ s. sum_below (λ k. cond (is_some (next_of links s)) (over (stops_at k) (move_at moves s)) 0) places) (λ s. cond (is_some (next_of links s)) 1 0) (length moves)
+    let each = sum_below-le (λ s. sum_below (λ k. cond (is_some (next_of links s)) (over (stops_at k) (move_at moves s)) 0) places)
+    (λ s. cond (is_some (next_of links s)) 1 0) (length moves)
     (λ s h. stops-below places (next_of links s) (move_at moves s)) in
     let count : sum_below (λ s. cond (is_some (next_of links s)) 1 0) (length moves) ≡ link_count links =
     ap (sum_below (λ s. cond (is_some (next_of links s)) 1 0)) (sym len) ∙ sum_below-list (λ n. cond (is_some n) 1 0) links None in
-    omega (arith, sum_below-swap (λ k s. cond (is_some (next_of links s)) (over (stops_at k) (move_at moves s)) 0) places (length moves), each, count)
+    omega (
+      arith,
+      sum_below-swap (λ k s. cond (is_some (next_of links s)) (over (stops_at k) (move_at moves s)) 0) places (length moves),
+      each,
+      count,
+    )
 
 -- a slot that stands in a list
 all-standing : (P : ℕ → Type 0) (xs : List ℕ) → ((s : ℕ) → 0 < times s xs → P s) → AllByRecursion P xs
@@ -293,13 +334,22 @@ begins-once places m b is within =
     omega (arith, term-below (λ k. over (begins_at k) m) places b.from within, mine)
 
 -- each slot begins at one of the places
-begins-all : (moves : List (Option Move)) (places : ℕ) (xs : List ℕ) → AllByRecursion (λ s. 1 ≤ sum_below (λ k. over (begins_at k) (move_at moves s)) places) xs
+begins-all : (moves : List (Option Move)) (places : ℕ) (xs : List ℕ)
+    → AllByRecursion (λ s. 1 ≤ sum_below (λ k. over (begins_at k) (move_at moves s)) places) xs
     → length xs ≤ sum_below (λ k. sum_by (λ s. over (begins_at k) (move_at moves s)) xs) places
 begins-all moves places [] all = omega arith
 begins-all moves places (x ∷ xs) all =
-    let same = sum_below-same (λ k. sum_by (λ s. over (begins_at k) (move_at moves s)) (x ∷ xs)) (λ k. over (begins_at k) (move_at moves x) + sum_by (λ s. over (begins_at k) (move_at moves s)) xs) places
+    let same = sum_below-same (λ k. sum_by (λ s. over (begins_at k) (move_at moves s)) (x ∷ xs))
+    (λ k. over (begins_at k) (move_at moves x) + sum_by (λ s. over (begins_at k) (move_at moves s)) xs) places
     (λ k h. sum_by-cons (λ s. over (begins_at k) (move_at moves s)) x xs) in
-    omega (arith, same, sum_below-add (λ k. over (begins_at k) (move_at moves x)) (λ k. sum_by (λ s. over (begins_at k) (move_at moves s)) xs) places, all.0, begins-all moves places xs all.1)
+    omega (
+      arith,
+      same,
+      sum_below-add (λ k. over (begins_at k) (move_at moves x))
+          (λ k. sum_by (λ s. over (begins_at k) (move_at moves s)) xs) places,
+      all.0,
+      begins-all moves places xs all.1,
+    )
 
 -- there are at most as many trips as links and the sum of the maxima
 trips-le : (places : ℕ) (moves : List (Option Move)) (high : ℕ → ℕ) → AreMoves places moves → AreMaxima (made moves) high
@@ -314,7 +364,8 @@ trips-le places moves high moving are =
     omega (
       arith,
       begins-all moves places order begin,
-      sum_below-le (λ k. sum_by (λ s. over (begins_at k) (move_at moves s)) order) (λ k. used moves (first_in_first_out moves) k + high k) places (λ k h. state.supply k),
+      sum_below-le (λ k. sum_by (λ s. over (begins_at k) (move_at moves s)) order) (λ k. used moves (first_in_first_out moves) k + high k)
+          places (λ k h. state.supply k),
       sum_below-add (used moves (first_in_first_out moves)) high places,
       used-all moves (first_in_first_out moves) places state.len,
     )
@@ -323,14 +374,17 @@ trips-le places moves high moving are =
 pub blocks-fifo : (places : ℕ) (moves : List (Option Move)) (high : ℕ → ℕ) → AreMoves places moves → AreMaxima (made moves) high
     → IsBlocking (plain_network moves) (blocks_along (first_in_first_out moves) (by_departure moves))
     × (length (blocks_along (first_in_first_out moves) (by_departure moves)) ≡ sum_below high places)
-    × (length (blocks_along (first_in_first_out moves) (by_departure moves)) + link_count (first_in_first_out moves) ≡ length (by_departure moves))
+    × (length (blocks_along (first_in_first_out moves) (by_departure moves)) + link_count (first_in_first_out moves) ≡ length
+    (by_departure moves))
 blocks-fifo places moves high moving are =
     let state = fifo-state places moves high moving are in
     let links = AreLinks-fifo places moves high moving are in
     let clock = AreDepartures-plain places moves moving in
     let stands = StandsOnce-by_departure moves in
-    let blocking = IsBlocking-blocks_along (plain_network moves) (λ s. minute_left (move_at moves s)) (first_in_first_out moves) (by_departure moves) clock links stands in
-    let count = blocks-and-links (plain_network moves) (λ s. minute_left (move_at moves s)) (first_in_first_out moves) (by_departure moves) clock links stands (λ s live. omega (arith, runs-within moves s live, state.len)) in
+    let blocking = IsBlocking-blocks_along (plain_network moves) (λ s. minute_left (move_at moves s)) (first_in_first_out moves)
+    (by_departure moves) clock links stands in
+    let count = blocks-and-links (plain_network moves) (λ s. minute_left (move_at moves s)) (first_in_first_out moves) (by_departure moves)
+    clock links stands (λ s live. omega (arith, runs-within moves s live, state.len)) in
     let few = sum-le-blocks places moves high (blocks_along (first_in_first_out moves) (by_departure moves)) are blocking in (
       blocking,
       omega (arith, few, count, trips-le places moves high moving are),

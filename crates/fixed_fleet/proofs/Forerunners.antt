@@ -1,5 +1,6 @@
 -- The forerunner of a trip is what it is said to be.
-use Rattle.std.proofs.Common.{◌≡◌, ◌≢◌, ◌⊎◌, ℕ, zero, suc, ◌<◌, ◌≤◌, ◌&&◌, Bool, true, false, List, length, Option, None, Some, if◌then◌else◌, refl, sym, ap, ◌∙◌, inl, inr, ⊎_elim, arith}
+use Rattle.std.proofs.Common.{◌≡◌, ◌≢◌, ◌⊎◌, ℕ, zero, suc, ◌<◌, ◌≤◌, ◌&&◌, Bool, true, false, List, length, Option, None, Some}
+use Rattle.std.proofs.Common.{if◌then◌else◌, refl, sym, ap, ◌∙◌, inl, inr, ⊎_elim, arith}
 use Rattle.std.proofs.lemmas.Bool.{and_parts, and_from, ltb-true, lt-ltb, false≢true, cases_eq, cases_lt}
 use Rattle.trip_model.specs.declared.trip.Move.{Move}
 use Rattle.trip_model.specs.Order.{minute_arrived}
@@ -12,10 +13,12 @@ IsBestBelow moves links j n None = (h : ℕ) → h < n → may_precede moves lin
 IsBestBelow moves links j n (Some i) =
     (i < n) × (may_precede moves links j i ≡ true)
     × ((h : ℕ) → h < n → may_precede moves links j h ≡ true
-    → (minute_arrived (move_at moves i) < minute_arrived (move_at moves h)) ⊎ ((minute_arrived (move_at moves i) ≡ minute_arrived (move_at moves h)) × (i ≤ h)))
+    → (minute_arrived (move_at moves i) < minute_arrived (move_at moves h))
+    ⊎ ((minute_arrived (move_at moves i) ≡ minute_arrived (move_at moves h)) × (i ≤ h)))
 
 best-next : (moves : List (Option Move)) (links : List (Option ℕ)) (j n : ℕ) (before : Option ℕ) → IsBestBelow moves links j n before
-    → (better : Bool) → (may_precede moves links j n && ends_before moves n before) ≡ better → IsBestBelow moves links j (suc n) (if better then Some n else before)
+    → (better : Bool) → (may_precede moves links j n && ends_before moves n before) ≡ better
+    → IsBestBelow moves links j (suc n) (if better then Some n else before)
 best-next moves links j n None best true e = (
   omega arith,
   (and_parts (may_precede moves links j n) true e).0,
@@ -38,7 +41,8 @@ best-next moves links j n (Some b) best true e =
           (cases_eq h n),
     )
 best-next moves links j n None best false e = λ h lt may. ⊎_elim
-    (λ (same : h ≡ n). false≢true (sym e ∙ and_from (may_precede moves links j n) true (ap (may_precede moves links j) (sym same) ∙ may) refl))
+    (λ (same : h ≡ n). false≢true (sym e
+    ∙ and_from (may_precede moves links j n) true (ap (may_precede moves links j) (sym same) ∙ may) refl))
     (λ (other : h ≡ n → ⊥). best h (omega arith) may)
     (cases_eq h n)
 best-next moves links j n (Some b) best false e = (
@@ -50,29 +54,36 @@ best-next moves links j n (Some b) best false e = (
       let minute = ap (λ s. minute_arrived (move_at moves s)) same in
       ⊎_elim
       (λ (sooner : minute_arrived (move_at moves n) < minute_arrived (move_at moves b)).
-      absurd (false≢true (sym e ∙ and_from (may_precede moves links j n) _ mine (lt-ltb (minute_arrived (move_at moves n)) (minute_arrived (move_at moves b)) sooner))))
+      absurd (false≢true (sym e ∙ and_from (may_precede moves links j n) _ mine
+      (lt-ltb (minute_arrived (move_at moves n)) (minute_arrived (move_at moves b)) sooner))))
       (λ (le : minute_arrived (move_at moves b) ≤ minute_arrived (move_at moves n)). ⊎_elim
-      (λ (tie : minute_arrived (move_at moves b) ≡ minute_arrived (move_at moves n)). inr (tie ∙ sym minute, (let within = best.0 in let le : b ≤ h = omega arith in le)))
-      (λ (apart : minute_arrived (move_at moves b) ≡ minute_arrived (move_at moves n) → ⊥). inl (let strict : minute_arrived (move_at moves b) ≢ minute_arrived (move_at moves n) = apart in omega arith))
+      (λ (tie : minute_arrived (move_at moves b) ≡ minute_arrived (move_at moves n)). inr
+      (tie ∙ sym minute, (let within = best.0 in let le : b ≤ h = omega arith in le)))
+      (λ (apart : minute_arrived (move_at moves b) ≡ minute_arrived (move_at moves n) → ⊥). inl
+      (let strict : minute_arrived (move_at moves b) ≢ minute_arrived (move_at moves n) = apart in omega arith))
       (cases_eq (minute_arrived (move_at moves b)) (minute_arrived (move_at moves n))))
       (cases_lt (minute_arrived (move_at moves n)) (minute_arrived (move_at moves b))))
       (λ (other : h ≡ n → ⊥). best.2 h (omega arith) may)
       (cases_eq h n),
 )
 
-best-below : (moves : List (Option Move)) (links : List (Option ℕ)) (j n : ℕ) → IsBestBelow moves links j n (forerunner_below moves links j n)
+best-below : (moves : List (Option Move)) (links : List (Option ℕ)) (j n : ℕ)
+    → IsBestBelow moves links j n (forerunner_below moves links j n)
 best-below moves links j zero = λ h lt may. omega arith
 best-below moves links j (suc n) = best-next moves links j n (forerunner_below moves links j n) (best-below moves links j n) _ refl
 
-widen : (moves : List (Option Move)) (links : List (Option ℕ)) (j : ℕ) (found : Option ℕ) → IsBestBelow moves links j (length moves) found → IsForerunner moves links j found
+widen : (moves : List (Option Move)) (links : List (Option ℕ)) (j : ℕ) (found : Option ℕ) → IsBestBelow moves links j (length moves) found
+    → IsForerunner moves links j found
 widen moves links j None best = best
 widen moves links j (Some i) best = best
 
-pub IsForerunner-forerunner : (moves : List (Option Move)) (links : List (Option ℕ)) (j : ℕ) → IsForerunner moves links j (forerunner moves links j)
+pub IsForerunner-forerunner : (moves : List (Option Move)) (links : List (Option ℕ)) (j : ℕ)
+    → IsForerunner moves links j (forerunner moves links j)
 IsForerunner-forerunner moves links j = widen moves links j (forerunner moves links j) (best-below moves links j (length moves))
 
 -- a trip has one forerunner
-pub forerunner-once : (moves : List (Option Move)) (links : List (Option ℕ)) (j : ℕ) (a b : Option ℕ) → IsForerunner moves links j a → IsForerunner moves links j b → a ≡ b
+pub forerunner-once : (moves : List (Option Move)) (links : List (Option ℕ)) (j : ℕ) (a b : Option ℕ) → IsForerunner moves links j a
+    → IsForerunner moves links j b → a ≡ b
 forerunner-once moves links j None None x y = refl
 forerunner-once moves links j None (Some k) x y = absurd (x k y.0 y.1)
 forerunner-once moves links j (Some i) None x y = absurd (y i x.0 x.1)

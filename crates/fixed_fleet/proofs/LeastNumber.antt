@@ -1,5 +1,6 @@
 -- No blocking without deadheads has fewer blocks than the sum of the maxima.
-use Rattle.std.proofs.Common.{◌≡◌, ℕ, zero, suc, ◌+◌, ◌≤◌, ◌==◌, ◌&&◌, nat_le, nat_lt, Bool, true, false, cond, List, [], ◌∷◌, length, sum_by, pos, ◌+ℤ◌, Option, None, Some, refl, ◌∙◌, arith}
+use Rattle.std.proofs.Common.{◌≡◌, ℕ, zero, suc, ◌+◌, ◌≤◌, ◌==◌, ◌&&◌, nat_le, nat_lt, Bool, true, false, cond, List, [], ◌∷◌, length}
+use Rattle.std.proofs.Common.{sum_by, pos, ◌+ℤ◌, Option, None, Some, refl, ◌∙◌, arith}
 use Rattle.std.specs.List.{AllByRecursion}
 use Rattle.std.proofs.lemmas.Bool.{and_parts, eqb-true, leb-true}
 use Rattle.std.proofs.lemmas.Bool.Decides.{nat_tests}
@@ -91,32 +92,44 @@ first-below : (moves : List (Option Move)) (n : ℕ) (block : List ℕ) → sum_
 first-below moves n [] = omega (arith, sum_below-zero (λ k. 0) n (λ s h. refl))
 first-below moves n (i ∷ js) = begins-below n (move_at moves i)
 
-firsts-below : (moves : List (Option Move)) (n : ℕ) (blocks : List (List ℕ)) → sum_below (λ k. sum_by (first_at moves k) blocks) n ≤ length blocks
+firsts-below : (moves : List (Option Move)) (n : ℕ) (blocks : List (List ℕ))
+    → sum_below (λ k. sum_by (first_at moves k) blocks) n ≤ length blocks
 firsts-below moves n [] = omega (arith, sum_below-zero (λ k. 0) n (λ s h. refl))
 firsts-below moves n (block ∷ blocks) =
-    let split = sum_below-le (λ k. sum_by (first_at moves k) (block ∷ blocks)) (λ k. first_at moves k block + sum_by (first_at moves k) blocks) n (λ k h. omega (arith, sum_by-cons (first_at moves k) block blocks)) in
-    omega (arith, split, sum_below-add (λ k. first_at moves k block) (λ k. sum_by (first_at moves k) blocks) n, first-below moves n block, firsts-below moves n blocks)
+    let split = sum_below-le (λ k. sum_by (first_at moves k) (block ∷ blocks))
+    (λ k. first_at moves k block + sum_by (first_at moves k) blocks) n
+    (λ k h. omega (arith, sum_by-cons (first_at moves k) block blocks)) in
+    omega (
+      arith,
+      split,
+      sum_below-add (λ k. first_at moves k block) (λ k. sum_by (first_at moves k) blocks) n,
+      first-below moves n block,
+      firsts-below moves n blocks,
+    )
 
 -- A number for each place that is the maximum of its deficit.
 pub record AreMaxima (moves : List Move) (high : ℕ → ℕ) : Type 0 where
   pub is : (k : ℕ) → pos (high k) ≡ (first_maximum (deficit moves k)).0
 
 -- some minute has as many more departures than arrivals so far, and none has more
-pub maximum-reached : (moves : List Move) (high : ℕ → ℕ) → AreMaxima moves high → (k : ℕ) → (t : ℕ) × (departures moves k t ≡ arrivals moves k t + high k)
+pub maximum-reached : (moves : List Move) (high : ℕ → ℕ) → AreMaxima moves high → (k : ℕ)
+    → (t : ℕ) × (departures moves k t ≡ arrivals moves k t + high k)
 maximum-reached moves high are k =
     let best = IsFirstMaximum-first_maximum (deficit moves k) in (
       (first_maximum (deficit moves k)).1,
       (let e = best.reached in let h = are.is k in omega (arith, ints)),
     )
 
-pub maximum-bounds : (moves : List Move) (high : ℕ → ℕ) → AreMaxima moves high → (k t : ℕ) → t ≤ 8191 → departures moves k t ≤ arrivals moves k t + high k
+pub maximum-bounds : (moves : List Move) (high : ℕ → ℕ) → AreMaxima moves high → (k t : ℕ) → t ≤ 8191
+    → departures moves k t ≤ arrivals moves k t + high k
 maximum-bounds moves high are k t h =
     let best = IsFirstMaximum-first_maximum (deficit moves k) in
     let le = best.greatest t h in
     let is = are.is k in
     omega (arith, ints)
 
-pub sum-of-maxima : (moves : List Move) (high : ℕ → ℕ) → AreMaxima moves high → (places : ℕ) → pos (sum_below high places) ≡ sum_of_maxima (deficit moves) places
+pub sum-of-maxima : (moves : List Move) (high : ℕ → ℕ) → AreMaxima moves high → (places : ℕ)
+    → pos (sum_below high places) ≡ sum_of_maxima (deficit moves) places
 sum-of-maxima moves high are zero = refl
 sum-of-maxima moves high are (suc places) =
     sum (sum_below high places) (high places) ∙ (λ i. sum-of-maxima moves high are places i +ℤ are.is places i)
@@ -125,7 +138,8 @@ sum-of-maxima moves high are (suc places) =
     sum a b = omega (arith, ints)
 
 -- at each place, the maximum is at most the number of the blocks that begin there
-maximum-firsts : (moves : List (Option Move)) (high : ℕ → ℕ) (blocks : List (List ℕ)) → AreMaxima (made moves) high → IsBlocking (plain_network moves) blocks
+maximum-firsts : (moves : List (Option Move)) (high : ℕ → ℕ) (blocks : List (List ℕ)) → AreMaxima (made moves) high
+    → IsBlocking (plain_network moves) blocks
     → (k : ℕ) → high k ≤ sum_by (first_at moves k) blocks
 maximum-firsts moves high blocks are blocking k =
     let t = maximum-reached (made moves) high are k in
@@ -135,7 +149,13 @@ maximum-firsts moves high blocks are blocking k =
     omega (arith, t.1, leaves, arrives, balance)
 
 -- no blocking has fewer blocks than the sum of the maxima
-pub sum-le-blocks : (places : ℕ) (moves : List (Option Move)) (high : ℕ → ℕ) (blocks : List (List ℕ)) → AreMaxima (made moves) high → IsBlocking (plain_network moves) blocks
+pub sum-le-blocks : (places : ℕ) (moves : List (Option Move)) (high : ℕ → ℕ) (blocks : List (List ℕ)) → AreMaxima (made moves) high
+    → IsBlocking (plain_network moves) blocks
     → sum_below high places ≤ length blocks
 sum-le-blocks places moves high blocks are blocking =
-    omega (arith, sum_below-le high (λ k. sum_by (first_at moves k) blocks) places (λ k h. maximum-firsts moves high blocks are blocking k), firsts-below moves places blocks)
+    omega (
+      arith,
+      sum_below-le high (λ k. sum_by (first_at moves k) blocks) places
+          (λ k h. maximum-firsts moves high blocks are blocking k),
+      firsts-below moves places blocks,
+    )

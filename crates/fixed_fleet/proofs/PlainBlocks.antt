@@ -1,5 +1,6 @@
 -- The theorem of blocks without deadheads: the fewest number the sum of the maxima.
-use Rattle.std.proofs.Common.{◌≡◌, ℕ, suc, zero, ◌+◌, ◌<◌, List, [], ◌∷◌, length, map, fold, replicate, All, ℤ, pos, ◌+ℤ◌, ◌≤ℤ◌, Option, None, Some, refl, ap, subst, ◌∙◌, arith}
+use Rattle.std.proofs.Common.{◌≡◌, ℕ, suc, zero, ◌+◌, ◌<◌, List, [], ◌∷◌, length, map, fold, replicate, All, ℤ, pos, ◌+ℤ◌, ◌≤ℤ◌, Option}
+use Rattle.std.proofs.Common.{None, Some, refl, ap, subst, ◌∙◌, arith}
 use lib.IntN.{negsuc}
 use Rattle.std.proofs.lemmas.Int.{ints}
 use Rattle.std.proofs.lemmas.List.Elements.{All-nil, All-cons, All-head, All-tail}
@@ -32,7 +33,8 @@ forward : (places : ℕ) (moves : List (Option Move)) → AreMoves places moves 
 forward places [] are = All-nil (λ (m : Move). m.leaves < m.arrives)
 forward places (None ∷ moves) are = forward places moves (record { each = λ s m e. are.each (suc s) m e })
 forward places (Some m ∷ moves) are =
-    All-cons (λ (m : Move). m.leaves < m.arrives) m (made moves) (are.each 0 m refl).forward (forward places moves (record { each = λ s m e. are.each (suc s) m e }))
+    All-cons (λ (m : Move). m.leaves < m.arrives) m (made moves) (are.each 0 m refl).forward
+    (forward places moves (record { each = λ s m e. are.each (suc s) m e }))
 
 -- the maxima of the deficits of moves
 maxima : List Move → ℕ → ℕ
@@ -45,7 +47,8 @@ AreMaxima-maxima places moves are = record {
 }
 
 -- no blocking has fewer blocks
-pub maxima-le-blocks : (places : ℕ) (moves : List (Option Move)) (blocks : List (List ℕ)) → AreMoves places moves → IsBlocking (plain_network moves) blocks
+pub maxima-le-blocks : (places : ℕ) (moves : List (Option Move)) (blocks : List (List ℕ)) → AreMoves places moves
+    → IsBlocking (plain_network moves) blocks
     → sum_of_maxima (deficit (made moves)) places ≤ℤ pos (length blocks)
 maxima-le-blocks places moves blocks are blocking =
     let high = AreMaxima-maxima places moves are in
@@ -66,7 +69,8 @@ IsFewest-fifo places moves are =
       ap pos blocks.1 ∙ sum-of-maxima (made moves) (maxima (made moves)) high places,
     )
 
-pub links-fifo : (places : ℕ) (moves : List (Option Move)) → AreMoves places moves → AreLinks (plain_network moves) (first_in_first_out moves)
+pub links-fifo : (places : ℕ) (moves : List (Option Move)) → AreMoves places moves
+    → AreLinks (plain_network moves) (first_in_first_out moves)
 links-fifo places moves are = AreLinks-fifo places moves (maxima (made moves)) are (AreMaxima-maxima places moves are)
 
 -- the trips are as many as the links and the sum of the maxima
@@ -75,7 +79,8 @@ pub trips-fifo : (places : ℕ) (moves : List (Option Move)) → AreMoves places
 trips-fifo places moves are =
     let high = AreMaxima-maxima places moves are in
     let blocks = blocks-fifo places moves (maxima (made moves)) are high in
-    sum (sum_below (maxima (made moves)) places) (link_count (first_in_first_out moves)) (length (by_departure moves)) (omega (arith, blocks.1, blocks.2))
+    sum (sum_below (maxima (made moves)) places) (link_count (first_in_first_out moves)) (length (by_departure moves))
+    (omega (arith, blocks.1, blocks.2))
     ∙ ap (λ z. pos (link_count (first_in_first_out moves)) +ℤ z) (sum-of-maxima (made moves) (maxima (made moves)) high places)
   where
     sum : (a b c : ℕ) → a + b ≡ c → pos c ≡ (pos b +ℤ pos a)
@@ -95,7 +100,8 @@ are-all places (n ∷ moves) all = record { each = by (are-all places moves (All
     by rest (suc s) m e = rest.each s m e
 
 pub plain_blocks : (places : ℕ) (moves : List Move) → All (IsMove places) moves
-    → (blocks : List (List ℕ)) × IsFewest (plain_network (map Some moves)) blocks × (pos (length blocks) ≡ sum_of_maxima (deficit moves) places)
+    → (blocks : List (List ℕ)) × IsFewest (plain_network (map Some moves)) blocks
+    × (pos (length blocks) ≡ sum_of_maxima (deficit moves) places)
 plain_blocks places moves all =
     let fifo = IsFewest-fifo places (map Some moves) (are-all places moves all) in (
       blocks_along (first_in_first_out (map Some moves)) (by_departure (map Some moves)),

@@ -1,5 +1,6 @@
 -- First in, first out: which trip follows on which where vehicles never run empty.
-use Rattle.std.specs.Prelude.{◌≡◌, ◌⊎◌, ℕ, zero, suc, ◌<◌, ◌≤◌, ◌&&◌, nat_lt, Bool, true, List, length, fold, replicate, slice_set, Option, None, Some, is_none, if◌then◌else◌}
+use Rattle.std.specs.Prelude.{◌≡◌, ◌⊎◌, ℕ, zero, suc, ◌<◌, ◌≤◌, ◌&&◌, nat_lt, Bool, true, List, length, fold, replicate, slice_set, Option}
+use Rattle.std.specs.Prelude.{None, Some, is_none, if◌then◌else◌}
 use Rattle.trip_model.specs.Links.{next_of}
 use Rattle.trip_model.specs.Order.{minute_arrived, by_departure}
 use Rattle.trip_model.specs.Plain.{move_at, meets}
@@ -34,7 +35,8 @@ with_link links (Some i) j = slice_set links i (Some j)
 
 -- trip by trip in order of departure, each is linked to its forerunner
 unfoldable pub first_in_first_out : List (Option Move) → List (Option ℕ)
-first_in_first_out moves = fold (λ links j. with_link links (forerunner moves links j) j) (replicate (length moves) None) (by_departure moves)
+first_in_first_out moves = fold (λ links j. with_link links (forerunner moves links j) j) (replicate (length moves) None)
+    (by_departure moves)
 
 -- what a forerunner is: no slot that may precede j ends before it, and none that ends together with it has a lesser
 -- number; and there is none only where no slot may precede j

@@ -1,5 +1,6 @@
 -- The rows of a table, read one after another.
-use Rattle.std.proofs.Common.{◌≡◌, ℕ, zero, suc, ◌+◌, ◌<◌, ◌≤◌, List, [], ◌∷◌, ◌++◌, length, map, Bool, true, false, cond, Option, Some, None, Ok, Err, refl, sym, ap, arith, ◌∙◌, add-zero, get_or}
+use Rattle.std.proofs.Common.{◌≡◌, ℕ, zero, suc, ◌+◌, ◌<◌, ◌≤◌, List, [], ◌∷◌, ◌++◌, length, map, Bool, true, false, cond, Option, Some}
+use Rattle.std.proofs.Common.{None, Ok, Err, refl, sym, ap, arith, ◌∙◌, add-zero, get_or}
 use Rattle.std.specs.List.{list_any, position_from}
 use Rattle.std.proofs.lemmas.List.{append-nil, map-append, length-map}
 use Rattle.std.proofs.Common.{append_assoc}
@@ -39,10 +40,12 @@ body-more width all rows more left next fields row read first fits is_padded pus
 }
 
 -- the end
-pub body-end : (width : ℕ) (all rows left : List (List (List ℕ))) → IsReadSoFar width all rows left → left ≡ [] → body_of width all ≡ Ok rows
+pub body-end : (width : ℕ) (all rows left : List (List (List ℕ))) → IsReadSoFar width all rows left → left ≡ []
+    → body_of width all ≡ Ok rows
 body-end width all rows left read end =
     let whole : all ≡ read.done = read.split ∙ (ap (λ (t : List (List (List ℕ))). read.done ++ t) end ∙ append-nil read.done) in
-    let none : position_from (is_longer width) 1 all ≡ None = rw (read.split, end) (position-past (is_longer width) 1 read.done [] read.fit) in
+    let none : position_from (is_longer width) 1 all ≡ None =
+    rw (read.split, end) (position-past (is_longer width) 1 read.done [] read.fit) in
     rw (none, whole, read.padded_done) refl
 
 -- a row that is too long
@@ -52,7 +55,8 @@ body-long width all rows left next fields read first long =
     let count : length rows ≡ length read.done = ap length read.padded_done ∙ length-map read.done (padded width) in
     let number : 1 + length read.done ≡ length rows + 1 = omega arith in
     let at : position_from (is_longer width) 1 all ≡ Some (1 + length read.done) =
-    rw (read.split, first) (position-past (is_longer width) 1 read.done (fields ∷ next) read.fit ∙ rw (lt-ltb width (length fields) long) refl) in
+    rw (read.split, first) (position-past (is_longer width) 1 read.done (fields ∷ next) read.fit
+    ∙ rw (lt-ltb width (length fields) long) refl) in
     rw (at, number) refl
 
 -- a search from a front that finds nothing
@@ -81,7 +85,8 @@ body-rows width all rows e =
     by (Some r) e = cc e
 
 -- a fault of the rows is one of the table
-pub table-fault : (bytes : List ℕ) (header : List (List ℕ)) (left : List (List (List ℕ))) (fault : TableFault) → records bytes ≡ header ∷ left
+pub table-fault : (bytes : List ℕ) (header : List (List ℕ)) (left : List (List (List ℕ))) (fault : TableFault)
+    → records bytes ≡ header ∷ left
     → IsFaultOf (body_of (length header) left) fault → IsFaultOf (table_of bytes) fault
 table-fault bytes header left NoHeader split due = rw (split, due) refl
 table-fault bytes header left (RowTooLong r) split due = rw (split, due) refl

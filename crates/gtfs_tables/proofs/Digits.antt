@@ -22,7 +22,8 @@ below-power n m digits value all fits =
 -- one more digit
 pub digit-more : (digits : List ℕ) (i n d : ℕ) → i < length digits → is_ascii_digit (get_or digits i 0) ≡ true → d ≡ get_or digits i 0 - 48
     → n ≡ digits_value 10 (take i digits) → AllDigits 10 (take i digits) → list_all is_ascii_digit (take i digits) ≡ true
-    → (10 * n + d ≡ digits_value 10 (take (i + 1) digits)) × AllDigits 10 (take (i + 1) digits) × (list_all is_ascii_digit (take (i + 1) digits) ≡ true)
+    → (10 * n + d ≡ digits_value 10 (take (i + 1) digits)) × AllDigits 10 (take (i + 1) digits)
+    × (list_all is_ascii_digit (take (i + 1) digits) ≡ true)
 digit-more digits i n d within test is_digit value all tests =
     let one = digit (get_or digits i 0) test in (
       omega (arith, digits_value_more 10 digits i within, one.0, value, is_digit),

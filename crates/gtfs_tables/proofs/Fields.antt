@@ -1,5 +1,6 @@
 -- The fields of a record with empty ones at its end.
-use Rattle.std.proofs.Common.{◌≡◌, ℕ, zero, suc, ◌+◌, ◌-◌, ◌<◌, ◌≤◌, List, [], ◌∷◌, ◌++◌, add-one, drop, length, get_or, replicate, take, unwrap_or, refl, sym, arith}
+use Rattle.std.proofs.Common.{◌≡◌, ℕ, zero, suc, ◌+◌, ◌-◌, ◌<◌, ◌≤◌, List, [], ◌∷◌, ◌++◌, add-one, drop, length, get_or, replicate, take}
+use Rattle.std.proofs.Common.{unwrap_or, refl, sym, arith}
 use Rattle.std.proofs.lemmas.List.{append-nil, get_or_append_left, length-append, length-replicate}
 use Rattle.std.proofs.Math.Seq.{take-suc}
 use Rattle.csv.specs.Records.{field_at}

@@ -1,10 +1,12 @@
 -- The records of a paper taken in one after the other, and what those that are left still give.
-use Rattle.std.proofs.Common.{◌≡◌, ◌≢◌, ℕ, ◌+◌, ◌-◌, ◌<◌, ◌≤◌, inl, inr, List, [], ◌∷◌, length, map, Option, Some, None, Result, Ok, Err, refl, sym, ap, subst, arith, ◌∙◌}
+use Rattle.std.proofs.Common.{◌≡◌, ◌≢◌, ℕ, ◌+◌, ◌-◌, ◌<◌, ◌≤◌, inl, inr, List, [], ◌∷◌, length, map, Option, Some, None, Result, Ok, Err}
+use Rattle.std.proofs.Common.{refl, sym, ap, subst, arith, ◌∙◌}
 use Rattle.std.proofs.lemmas.Bool.{le-ltb, lt-ltb}
 use Rattle.std.proofs.lemmas.List.{append-nil}
 use Rattle.gtfs_tables.proofs.Fields.{padded-length}
 use Rattle.gtfs_tables.proofs.ReadingLemmas.{Fails->>=, Fails-due, Fails-equal}
-use Rattle.gtfs_tables.specs.Fold.{bytes_read, due, longer_from, paper_read, rest_read, table_read, unless_longer, AreChanged, AreLeft, Change, ColumnsIn, IsTableChanged, IsTableLeft, LeftBy, Leaving, Step}
+use Rattle.gtfs_tables.specs.Fold.{bytes_read, due, longer_from, paper_read, rest_read, table_read, unless_longer, AreChanged, AreLeft}
+use Rattle.gtfs_tables.specs.Fold.{Change, ColumnsIn, IsTableChanged, IsTableLeft, LeftBy, Leaving, Step}
 use Rattle.desk_io.specs.declared.shelf.Found.{Found}
 use Rattle.gtfs_tables.specs.Reading.{◌>>=◌, each_record, judged, nothing, or_refused, table_in, Fails}
 use Rattle.gtfs_tables.specs.Rows.{padded}
@@ -25,7 +27,8 @@ pub short-record : (width : ℕ) (row fields : Fields) → row ≡ padded width 
 short-record width row fields is fits = omega (arith, padded-length width fields, ap length is)
 
 -- the first longer record, where the next one is
-pub longer-here : (width number : ℕ) (left rest : List Fields) (fields : Fields) → left ≡ fields ∷ rest → width < length fields → longer_from width number left ≡ Some number
+pub longer-here : (width number : ℕ) (left rest : List Fields) (fields : Fields) → left ≡ fields ∷ rest → width < length fields
+    → longer_from width number left ≡ Some number
 longer-here width number left rest fields is long = rw (is, lt-ltb width (length fields) long) refl
 
 -- the first longer record, where the next one is not
@@ -38,46 +41,59 @@ Fails-told : {X : Type 0} (told refused : FeedFault) (read : Result X FeedFault)
 Fails-told told refused read same fails = subst (λ f. Fails f read) (sym same) fails
 
 -- the refusal that is due, where a part was refused and no later record is longer, or one is
-pub due-fails : {X Y : Type 0} (paper : Paper) (longer : Option ℕ) (refused : FeedFault) (read : Result X FeedFault) (next : X → Result Y FeedFault) → Fails refused read
+pub due-fails : {X Y : Type 0} (paper : Paper) (longer : Option ℕ) (refused : FeedFault) (read : Result X FeedFault)
+    (next : X → Result Y FeedFault) → Fails refused read
     → Fails (due paper longer refused) (unless_longer paper longer (read >>= next))
 due-fails paper None refused read next fails = Fails->>= refused read next fails
 due-fails paper (Some n) refused read next fails = refl
 
 -- after so many records this much has been taken in, and the records that are left give what all gave
-pub record IsFolded {A : Type 0} (paper : Paper) (width : ℕ) (step : Step A) (leaving : Leaving A) (start : A) (all : List Fields) (number : ℕ) (now : A) (left : List Fields) : Type 0 where
+pub record IsFolded {A : Type 0} (paper : Paper) (width : ℕ) (step : Step A) (leaving : Leaving A) (start : A) (all : List Fields)
+    (number : ℕ) (now : A) (left : List Fields) : Type 0 where
   pub read : rest_read paper width step (number + 1) now left ≡ rest_read paper width step 1 start all
   pub longer : longer_from width (number + 1) left ≡ longer_from width 1 all
-  pub leaves : (after : A) → AreLeft step leaving (number + 1) now (map (padded width) left) after → AreLeft step leaving 1 start (map (padded width) all) after
+  pub leaves : (after : A) → AreLeft step leaving (number + 1) now (map (padded width) left) after
+      → AreLeft step leaving 1 start (map (padded width) all) after
 
 module _ {A : Type 0} (paper : Paper) (width : ℕ) (step : Step A) (leaving : Leaving A) (start : A) (all : List Fields) where
   pub folded-none : IsFolded paper width step leaving start all 0 start all
   folded-none = record { read = refl; longer = refl; leaves = λ after are. are }
 
-  module _ (number : ℕ) (now : A) (left rest : List Fields) (fields row : Fields) (folded : IsFolded paper width step leaving start all number now left) (next : left ≡ fields ∷ rest) where
+  module _ (number : ℕ) (now : A) (left rest : List Fields) (fields row : Fields)
+      (folded : IsFolded paper width step leaving start all number now left) (next : left ≡ fields ∷ rest) where
     -- what the records that are left give, by the next one and those after it
     read-next : length fields ≤ width → row ≡ padded width fields
         → rest_read paper width step (number + 1) now left
-        ≡ unless_longer paper (longer_from width (number + 1 + 1) rest) (step (number + 1) now row >>= λ more. each_record step (number + 1 + 1) more (map (padded width) rest))
+        ≡ unless_longer paper (longer_from width (number + 1 + 1) rest)
+        (step (number + 1) now row >>= λ more. each_record step (number + 1 + 1) more (map (padded width) rest))
     read-next fits is =
-        ap (λ longer. unless_longer paper longer (each_record step (number + 1) now (map (padded width) left))) (longer-after width (number + 1) left rest fields next fits)
-        ∙ ap (λ rows. unless_longer paper (longer_from width (number + 1 + 1) rest) (each_record step (number + 1) now (map (padded width) rows))) next
-        ∙ ap (λ padded_row. unless_longer paper (longer_from width (number + 1 + 1) rest) (step (number + 1) now padded_row >>= λ more. each_record step (number + 1 + 1) more (map (padded width) rest))) (sym is)
+        ap (λ longer. unless_longer paper longer (each_record step (number + 1) now (map (padded width) left)))
+        (longer-after width (number + 1) left rest fields next fits)
+        ∙ ap (λ rows. unless_longer paper (longer_from width (number + 1 + 1) rest)
+        (each_record step (number + 1) now (map (padded width) rows))) next
+        ∙ ap (λ padded_row. unless_longer paper (longer_from width (number + 1 + 1) rest)
+        (step (number + 1) now padded_row >>= λ more. each_record step (number + 1 + 1) more (map (padded width) rest))) (sym is)
 
     -- what they leave, by the next one and those after it
     leaves-next : (after : A) → row ≡ padded width fields
-        → LeftBy (leaving (number + 1) now row after) (λ more. AreLeft step leaving (number + 1 + 1) more (map (padded width) rest) after) (step (number + 1) now row)
+        → LeftBy (leaving (number + 1) now row after) (λ more. AreLeft step leaving (number + 1 + 1) more (map (padded width) rest) after)
+        (step (number + 1) now row)
         → AreLeft step leaving 1 start (map (padded width) all) after
     leaves-next after is by = folded.leaves after
         (subst (λ rows. AreLeft step leaving (number + 1) now (map (padded width) rows) after) (sym next)
-        (subst (λ padded_row. LeftBy (leaving (number + 1) now padded_row after) (λ more. AreLeft step leaving (number + 1 + 1) more (map (padded width) rest) after) (step (number + 1) now padded_row)) is by))
+        (subst (λ padded_row. LeftBy (leaving (number + 1) now padded_row after)
+        (λ more. AreLeft step leaving (number + 1 + 1) more (map (padded width) rest) after) (step (number + 1) now padded_row)) is by))
 
     -- a record was taken in
     pub folded-more : (more : A) → length fields ≤ width → row ≡ padded width fields → step (number + 1) now row ≡ Ok more
         → IsFolded paper width step leaving start all (number + 1) more rest
     folded-more more fits is gives = record {
-      read = sym (read-next fits is ∙ ap (λ read. unless_longer paper (longer_from width (number + 1 + 1) rest) (read >>= λ more. each_record step (number + 1 + 1) more (map (padded width) rest))) gives) ∙ folded.read;
+      read = sym (read-next fits is ∙ ap (λ read. unless_longer paper (longer_from width (number + 1 + 1) rest)
+          (read >>= λ more. each_record step (number + 1 + 1) more (map (padded width) rest))) gives) ∙ folded.read;
       longer = sym (longer-after width (number + 1) left rest fields next fits) ∙ folded.longer;
-      leaves = λ after are. leaves-next after is (subst (λ read. LeftBy (leaving (number + 1) now row after) (λ more. AreLeft step leaving (number + 1 + 1) more (map (padded width) rest) after) read) (sym gives) are);
+      leaves = λ after are. leaves-next after is
+          (subst (λ read. LeftBy (leaving (number + 1) now row after)
+          (λ more. AreLeft step leaving (number + 1 + 1) more (map (padded width) rest) after) read) (sym gives) are);
     }
 
     -- a record is too long
@@ -88,32 +104,41 @@ module _ {A : Type 0} (paper : Paper) (width : ℕ) (step : Step A) (leaving : L
     folded-long-read long = ap (λ longer. unless_longer paper longer (each_record step 1 start (map (padded width) all))) (folded-long long)
 
     -- a record was refused
-    pub folded-refused : (refused told : FeedFault) → length fields ≤ width → row ≡ padded width fields → Fails refused (step (number + 1) now row)
+    pub folded-refused : (refused told : FeedFault) → length fields ≤ width → row ≡ padded width fields
+        → Fails refused (step (number + 1) now row)
         → told ≡ due paper (longer_from width (number + 1 + 1) rest) refused → Fails told (rest_read paper width step 1 start all)
     folded-refused refused told fits is fails tells =
         Fails-equal told _ _ (sym (read-next fits is) ∙ folded.read)
-        (Fails-told told (due paper (longer_from width (number + 1 + 1) rest) refused) _ tells (due-fails paper (longer_from width (number + 1 + 1) rest) refused _ _ fails))
+        (Fails-told told (due paper (longer_from width (number + 1 + 1) rest) refused) _ tells
+        (due-fails paper (longer_from width (number + 1 + 1) rest) refused _ _ fails))
 
-    pub folded-refused-left : (refused told : FeedFault) (after : A) → length fields ≤ width → row ≡ padded width fields → Fails refused (step (number + 1) now row)
+    pub folded-refused-left : (refused told : FeedFault) (after : A) → length fields ≤ width → row ≡ padded width fields
+        → Fails refused (step (number + 1) now row)
         → told ≡ due paper (longer_from width (number + 1 + 1) rest) refused → told ≢ fault.Memory → longer_from width 1 all ≡ None
         → (refused ≢ fault.Memory → leaving (number + 1) now row after) → AreLeft step leaving 1 start (map (padded width) all) after
     folded-refused-left refused told after fits is fails tells other none leaves =
-        let rest_none : longer_from width (number + 1 + 1) rest ≡ None = sym (longer-after width (number + 1) left rest fields next fits) ∙ folded.longer ∙ none in
+        let rest_none : longer_from width (number + 1 + 1) rest ≡ None = sym (longer-after width (number + 1) left rest fields next fits)
+        ∙ folded.longer ∙ none in
         let same : told ≡ refused = tells ∙ ap (λ longer. due paper longer refused) rest_none in
         let due_here : refused ≢ fault.Memory = λ is_memory. other (same ∙ is_memory) in
-        leaves-next after is (subst (LeftBy (leaving (number + 1) now row after) (λ more. AreLeft step leaving (number + 1 + 1) more (map (padded width) rest) after)) (sym (Fails-due refused _ due_here fails)) (leaves due_here))
+        leaves-next after is (subst (LeftBy (leaving (number + 1) now row after)
+        (λ more. AreLeft step leaving (number + 1 + 1) more (map (padded width) rest) after))
+        (sym (Fails-due refused _ due_here fails)) (leaves due_here))
 
-  module _ (number : ℕ) (now : A) (left : List Fields) (folded : IsFolded paper width step leaving start all number now left) (none_left : left ≡ []) where
+  module _ (number : ℕ) (now : A) (left : List Fields) (folded : IsFolded paper width step leaving start all number now left)
+      (none_left : left ≡ []) where
     -- no record is left
     pub folded-end : rest_read paper width step 1 start all ≡ Ok now
     folded-end = sym folded.read ∙ ap (λ rows. rest_read paper width step (number + 1) now rows) none_left
 
     pub folded-end-left : AreLeft step leaving 1 start (map (padded width) all) now
-    folded-end-left = folded.leaves now (subst (λ rows. AreLeft step leaving (number + 1) now (map (padded width) rows) now) (sym none_left) refl)
+    folded-end-left = folded.leaves now
+        (subst (λ rows. AreLeft step leaving (number + 1) now (map (padded width) rows) now) (sym none_left) refl)
 
 -- what the records that are left change comes after what those before them changed
 abbrev pub ChangesOn : {A : Type 0} → ℕ → Change A → A → List Fields → A → List Fields → Type 0
-ChangesOn {A} width changes start all now left = (after : A) → AreChanged changes now (map (padded width) left) after → AreChanged changes start (map (padded width) all) after
+ChangesOn {A} width changes start all now left = (after : A) → AreChanged changes now (map (padded width) left) after
+    → AreChanged changes start (map (padded width) all) after
 
 module _ {A : Type 0} (changes : Change A) where
   -- nothing was changed yet
@@ -121,24 +146,29 @@ module _ {A : Type 0} (changes : Change A) where
   unchanged now [] = refl
   unchanged now (fields ∷ rows) = inl refl
 
-  module _ (width : ℕ) (start : A) (all : List Fields) (now : A) (left : List Fields) (on : ChangesOn width changes start all now left) where
+  module _ (width : ℕ) (start : A) (all : List Fields) (now : A) (left : List Fields)
+      (on : ChangesOn width changes start all now left) where
     -- so far no more was changed than the records taken in change
     pub changed-so_far : AreChanged changes start (map (padded width) all) now
     changed-so_far = on now (unchanged now (map (padded width) left))
 
     -- the next record was taken in, or refused
-    pub changed-more : (rest : List Fields) (fields row : Fields) (more : A) → left ≡ fields ∷ rest → row ≡ padded width fields → changes row now more
+    pub changed-more : (rest : List Fields) (fields row : Fields) (more : A) → left ≡ fields ∷ rest → row ≡ padded width fields
+        → changes row now more
         → ChangesOn width changes start all more rest
     changed-more rest fields row more next is change after are =
         on after (subst (λ rows. AreChanged changes now (map (padded width) rows) after) (sym next)
         (inr (more, subst (λ padded_row. changes padded_row now more) is change, are)))
 
-    pub changed-record : (rest : List Fields) (fields row : Fields) (more : A) → left ≡ fields ∷ rest → row ≡ padded width fields → changes row now more
+    pub changed-record : (rest : List Fields) (fields row : Fields) (more : A) → left ≡ fields ∷ rest → row ≡ padded width fields
+        → changes row now more
         → AreChanged changes start (map (padded width) all) more
-    changed-record rest fields row more next is change = changed-more rest fields row more next is change more (unchanged more (map (padded width) rest))
+    changed-record rest fields row more next is change =
+        changed-more rest fields row more next is change more (unchanged more (map (padded width) rest))
 
 -- the records of a file are the header, as it was read, and those that are left
-pub header-split : (bytes : List ℕ) (all left : List Fields) (fields row : Fields) → all ≡ records bytes → all ≡ fields ∷ left → row ≡ padded 0 fields
+pub header-split : (bytes : List ℕ) (all left : List Fields) (fields row : Fields) → all ≡ records bytes → all ≡ fields ∷ left
+    → row ≡ padded 0 fields
     → records bytes ≡ row ∷ left
 header-split bytes all left fields row are split is =
     let none : 0 - length fields ≡ 0 = omega arith in
@@ -159,25 +189,33 @@ module _ {C A : Type 0} (paper : Paper) (columns_in : ColumnsIn C) (step : C →
     (bytes : List ℕ) (header : Fields) (left : List Fields) (split : records bytes ≡ header ∷ left) where
   -- what the bytes give is what their columns give and then their records, none of them longer
   bytes-give : bytes_read paper columns_in step start bytes
-      ≡ unless_longer paper (longer_from (length header) 1 left) (columns_in header >>= λ columns. each_record (step columns) 1 start (map (padded (length header)) left))
-  bytes-give = ap (λ rows. or_refused paper (table_from rows) >>= table_read columns_in step start) split ∙ by (longer_from (length header) 1 left)
+      ≡ unless_longer paper (longer_from (length header) 1 left)
+      (columns_in header >>= λ columns. each_record (step columns) 1 start (map (padded (length header)) left))
+  bytes-give = ap (λ rows. or_refused paper (table_from rows) >>= table_read columns_in step start) split
+      ∙ by (longer_from (length header) 1 left)
     where
-      by : (longer : Option ℕ) → (or_refused paper (with_header header (unless_too_long longer (map (padded (length header)) left))) >>= table_read columns_in step start)
-          ≡ unless_longer paper longer (columns_in header >>= λ columns. each_record (step columns) 1 start (map (padded (length header)) left))
+      by : (longer : Option ℕ) → (or_refused paper (with_header header (unless_too_long longer (map (padded (length header)) left))) >>=
+          table_read columns_in step start)
+          ≡ unless_longer paper longer (columns_in header >>= λ columns. each_record (step columns) 1 start
+          (map (padded (length header)) left))
       by None = refl
       by (Some n) = refl
 
   module _ (columns : C) (gives : columns_in header ≡ Ok columns) where
     pub columns-give : bytes_read paper columns_in step start bytes ≡ rest_read paper (length header) (step columns) 1 start left
-    columns-give = bytes-give ∙ ap (λ read. unless_longer paper (longer_from (length header) 1 left) (read >>= λ columns. each_record (step columns) 1 start (map (padded (length header)) left))) gives
+    columns-give = bytes-give ∙ ap (λ read. unless_longer paper (longer_from (length header) 1 left)
+        (read >>= λ columns. each_record (step columns) 1 start (map (padded (length header)) left))) gives
 
     pub columns-leave : (leaving : C → Leaving A) (table : TableView) (after : A) → table_of bytes ≡ Ok table
-        → (longer_from (length header) 1 left ≡ None → AreLeft (step columns) (leaving columns) 1 start (map (padded (length header)) left) after)
+        → (longer_from (length header) 1 left ≡ None
+        → AreLeft (step columns) (leaving columns) 1 start (map (padded (length header)) left) after)
         → IsTableLeft columns_in step leaving start table after
     columns-leave leaving table after is leaves =
         let parts = table-parts header left table (subst (λ rows. table_from rows ≡ Ok table) split is) in
         subst (λ t. IsTableLeft columns_in step leaving start t after) (sym parts.1)
-        (subst (LeftBy (after ≡ start) (λ columns. AreLeft (step columns) (leaving columns) 1 start (map (padded (length header)) left) after)) (sym gives) (leaves parts.0))
+        (subst (LeftBy (after ≡ start)
+        (λ columns. AreLeft (step columns) (leaving columns) 1 start (map (padded (length header)) left) after)) (sym gives)
+        (leaves parts.0))
 
     pub columns-change : (changes : C → Change A) (table : TableView) (after : A) → table_of bytes ≡ Ok table
         → AreChanged (changes columns) start (map (padded (length header)) left) after → IsTableChanged columns_in changes start table after
@@ -185,18 +223,23 @@ module _ {C A : Type 0} (paper : Paper) (columns_in : ColumnsIn C) (step : C →
         let parts = table-parts header left table (subst (λ rows. table_from rows ≡ Ok table) split is) in
         subst (λ t. IsTableChanged columns_in changes start t after) (sym parts.1) (inr (columns, gives, are))
 
-  module _ (refused told : FeedFault) (fails : Fails refused (columns_in header)) (tells : told ≡ due paper (longer_from (length header) 1 left) refused) where
+  module _ (refused told : FeedFault) (fails : Fails refused (columns_in header))
+      (tells : told ≡ due paper (longer_from (length header) 1 left) refused) where
     pub header-refused : Fails told (bytes_read paper columns_in step start bytes)
     header-refused = Fails-equal told _ _ (sym bytes-give)
-        (Fails-told told (due paper (longer_from (length header) 1 left) refused) _ tells (due-fails paper (longer_from (length header) 1 left) refused _ _ fails))
+        (Fails-told told (due paper (longer_from (length header) 1 left) refused) _ tells
+        (due-fails paper (longer_from (length header) 1 left) refused _ _ fails))
 
-    pub header-leaves : (leaving : C → Leaving A) (table : TableView) → table_of bytes ≡ Ok table → told ≢ fault.Memory → IsTableLeft columns_in step leaving start table start
+    pub header-leaves : (leaving : C → Leaving A) (table : TableView) → table_of bytes ≡ Ok table → told ≢ fault.Memory
+        → IsTableLeft columns_in step leaving start table start
     header-leaves leaving table is other =
         let parts = table-parts header left table (subst (λ rows. table_from rows ≡ Ok table) split is) in
         let same : told ≡ refused = tells ∙ ap (λ longer. due paper longer refused) parts.0 in
         let due_here : refused ≢ fault.Memory = λ is_memory. other (same ∙ is_memory) in
         subst (λ t. IsTableLeft columns_in step leaving start t start) (sym parts.1)
-        (subst (LeftBy (start ≡ start) (λ columns. AreLeft (step columns) (leaving columns) 1 start (map (padded (length header)) left) start)) (sym (Fails-due refused _ due_here fails)) refl)
+        (subst (LeftBy (start ≡ start)
+        (λ columns. AreLeft (step columns) (leaving columns) 1 start (map (padded (length header)) left) start))
+        (sym (Fails-due refused _ due_here fails)) refl)
 
 -- records of which each gives nothing give nothing
 nothing-each : (number : ℕ) (rows : List Fields) → each_record (λ _ _ _. nothing) number tt rows ≡ nothing

@@ -19,7 +19,13 @@ two-digits n small = elim (cases_lt n 10) [
 
 pair-true : (most a b : ℕ) → a ≤ most → b ≤ 9 → is_pair (48 + most) (48 + a) (48 + b) ≡ true
 pair-true most a b few small =
-    rw (le-leb 48 (48 + a) (omega arith), le-leb (48 + a) (48 + most) (omega arith), le-leb 48 (48 + b) (omega arith), le-leb (48 + b) 57 (omega arith)) refl
+    rw (
+      le-leb 48 (48 + a) (omega arith),
+      le-leb (48 + a) (48 + most) (omega arith),
+      le-leb 48 (48 + b) (omega arith),
+      le-leb (48 + b) 57
+          (omega arith),
+    ) refl
 
 pub minute-back : (minute : ℕ) → minute ≤ 5999 → minute_of (minute_digits minute) ≡ Some minute
 minute-back minute small =
@@ -27,7 +33,12 @@ minute-back minute small =
     let rest : minute % 60 < 60 = omega arith in
     let first : ((48 + minute / 60 / 10) == 32) ≡ false = ne_eqb _ _ (λ e. absurd (omega (arith, e))) in
     let last : ((48 + minute % 60 % 10) == 32) ≡ false = ne_eqb _ _ (λ e. absurd (omega (arith, e))) in
-    let value : 60 * (10 * (48 + minute / 60 / 10 - 48) + (48 + minute / 60 % 10 - 48)) + (10 * (48 + minute % 60 / 10 - 48) + (48 + minute % 60 % 10 - 48)) ≡ minute = omega arith in
+    let value : 60 * (10 * (48 + minute / 60 / 10 - 48) + (48 + minute / 60 % 10 - 48)) + (10 * (48 + minute % 60 / 10 - 48) + (48 + minute
+    % 60 % 10 - 48)) ≡ minute = omega arith in
     rw (two-digits (minute / 60) hours, two-digits (minute % 60) (omega arith)) (rw (first, last)
-    (rw (pair-true 9 (minute / 60 / 10) (minute / 60 % 10) (omega arith) (omega arith), pair-true 5 (minute % 60 / 10) (minute % 60 % 10) (omega arith) (omega arith))
+    (rw (
+      pair-true 9 (minute / 60 / 10) (minute / 60 % 10) (omega arith) (omega arith),
+      pair-true 5 (minute % 60 / 10) (minute % 60 % 10)
+          (omega arith) (omega arith),
+    )
     (ap Some value)))

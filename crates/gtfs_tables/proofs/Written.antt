@@ -1,5 +1,6 @@
 -- What a writer of records writes, and that it reads back.
-use Rattle.std.proofs.Common.{◌≡◌, ℕ, zero, suc, ◌+◌, ◌<◌, ◌≤◌, ◌==◌, inl, inr, List, [], ◌∷◌, ◌++◌, length, get_or, Bool, true, false, cond, All, refl, sym, ap, subst, arith, append_assoc, length-append}
+use Rattle.std.proofs.Common.{◌≡◌, ℕ, zero, suc, ◌+◌, ◌<◌, ◌≤◌, ◌==◌, inl, inr, List, [], ◌∷◌, ◌++◌, length, get_or, Bool, true, false}
+use Rattle.std.proofs.Common.{cond, All, refl, sym, ap, subst, arith, append_assoc, length-append}
 use Rattle.std.specs.Str.{IsUtf8, IsCharBoundary}
 use Rattle.std.proofs.lemmas.Bool.{cases_Bool, eqb-true}
 use Rattle.std.proofs.lemmas.Str.{IsUtf8-append, IsUtf8-nil, IsUtf8-take, IsUtf8-drop, IsUtf8-from_ascii, IsCharBoundary-after_ascii}
@@ -19,7 +20,8 @@ escaped-same [] = refl
 escaped-same (b ∷ rest) = ap (λ (more : List ℕ). cond (b == 34) (34 ∷ b ∷ more) (b ∷ more)) (escaped-same rest)
 
 field_text-same : (field : List ℕ) → field_text record_writer field ≡ field_text default_writer field
-field_text-same field = ap (λ (inner : List ℕ). cond (needs_quotes default_writer field) (34 ∷ (inner ++ 34 ∷ [])) field) (escaped-same field)
+field_text-same field = ap (λ (inner : List ℕ). cond (needs_quotes default_writer field) (34 ∷ (inner ++ 34 ∷ [])) field)
+    (escaped-same field)
 
 fields_text-same : (fields : List (List ℕ)) → fields_text record_writer fields ≡ fields_text default_writer fields
 unfolding fields_text
@@ -43,14 +45,17 @@ some-bytes [] = simp length-append (omega arith)
 some-bytes (field ∷ rest) = simp length-append (omega arith)
 
 -- enough turns read the records that were written, and no others
-pub reads-back : (n : ℕ) (rows : List (List (List ℕ))) → All (λ (fields : List (List ℕ)). 0 < length fields) rows → length (records_text rows) < n
+pub reads-back : (n : ℕ) (rows : List (List (List ℕ))) → All (λ (fields : List (List ℕ)). 0 < length fields) rows
+    → length (records_text rows) < n
     → records_from default_config n st.StartRecord (records_text rows) ≡ rows
 unfolding records_from next_record
 reads-back zero rows filled enough = absurd (omega arith)
 reads-back (suc n) [] filled enough = refl
 reads-back (suc n) (fields ∷ rows) filled enough =
     let long : length (records_text rows) < n = omega (arith, some-bytes fields, length-append (record_text fields) (records_text rows)) in
-    rw (record_text-same fields, read-write fields (records_text rows)) (rw (has-field fields (filled 0 [] (omega arith))) (ap (λ (more : List (List (List ℕ))). fields ∷ more) (reads-back n rows (λ k d within. filled (suc k) d (omega arith)) long)))
+    rw (record_text-same fields, read-write fields (records_text rows))
+    (rw (has-field fields (filled 0 [] (omega arith)))
+    (ap (λ (more : List (List (List ℕ))). fields ∷ more) (reads-back n rows (λ k d within. filled (suc k) d (omega arith)) long)))
   where
     has-field : (fields : List (List ℕ)) → 0 < length fields → read_back fields ≡ fields
     has-field [] filled = absurd (omega arith)
@@ -73,7 +78,8 @@ before-quote front rest is =
     let within : length front ≤ length (front ++ 34 ∷ rest) = rw length-append (omega arith) in
     let quote : get_or (front ++ 34 ∷ rest) (length front) 0 ≡ 34 = get_or-append_seam front 34 rest 0 in
     let boundary : IsCharBoundary (front ++ 34 ∷ rest) (length front) = (within, λ _ high. absurd (omega (arith, quote, high))) in
-    let behind : IsUtf8 (34 ∷ rest) = subst IsUtf8 (drop-append_seam front (34 ∷ rest)) (IsUtf8-drop (front ++ 34 ∷ rest) (length front) is boundary) in (
+    let behind : IsUtf8 (34 ∷ rest) =
+    subst IsUtf8 (drop-append_seam front (34 ∷ rest)) (IsUtf8-drop (front ++ 34 ∷ rest) (length front) is boundary) in (
       subst IsUtf8 (take-append_seam front (34 ∷ rest)) (IsUtf8-take (front ++ 34 ∷ rest) (length front) is boundary),
       IsUtf8-drop (34 ∷ rest) 1 behind (IsCharBoundary-after_ascii (34 ∷ rest) 0 behind (omega arith) (omega arith)),
     )
@@ -86,15 +92,18 @@ escaped-text front (b ∷ rest) is = elim (cases_Bool (b == 34)) [
   | inl quote ↦
       let parts = before-quote front rest (subst (λ q. IsUtf8 (front ++ q ∷ rest)) (eqb-true b 34 quote) is) in
       rw quote (subst (λ q. IsUtf8 (front ++ 34 ∷ q ∷ escaped default_writer rest)) (sym (eqb-true b 34 quote))
-      (IsUtf8-append front (34 ∷ 34 ∷ escaped default_writer rest) parts.0 (byte-before 34 _ (omega arith) (byte-before 34 _ (omega arith) (escaped-text [] rest parts.1)))))
+      (IsUtf8-append front (34 ∷ 34 ∷ escaped default_writer rest) parts.0
+      (byte-before 34 _ (omega arith) (byte-before 34 _ (omega arith) (escaped-text [] rest parts.1)))))
   | inr other ↦
-      rw other (subst IsUtf8 (append_assoc front (b ∷ []) (escaped default_writer rest)) (escaped-text (front ++ b ∷ []) rest (subst IsUtf8 (sym (append_assoc front (b ∷ []) rest)) is)))
+      rw other (subst IsUtf8 (append_assoc front (b ∷ []) (escaped default_writer rest))
+      (escaped-text (front ++ b ∷ []) rest (subst IsUtf8 (sym (append_assoc front (b ∷ []) rest)) is)))
 ]
 
 -- a field of text is written as text
 field-text : (field : List ℕ) → IsUtf8 field → IsUtf8 (field_text default_writer field)
 field-text field is = elim (cases_Bool (needs_quotes default_writer field)) [
-  | inl needs ↦ rw needs (byte-before 34 _ (omega arith) (IsUtf8-append (escaped default_writer field) (34 ∷ []) (escaped-text [] field is) (byte-text 34 (omega arith))))
+  | inl needs ↦ rw needs (byte-before 34 _ (omega arith)
+      (IsUtf8-append (escaped default_writer field) (34 ∷ []) (escaped-text [] field is) (byte-text 34 (omega arith))))
   | inr plain ↦ rw plain is
 ]
 
@@ -102,7 +111,10 @@ field-text field is = elim (cases_Bool (needs_quotes default_writer field)) [
 fields-text : (fields : List (List ℕ)) → All IsUtf8 fields → IsUtf8 (fields_text default_writer fields)
 unfolding fields_text
 fields-text [] are = IsUtf8-nil
-fields-text (field ∷ rest) are = byte-before 44 _ (omega arith) (IsUtf8-append (field_text default_writer field) (fields_text default_writer rest) (field-text field (are 0 [] (omega arith))) (fields-text rest (λ k d within. are (suc k) d (omega arith))))
+fields-text (field ∷ rest) are =
+    byte-before 44 _ (omega arith)
+    (IsUtf8-append (field_text default_writer field) (fields_text default_writer rest) (field-text field (are 0 [] (omega arith)))
+    (fields-text rest (λ k d within. are (suc k) d (omega arith))))
 
 -- the end of a record is text
 end-text : (blank : Bool) → IsUtf8 (cond blank (34 ∷ 34 ∷ []) [] ++ 10 ∷ [])
@@ -116,4 +128,5 @@ record-text fields are = subst IsUtf8 (sym (record_text-same fields)) (by fields
     by [] are = end-text (is_blank default_writer [])
     by (field ∷ rest) are =
         IsUtf8-append (field_text default_writer field ++ fields_text default_writer rest) _
-        (IsUtf8-append (field_text default_writer field) (fields_text default_writer rest) (field-text field (are 0 [] (omega arith))) (fields-text rest (λ k d within. are (suc k) d (omega arith)))) (end-text (is_blank default_writer (field ∷ rest)))
+        (IsUtf8-append (field_text default_writer field) (fields_text default_writer rest) (field-text field (are 0 [] (omega arith)))
+        (fields-text rest (λ k d within. are (suc k) d (omega arith)))) (end-text (is_blank default_writer (field ∷ rest)))

@@ -25,7 +25,8 @@ has_name name entries = is_some (value_of name entries)
 
 -- the entries, and that of a record of this number, whose name must be new, at the end
 abbrev pub with_record : {X : Type 0} → Paper → ℕ → Entries X → Name × X → Result (Entries X) FeedFault
-with_record paper number before entry = provided (not (has_name entry.0 before)) (fault.DuplicateRow paper number) (Ok (before ++ entry ∷ []))
+with_record paper number before entry =
+    provided (not (has_name entry.0 before)) (fault.DuplicateRow paper number) (Ok (before ++ entry ∷ []))
 
 -- the entries that a map holds in order
 abbrev pub entries_of : {X Y : Type 0} → List (String Y × X) → Entries X

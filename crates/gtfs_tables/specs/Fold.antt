@@ -79,7 +79,8 @@ Change A = List (List ℕ) → A → A → Type 0
 -- no more was changed than the first of these records change, one after the other
 abbrev pub AreChanged : {A : Type 0} → Change A → A → List (List (List ℕ)) → A → Type 0
 AreChanged changes before [] after = after ≡ before
-AreChanged {A} changes before (fields ∷ rows) after = (after ≡ before) ⊎ ((between : A) × changes fields before between × AreChanged changes between rows after)
+AreChanged {A} changes before (fields ∷ rows) after = (after ≡ before)
+    ⊎ ((between : A) × changes fields before between × AreChanged changes between rows after)
 
 -- the same of the records of a table
 abbrev pub IsTableChanged : {C A : Type 0} → ColumnsIn C → (C → Change A) → A → TableView → A → Type 0

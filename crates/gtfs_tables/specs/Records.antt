@@ -37,4 +37,5 @@ ReadsNext old found fields new =
 -- a row became the next record, padded to the width, which a longer record exceeds; or there was none left
 abbrev pub ReadsRow : ℕ → Reader (Bor (List ℕ)) → Bool → List (List ℕ) → Reader (Bor (List ℕ)) → Type 0
 ReadsRow width old found row new =
-    MatchBool found ((fields : List (List ℕ)) × (records_left old ≡ fields ∷ records_left new) × (row ≡ padded width fields) × IsReading new) (records_left old ≡ [])
+    MatchBool found ((fields : List (List ℕ)) × (records_left old ≡ fields ∷ records_left new) × (row ≡ padded width fields)
+    × IsReading new) (records_left old ≡ [])

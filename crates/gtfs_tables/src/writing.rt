@@ -31,7 +31,8 @@ impl Model for RecordWriter {
 
     ghost view = { λ w. if w.failed then [] else unwrap_or (text_written (λ bytes. Some bytes.items) w.writer) [] };
 
-    ghost invariant = { λ w. w.failed ≡ false → (writer_setup w.writer ≡ record_writer) × (fields_written w.writer ≡ 0) × (has_written w.writer ≡ false) };
+    ghost invariant = { λ w. w.failed ≡ false
+        → (writer_setup w.writer ≡ record_writer) × (fields_written w.writer ≡ 0) × (has_written w.writer ≡ false) };
 }
 
 impl RecordWriter {

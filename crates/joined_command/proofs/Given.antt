@@ -28,7 +28,8 @@ use Rattle.feed_desk.specs.declared.draw.Drawn.{Drawn}
 use Rattle.feed_desk.proofs.DrawnLemmas.{drawn-scheduled, drawn-valid}
 use Rattle.joined_command.specs.Joined.{boards_outcome, joined_does}
 
-read-parts : {A B : Type 0} (read : Result A FeedFault) (next : A → Result B FeedFault) (x : B) → (read >>= next) ≡ Ok x → (y : A) × (read ≡ Ok y) × (next y ≡ Ok x)
+read-parts : {A B : Type 0} (read : Result A FeedFault) (next : A → Result B FeedFault) (x : B) → (read >>= next) ≡ Ok x
+    → (y : A) × (read ≡ Ok y) × (next y ≡ Ok x)
 read-parts (Ok y) next x e = (y, refl, e)
 read-parts (Err refused) next x e = absurd (no e)
   where
@@ -48,11 +49,14 @@ same_Ok result x y one other = ap (or x) (sym one ∙ other)
 
 -- what is needed of the laws
 abbrev pub EntriesTakeTime : Type 0
-EntriesTakeTime = (found : Found) (timetable after : TimetableView) (entries : List Entry) → deadheads_of found timetable ≡ Ok (after, entries) → TakeTime entries
+EntriesTakeTime = (found : Found) (timetable after : TimetableView) (entries : List Entry)
+    → deadheads_of found timetable ≡ Ok (after, entries) → TakeTime entries
 
 abbrev pub JoinedIsLeast : Type 0
-JoinedIsLeast = (timetable : TimetableView) (matrix : MatrixView) (blocks : List (List ℕ)) → IsTimetable timetable → AreLeastWalks matrix → length matrix.walks ≡ length timetable.places → TakeTime matrix.entries
-    → IsLeast (network_of timetable matrix) blocks → sum_of_maxima (deficit (joined_moves timetable matrix blocks)) (length timetable.places) ≡ pos (length blocks)
+JoinedIsLeast = (timetable : TimetableView) (matrix : MatrixView) (blocks : List (List ℕ)) → IsTimetable timetable → AreLeastWalks matrix
+    → length matrix.walks ≡ length timetable.places → TakeTime matrix.entries
+    → IsLeast (network_of timetable matrix) blocks
+    → sum_of_maxima (deficit (joined_moves timetable matrix blocks)) (length timetable.places) ≡ pos (length blocks)
 
 -- the entries of an accepted feed take time
 entries-said : EntriesTakeTime → (found : Paper → Found) (said : FeedView) → said_by found ≡ Ok said → TakeTime said.entries
@@ -64,7 +68,8 @@ entries-said law found said e =
     let pulls = read-parts (pulls_in found entries.0.0) _ said entries.2 in
     let lines = read-parts (lines_in found) _ said pulls.2 in
     let given = said_with settings.0 entries.0.0 entries.0.1 pulls.0 lines.0 in
-    subst (λ (s : FeedView). TakeTime s.entries) (same_Ok (Ok given) given said refl lines.2) (law (found paper.Deadheads) base.0 entries.0.0 entries.0.1 entries.1)
+    subst (λ (s : FeedView). TakeTime s.entries) (same_Ok (Ok given) given said refl lines.2)
+    (law (found paper.Deadheads) base.0 entries.0.0 entries.0.1 entries.1)
 
 -- what is drawn is a blocking of the trips that run
 pub drawn-blocking : (base : TimetableView) (lines : List Line) (matrix : MatrixView) (drawn : Drawn) → HasDrawn base lines matrix drawn
@@ -74,9 +79,12 @@ drawn-blocking base lines matrix drawn has =
     (subst (λ matrix. IsBlocking (network_of (standing_after base lines) matrix) drawn.blocks) (sym has.matrix_is)
     (drawn-scheduled base lines matrix drawn.desk.plan drawn.blocks has.plan).least.fewest.blocking)
 
-pub joined-given : {E : Type 0} (read : ReadView) (said : FeedView) (matrix : MatrixView) (drawn : Drawn) → JoinedIsLeast → EntriesTakeTime → said_in read ≡ Ok said
+pub joined-given : {E : Type 0} (read : ReadView) (said : FeedView) (matrix : MatrixView) (drawn : Drawn) → JoinedIsLeast → EntriesTakeTime
+    → said_in read ≡ Ok said
     → IsMatrixFor said matrix → HasDrawn said.base said.lines matrix drawn
-    → (result : Result OutcomeView E) → IfOk result (λ outcome. outcome ≡ boards_outcome drawn.refused drawn.ending said.settings.prefix drawn.desk.script.timetable drawn.desk.matrix drawn.blocks)
+    → (result : Result OutcomeView E)
+    → IfOk result (λ outcome. outcome ≡ boards_outcome drawn.refused drawn.ending said.settings.prefix drawn.desk.script.timetable
+    drawn.desk.matrix drawn.blocks)
     → IfOk result (IsGivenOf joined_does read said)
 joined-given read said matrix drawn least law says is has (Err e) done = tt
 joined-given read said matrix drawn least law says is has (Ok outcome) done =
@@ -84,7 +92,8 @@ joined-given read said matrix drawn least law says is has (Ok outcome) done =
     let valid = drawn-valid said.base said.lines matrix drawn.desk.plan drawn.blocks has.plan in
     let here : outcome ≡ boards_outcome (refused_of said) (ending_of said) said.settings.prefix (standing said) matrix drawn.blocks =
     done ∙ (λ i. boards_outcome (has.refused i) (has.ending i) said.settings.prefix (has.timetable i) (has.matrix_is i) drawn.blocks) in
-    let count : length matrix.walks ≡ length (standing said).places = is.count ∙ sym (ap length (standing-places said.base said.lines (length said.lines))) in
+    let count : length matrix.walks ≡ length (standing said).places = is.count
+    ∙ sym (ap length (standing-places said.base said.lines (length said.lines))) in
     record {
       gives = record {
         matrix = matrix;

@@ -21,7 +21,8 @@ use Rattle.feed_desk.specs.Plans.{most_steps_of}
 -- the deficits of all moves of blocks beside those of the trips alone
 abbrev pub joined_of : TimetableView → MatrixView → List (List ℕ) → List ℕ
 joined_of timetable matrix blocks =
-    joined_text (place_names timetable) (deficit (joined_moves timetable matrix blocks)) (deficit (live_moves timetable.slots)) (length blocks)
+    joined_text (place_names timetable) (deficit (joined_moves timetable matrix blocks)) (deficit (live_moves timetable.slots))
+    (length blocks)
 
 -- the boards of blocks are written, and behind the lines of refused records their joined deficits are put
 abbrev pub boards_outcome : List ℕ → Ending → List ℕ → TimetableView → MatrixView → List (List ℕ) → OutcomeView

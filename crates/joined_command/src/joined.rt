@@ -43,7 +43,8 @@ fn boarded<L: Ledger>(
 ) -> Result<Outcome, Memory>
     requires blocking { IsBlocking (network_of drawn.now.desk.script.timetable drawn.now.desk.matrix) drawn.now.blocks }
     ensures boarded { IfOk result (λ outcome.
-        outcome ≡ boards_outcome drawn.now.refused drawn.now.ending settings.now.prefix drawn.now.desk.script.timetable drawn.now.desk.matrix drawn.now.blocks) }
+        outcome ≡ boards_outcome drawn.now.refused drawn.now.ending settings.now.prefix drawn.now.desk.script.timetable
+        drawn.now.desk.matrix drawn.now.blocks) }
     ensures counted { steps.new ≤ steps.old + 28 * MOST_MOVES }
 {
     let timetable = drawn.desk.timetable();

@@ -11,13 +11,16 @@ use Rattle.deadhead_matrix.specs.Matrix.{MatrixView}
 use Rattle.joined_deficits.specs.Boards.{board_header, board_of_block, board_records, boards_text}
 
 -- what is text stays so with a record of texts
-pub stays-text : {E : Type 0} (result : Result (Unit {0}) E) (before after : List ℕ) (fields : List (List ℕ)) → StaysText → All IsUtf8 fields
+pub stays-text : {E : Type 0} (result : Result (Unit {0}) E) (before after : List ℕ) (fields : List (List ℕ)) → StaysText
+    → All IsUtf8 fields
     → OnOk result (after ≡ before ++ record_text fields) → OnOk result (IsUtf8 before → IsUtf8 after)
-stays-text (Ok x) before after fields law texts written = λ text. subst IsUtf8 (sym written) (IsUtf8-append before (record_text fields) text (law fields texts))
+stays-text (Ok x) before after fields law texts written =
+    λ text. subst IsUtf8 (sym written) (IsUtf8-append before (record_text fields) text (law fields texts))
 stays-text (Err e) before after fields law texts written = tt
 
 -- seven texts
-pub seven-texts : (a b c d e f g : List ℕ) → IsUtf8 a → IsUtf8 b → IsUtf8 c → IsUtf8 d → IsUtf8 e → IsUtf8 f → IsUtf8 g → All IsUtf8 (a ∷ b ∷ c ∷ d ∷ e ∷ f ∷ g ∷ [])
+pub seven-texts : (a b c d e f g : List ℕ) → IsUtf8 a → IsUtf8 b → IsUtf8 c → IsUtf8 d → IsUtf8 e → IsUtf8 f → IsUtf8 g
+    → All IsUtf8 (a ∷ b ∷ c ∷ d ∷ e ∷ f ∷ g ∷ [])
 seven-texts a b c d e f g at bt ct dt et ft gt =
     All-cons IsUtf8 a (b ∷ c ∷ d ∷ e ∷ f ∷ g ∷ []) at
     (All-cons IsUtf8 b (c ∷ d ∷ e ∷ f ∷ g ∷ []) bt
@@ -28,9 +31,12 @@ seven-texts a b c d e f g at bt ct dt et ft gt =
     (All-cons IsUtf8 g [] gt (All-nil IsUtf8)))))))
 
 -- the text of all blocks
-pub boards-written : (t : TimetableView) (matrix : MatrixView) (prefix : List ℕ) (blocks : List (List ℕ)) (now : List ℕ) (n : ℕ) → length blocks ≡ n
-    → now ≡ record_text board_header ++ records_text (flat_map (λ n. board_of_block t matrix prefix n (get_or blocks n [])) (range_with_len 0 n))
+pub boards-written : (t : TimetableView) (matrix : MatrixView) (prefix : List ℕ) (blocks : List (List ℕ)) (now : List ℕ) (n : ℕ)
+    → length blocks ≡ n
+    → now ≡ record_text board_header
+    ++ records_text (flat_map (λ n. board_of_block t matrix prefix n (get_or blocks n [])) (range_with_len 0 n))
     → now ≡ boards_text t matrix prefix blocks
 unfolding boards_text board_records
 boards-written t matrix prefix blocks now n all so_far =
-    so_far ∙ ap (λ m. record_text board_header ++ records_text (flat_map (λ n. board_of_block t matrix prefix n (get_or blocks n [])) (range_with_len 0 m))) (sym all)
+    so_far ∙ ap (λ m. record_text board_header
+    ++ records_text (flat_map (λ n. board_of_block t matrix prefix n (get_or blocks n [])) (range_with_len 0 m))) (sym all)

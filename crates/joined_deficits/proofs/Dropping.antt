@@ -1,5 +1,6 @@
 -- Blocks without deadheads of the joined moves, with the legs dropped in which a vehicle runs empty, are blocks of the trips.
-use Rattle.std.proofs.Common.{◌≡◌, ℕ, ◌+◌, ◌<◌, ◌≤◌, ◌==◌, nat_le, true, false, cond, List, [], ◌∷◌, ◌++◌, length, get_or, map, sum_by, Option, None, Some, refl, sym, ap, subst, ◌∙◌, ⊎_elim, arith}
+use Rattle.std.proofs.Common.{◌≡◌, ℕ, ◌+◌, ◌<◌, ◌≤◌, ◌==◌, nat_le, true, false, cond, List, [], ◌∷◌, ◌++◌, length, get_or, map, sum_by}
+use Rattle.std.proofs.Common.{Option, None, Some, refl, sym, ap, subst, ◌∙◌, ⊎_elim, arith}
 use Rattle.std.specs.Prelude.{⊤}
 use Rattle.std.specs.List.{All, AllByRecursion}
 use Rattle.std.specs.Option.{is_some}
@@ -29,13 +30,26 @@ walk-on entries [] fs a b c first second = subst (λ x. IsWalk entries x fs c) (
 walk-on entries (e ∷ es) fs a b c first second = (first.0, first.1, walk-on entries es fs e.to b c first.2 second)
 
 -- a least walk is no longer than one by way of another place
-by-way : (entries : List Entry) (a b c m n : ℕ) (found : Option ℕ) → IsLeastTotal entries a b m → IsLeastTotal entries b c n → IsLeastWalk entries a c found
+by-way : (entries : List Entry) (a b c m n : ℕ) (found : Option ℕ) → IsLeastTotal entries a b m → IsLeastTotal entries b c n
+    → IsLeastWalk entries a c found
     → (k : ℕ) × (found ≡ Some k) × (k ≤ m + n)
 by-way entries a b c m n None first second none =
-    absurd (none (first.reached.0 ++ second.reached.0) (walk-on entries first.reached.0 second.reached.0 a b c first.reached.1 second.reached.1))
+    absurd (none (first.reached.0 ++ second.reached.0)
+    (walk-on entries first.reached.0 second.reached.0 a b c first.reached.1 second.reached.1))
 by-way entries a b c m n (Some k) first second least =
-    let le = least.least (first.reached.0 ++ second.reached.0) (walk-on entries first.reached.0 second.reached.0 a b c first.reached.1 second.reached.1) in
-    (k, refl, omega (arith, le, first.reached.2, second.reached.2, sum_by-append (λ (e : Entry). e.minutes) first.reached.0 second.reached.0))
+    let le = least.least (first.reached.0 ++ second.reached.0)
+    (walk-on entries first.reached.0 second.reached.0 a b c first.reached.1 second.reached.1) in (
+      k,
+      refl,
+      omega (
+        arith,
+        le,
+        first.reached.2,
+        second.reached.2,
+        sum_by-append (λ (e : Entry). e.minutes) first.reached.0
+            second.reached.0,
+      ),
+    )
 
 -- a place is reached from itself in no time
 from-itself : (entries : List Entry) (a : ℕ) (found : Option ℕ) → IsLeastWalk entries a a found → found ≡ Some 0
@@ -103,11 +117,16 @@ pub length-dropped : (legs : List Leg) (blocks : List (List ℕ)) → length (dr
 length-dropped legs blocks = omega (arith, length-filled (map (trips_at legs) blocks), length-map blocks (trips_at legs))
 
 -- the leg whose move stands at a place
-at-leg : (legs : List Leg) (p : ℕ) (way : Move) → move_at (map Some (ways legs)) p ≡ Some way → (p < length legs) × ((leg_at legs p).way ≡ way)
+at-leg : (legs : List Leg) (p : ℕ) (way : Move) → move_at (map Some (ways legs)) p ≡ Some way
+    → (p < length legs) × ((leg_at legs p).way ≡ way)
 at-leg legs p way e = ⊎_elim
     (λ (h : p < length legs).
-    let there : p < length (ways legs) = omega (arith, length-map legs (λ (leg : Leg). leg.way)) in
-    (h, same_Some (leg_at legs p).way way (sym (get_or-map Some (ways legs) p no_leg.way None there ∙ ap Some (get_or-map (λ (leg : Leg). leg.way) legs p no_leg no_leg.way h)) ∙ e)))
+    let there : p < length (ways legs) = omega (arith, length-map legs (λ (leg : Leg). leg.way)) in (
+      h,
+      same_Some (leg_at legs p).way way
+          (sym (get_or-map Some (ways legs) p no_leg.way None there
+          ∙ ap Some (get_or-map (λ (leg : Leg). leg.way) legs p no_leg no_leg.way h)) ∙ e),
+    ))
     (λ (h : length legs ≤ p).
     let past : length (map Some (ways legs)) ≤ p = omega (arith, length-map legs (λ (leg : Leg). leg.way), length-map (ways legs) Some) in
     absurd (none-some way (sym (get_or_past (map Some (ways legs)) p None past) ∙ e)))
@@ -120,7 +139,8 @@ record LegsMeet (legs : List Leg) (p q : ℕ) : Type 0 where
   pub place : (leg_at legs p).way.to ≡ (leg_at legs q).way.from
   pub minute : (leg_at legs p).way.arrives ≤ (leg_at legs q).way.leaves
 
-meet-parts : (m n : Option Move) → meets m n ≡ true → (a : Move) × (b : Move) × (m ≡ Some a) × (n ≡ Some b) × (a.to ≡ b.from) × (a.arrives ≤ b.leaves)
+meet-parts : (m n : Option Move) → meets m n ≡ true
+    → (a : Move) × (b : Move) × (m ≡ Some a) × (n ≡ Some b) × (a.to ≡ b.from) × (a.arrives ≤ b.leaves)
 meet-parts None n e = absurd (false≢true e)
 meet-parts (Some a) None e = absurd (false≢true e)
 meet-parts (Some a) (Some b) e =
@@ -154,7 +174,8 @@ abbrev pub IsBlockOrNone : Network → List ℕ → Type 0
 IsBlockOrNone network [] = ⊤
 IsBlockOrNone network (i ∷ js) = Follow network i js
 
-module _ (t : TimetableView) (matrix : MatrixView) (valid : IsTimetable t) (least : AreLeastWalks matrix) (count : length matrix.walks ≡ length t.places) (legs : List Leg) (are : All (IsLeg t matrix) legs) where
+module _ (t : TimetableView) (matrix : MatrixView) (valid : IsTimetable t) (least : AreLeastWalks matrix)
+    (count : length matrix.walks ≡ length t.places) (legs : List Leg) (are : All (IsLeg t matrix) legs) where
   -- after a trip a vehicle is where that has ended
   there-itself : (i : ℕ) (way : Move) → IsMadeBy t matrix (Some i) way → IsThere t matrix i way.to way.arrives
   there-itself i way made =
@@ -165,19 +186,24 @@ module _ (t : TimetableView) (matrix : MatrixView) (valid : IsTimetable t) (leas
       record {
         live = made.0;
         minutes = 0;
-        walks = ap (λ p. walk matrix (slot_at t i).trip.to p) place ∙ from-itself matrix.entries (slot_at t i).trip.to (walk matrix (slot_at t i).trip.to (slot_at t i).trip.to) (least (slot_at t i).trip.to (slot_at t i).trip.to within within);
+        walks = ap (λ p. walk matrix (slot_at t i).trip.to p) place
+            ∙ from-itself matrix.entries (slot_at t i).trip.to (walk matrix (slot_at t i).trip.to (slot_at t i).trip.to)
+            (least (slot_at t i).trip.to (slot_at t i).trip.to within within);
         in_time = omega (arith, minute);
       }
 
   -- a deadhead takes it on
-  there-on : (i : ℕ) (way : Move) → IsMadeBy t matrix None way → IsMove (length t.places) way → IsThere t matrix i way.from way.leaves → IsThere t matrix i way.to way.arrives
+  there-on : (i : ℕ) (way : Move) → IsMadeBy t matrix None way → IsMove (length t.places) way → IsThere t matrix i way.from way.leaves
+      → IsThere t matrix i way.to way.arrives
   there-on i way made move is =
       let a = (slot_at t i).trip.to in
       let a_in : a < length matrix.walks = omega (arith, (slot-moves t i valid (live-within t i is.live)).to, count) in
       let b_in : way.from < length matrix.walks = omega (arith, move.from, count) in
       let c_in : way.to < length matrix.walks = omega (arith, move.to, count) in
-      let first : IsLeastTotal matrix.entries a way.from is.minutes = subst (IsLeastWalk matrix.entries a way.from) is.walks (least a way.from a_in b_in) in
-      let second : IsLeastTotal matrix.entries way.from way.to made.0 = subst (IsLeastWalk matrix.entries way.from way.to) made.1 (least way.from way.to b_in c_in) in
+      let first : IsLeastTotal matrix.entries a way.from is.minutes =
+      subst (IsLeastWalk matrix.entries a way.from) is.walks (least a way.from a_in b_in) in
+      let second : IsLeastTotal matrix.entries way.from way.to made.0 =
+      subst (IsLeastWalk matrix.entries way.from way.to) made.1 (least way.from way.to b_in c_in) in
       let on = by-way matrix.entries a way.from way.to is.minutes made.0 (walk matrix a way.to) first second (least a way.to a_in c_in) in
       record {
         live = is.live;
@@ -187,7 +213,8 @@ module _ (t : TimetableView) (matrix : MatrixView) (valid : IsTimetable t) (leas
       }
 
   -- and it reaches the trip that begins there then
-  there-fits : (i j : ℕ) (way : Move) → IsMadeBy t matrix (Some j) way → IsThere t matrix i way.from way.leaves → Fits (network_of t matrix) i j
+  there-fits : (i j : ℕ) (way : Move) → IsMadeBy t matrix (Some j) way → IsThere t matrix i way.from way.leaves
+      → Fits (network_of t matrix) i j
   there-fits i j way made is =
       let place : way.from ≡ (slot_at t j).trip.from = ap (λ (m : Move). m.from) made.1 in
       let minute : way.leaves ≡ (slot_at t j).trip.departs = ap (λ (m : Move). m.leaves) made.1 in
@@ -198,7 +225,8 @@ module _ (t : TimetableView) (matrix : MatrixView) (valid : IsTimetable t) (leas
         in_time = omega (arith, minute, is.in_time);
       })
 
-  there-next : (i p q : ℕ) → LegsMeet legs p q → IsThere t matrix i (leg_at legs p).way.to (leg_at legs p).way.arrives → IsThere t matrix i (leg_at legs q).way.from (leg_at legs q).way.leaves
+  there-next : (i p q : ℕ) → LegsMeet legs p q → IsThere t matrix i (leg_at legs p).way.to (leg_at legs p).way.arrives
+      → IsThere t matrix i (leg_at legs q).way.from (leg_at legs q).way.leaves
   there-next i p q meet is = record {
     live = is.live;
     minutes = is.minutes;
@@ -207,22 +235,26 @@ module _ (t : TimetableView) (matrix : MatrixView) (valid : IsTimetable t) (leas
   }
 
   -- the trips at places whose moves meet follow one on the other
-  follow-trips : (i p : ℕ) (ps : List ℕ) → Follow (plain_network (map Some (ways legs))) p ps → IsThere t matrix i (leg_at legs p).way.to (leg_at legs p).way.arrives
+  follow-trips : (i p : ℕ) (ps : List ℕ) → Follow (plain_network (map Some (ways legs))) p ps
+      → IsThere t matrix i (leg_at legs p).way.to (leg_at legs p).way.arrives
       → Follow (network_of t matrix) i (trips_at legs ps)
   follow-trips i p [] follow is = tt
   follow-trips i p (q ∷ qs) follow is =
       let meet = legs-meet legs p q follow.0 in
       let leg = are q no_leg meet.second in
-      by (leg_at legs q).slot (leg_at legs q).way leg.made leg.moves (there-next i p q meet is) (λ h there. follow-trips h q qs follow.1 there)
+      by (leg_at legs q).slot (leg_at legs q).way leg.made leg.moves (there-next i p q meet is)
+      (λ h there. follow-trips h q qs follow.1 there)
     where
-      by : (slot : Option ℕ) (way : Move) → IsMadeBy t matrix slot way → IsMove (length t.places) way → IsThere t matrix i way.from way.leaves
+      by : (slot : Option ℕ) (way : Move) → IsMadeBy t matrix slot way → IsMove (length t.places) way
+          → IsThere t matrix i way.from way.leaves
           → ((h : ℕ) → IsThere t matrix h way.to way.arrives → Follow (network_of t matrix) h (trips_at legs qs))
           → Follow (network_of t matrix) i (with_trip slot (trips_at legs qs))
       by None way made move there rest = rest i (there-on i way made move there)
       by (Some j) way made move there rest = (there-fits i j way made there, rest j (there-itself j way made))
 
   -- from the first trip on
-  first-trips : (p : ℕ) (ps : List ℕ) → Follow (plain_network (map Some (ways legs))) p ps → IsBlockOrNone (network_of t matrix) (trips_at legs (p ∷ ps))
+  first-trips : (p : ℕ) (ps : List ℕ) → Follow (plain_network (map Some (ways legs))) p ps
+      → IsBlockOrNone (network_of t matrix) (trips_at legs (p ∷ ps))
   first-trips p [] follow = by (leg_at legs p).slot
     where
       by : (slot : Option ℕ) → IsBlockOrNone (network_of t matrix) (with_trip slot [])
@@ -245,7 +277,8 @@ module _ (t : TimetableView) (matrix : MatrixView) (valid : IsTimetable t) (leas
   each-dropped ([] ∷ blocks) each = absurd each.0
   each-dropped ((p ∷ ps) ∷ blocks) each = by (trips_at legs (p ∷ ps)) (first-trips p ps each.0) (each-dropped blocks each.1)
     where
-      by : (slots : List ℕ) → IsBlockOrNone (network_of t matrix) slots → AllByRecursion (IsBlock (network_of t matrix)) (dropped legs blocks)
+      by : (slots : List ℕ) → IsBlockOrNone (network_of t matrix) slots
+          → AllByRecursion (IsBlock (network_of t matrix)) (dropped legs blocks)
           → AllByRecursion (IsBlock (network_of t matrix)) (filled (slots ∷ map (trips_at legs) blocks))
       by [] is rest = rest
       by (i ∷ js) is rest = (is, rest)
@@ -262,9 +295,16 @@ times-with s (Some j) slots = times-cons s j slots
 times-trips : (legs : List Leg) (s : ℕ) (ps : List ℕ) → times s (trips_at legs ps) ≡ sum_by (λ p. of_slot s (leg_at legs p).slot) ps
 times-trips legs s [] = refl
 times-trips legs s (p ∷ ps) =
-    omega (arith, times-with s (leg_at legs p).slot (trips_at legs ps), times-trips legs s ps, sum_by-cons (λ p. of_slot s (leg_at legs p).slot) p ps)
+    omega (
+      arith,
+      times-with s (leg_at legs p).slot (trips_at legs ps),
+      times-trips legs s ps,
+      sum_by-cons
+          (λ p. of_slot s (leg_at legs p).slot) p ps,
+    )
 
-times-all : (legs : List Leg) (s : ℕ) (blocks : List (List ℕ)) → times s (slots_in (map (trips_at legs) blocks)) ≡ sum_by (λ p. of_slot s (leg_at legs p).slot) (slots_in blocks)
+times-all : (legs : List Leg) (s : ℕ) (blocks : List (List ℕ))
+    → times s (slots_in (map (trips_at legs) blocks)) ≡ sum_by (λ p. of_slot s (leg_at legs p).slot) (slots_in blocks)
 times-all legs s [] = refl
 times-all legs s (block ∷ blocks) =
     omega (
@@ -284,7 +324,8 @@ times-dropped legs s blocks blocking =
     let within : (p : ℕ) → is_some (move_at all p) ≡ true → p < length legs = λ p e. omega (arith, runs-within all p e, len) in
     ap (times s) (slots-filled (map (trips_at legs) blocks))
     ∙ times-all legs s blocks
-    ∙ sum_by-below (λ p. is_some (move_at all p)) (λ p. of_slot s (leg_at legs p).slot) (length legs) (slots_in blocks) within none blocking.stands
+    ∙ sum_by-below (λ p. is_some (move_at all p)) (λ p. of_slot s (leg_at legs p).slot) (length legs) (slots_in blocks) within none
+    blocking.stands
     ∙ sum_below-list (λ (leg : Leg). of_slot s leg.slot) legs no_leg
   where
     none : (p : ℕ) → is_some (move_at (map Some (ways legs)) p) ≡ false → of_slot s (leg_at legs p).slot ≡ 0
@@ -300,24 +341,34 @@ none-dead : (s : ℕ) (way : Option Move) → sum_by (λ (leg : Leg). of_slot s 
 none-dead s None = refl
 none-dead s (Some way) = omega (arith, sum_by-cons (λ (leg : Leg). of_slot s leg.slot) (record { slot = None; way = way }) [])
 
-legs-after : (t : TimetableView) (matrix : MatrixView) (s i : ℕ) (js : List ℕ) → sum_by (λ (leg : Leg). of_slot s leg.slot) (legs_after t matrix i js) ≡ times s js
+legs-after : (t : TimetableView) (matrix : MatrixView) (s i : ℕ) (js : List ℕ)
+    → sum_by (λ (leg : Leg). of_slot s leg.slot) (legs_after t matrix i js) ≡ times s js
 legs-after t matrix s i [] = refl
 legs-after t matrix s i (j ∷ js) = omega (
   arith,
-  sum_by-append (λ (leg : Leg). of_slot s leg.slot) (deadhead_legs (deadhead_between t matrix i j)) (trip_leg t j ∷ legs_after t matrix j js),
+  sum_by-append (λ (leg : Leg). of_slot s leg.slot) (deadhead_legs (deadhead_between t matrix i j))
+      (trip_leg t j ∷ legs_after t matrix j js),
   none-dead s (deadhead_between t matrix i j),
   sum_by-cons (λ (leg : Leg). of_slot s leg.slot) (trip_leg t j) (legs_after t matrix j js),
   times-cons s j js,
   legs-after t matrix s j js,
 )
 
-legs-block : (t : TimetableView) (matrix : MatrixView) (s : ℕ) (block : List ℕ) → sum_by (λ (leg : Leg). of_slot s leg.slot) (legs_of t matrix block) ≡ times s block
+legs-block : (t : TimetableView) (matrix : MatrixView) (s : ℕ) (block : List ℕ)
+    → sum_by (λ (leg : Leg). of_slot s leg.slot) (legs_of t matrix block) ≡ times s block
 legs-block t matrix s [] = refl
 legs-block t matrix s (i ∷ js) =
-    omega (arith, sum_by-cons (λ (leg : Leg). of_slot s leg.slot) (trip_leg t i) (legs_after t matrix i js), times-cons s i js, legs-after t matrix s i js)
+    omega (
+      arith,
+      sum_by-cons (λ (leg : Leg). of_slot s leg.slot) (trip_leg t i) (legs_after t matrix i js),
+      times-cons s i js,
+      legs-after
+          t matrix s i js,
+    )
 
 -- a slot has as many legs as it stands in the blocks
-pub legs-times : (t : TimetableView) (matrix : MatrixView) (s : ℕ) (blocks : List (List ℕ)) → sum_by (λ (leg : Leg). of_slot s leg.slot) (legs_in t matrix blocks) ≡ times s (slots_in blocks)
+pub legs-times : (t : TimetableView) (matrix : MatrixView) (s : ℕ) (blocks : List (List ℕ))
+    → sum_by (λ (leg : Leg). of_slot s leg.slot) (legs_in t matrix blocks) ≡ times s (slots_in blocks)
 legs-times t matrix s [] = refl
 legs-times t matrix s (block ∷ blocks) = omega (
   arith,

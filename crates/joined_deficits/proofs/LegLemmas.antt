@@ -1,5 +1,6 @@
 -- The legs of blocks: between which trips a vehicle runs empty, what each leg is, and how many there are.
-use Rattle.std.proofs.Common.{◌≡◌, ℕ, ◌+◌, ◌*◌, ◌<◌, ◌≤◌, nat_le, Bool, true, false, List, [], ◌∷◌, ◌++◌, length, drop, take, get_or, filter, Option, None, Some, if◌then◌else◌, refl, sym, ap, subst, ◌∙◌, ⊎_elim, arith}
+use Rattle.std.proofs.Common.{◌≡◌, ℕ, ◌+◌, ◌*◌, ◌<◌, ◌≤◌, nat_le, Bool, true, false, List, [], ◌∷◌, ◌++◌, length, drop, take, get_or}
+use Rattle.std.proofs.Common.{filter, Option, None, Some, if◌then◌else◌, refl, sym, ap, subst, ◌∙◌, ⊎_elim, arith}
 use Rattle.std.specs.List.{All, AllByRecursion, range_with_len}
 use Rattle.std.specs.Option.{is_some, IsSome, IfSome}
 use Rattle.std.proofs.lemmas.Bool.{cases_eq, eq-eqb, ne_eqb, leb-true, le-leb, false≢true}
@@ -22,7 +23,8 @@ use Rattle.deadhead_matrix.specs.Fitting.{in_time, empty_between, network_of}
 use Rattle.deadhead_matrix.specs.Matrix.{MatrixView, walk}
 use Rattle.block_build.proofs.CostLemmas.{block-live}
 use Rattle.joined_deficits.specs.declared.legs.Leg.{Leg}
-use Rattle.joined_deficits.specs.Joined.{trip_leg, empty_move, deadhead_between, deadhead_legs, legs_after, legs_of, legs_in, ways, joined_moves}
+use Rattle.joined_deficits.specs.Joined.{trip_leg, empty_move, deadhead_between, deadhead_legs, legs_after, legs_of, legs_in, ways}
+use Rattle.joined_deficits.specs.Joined.{joined_moves}
 
 -- a vehicle reaches the start of the trip of j from the end of that of i in so many minutes, and in time
 pub record Reaches (t : TimetableView) (matrix : MatrixView) (i j minutes : ℕ) : Type 0 where
@@ -32,11 +34,13 @@ pub record Reaches (t : TimetableView) (matrix : MatrixView) (i j minutes : ℕ)
   pub in_time : (slot_at t i).trip.ends + minutes ≤ (slot_at t j).trip.departs
 
 -- of two trips, of which both may run
-between : (matrix : MatrixView) (a b : Trip) (x y : Bool) → IsSome (empty_between (walk matrix) (if x then Some (move_of a) else None) (if y then Some (move_of b) else None))
+between : (matrix : MatrixView) (a b : Trip) (x y : Bool)
+    → IsSome (empty_between (walk matrix) (if x then Some (move_of a) else None) (if y then Some (move_of b) else None))
     → (minutes : ℕ) × (x ≡ true) × (y ≡ true) × (walk matrix a.to b.from ≡ Some minutes) × (a.ends + minutes ≤ b.departs)
 between matrix a b true true is = by (walk matrix a.to b.from) refl is
   where
-    tested : (minutes : ℕ) → walk matrix a.to b.from ≡ Some minutes → (test : Bool) → nat_le (a.ends + minutes) b.departs ≡ test → is_some {T = ℕ} (if test then Some minutes else None) ≡ true
+    tested : (minutes : ℕ) → walk matrix a.to b.from ≡ Some minutes → (test : Bool) → nat_le (a.ends + minutes) b.departs ≡ test
+        → is_some {T = ℕ} (if test then Some minutes else None) ≡ true
         → (minutes : ℕ) × (true ≡ true) × (true ≡ true) × (walk matrix a.to b.from ≡ Some minutes) × (a.ends + minutes ≤ b.departs)
     tested minutes found true passed is = (minutes, refl, refl, found, leb-true (a.ends + minutes) b.departs passed)
     tested minutes found false passed is = absurd (false≢true is)
@@ -50,23 +54,27 @@ between matrix a b false true is = absurd (false≢true is)
 between matrix a b false false is = absurd (false≢true is)
 
 -- trips that fit run both, and the second is reached
-pub reaches : (t : TimetableView) (matrix : MatrixView) (i j : ℕ) → Fits (network_of t matrix) i j → (minutes : ℕ) × Reaches t matrix i j minutes
+pub reaches : (t : TimetableView) (matrix : MatrixView) (i j : ℕ) → Fits (network_of t matrix) i j
+    → (minutes : ℕ) × Reaches t matrix i j minutes
 reaches t matrix i j fits =
     let a = (slot_at t i).trip in
     let b = (slot_at t j).trip in
-    let found = between matrix a b a.live b.live ((λ k. is_some (empty_between (walk matrix) (sym (slot-move t i) k) (sym (slot-move t j) k))) ∙ fits) in
+    let found = between matrix a b a.live b.live
+    ((λ k. is_some (empty_between (walk matrix) (sym (slot-move t i) k) (sym (slot-move t j) k))) ∙ fits) in
     (found.0, record { first = found.1; second = found.2; walks = found.3; in_time = found.4 })
 
 -- in the minutes of the walk
 pub reached-by : (t : TimetableView) (matrix : MatrixView) (i j minutes : ℕ) → Fits (network_of t matrix) i j
-    → walk matrix (slot_at t i).trip.to (slot_at t j).trip.from ≡ Some minutes → (slot_at t i).trip.ends + minutes ≤ (slot_at t j).trip.departs
+    → walk matrix (slot_at t i).trip.to (slot_at t j).trip.from ≡ Some minutes
+    → (slot_at t i).trip.ends + minutes ≤ (slot_at t j).trip.departs
 reached-by t matrix i j minutes fits found =
     let r = reaches t matrix i j fits in
     let same = same_Some r.0 minutes (sym r.1.walks ∙ found) in
     omega (arith, same, r.1.in_time)
 
 -- so a deadhead arrives on the service day
-pub arrives-in_day : (t : TimetableView) (matrix : MatrixView) (i j minutes : ℕ) (a b : Trip) → a ≡ (slot_at t i).trip → b ≡ (slot_at t j).trip → IsValidTrip t.places b
+pub arrives-in_day : (t : TimetableView) (matrix : MatrixView) (i j minutes : ℕ) (a b : Trip) → a ≡ (slot_at t i).trip
+    → b ≡ (slot_at t j).trip → IsValidTrip t.places b
     → Fits (network_of t matrix) i j → walk matrix a.to b.from ≡ Some minutes → a.ends + minutes ≤ 8191
 arrives-in_day t matrix i j minutes a b a_is b_is valid fits found =
     let reached = reached-by t matrix i j minutes fits ((λ k. walk matrix (sym a_is k).to (sym b_is k).from) ∙ found) in
@@ -76,12 +84,14 @@ arrives-in_day t matrix i j minutes a b a_is b_is valid fits found =
     omega (arith, reached, ends, departs, move.forward, move.in_day)
 
 -- and the other way round
-pub fits-reached : (t : TimetableView) (matrix : MatrixView) (i j minutes : ℕ) → Reaches t matrix i j minutes → Fits (network_of t matrix) i j
+pub fits-reached : (t : TimetableView) (matrix : MatrixView) (i j minutes : ℕ) → Reaches t matrix i j minutes
+    → Fits (network_of t matrix) i j
 fits-reached t matrix i j minutes r =
     let a = (slot_at t i).trip in
     let b = (slot_at t j).trip in
     (λ k. is_some (empty_between (walk matrix) (slot-move t i k) (slot-move t j k)))
-    ∙ (λ k. is_some (empty_between (walk matrix) (if r.first k then Some (move_of a) else None) (if r.second k then Some (move_of b) else None)))
+    ∙ (λ k. is_some (empty_between (walk matrix) (if r.first k then Some (move_of a) else None)
+    (if r.second k then Some (move_of b) else None)))
     ∙ (λ k. is_some (in_time (move_of a) (move_of b) (r.walks k)))
     ∙ ap (λ test. is_some {T = ℕ} (if test then Some minutes else None)) (le-leb (a.ends + minutes) b.departs r.in_time)
 
@@ -105,7 +115,8 @@ deadhead-cases P t matrix i j minutes r none some =
     let b = move_of (slot_at t j).trip in
     ⊎_elim
     (λ (e : minutes ≡ 0). subst (λ way. P (deadhead_legs way)) (sym (ap (empty_move a b) r.walks ∙ empty-none a b minutes e)) (none e))
-    (λ (ne : minutes ≡ 0 → ⊥). subst (λ way. P (deadhead_legs way)) (sym (ap (empty_move a b) r.walks ∙ empty-some a b minutes ne)) (some (omega arith)))
+    (λ (ne : minutes ≡ 0 → ⊥). subst (λ way. P (deadhead_legs way)) (sym (ap (empty_move a b) r.walks ∙ empty-some a b minutes ne))
+    (some (omega arith)))
     (cases_eq minutes 0)
 
 -- what holds of the trips that run, and of the deadheads between trips of which one is reached from the other
@@ -122,11 +133,13 @@ all-after t matrix P holds i (j ∷ js) follow =
     let r = reaches t matrix i j follow.0 in
     All-append P (deadhead_legs (deadhead_between t matrix i j)) (trip_leg t j ∷ legs_after t matrix j js)
     (deadhead-cases (All P) t matrix i j r.0 r.1 (λ e. All-nil P)
-    (λ h. All-cons P (record { slot = None; way = dead_move (move_of (slot_at t i).trip) (move_of (slot_at t j).trip) r.0 }) [] (holds.dead i j r.0 r.1 h) (All-nil P)))
+    (λ h. All-cons P (record { slot = None; way = dead_move (move_of (slot_at t i).trip) (move_of (slot_at t j).trip) r.0 }) []
+    (holds.dead i j r.0 r.1 h) (All-nil P)))
     (All-cons P (trip_leg t j) (legs_after t matrix j js) (holds.trip j r.1.second) (all-after t matrix P holds j js follow.1))
 
 -- of all legs of a block
-pub block-all : (t : TimetableView) (matrix : MatrixView) (P : Leg → Type 0) → HoldsOfLegs t matrix P → (block : List ℕ) → All (λ s. P (trip_leg t s)) block
+pub block-all : (t : TimetableView) (matrix : MatrixView) (P : Leg → Type 0) → HoldsOfLegs t matrix P → (block : List ℕ)
+    → All (λ s. P (trip_leg t s)) block
     → IsBlock (network_of t matrix) block → All P (legs_of t matrix block)
 block-all t matrix P holds [] all is = absurd is
 block-all t matrix P holds (i ∷ js) all is =
@@ -149,7 +162,8 @@ all-in t matrix P holds ((i ∷ js) ∷ blocks) each run =
     (all-in t matrix P holds blocks each.1 (All-tail (All live) (i ∷ js) blocks run))
 
 -- each slot of a blocking runs
-pub blocks-run : (t : TimetableView) (matrix : MatrixView) (blocks : List (List ℕ)) → IsBlocking (network_of t matrix) blocks → AllRun t blocks
+pub blocks-run : (t : TimetableView) (matrix : MatrixView) (blocks : List (List ℕ)) → IsBlocking (network_of t matrix) blocks
+    → AllRun t blocks
 blocks-run t matrix blocks blocking = λ n d h k e g.
     let same = get_or_default blocks n d [] h in
     let within : k < length (get_or blocks n []) = omega (arith, g, ap length same) in
@@ -163,7 +177,8 @@ live-within t s live = omega (arith, runs-within (trip_moves t.slots) s (slot-li
 
 pub blocks-within : (t : TimetableView) (matrix : MatrixView) (blocks : List (List ℕ)) → IsBlocking (network_of t matrix) blocks
     → All (All (λ s. s < length t.slots)) blocks
-blocks-within t matrix blocks blocking = λ n d h k e g. live-within t (get_or (get_or blocks n d) k e) (blocks-run t matrix blocks blocking n d h k e g)
+blocks-within t matrix blocks blocking =
+    λ n d h k e g. live-within t (get_or (get_or blocks n d) k e) (blocks-run t matrix blocks blocking n d h k e g)
 
 -- the move of a trip takes time and arrives on the service day
 pub slot-moves : (t : TimetableView) (s : ℕ) → IsTimetable t → s < length t.slots → IsMove (length t.places) (move_of (slot_at t s).trip)
@@ -184,12 +199,14 @@ legs-move t matrix valid = record {
       };
 }
 
-pub joined-move : (t : TimetableView) (matrix : MatrixView) (blocks : List (List ℕ)) → IsTimetable t → IsBlocking (network_of t matrix) blocks
+pub joined-move : (t : TimetableView) (matrix : MatrixView) (blocks : List (List ℕ)) → IsTimetable t
+    → IsBlocking (network_of t matrix) blocks
     → All (IsMove (length t.places)) (joined_moves t matrix blocks)
 unfolding joined_moves
 joined-move t matrix blocks valid blocking =
     All-map (IsMove (length t.places)) (λ (leg : Leg). leg.way) (legs_in t matrix blocks)
-    (all-in t matrix (λ leg. IsMove (length t.places) leg.way) (legs-move t matrix valid) blocks blocking.each (blocks-run t matrix blocks blocking))
+    (all-in t matrix (λ leg. IsMove (length t.places) leg.way) (legs-move t matrix valid) blocks blocking.each
+    (blocks-run t matrix blocks blocking))
 
 -- a leg is no trip, or that of one of the slots
 pub legs-within : (t : TimetableView) (matrix : MatrixView) → HoldsOfLegs t matrix (λ leg. IfSome leg.slot (λ s. s < length t.slots))
@@ -198,7 +215,8 @@ legs-within t matrix = record { trip = λ s live. live-within t s live; dead = �
 -- the legs of a block, once no trip is left
 pub legs-end : (t : TimetableView) (matrix : MatrixView) (i n : ℕ) (block : List ℕ) (legs : List Leg) → length block ≤ n
     → legs ++ legs_after t matrix i (drop n block) ≡ legs_of t matrix block → legs ≡ legs_of t matrix block
-legs-end t matrix i n block legs h so_far = sym (append-nil legs) ∙ ap (λ rest. legs ++ legs_after t matrix i rest) (sym (drop_all n block h)) ∙ so_far
+legs-end t matrix i n block legs h so_far = sym (append-nil legs)
+    ∙ ap (λ rest. legs ++ legs_after t matrix i rest) (sym (drop_all n block h)) ∙ so_far
 
 -- between two trips there is one deadhead at most
 deadhead-one : (way : Option Move) → length (deadhead_legs way) ≤ 1
@@ -239,24 +257,29 @@ standing-few live n slots within stands = omega (
 )
 
 few-legs : (legs blocks slots : ℕ) → legs + blocks ≤ 2 * slots → slots ≤ 4096 → (blocks ≡ 0 → legs ≡ 0) → legs ≤ 8191
-few-legs legs blocks slots pairs few none = ⊎_elim (λ (e : blocks ≡ 0). omega (arith, none e)) (λ (ne : blocks ≡ 0 → ⊥). omega arith) (cases_eq blocks 0)
+few-legs legs blocks slots pairs few none =
+    ⊎_elim (λ (e : blocks ≡ 0). omega (arith, none e)) (λ (ne : blocks ≡ 0 → ⊥). omega arith) (cases_eq blocks 0)
 
 no-legs : (t : TimetableView) (matrix : MatrixView) (blocks : List (List ℕ)) → length blocks ≡ 0 → length (legs_in t matrix blocks) ≡ 0
 no-legs t matrix [] none = refl
 no-legs t matrix (block ∷ blocks) none = absurd (omega arith)
 
 -- there are at most two legs for each trip, less one for each block
-pub joined-few : (t : TimetableView) (matrix : MatrixView) (blocks : List (List ℕ)) → IsTimetable t → IsBlocking (network_of t matrix) blocks
+pub joined-few : (t : TimetableView) (matrix : MatrixView) (blocks : List (List ℕ)) → IsTimetable t
+    → IsBlocking (network_of t matrix) blocks
     → length (joined_moves t matrix blocks) ≤ 8191
 unfolding joined_moves
 joined-few t matrix blocks valid blocking =
     let moves = trip_moves t.slots in
     let slots = standing-few (λ s. is_some (move_at moves s)) (length moves) (slots_in blocks) (runs-within moves) blocking.stands in
-    let legs = few-legs (length (legs_in t matrix blocks)) (length blocks) (length (slots_in blocks)) (in-few t matrix blocks blocking.each) (omega (arith, slots, length-map t.slots move_of_slot, valid.slots)) (no-legs t matrix blocks) in
+    let legs = few-legs (length (legs_in t matrix blocks)) (length blocks) (length (slots_in blocks))
+    (in-few t matrix blocks blocking.each) (omega (arith, slots, length-map t.slots move_of_slot, valid.slots))
+    (no-legs t matrix blocks) in
     omega (arith, legs, length-map (legs_in t matrix blocks) (λ (leg : Leg). leg.way))
 
 -- the moves of all blocks
-pub joined-all : (t : TimetableView) (matrix : MatrixView) (blocks : List (List ℕ)) (n : ℕ) (moves : List Move) → length blocks ≤ n → moves ≡ ways (legs_in t matrix (take n blocks))
+pub joined-all : (t : TimetableView) (matrix : MatrixView) (blocks : List (List ℕ)) (n : ℕ) (moves : List Move) → length blocks ≤ n
+    → moves ≡ ways (legs_in t matrix (take n blocks))
     → moves ≡ joined_moves t matrix blocks
 unfolding joined_moves
 joined-all t matrix blocks n moves all so_far = so_far ∙ ap (λ bs. ways (legs_in t matrix bs)) (take_all n blocks all)

@@ -19,10 +19,12 @@ use Rattle.joined_deficits.proofs.Meeting.{joined-blocking}
 -- has fewer
 abbrev pub PlainBlocks : Type 0
 PlainBlocks = (places : ℕ) (moves : List Move) → All (IsMove places) moves
-    → (blocks : List (List ℕ)) × IsFewest (plain_network (map Some moves)) blocks × (pos (length blocks) ≡ sum_of_maxima (deficit moves) places)
+    → (blocks : List (List ℕ)) × IsFewest (plain_network (map Some moves)) blocks
+    × (pos (length blocks) ≡ sum_of_maxima (deficit moves) places)
 
 -- the deadheads dropped, a blocking without deadheads of the joined moves is a blocking with no more blocks
-pub dropped-blocking : (t : TimetableView) (matrix : MatrixView) (blocks others : List (List ℕ)) → IsTimetable t → AreLeastWalks matrix → length matrix.walks ≡ length t.places
+pub dropped-blocking : (t : TimetableView) (matrix : MatrixView) (blocks others : List (List ℕ)) → IsTimetable t → AreLeastWalks matrix
+    → length matrix.walks ≡ length t.places
     → IsBlocking (network_of t matrix) blocks → IsBlocking (plain_network (map Some (joined_moves t matrix blocks))) others
     → (trips : List (List ℕ)) × IsBlocking (network_of t matrix) trips × (length trips ≤ length others)
 unfolding joined_moves
@@ -38,7 +40,8 @@ dropped-blocking t matrix blocks others valid least count blocking plain =
     )
 
 -- the sum of the maxima is at most the number of blocks
-pub sum-at-most : PlainBlocks → (t : TimetableView) (matrix : MatrixView) (blocks : List (List ℕ)) → IsTimetable t → AreLeastWalks matrix → length matrix.walks ≡ length t.places
+pub sum-at-most : PlainBlocks → (t : TimetableView) (matrix : MatrixView) (blocks : List (List ℕ)) → IsTimetable t → AreLeastWalks matrix
+    → length matrix.walks ≡ length t.places
     → TakeTime matrix.entries → IsBlocking (network_of t matrix) blocks
     → sum_of_maxima (deficit (joined_moves t matrix blocks)) (length t.places) ≤ℤ pos (length blocks)
 sum-at-most plain_blocks t matrix blocks valid least count lasting blocking =
@@ -49,12 +52,14 @@ sum-at-most plain_blocks t matrix blocks valid least count lasting blocking =
     subst (λ sum. sum ≤ℤ pos (length blocks)) plain.2 (omega (arith, ints, few, same))
 
 -- and of fewest blocks it is their number
-pub sum-of-fewest : PlainBlocks → (t : TimetableView) (matrix : MatrixView) (blocks : List (List ℕ)) → IsTimetable t → AreLeastWalks matrix → length matrix.walks ≡ length t.places
+pub sum-of-fewest : PlainBlocks → (t : TimetableView) (matrix : MatrixView) (blocks : List (List ℕ)) → IsTimetable t → AreLeastWalks matrix
+    → length matrix.walks ≡ length t.places
     → TakeTime matrix.entries → IsFewest (network_of t matrix) blocks
     → sum_of_maxima (deficit (joined_moves t matrix blocks)) (length t.places) ≡ pos (length blocks)
 sum-of-fewest plain_blocks t matrix blocks valid least count lasting fewest =
     let plain = plain_blocks (length t.places) (joined_moves t matrix blocks) (joined-move t matrix blocks valid fewest.blocking) in
     let joined = joined-blocking t matrix blocks valid least count lasting fewest.blocking in
     let trips = dropped-blocking t matrix blocks plain.0 valid least count fewest.blocking plain.1.blocking in
-    let same : length plain.0 ≡ length blocks = omega (arith, plain.1.fewest joined.0 joined.1, joined.2, fewest.fewest trips.0 trips.1, trips.2) in
+    let same : length plain.0 ≡ length blocks =
+    omega (arith, plain.1.fewest joined.0 joined.1, joined.2, fewest.fewest trips.0 trips.1, trips.2) in
     sym plain.2 ∙ ap pos same

@@ -31,7 +31,8 @@ board_record timetable name leg =
 
 -- the records of a block, leg by leg
 abbrev pub board_of_block : TimetableView → MatrixView → List ℕ → ℕ → List ℕ → List (List (List ℕ))
-board_of_block timetable matrix prefix number block = map (board_record timetable (block_name prefix number)) (legs_of timetable matrix block)
+board_of_block timetable matrix prefix number block =
+    map (board_record timetable (block_name prefix number)) (legs_of timetable matrix block)
 
 -- the records of blocks, block by block
 unfoldable pub board_records : TimetableView → MatrixView → List ℕ → List (List ℕ) → List (List (List ℕ))

@@ -16,12 +16,14 @@ trip_leg timetable s = record { slot = Some s; way = move_of (slot_at timetable 
 -- ends. It makes no move where it needs no minute, nor where there is no way.
 abbrev pub empty_move : Move → Move → Option ℕ → Option Move
 empty_move a b None = None
-empty_move a b (Some minutes) = if minutes == 0 then None else Some (record { from = a.to; to = b.from; leaves = a.arrives; arrives = a.arrives + minutes })
+empty_move a b (Some minutes) = if minutes == 0 then None
+    else Some (record { from = a.to; to = b.from; leaves = a.arrives; arrives = a.arrives + minutes })
 
 -- the deadhead from the end of the trip of i to the start of that of j, along a least walk
 abbrev pub deadhead_between : TimetableView → MatrixView → ℕ → ℕ → Option Move
 deadhead_between timetable matrix i j =
-    empty_move (move_of (slot_at timetable i).trip) (move_of (slot_at timetable j).trip) (walk matrix (slot_at timetable i).trip.to (slot_at timetable j).trip.from)
+    empty_move (move_of (slot_at timetable i).trip) (move_of (slot_at timetable j).trip)
+    (walk matrix (slot_at timetable i).trip.to (slot_at timetable j).trip.from)
 
 -- the leg of a deadhead, where there is one
 abbrev pub deadhead_legs : Option Move → List Leg
@@ -31,7 +33,8 @@ deadhead_legs (Some way) = record { slot = None; way = way } ∷ []
 -- the legs of a block after its trip of i: before each trip the deadhead to it
 abbrev pub legs_after : TimetableView → MatrixView → ℕ → List ℕ → List Leg
 legs_after timetable matrix i [] = []
-legs_after timetable matrix i (j ∷ js) = deadhead_legs (deadhead_between timetable matrix i j) ++ trip_leg timetable j ∷ legs_after timetable matrix j js
+legs_after timetable matrix i (j ∷ js) = deadhead_legs (deadhead_between timetable matrix i j) ++ trip_leg timetable j
+    ∷ legs_after timetable matrix j js
 
 -- the legs of a block, trip by trip
 abbrev pub legs_of : TimetableView → MatrixView → List ℕ → List Leg

@@ -22,4 +22,5 @@ joined_sum sum blocks = codes "sum " ++ signed_decimal sum ++ codes ", blocks " 
 -- the lines of the places in order of number, and then the last line
 unfoldable pub joined_text : List (List ℕ) → (ℕ → ℕ → ℤ) → (ℕ → ℕ → ℤ) → ℕ → List ℕ
 joined_text names joined before blocks =
-    flat_map (λ place. joined_place place.1 (joined place.0) (before place.0)) (enumerate_from 0 names) ++ joined_sum (sum_of_maxima joined (length names)) blocks
+    flat_map (λ place. joined_place place.1 (joined place.0) (before place.0)) (enumerate_from 0 names)
+    ++ joined_sum (sum_of_maxima joined (length names)) blocks

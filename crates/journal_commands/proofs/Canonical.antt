@@ -28,11 +28,13 @@ front-of : (front : List ℕ) → all_but_last (front ++ 10 ∷ []) ≡ front
 front-of front =
     let long = length-append front (10 ∷ []) in
     let count : length (front ++ 10 ∷ []) - 1 ≡ length front = omega (arith, long) in
-    ap (λ n. take n (front ++ 10 ∷ [])) count ∙ take-append-le (length front) front (10 ∷ []) (omega arith) ∙ take_all (length front) front (omega arith)
+    ap (λ n. take n (front ++ 10 ∷ [])) count ∙ take-append-le (length front) front (10 ∷ []) (omega arith)
+    ∙ take_all (length front) front (omega arith)
 
 -- a canonical line with its line feed is the text of a record
 pub canonical-fed : (edit : Edit) → with_feed (canonical_line edit) ≡ record_text (fields_of edit)
-canonical-fed edit = ap (λ text. all_but_last text ++ 10 ∷ []) (record-ends (fields_of edit)) ∙ ap (λ front. front ++ 10 ∷ []) (front-of (front_of (fields_of edit))) ∙ sym (record-ends (fields_of edit))
+canonical-fed edit = ap (λ text. all_but_last text ++ 10 ∷ []) (record-ends (fields_of edit))
+    ∙ ap (λ front. front ++ 10 ∷ []) (front-of (front_of (fields_of edit))) ∙ sym (record-ends (fields_of edit))
 
 pub line-canonical : (line : List ℕ) (edit : Edit) → line ++ 10 ∷ [] ≡ record_text (fields_of edit) → line ≡ canonical_line edit
 line-canonical line edit is = sym (front-of line) ∙ ap all_but_last is
@@ -71,11 +73,13 @@ some-fields Show = omega arith
 
 filled-all : (edits : List Edit) → All (λ (fields : List (List ℕ)). 0 < length fields) (map fields_of edits)
 filled-all [] = All-nil (λ (fields : List (List ℕ)). 0 < length fields)
-filled-all (edit ∷ edits) = All-cons (λ (fields : List (List ℕ)). 0 < length fields) (fields_of edit) (map fields_of edits) (some-fields edit) (filled-all edits)
+filled-all (edit ∷ edits) = All-cons (λ (fields : List (List ℕ)). 0 < length fields) (fields_of edit) (map fields_of edits)
+    (some-fields edit) (filled-all edits)
 
 -- the records of canonical lines are those of their edits
 pub records-canonical : (edits : List Edit) → records (journal_text (map canonical_line edits)) ≡ map fields_of edits
-records-canonical edits = ap records (text-canonical edits) ∙ records-back (map fields_of edits) (record { filled = filled-all edits; unmarked = unmarked-all edits })
+records-canonical edits = ap records (text-canonical edits)
+    ∙ records-back (map fields_of edits) (record { filled = filled-all edits; unmarked = unmarked-all edits })
 
 module _ (reads : EditReadsBack) where
   lines-back : (edits : List Edit) → All IsWritten edits → map line_of (map fields_of edits) ≡ map line.Edit edits
@@ -84,5 +88,6 @@ module _ (reads : EditReadsBack) where
       let here = All-head IsWritten edit edits written in
       λ i. ap line_by (reads edit here.0 here.1).1 i ∷ lines-back edits (All-tail IsWritten edit edits written) i
 
-  pub script-canonical : (edits : List Edit) → All IsWritten edits → map line_of (records (journal_text (map canonical_line edits))) ≡ map line.Edit edits
+  pub script-canonical : (edits : List Edit) → All IsWritten edits
+      → map line_of (records (journal_text (map canonical_line edits))) ≡ map line.Edit edits
   script-canonical edits written = ap (map line_of) (records-canonical edits) ∙ lines-back edits written

@@ -1,5 +1,6 @@
 -- Records that are refused, and shows, may be dropped, and the others numbered anew: what stands is the same.
-use Rattle.std.proofs.Common.{◌≡◌, ◌+◌, ◌-◌, ◌==◌, min, Bool, true, false, List, [], ◌∷◌, ◌++◌, length, drop, fold, take, map, Result, Ok, Err, refl, sym, ap, subst, ◌∙◌}
+use Rattle.std.proofs.Common.{◌≡◌, ◌+◌, ◌-◌, ◌==◌, min, Bool, true, false, List, [], ◌∷◌, ◌++◌, length, drop, fold, take, map, Result, Ok}
+use Rattle.std.proofs.Common.{Err, refl, sym, ap, subst, ◌∙◌}
 use Rattle.std.proofs.lemmas.Bool.{false≢true, true≢false}
 use Rattle.std.specs.Prelude.{nat_lt, if◌then◌else◌}
 use Rattle.std.proofs.lemmas.List.{drop-map, length-map, map-append, take-map}
@@ -35,13 +36,16 @@ fold-lines base (r ∷ records) = fold-lines (after_record base r) records
 
 -- the same timetable stands
 pub same-timetable : (base : TimetableView) (one other : State) → AreSame one other → timetable_at base one ≡ timetable_at base other
-same-timetable base one other same = fold-lines base one.standing ∙ ap (fold after_line base) same.standing ∙ sym (fold-lines base other.standing)
+same-timetable base one other same = fold-lines base one.standing ∙ ap (fold after_line base) same.standing
+    ∙ sym (fold-lines base other.standing)
 
 lines-but_last : (records : List Numbered) → lines_of (all_but_last records) ≡ all_but_last (lines_of records)
-lines-but_last records = sym (take-map (λ (r : Numbered). r.line) (length records - 1) records) ∙ ap (λ n. take (n - 1) (lines_of records)) (sym (length-map records (λ (r : Numbered). r.line)))
+lines-but_last records = sym (take-map (λ (r : Numbered). r.line) (length records - 1) records)
+    ∙ ap (λ n. take (n - 1) (lines_of records)) (sym (length-map records (λ (r : Numbered). r.line)))
 
 lines-last : (records : List Numbered) → lines_of (last_alone records) ≡ last_alone (lines_of records)
-lines-last records = sym (drop-map (λ (r : Numbered). r.line) (length records - 1) records) ∙ ap (λ n. drop (n - 1) (lines_of records)) (sym (length-map records (λ (r : Numbered). r.line)))
+lines-last records = sym (drop-map (λ (r : Numbered). r.line) (length records - 1) records)
+    ∙ ap (λ n. drop (n - 1) (lines_of records)) (sym (length-map records (λ (r : Numbered). r.line)))
 
 -- the results of two steps have the same lines
 abbrev StaySame : State → State → Result State EditFault → Result State EditFault → Type 0
@@ -49,43 +53,82 @@ StaySame one other a b = AreSame (or_stays one a) (or_stays other b)
 
 module _ (one other : State) (same : AreSame one other) where
   same-length : length one.undone ≡ length other.undone
-  same-length = sym (length-map one.undone (λ (r : Numbered). r.line)) ∙ ap length same.undone ∙ length-map other.undone (λ (r : Numbered). r.line)
+  same-length = sym (length-map one.undone (λ (r : Numbered). r.line)) ∙ ap length same.undone
+      ∙ length-map other.undone (λ (r : Numbered). r.line)
 
-  same-undo : StaySame one other (if one.kept == 0 then Err fault.NothingToUndo else Ok (record one { standing = all_but_last one.standing; undone = one.undone ++ last_alone one.standing; kept = one.kept - 1 }))
-      (if other.kept == 0 then Err fault.NothingToUndo else Ok (record other { standing = all_but_last other.standing; undone = other.undone ++ last_alone other.standing; kept = other.kept - 1 }))
+  same-undo : StaySame one other
+      (if one.kept == 0 then Err fault.NothingToUndo
+      else Ok (record one { standing = all_but_last one.standing; undone = one.undone ++ last_alone one.standing; kept = one.kept - 1 }))
+      (if other.kept == 0 then Err fault.NothingToUndo
+      else Ok (record other {
+        standing = all_but_last other.standing;
+        undone = other.undone ++ last_alone other.standing;
+        kept = other.kept - 1;
+      }))
   same-undo = by (one.kept == 0) (other.kept == 0) (ap (λ n. n == 0) same.kept)
     where
-      by : (a b : Bool) → a ≡ b → StaySame one other (if a then Err fault.NothingToUndo else Ok (record one { standing = all_but_last one.standing; undone = one.undone ++ last_alone one.standing; kept = one.kept - 1 }))
-          (if b then Err fault.NothingToUndo else Ok (record other { standing = all_but_last other.standing; undone = other.undone ++ last_alone other.standing; kept = other.kept - 1 }))
+      by : (a b : Bool) → a ≡ b → StaySame one other
+          (if a then Err fault.NothingToUndo
+          else Ok (record one {
+            standing = all_but_last one.standing;
+            undone = one.undone ++ last_alone one.standing;
+            kept = one.kept - 1;
+          }))
+          (if b then Err fault.NothingToUndo
+          else Ok (record other {
+            standing = all_but_last other.standing;
+            undone = other.undone ++ last_alone other.standing;
+            kept = other.kept - 1;
+          }))
       by true true e = same
       by true false e = absurd (true≢false e)
       by false true e = absurd (false≢true e)
       by false false e = record {
         standing = lines-but_last one.standing ∙ ap all_but_last same.standing ∙ sym (lines-but_last other.standing);
-        undone = map-append (λ (r : Numbered). r.line) one.undone (last_alone one.standing) ∙ (λ i. same.undone i ++ (lines-last one.standing ∙ ap last_alone same.standing ∙ sym (lines-last other.standing)) i) ∙ sym (map-append (λ (r : Numbered). r.line) other.undone (last_alone other.standing));
+        undone = map-append (λ (r : Numbered). r.line) one.undone (last_alone one.standing)
+            ∙ (λ i. same.undone i ++ (lines-last one.standing ∙ ap last_alone same.standing ∙ sym (lines-last other.standing)) i)
+            ∙ sym (map-append (λ (r : Numbered). r.line) other.undone (last_alone other.standing));
         kept = ap (λ n. n - 1) same.kept;
       }
 
-  same-redo : StaySame one other (if length one.undone == 0 then Err fault.NothingToRedo else Ok (record one { standing = one.standing ++ last_alone one.undone; undone = all_but_last one.undone; kept = one.kept + 1 }))
-      (if length other.undone == 0 then Err fault.NothingToRedo else Ok (record other { standing = other.standing ++ last_alone other.undone; undone = all_but_last other.undone; kept = other.kept + 1 }))
+  same-redo : StaySame one other
+      (if length one.undone == 0 then Err fault.NothingToRedo
+      else Ok (record one { standing = one.standing ++ last_alone one.undone; undone = all_but_last one.undone; kept = one.kept + 1 }))
+      (if length other.undone == 0 then Err fault.NothingToRedo
+      else Ok (record other {
+        standing = other.standing ++ last_alone other.undone;
+        undone = all_but_last other.undone;
+        kept = other.kept + 1;
+      }))
   same-redo = by (length one.undone == 0) (length other.undone == 0) (ap (λ n. n == 0) same-length)
     where
-      by : (a b : Bool) → a ≡ b → StaySame one other (if a then Err fault.NothingToRedo else Ok (record one { standing = one.standing ++ last_alone one.undone; undone = all_but_last one.undone; kept = one.kept + 1 }))
-          (if b then Err fault.NothingToRedo else Ok (record other { standing = other.standing ++ last_alone other.undone; undone = all_but_last other.undone; kept = other.kept + 1 }))
+      by : (a b : Bool) → a ≡ b → StaySame one other
+          (if a then Err fault.NothingToRedo
+          else Ok (record one { standing = one.standing ++ last_alone one.undone; undone = all_but_last one.undone; kept = one.kept + 1 }))
+          (if b then Err fault.NothingToRedo
+          else Ok (record other {
+            standing = other.standing ++ last_alone other.undone;
+            undone = all_but_last other.undone;
+            kept = other.kept + 1;
+          }))
       by true true e = same
       by true false e = absurd (true≢false e)
       by false true e = absurd (false≢true e)
       by false false e = record {
-        standing = map-append (λ (r : Numbered). r.line) one.standing (last_alone one.undone) ∙ (λ i. same.standing i ++ (lines-last one.undone ∙ ap last_alone same.undone ∙ sym (lines-last other.undone)) i) ∙ sym (map-append (λ (r : Numbered). r.line) other.standing (last_alone other.undone));
+        standing = map-append (λ (r : Numbered). r.line) one.standing (last_alone one.undone)
+            ∙ (λ i. same.standing i ++ (lines-last one.undone ∙ ap last_alone same.undone ∙ sym (lines-last other.undone)) i)
+            ∙ sym (map-append (λ (r : Numbered). r.line) other.standing (last_alone other.undone));
         undone = lines-but_last one.undone ∙ ap all_but_last same.undone ∙ sym (lines-but_last other.undone);
         kept = ap (λ n. n + 1) same.kept;
       }
 
   -- an edit of a trip
-  same-trip : (r s : Numbered) → r.line ≡ s.line → (due : Result TimetableView EditFault) → StaySame one other (if_accepted one r due) (if_accepted other s due)
+  same-trip : (r s : Numbered) → r.line ≡ s.line → (due : Result TimetableView EditFault)
+      → StaySame one other (if_accepted one r due) (if_accepted other s due)
   same-trip r s alike (Err refused) = same
   same-trip r s alike (Ok changed) = record {
-    standing = map-append (λ (r : Numbered). r.line) one.standing (r ∷ []) ∙ (λ i. same.standing i ++ alike i ∷ []) ∙ sym (map-append (λ (r : Numbered). r.line) other.standing (s ∷ []));
+    standing = map-append (λ (r : Numbered). r.line) one.standing (r ∷ []) ∙ (λ i. same.standing i ++ alike i ∷ [])
+        ∙ sym (map-append (λ (r : Numbered). r.line) other.standing (s ∷ []));
     undone = refl;
     kept = ap (λ n. min (n + 1) UNDO_DEPTH) same.kept;
   }
@@ -95,7 +138,8 @@ module _ (one other : State) (same : AreSame one other) where
   show-stays true = record { standing = same.standing; undone = same.undone; kept = same.kept }
   show-stays false = same
 
-  shows-stay : (a b : Bool) → AreSame (or_stays one (if a then Ok (record one { shows = one.shows + 1 }) else Err fault.TooManyShows)) (or_stays other (if b then Ok (record other { shows = other.shows + 1 }) else Err fault.TooManyShows))
+  shows-stay : (a b : Bool) → AreSame (or_stays one (if a then Ok (record one { shows = one.shows + 1 }) else Err fault.TooManyShows))
+      (or_stays other (if b then Ok (record other { shows = other.shows + 1 }) else Err fault.TooManyShows))
   shows-stay true true = record { standing = same.standing; undone = same.undone; kept = same.kept }
   shows-stay true false = record { standing = same.standing; undone = same.undone; kept = same.kept }
   shows-stay false true = record { standing = same.standing; undone = same.undone; kept = same.kept }
@@ -105,9 +149,12 @@ module _ (one other : State) (same : AreSame one other) where
     abbrev pub due : State → Numbered → Line → Result State EditFault
     due m r l = state_by (timetable_at base m) m r l
 
-    trip-steps : (r s : Numbered) (edit : Edit) → r.line ≡ s.line → StaySame one other (if_accepted one r (edited (timetable_at base one) edit)) (if_accepted other s (edited (timetable_at base other) edit))
+    trip-steps : (r s : Numbered) (edit : Edit) → r.line ≡ s.line
+        → StaySame one other (if_accepted one r (edited (timetable_at base one) edit))
+        (if_accepted other s (edited (timetable_at base other) edit))
     trip-steps r s edit alike =
-        subst (λ t. StaySame one other (if_accepted one r (edited t edit)) (if_accepted other s (edited (timetable_at base other) edit))) (sym (same-timetable base one other same))
+        subst (λ t. StaySame one other (if_accepted one r (edited t edit)) (if_accepted other s (edited (timetable_at base other) edit)))
+        (sym (same-timetable base one other same))
         (same-trip r s alike (edited (timetable_at base other) edit))
 
     step-by : (r s : Numbered) → r.line ≡ s.line → (l : Line) → StaySame one other (due one r l) (due other s l)

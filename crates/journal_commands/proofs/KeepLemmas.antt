@@ -25,11 +25,13 @@ use Rattle.journal_commands.proofs.Replays.{replays}
 module _ (base : TimetableView) (stored : Journal) (journal lines : List Line) (begun middle last : Replay)
     (one : IsThrough base [] source.Journal 0 journal (length journal) begun middle)
     (two : IsThrough base (all_records 0 journal) source.Edits (length journal) lines (length lines) middle last)
-    (text : string_bytes begun.text ≡ records_line (codes "journal ") (length journal)) (kept : begun.kept.items ≡ []) (some : begun.some ≡ false) where
+    (text : string_bytes begun.text ≡ records_line (codes "journal ") (length journal)) (kept : begun.kept.items ≡ [])
+    (some : begun.some ≡ false) where
   text-both : string_bytes last.text ≡ answers base journal lines
   text-both =
       two.text
-      ∙ (λ i. (one.text ∙ ap (λ t. t ++ answers_to base [] source.Journal 0 journal (length journal)) text) i ++ answers_to base (all_records 0 journal) source.Edits (length journal) lines (length lines))
+      ∙ (λ i. (one.text ∙ ap (λ t. t ++ answers_to base [] source.Journal 0 journal (length journal)) text) i
+      ++ answers_to base (all_records 0 journal) source.Edits (length journal) lines (length lines))
       ∙ append_assoc (records_line (codes "journal ") (length journal)) (answers_to base [] source.Journal 0 journal (length journal))
       (answers_to base (all_records 0 journal) source.Edits (length journal) lines (length lines))
 
@@ -42,16 +44,20 @@ module _ (base : TimetableView) (stored : Journal) (journal lines : List Line) (
   some-both : last.some ≡ some_refused base journal lines
   some-both =
       two.some
-      ∙ ap (λ b. b || some_to base (all_records 0 journal) source.Edits (length journal) lines (length lines)) (one.some ∙ ap (λ b. b || some_to base [] source.Journal 0 journal (length journal)) some)
+      ∙ ap (λ b. b || some_to base (all_records 0 journal) source.Edits (length journal) lines (length lines))
+      (one.some ∙ ap (λ b. b || some_to base [] source.Journal 0 journal (length journal)) some)
 
   pub kept-done : {E : Type 0} (result : Result OutcomeView E)
-      → IfOk result (λ outcome. outcome ≡ appending (string_bytes last.text) last.kept.items (ending_by last.some) (script_with stored last.kept.items))
+      → IfOk result (λ outcome. outcome ≡ appending (string_bytes last.text) last.kept.items (ending_by last.some)
+      (script_with stored last.kept.items))
       → IfOk result (λ outcome. outcome ≡ keeping_lines base stored journal lines)
   kept-done (Err e) done = tt
-  kept-done (Ok outcome) done = done ∙ (λ i. appending (text-both i) (kept-both i) (ending_by (some-both i)) (script_with stored (kept-both i)))
+  kept-done (Ok outcome) done = done
+      ∙ (λ i. appending (text-both i) (kept-both i) (ending_by (some-both i)) (script_with stored (kept-both i)))
 
 -- what `keep` does of an accepted feed is what it asks
-pub keep-given : {E : Type 0} → EditReadsBack → (read : ReadView) (said : FeedView) (result : Result OutcomeView E) → IfOk result (λ outcome. outcome ≡ keeping read said)
+pub keep-given : {E : Type 0} → EditReadsBack → (read : ReadView) (said : FeedView) (result : Result OutcomeView E)
+    → IfOk result (λ outcome. outcome ≡ keeping read said)
     → IfOk result (IsGivenOf keep_does read said)
 keep-given reads read said (Err e) done = tt
 keep-given reads read said (Ok outcome) done = record {

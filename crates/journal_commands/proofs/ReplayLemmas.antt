@@ -1,5 +1,6 @@
 -- The records of a list through the edit machine, one after the other.
-use Rattle.std.proofs.Common.{◌≡◌, ℕ, zero, suc, ◌+◌, Bool, true, false, List, [], ◌∷◌, ◌++◌, Option, ◌||◌, refl, sym, ap, subst, ◌∙◌, arith}
+use Rattle.std.proofs.Common.{◌≡◌, ℕ, zero, suc, ◌+◌, Bool, true, false, List, [], ◌∷◌, ◌++◌, Option, ◌||◌, refl, sym, ap, subst, ◌∙◌}
+use Rattle.std.proofs.Common.{arith}
 use Rattle.std.specs.Prelude.{is_some, string_bytes}
 use Rattle.std.proofs.lemmas.List.{append-nil, append_assoc}
 use Rattle.edit_script.specs.declared.edit.Line.{Line}
@@ -17,7 +18,8 @@ pub records-none : (before : ℕ) (lines : List Line) → records_from before li
 unfolding records_from
 records-none before lines = refl
 
-pub records-next : (before : ℕ) (lines : List Line) (n : ℕ) → records_from before lines (suc n) ≡ records_from before lines n ++ numbered (before + (n + 1)) (line_at lines n) ∷ []
+pub records-next : (before : ℕ) (lines : List Line) (n : ℕ)
+    → records_from before lines (suc n) ≡ records_from before lines n ++ numbered (before + (n + 1)) (line_at lines n) ∷ []
 unfolding records_from
 records-next before lines n = refl
 
@@ -35,7 +37,8 @@ module _ (base : TimetableView) (first : List Numbered) (source : Source) (befor
   answers-none = refl
 
   answers-next : (n : ℕ) → answers_to base first source before lines (suc n)
-      ≡ answers_to base first source before lines n ++ answer_line source (n + 1) (line_at lines n) (refusal_at base first source before lines n)
+      ≡ answers_to base first source before lines n
+      ++ answer_line source (n + 1) (line_at lines n) (refusal_at base first source before lines n)
   unfolding answers_to
   answers-next n = refl
 
@@ -43,7 +46,8 @@ module _ (base : TimetableView) (first : List Numbered) (source : Source) (befor
   unfolding kept_to
   kept-none = refl
 
-  pub kept-next : (n : ℕ) → kept_to base first source before lines (suc n) ≡ kept_to base first source before lines n ++ kept_line source (line_at lines n) (refusal_at base first source before lines n)
+  pub kept-next : (n : ℕ) → kept_to base first source before lines (suc n) ≡ kept_to base first source before lines n
+      ++ kept_line source (line_at lines n) (refusal_at base first source before lines n)
   unfolding kept_to
   kept-next n = refl
 
@@ -51,43 +55,54 @@ module _ (base : TimetableView) (first : List Numbered) (source : Source) (befor
   unfolding some_to
   some-none = refl
 
-  some-next : (n : ℕ) → some_to base first source before lines (suc n) ≡ (some_to base first source before lines n || is_some (refusal_at base first source before lines n))
+  some-next : (n : ℕ) → some_to base first source before lines
+      (suc n) ≡ (some_to base first source before lines n || is_some (refusal_at base first source before lines n))
   unfolding some_to
   some-next n = refl
 
   pub through-none : (was : Replay) → IsAt base (machine base first) was.script → IsThrough base first source before lines 0 was was
   through-none was at = record {
-    at = subst (λ records. IsAt base (machine base records) was.script) (sym (ap (λ rs. first ++ rs) (records-none before lines) ∙ append-nil first)) at;
+    at = subst (λ records. IsAt base (machine base records) was.script)
+        (sym (ap (λ rs. first ++ rs) (records-none before lines) ∙ append-nil first)) at;
     text = sym (ap (λ t. string_bytes was.text ++ t) answers-none ∙ append-nil (string_bytes was.text));
     kept = sym (ap (λ k. was.kept.items ++ k) kept-none ∙ append-nil was.kept.items);
     some = or-false was.some ∙ ap (λ b. was.some || b) (sym some-none);
   }
 
-  pub through-next : (n : ℕ) (was now next : Replay) (line : Line) (refused : Option EditFault) → IsThrough base first source before lines n was now
+  pub through-next : (n : ℕ) (was now next : Replay) (line : Line) (refused : Option EditFault)
+      → IsThrough base first source before lines n was now
       → line ≡ line_at lines n → IsStepped (before + (n + 1)) line refused now.script next.script
       → string_bytes next.text ≡ string_bytes now.text ++ answer_line source (n + 1) line refused
       → next.kept.items ≡ now.kept.items ++ kept_line source line refused
       → next.some ≡ (now.some || is_some refused)
       → IsThrough base first source before lines (n + 1) was next
   through-next n was now next line refused through line_is stepped text kept some =
-      let here = subst (λ l. (refused ≡ refusal_in (state_after base (machine base (first ++ records_from before lines n)) (numbered (before + (n + 1)) l)))
+      let here = subst (λ l. (refused ≡ refusal_in
+      (state_after base (machine base (first ++ records_from before lines n)) (numbered (before + (n + 1)) l)))
       × IsAt base (machine base ((first ++ records_from before lines n) ++ numbered (before + (n + 1)) l ∷ [])) next.script) line_is
       (stepped base (first ++ records_from before lines n) through.at) in
-      let grown : (first ++ records_from before lines n) ++ numbered (before + (n + 1)) (line_at lines n) ∷ [] ≡ first ++ records_from before lines (suc n) =
-      append_assoc first (records_from before lines n) (numbered (before + (n + 1)) (line_at lines n) ∷ []) ∙ ap (λ rs. first ++ rs) (sym (records-next before lines n)) in
+      let grown : (first ++ records_from before lines n) ++ numbered (before + (n + 1)) (line_at lines n) ∷ [] ≡ first
+      ++ records_from before lines (suc n) =
+      append_assoc first (records_from before lines n) (numbered (before + (n + 1)) (line_at lines n) ∷ [])
+      ∙ ap (λ rs. first ++ rs) (sym (records-next before lines n)) in
       subst (λ m. IsThrough base first source before lines m was next) (let count : suc n ≡ n + 1 = omega arith in count) (record {
         at = subst (λ records. IsAt base (machine base records) next.script) grown here.1;
         text = text ∙ (λ i. through.text i ++ answer_line source (n + 1) (line_is i) (here.0 i))
-            ∙ append_assoc (string_bytes was.text) (answers_to base first source before lines n) (answer_line source (n + 1) (line_at lines n) (refusal_at base first source before lines n))
+            ∙ append_assoc (string_bytes was.text) (answers_to base first source before lines n)
+            (answer_line source (n + 1) (line_at lines n) (refusal_at base first source before lines n))
             ∙ ap (λ t. string_bytes was.text ++ t) (sym (answers-next n));
         kept = kept ∙ (λ i. through.kept i ++ kept_line source (line_is i) (here.0 i))
-            ∙ append_assoc was.kept.items (kept_to base first source before lines n) (kept_line source (line_at lines n) (refusal_at base first source before lines n))
+            ∙ append_assoc was.kept.items (kept_to base first source before lines n)
+            (kept_line source (line_at lines n) (refusal_at base first source before lines n))
             ∙ ap (λ k. was.kept.items ++ k) (sym (kept-next n));
-        some = some ∙ (λ i. through.some i || is_some (here.0 i)) ∙ or-assoc was.some (some_to base first source before lines n) (is_some (refusal_at base first source before lines n))
+        some = some ∙ (λ i. through.some i || is_some (here.0 i))
+            ∙ or-assoc was.some (some_to base first source before lines n) (is_some (refusal_at base first source before lines n))
             ∙ ap (λ b. was.some || b) (sym (some-next n));
       })
 
 -- of the journal's own records nothing is kept
-pub kept-journal : (base : TimetableView) (first : List Numbered) (before : ℕ) (lines : List Line) (n : ℕ) → kept_to base first source.Journal before lines n ≡ []
+pub kept-journal : (base : TimetableView) (first : List Numbered) (before : ℕ) (lines : List Line) (n : ℕ)
+    → kept_to base first source.Journal before lines n ≡ []
 kept-journal base first before lines zero = kept-none base first source.Journal before lines
-kept-journal base first before lines (suc n) = kept-next base first source.Journal before lines n ∙ append-nil (kept_to base first source.Journal before lines n) ∙ kept-journal base first before lines n
+kept-journal base first before lines (suc n) = kept-next base first source.Journal before lines n
+    ∙ append-nil (kept_to base first source.Journal before lines n) ∙ kept-journal base first before lines n

@@ -1,5 +1,6 @@
 -- The journal that `keep` leaves, replayed alone.
-use Rattle.std.proofs.Common.{◌≡◌, ℕ, zero, suc, ◌+◌, ◌≤◌, Bool, true, false, List, [], ◌∷◌, ◌++◌, All, length, fold, take, map, Option, None, Some, Result, Ok, Err, refl, sym, ap, subst, ◌∙◌, arith}
+use Rattle.std.proofs.Common.{◌≡◌, ℕ, zero, suc, ◌+◌, ◌≤◌, Bool, true, false, List, [], ◌∷◌, ◌++◌, All, length, fold, take, map, Option}
+use Rattle.std.proofs.Common.{None, Some, Result, Ok, Err, refl, sym, ap, subst, ◌∙◌, arith}
 use Rattle.std.specs.Prelude.{nat_le}
 use Rattle.std.proofs.lemmas.Bool.{false≢true}
 use Rattle.std.proofs.lemmas.Grind.{fold-append}
@@ -33,7 +34,8 @@ same-sym : (one other : State) → AreSame one other → AreSame other one
 same-sym one other same = record { standing = sym same.standing; undone = sym same.undone; kept = sym same.kept }
 
 same-trans : (one middle other : State) → AreSame one middle → AreSame middle other → AreSame one other
-same-trans one middle other first second = record { standing = first.standing ∙ second.standing; undone = first.undone ∙ second.undone; kept = first.kept ∙ second.kept }
+same-trans one middle other first second =
+    record { standing = first.standing ∙ second.standing; undone = first.undone ∙ second.undone; kept = first.kept ∙ second.kept }
 
 -- the edit of an accepted record that is no show
 abbrev edit_if : Edit → Option EditFault → List Edit
@@ -91,18 +93,22 @@ module _ (base : TimetableView) where
   with_line m l = with_record base m (numbered 0 l)
 
   -- a record leaves what its kept edit leaves
-  if-kept : (one other : State) (r : Numbered) (edit : Edit) → AreSame one other → (result : Result State EditFault) → AreSame (or_stays one result) (with_record base other (numbered 0 (line.Edit edit)))
+  if-kept : (one other : State) (r : Numbered) (edit : Edit) → AreSame one other → (result : Result State EditFault)
+      → AreSame (or_stays one result) (with_record base other (numbered 0 (line.Edit edit)))
       → AreSame (or_stays one result) (fold with_line other (map line.Edit (edit_if edit (refusal_in result))))
   if-kept one other r edit same (Ok m) step = step
   if-kept one other r edit same (Err refused) step = same
 
   module _ (one other : State) (same : AreSame one other) (before : ℕ) where
     edit-kept : (edit : Edit) → AreSame (or_stays one (due one other same base one (numbered before (line.Edit edit)) (line.Edit edit)))
-        (fold with_line other (map line.Edit (edit_if edit (refusal_in (due one other same base one (numbered before (line.Edit edit)) (line.Edit edit))))))
-    edit-kept edit = if-kept one other (numbered before (line.Edit edit)) edit same (due one other same base one (numbered before (line.Edit edit)) (line.Edit edit))
+        (fold with_line other (map line.Edit
+        (edit_if edit (refusal_in (due one other same base one (numbered before (line.Edit edit)) (line.Edit edit))))))
+    edit-kept edit = if-kept one other (numbered before (line.Edit edit)) edit same
+        (due one other same base one (numbered before (line.Edit edit)) (line.Edit edit))
         (step-same one other same base (numbered before (line.Edit edit)) (numbered 0 (line.Edit edit)) refl)
 
-    record-kept : (l : Line) → AreSame (with_record base one (numbered before l)) (fold with_line other (map line.Edit (edit_kept l (refusal_in (state_after base one (numbered before l))))))
+    record-kept : (l : Line) → AreSame (with_record base one (numbered before l))
+        (fold with_line other (map line.Edit (edit_kept l (refusal_in (state_after base one (numbered before l))))))
     record-kept line.NotAnEdit = same
     record-kept (line.Edit Show) = show-same one other same base (numbered before (line.Edit Show))
     record-kept (line.Edit Undo) = edit-kept Undo
@@ -113,14 +119,16 @@ module _ (base : TimetableView) where
     record-kept (line.Edit (Extra trip from to departs arrives)) = edit-kept (Extra trip from to departs arrives)
 
   -- records and their lines alone
-  records-lines : (records : List Numbered) (one other : State) → AreSame one other → AreSame (fold (with_record base) one records) (fold with_line other (lines_of records))
+  records-lines : (records : List Numbered) (one other : State) → AreSame one other
+      → AreSame (fold (with_record base) one records) (fold with_line other (lines_of records))
   records-lines [] one other same = same
   records-lines (r ∷ records) one other same =
       records-lines records (with_record base one r) (with_line other r.line) (step-same one other same base r (numbered 0 r.line) refl)
 
   lines-same : (lines : List Line) (one other : State) → AreSame one other → AreSame (fold with_line one lines) (fold with_line other lines)
   lines-same [] one other same = same
-  lines-same (l ∷ lines) one other same = lines-same lines (with_line one l) (with_line other l) (step-same one other same base (numbered 0 l) (numbered 0 l) refl)
+  lines-same (l ∷ lines) one other same =
+      lines-same lines (with_line one l) (with_line other l) (step-same one other same base (numbered 0 l) (numbered 0 l) refl)
 
   module _ (first : List Numbered) (before : ℕ) (lines : List Line) where
     -- the edits that are kept of so many lines
@@ -138,26 +146,32 @@ module _ (base : TimetableView) where
     written-edits : (n : ℕ) → All IsWrittenLine lines → All IsWritten (edits_to n)
     written-edits zero all = All-nil IsWritten
     written-edits (suc n) all =
-        All-append IsWritten (edits_to n) (edit_kept (line_at lines n) (refusal_at base first source.Edits before lines n)) (written-edits n all)
+        All-append IsWritten (edits_to n) (edit_kept (line_at lines n) (refusal_at base first source.Edits before lines n))
+        (written-edits n all)
         (written-kept (line_at lines n) (refusal_at base first source.Edits before lines n) (written-at lines n all))
 
     state-none : machine base (first ++ records_from before lines 0) ≡ machine base first
     state-none = ap (machine base) (ap (λ rs. first ++ rs) (records-none before lines) ∙ append-nil first)
 
-    state-next : (n : ℕ) → machine base (first ++ records_from before lines (suc n)) ≡ with_record base (machine base (first ++ records_from before lines n)) (numbered (before + (n + 1)) (line_at lines n))
+    state-next : (n : ℕ) → machine base (first ++ records_from before lines (suc n)) ≡ with_record base
+        (machine base (first ++ records_from before lines n)) (numbered (before + (n + 1)) (line_at lines n))
     state-next n =
         let r = numbered (before + (n + 1)) (line_at lines n) in
-        ap (machine base) (ap (λ rs. first ++ rs) (records-next before lines n) ∙ sym (append_assoc first (records_from before lines n) (r ∷ [])))
+        ap (machine base) (ap (λ rs. first ++ rs) (records-next before lines n)
+        ∙ sym (append_assoc first (records_from before lines n) (r ∷ [])))
         ∙ fold-append (with_record base) begun (first ++ records_from before lines n) (r ∷ [])
 
     edits-next : (n : ℕ) (m : State) → fold with_line m (map line.Edit (edits_to (suc n)))
-        ≡ fold with_line (fold with_line m (map line.Edit (edits_to n))) (map line.Edit (edit_kept (line_at lines n) (refusal_at base first source.Edits before lines n)))
+        ≡ fold with_line (fold with_line m (map line.Edit (edits_to n)))
+        (map line.Edit (edit_kept (line_at lines n) (refusal_at base first source.Edits before lines n)))
     edits-next n m =
         let kept = edit_kept (line_at lines n) (refusal_at base first source.Edits before lines n) in
-        ap (fold with_line m) (map-append line.Edit (edits_to n) kept) ∙ fold-append with_line m (map line.Edit (edits_to n)) (map line.Edit kept)
+        ap (fold with_line m) (map-append line.Edit (edits_to n) kept)
+        ∙ fold-append with_line m (map line.Edit (edits_to n)) (map line.Edit kept)
 
     -- what the kept edits alone leave is what all records leave
-    dropped : (n : ℕ) → AreSame (machine base (first ++ records_from before lines n)) (fold with_line (machine base first) (map line.Edit (edits_to n)))
+    dropped : (n : ℕ) → AreSame (machine base (first ++ records_from before lines n))
+        (fold with_line (machine base first) (map line.Edit (edits_to n)))
     dropped zero = subst (λ m. AreSame m (machine base first)) (sym state-none) (same-refl (machine base first))
     dropped (suc n) =
         let full = machine base (first ++ records_from before lines n) in
@@ -180,7 +194,8 @@ lines-first before lines (suc n) le =
 lines-all : (before : ℕ) (lines : List Line) → lines_of (all_records before lines) ≡ lines
 lines-all before lines = lines-first before lines (length lines) (omega arith) ∙ take_all (length lines) lines (omega arith)
 
-given : {X : Type 0} (b : Bool) (refused : FeedFault) (result : Result X FeedFault) (x : X) → provided b refused result ≡ Ok x → result ≡ Ok x
+given : {X : Type 0} (b : Bool) (refused : FeedFault) (result : Result X FeedFault) (x : X) → provided b refused result ≡ Ok x
+    → result ≡ Ok x
 given true refused result x is = is
 given false refused result x is = absurd (false≢true (ap is-ok is))
   where
@@ -202,22 +217,32 @@ replays reads base lines stored script written all is =
     let before = length journal in
     let kept = edits_to base first before lines (length lines) in
     let new : map canonical_line stored ++ kept_lines base journal lines ≡ map canonical_line (stored ++ kept) =
-    ap (λ ks. map canonical_line stored ++ ks) (kept-edits base first before lines (length lines)) ∙ sym (map-append canonical_line stored kept) in
+    ap (λ ks. map canonical_line stored ++ ks) (kept-edits base first before lines (length lines))
+    ∙ sym (map-append canonical_line stored kept) in
     let text = journal_text (map canonical_line stored ++ kept_lines base journal lines) in
-    let read = given (nat_le (length (map canonical_line stored) + length (kept_lines base journal lines)) MOST_RECORDS) (feed_fault.TooManyRecords paper.Journal) _ script is in
+    let read = given (nat_le (length (map canonical_line stored) + length (kept_lines base journal lines)) MOST_RECORDS)
+    (feed_fault.TooManyRecords paper.Journal) _ script is in
     let lines_read : map line_of (records text) ≡ script =
-    value-of (map line_of (records text)) script (Ok (map line_of (records text))) refl (given (nat_le (length (records text)) MOST_RECORDS) (feed_fault.TooManyRecords paper.Journal) (Ok (map line_of (records text))) script read) in
+    value-of (map line_of (records text)) script (Ok (map line_of (records text))) refl
+    (given (nat_le (length (records text)) MOST_RECORDS) (feed_fault.TooManyRecords paper.Journal) (Ok (map line_of (records text)))
+    script read) in
     let both : script ≡ journal ++ map line.Edit kept =
     sym lines_read ∙ ap (λ ks. map line_of (records (journal_text ks))) new
-    ∙ script-canonical reads (stored ++ kept) (All-append IsWritten stored kept written (written-edits base first before lines (length lines) all)) ∙ map-append line.Edit stored kept in
-    let alone = subst (λ ls. AreSame (machine base (all_records 0 script)) (fold (with_line base) begun ls)) (lines-all 0 script ∙ both) (records-lines base (all_records 0 script) begun begun (same-refl begun)) in
-    let split = subst (AreSame (machine base (all_records 0 script))) (fold-append (with_line base) begun journal (map line.Edit kept)) alone in
-    let begins = subst (λ ls. AreSame (machine base first) (fold (with_line base) begun ls)) (lines-all 0 journal) (records-lines base first begun begun (same-refl begun)) in
+    ∙ script-canonical reads (stored ++ kept)
+    (All-append IsWritten stored kept written (written-edits base first before lines (length lines) all))
+    ∙ map-append line.Edit stored kept in
+    let alone = subst (λ ls. AreSame (machine base (all_records 0 script)) (fold (with_line base) begun ls)) (lines-all 0 script ∙ both)
+    (records-lines base (all_records 0 script) begun begun (same-refl begun)) in
+    let split = subst (AreSame (machine base (all_records 0 script))) (fold-append (with_line base) begun journal (map line.Edit kept))
+    alone in
+    let begins = subst (λ ls. AreSame (machine base first) (fold (with_line base) begun ls)) (lines-all 0 journal)
+    (records-lines base first begun begun (same-refl begun)) in
     let after = lines-same base (map line.Edit kept) (machine base first) (fold (with_line base) begun journal) begins in
     let full = machine base (first ++ all_records before lines) in
     let few = fold (with_line base) (machine base first) (map line.Edit kept) in
     same-timetable base (machine base (all_records 0 script)) full
     (same-trans (machine base (all_records 0 script)) few full
-    (same-trans (machine base (all_records 0 script)) (fold (with_line base) (fold (with_line base) begun journal) (map line.Edit kept)) few split
+    (same-trans (machine base (all_records 0 script)) (fold (with_line base) (fold (with_line base) begun journal) (map line.Edit kept))
+    few split
     (same-sym few (fold (with_line base) (fold (with_line base) begun journal) (map line.Edit kept)) after))
     (same-sym full few (dropped base first before lines (length lines))))

@@ -47,4 +47,5 @@ script_loaded loaded.Unasked = Ok []
 
 -- those of a journal with more lines, which may have no more lines than another
 abbrev pub script_with : Journal → Journal → Result (List Line) FeedFault
-script_with journal kept = provided (nat_le (length journal + length kept) MOST_RECORDS) (fault.TooManyRecords paper.Journal) (journal_script (journal ++ kept))
+script_with journal kept = provided (nat_le (length journal + length kept) MOST_RECORDS) (fault.TooManyRecords paper.Journal)
+    (journal_script (journal ++ kept))

@@ -42,17 +42,20 @@ module _ (base : TimetableView) (journal lines : List Line) where
 
   -- whether a record of either is refused
   abbrev pub some_refused : Bool
-  some_refused = some_to base [] source.Journal 0 journal (length journal) || some_to base journal_records source.Edits (length journal) lines (length lines)
+  some_refused = some_to base [] source.Journal 0 journal (length journal) || some_to base journal_records source.Edits (length journal)
+      lines (length lines)
 
 -- what is done: the lines are appended. The answers are put, and then how many records the journal has. Or it would have more
 -- than it may have, and that is put
 abbrev pub appending : List ℕ → Journal → Ending → Result (List Line) FeedFault → OutcomeView
-appending text kept end (Ok lines) = record { writes = []; lines = Some kept; text = text ++ records_line (codes "kept ") (length lines); ending = end }
+appending text kept end (Ok lines) =
+    record { writes = []; lines = Some kept; text = text ++ records_line (codes "kept ") (length lines); ending = end }
 appending text kept end (Err refused) = refusing refused
 
 abbrev pub keeping_lines : TimetableView → Journal → List Line → List Line → OutcomeView
 keeping_lines base stored journal lines =
-    appending (answers base journal lines) (kept_lines base journal lines) (ending_by (some_refused base journal lines)) (script_with stored (kept_lines base journal lines))
+    appending (answers base journal lines) (kept_lines base journal lines) (ending_by (some_refused base journal lines))
+    (script_with stored (kept_lines base journal lines))
 
 -- a journal that is none is refused
 abbrev pub keeping_by : TimetableView → Journal → List Line → Result (List Line) FeedFault → OutcomeView

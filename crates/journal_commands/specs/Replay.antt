@@ -41,7 +41,8 @@ all_records before lines = records_from before lines (length lines)
 module _ (base : TimetableView) (first : List Numbered) (source : Source) (before : ℕ) (lines : List Line) where
   -- why the n-th of them is refused, where it is
   abbrev pub refusal_at : ℕ → Option EditFault
-  refusal_at n = refusal_in (state_after base (machine base (first ++ records_from before lines n)) (numbered (before + (n + 1)) (line_at lines n)))
+  refusal_at n = refusal_in (state_after base (machine base (first ++ records_from before lines n))
+      (numbered (before + (n + 1)) (line_at lines n)))
 
   -- what is put of so many of them, what is kept, and whether one is refused
   unfoldable pub answers_to : ℕ → List ℕ

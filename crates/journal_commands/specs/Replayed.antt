@@ -8,7 +8,8 @@ use Rattle.journal_commands.specs.declared.replay.Source.{Source}
 use Rattle.journal_commands.specs.Replay.{answers_to, kept_to, records_from, some_to}
 
 -- it is where the machine is after the lines, and what is put and kept of them was added
-pub record IsThrough (base : TimetableView) (first : List Numbered) (source : Source) (before : ℕ) (lines : List Line) (n : ℕ) (was now : Replay) : Type 0 where
+pub record IsThrough (base : TimetableView) (first : List Numbered) (source : Source) (before : ℕ) (lines : List Line) (n : ℕ)
+    (was now : Replay) : Type 0 where
   pub at : IsAt base (machine base (first ++ records_from before lines n)) now.script
   pub text : string_bytes now.text ≡ string_bytes was.text ++ answers_to base first source before lines n
   pub kept : now.kept.items ≡ was.kept.items ++ kept_to base first source before lines n
@@ -19,4 +20,5 @@ pub record HasReplayed (lines : List Line) (n : ℕ) (was now : Replay) : Type 0
   pub source : now.source ≡ was.source
   pub before : now.before ≡ was.before
   pub last : now.script.last ≤ was.before + n
-  pub through : (base : TimetableView) (first : List Numbered) → IsAt base (machine base first) was.script → IsThrough base first was.source was.before lines n was now
+  pub through : (base : TimetableView) (first : List Numbered) → IsAt base (machine base first) was.script
+      → IsThrough base first was.source was.before lines n was now

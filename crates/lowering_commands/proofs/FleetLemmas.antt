@@ -1,5 +1,6 @@
 -- The fleet of moves is at most their number.
-use Rattle.std.proofs.Common.{◌≡◌, ℕ, zero, suc, ◌+◌, ◌≤◌, ◌==◌, ◌&&◌, nat_le, Bool, true, false, cond, List, [], ◌∷◌, filter, length, sum_by, pos, ◌≤ℤ◌, Some, refl, arith}
+use Rattle.std.proofs.Common.{◌≡◌, ℕ, zero, suc, ◌+◌, ◌≤◌, ◌==◌, ◌&&◌, nat_le, Bool, true, false, cond, List, [], ◌∷◌, filter, length}
+use Rattle.std.proofs.Common.{sum_by, pos, ◌≤ℤ◌, Some, refl, arith}
 use Rattle.std.proofs.lemmas.Int.{ints}
 use Rattle.std.proofs.lemmas.List.{length-map}
 use Rattle.std.proofs.lemmas.List.Sums.{count_by-le-length, length-filter, sum_by-cons}
@@ -28,8 +29,16 @@ departures-begin (m ∷ moves) k t =
 begins-few : (moves : List Move) (n : ℕ) → sum_below (λ k. sum_by (begins_at k) moves) n ≤ length moves
 begins-few [] n = omega (arith, sum_below-zero (λ k. 0) n (λ s h. refl))
 begins-few (m ∷ moves) n =
-    let split = sum_below-le (λ k. sum_by (begins_at k) (m ∷ moves)) (λ k. begins_at k m + sum_by (begins_at k) moves) n (λ k h. omega (arith, sum_by-cons (begins_at k) m moves)) in
-    omega (arith, split, sum_below-add (λ k. begins_at k m) (λ k. sum_by (begins_at k) moves) n, begins-below n (Some m), begins-few moves n)
+    let split = sum_below-le (λ k. sum_by (begins_at k) (m ∷ moves)) (λ k. begins_at k m + sum_by (begins_at k) moves) n
+    (λ k h. omega (arith, sum_by-cons (begins_at k) m moves)) in
+    omega (
+      arith,
+      split,
+      sum_below-add (λ k. begins_at k m) (λ k. sum_by (begins_at k) moves) n,
+      begins-below n (Some m),
+      begins-few moves
+          n,
+    )
 
 maxima-begin : (moves : List Move) (n : ℕ) → sum_of_maxima (deficit moves) n ≤ℤ pos (sum_below (λ k. sum_by (begins_at k) moves) n)
 maxima-begin moves zero = omega (arith, ints)
@@ -42,4 +51,10 @@ pub fleet-few : (moves : List Move) (n sum : ℕ) → pos sum ≡ sum_of_maxima 
 fleet-few moves n sum is = omega (arith, ints, is, maxima-begin moves n, begins-few moves n)
 
 pub live-few : (slots : List Slot) → length (live_moves slots) ≤ length slots
-live-few slots = omega (arith, length-map (filter (λ (s : Slot). s.trip.live) slots) (λ (s : Slot). move_of s.trip), length-filter (λ (s : Slot). s.trip.live) slots, count_by-le-length (λ (s : Slot). s.trip.live) slots)
+live-few slots = omega (
+  arith,
+  length-map (filter (λ (s : Slot). s.trip.live) slots) (λ (s : Slot). move_of s.trip),
+  length-filter
+      (λ (s : Slot). s.trip.live) slots,
+  count_by-le-length (λ (s : Slot). s.trip.live) slots,
+)

@@ -33,7 +33,8 @@ shift-before old new shift number rest first made is =
 pub no-shift : (timetable : TimetableView) (number sum : ℕ) → ((slot : ℕ) (by : ℤ) → ¬ IsLowering timetable slot by)
     → pos sum ≡ deficit_sum timetable
     → IsShiftsText timetable number (total_line (codes "shifts ") number sum)
-no-shift timetable number sum none is = record { shifts = []; are = none; printed = ap (total_line (codes "shifts ") number) (ap unsigned_abs is) }
+no-shift timetable number sum none is =
+    record { shifts = []; are = none; printed = ap (total_line (codes "shifts ") number) (ap unsigned_abs is) }
 
 -- a shift leaves the number of slots
 pub length-after_shift : (old new : TimetableView) (shift : Shift) → new ≡ after_shift old shift → length new.slots ≡ length old.slots

@@ -20,7 +20,8 @@ with_chain moves chain = moves ++ moves_of (deadheads chain)
 
 -- the sum of the maxima is smaller by exactly one with a chain besides
 abbrev pub Lowers : MatrixView → List Move → Chain → Type 0
-Lowers matrix moves chain = (sum_of_maxima (deficit (with_chain moves chain)) (length matrix.walks) +ℤ pos 1) ≡ sum_of_maxima (deficit moves) (length matrix.walks)
+Lowers matrix moves chain = (sum_of_maxima (deficit (with_chain moves chain)) (length matrix.walks) +ℤ pos 1) ≡ sum_of_maxima
+    (deficit moves) (length matrix.walks)
 
 -- the first chain where those before it are put in as moves, which lowers the sum
 pub record IsPutIn (matrix : MatrixView) (moves : List Move) (chain : Chain) : Type 0 where
@@ -36,7 +37,8 @@ AreChains matrix moves (c ∷ cs) = IsPutIn matrix moves c × AreChains matrix (
 abbrev pub chains_text : TimetableView → List Move → ℕ → List Chain → List ℕ
 chains_text timetable moves before [] = total_line (codes "chains ") before (fleet_of (length timetable.places) moves)
 chains_text timetable moves before (c ∷ cs) =
-    chain_text timetable (before + 1) c (fleet_of (length timetable.places) (with_chain moves c)) ++ chains_text timetable (with_chain moves c) (before + 1) cs
+    chain_text timetable (before + 1) c (fleet_of (length timetable.places) (with_chain moves c))
+    ++ chains_text timetable (with_chain moves c) (before + 1) cs
 
 -- the text is that of such chains
 pub record IsChainsText (timetable : TimetableView) (matrix : MatrixView) (moves : List Move) (before : ℕ) (text : List ℕ) : Type 0 where

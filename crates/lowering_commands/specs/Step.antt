@@ -16,7 +16,8 @@ abbrev pub sum_kept : List (List ℤ) → ℤ
 sum_kept deficits = sum_of_maxima (value deficits) (length deficits)
 
 -- the first chain was put in and its line put, as that of so many
-pub record HasPut (timetable : TimetableView) (matrix : MatrixView) (number : ℕ) (old new : List (List ℤ)) (text_old text_new : List ℕ) : Type 0 where
+pub record HasPut (timetable : TimetableView) (matrix : MatrixView) (number : ℕ) (old new : List (List ℤ))
+    (text_old text_new : List ℕ) : Type 0 where
   pub chain : Chain
   pub sum : ℕ
   pub first : IsFirstChain (places_of old matrix) chain.first (following chain.second chain.third)

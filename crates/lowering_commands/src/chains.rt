@@ -37,7 +37,8 @@ fn put_next<L: Ledger>(
     requires rows { length deficits.old ≡ length matrix.now.walks }
     requires places { length timetable.now.places ≡ length matrix.now.walks }
     requires few { (moves : List ModelMove) × Holds deficits.old moves × (length moves + 2 < MOST_CHANGE) }
-    ensures some { result ≡ Ok true → HasPut timetable.now matrix.now number deficits.old deficits.new (string_bytes text.old) (string_bytes text.new) }
+    ensures some { result ≡ Ok true
+        → HasPut timetable.now matrix.now number deficits.old deficits.new (string_bytes text.old) (string_bytes text.new) }
     ensures none { result ≡ Ok false → NoChain (places_of deficits.old matrix.now) }
     ensures unchanged { result ≡ Ok false → (deficits.new ≡ deficits.old) × (string_bytes text.new ≡ string_bytes text.old) }
     ensures before { IsDeficits deficits.old }

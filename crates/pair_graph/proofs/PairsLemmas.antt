@@ -12,14 +12,16 @@ use Rattle.trip_model.proofs.PlainLemmas.{AreMoves-trips}
 use Rattle.pair_graph.specs.Pairs.{moves_without, pairs_of}
 
 -- where moves are valid, they are without one slot
-pub AreMoves-without : (places : ℕ) (moves : List (Option Move)) (without : Option ℕ) → AreMoves places moves → IfSome without (λ slot. slot < length moves)
+pub AreMoves-without : (places : ℕ) (moves : List (Option Move)) (without : Option ℕ) → AreMoves places moves
+    → IfSome without (λ slot. slot < length moves)
     → AreMoves places (moves_without moves without)
 AreMoves-without places moves None are within = are
 AreMoves-without places moves (Some slot) are within = record { each = λ s m e. each s m e (cases_eq s slot) }
   where
     each : (s : ℕ) (m : Move) → move_at (moves_without moves (Some slot)) s ≡ Some m → (s ≡ slot) ⊎ (s ≢ slot) → IsMove places m
     each s m e (inl same) =
-        absurd (none-some m (sym (get_or-set_same moves slot None None within) ∙ sym (ap (move_at (moves_without moves (Some slot))) same) ∙ e))
+        absurd (none-some m (sym (get_or-set_same moves slot None None within) ∙ sym (ap (move_at (moves_without moves (Some slot))) same)
+        ∙ e))
     each s m e (inr differs) = are.each s m (sym (get_or-set_other moves slot s None None differs) ∙ e)
 
 length-without : (moves : List (Option Move)) (without : Option ℕ) → length (moves_without moves without) ≡ length moves
@@ -27,7 +29,8 @@ length-without moves None = refl
 length-without moves (Some slot) = length-set moves slot None
 
 -- as many moves as slots
-pub length-pairs : (t : TimetableView) (matrix : MatrixView) (without : Option ℕ) → length (pairs_of t matrix without).moves ≡ length t.slots
+pub length-pairs : (t : TimetableView) (matrix : MatrixView) (without : Option ℕ)
+    → length (pairs_of t matrix without).moves ≡ length t.slots
 length-pairs t matrix without = length-without (trip_moves t.slots) without ∙ length-map t.slots move_of_slot
 
 pub AreMoves-pairs : (t : TimetableView) (matrix : MatrixView) (without : Option ℕ) → IsTimetable t → length t.places ≡ length matrix.walks

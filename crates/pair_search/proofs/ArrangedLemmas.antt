@@ -1,5 +1,6 @@
 -- Lists in a strict order with the same entries are equal. So columns in their order are those that are computed.
-use Rattle.std.proofs.Common.{◌≡◌, ℕ, zero, suc, ◌+◌, ◌-◌, ◌<◌, ◌≤◌, nat_le, ◌⊎◌, inl, inr, Bool, true, false, List, [], ◌∷◌, length, get_or, fold, Option, None, Some, if◌then◌else◌, refl, sym, ap, subst, ◌∙◌, ⊎_elim, arith}
+use Rattle.std.proofs.Common.{◌≡◌, ℕ, zero, suc, ◌+◌, ◌-◌, ◌<◌, ◌≤◌, nat_le, ◌⊎◌, inl, inr, Bool, true, false, List, [], ◌∷◌, length}
+use Rattle.std.proofs.Common.{get_or, fold, Option, None, Some, if◌then◌else◌, refl, sym, ap, subst, ◌∙◌, ⊎_elim, arith}
 use Rattle.std.specs.Prelude.{⊤, slice_index_or}
 use Rattle.std.specs.List.{AllByRecursion, range_with_len}
 use Rattle.std.specs.List.Sorted.{IsNonDecreasingBy}
@@ -37,7 +38,8 @@ all-placed P key (x ∷ xs) s all here = by (nat_le (key x) (key s)) (all-placed
     by true rest = (all.0, rest)
     by false rest = (here, all)
 
-rises-placed : (key : ℕ → ℕ) (R : ℕ → ℕ → Type 0) (xs : List ℕ) (s : ℕ) → Rises (ByKey key R) xs → AllByRecursion (λ x. R x s) xs → Rises (ByKey key R) (placed_by key xs s)
+rises-placed : (key : ℕ → ℕ) (R : ℕ → ℕ → Type 0) (xs : List ℕ) (s : ℕ) → Rises (ByKey key R) xs → AllByRecursion (λ x. R x s) xs
+    → Rises (ByKey key R) (placed_by key xs s)
 unfolding Rises ByKey
 rises-placed key R [] s rises before = (tt, tt)
 rises-placed key R (x ∷ xs) s rises before = by (nat_le (key x) (key s)) refl (rises-placed key R xs s rises.1 before.1)
@@ -52,18 +54,21 @@ rises-placed key R (x ∷ xs) s rises before = by (nat_le (key x) (key s)) refl 
     first lt y (inl less) = inl (omega (arith, lt, less))
     first lt y (inr same) = inl (omega (arith, lt, same.0))
 
-    by : (b : Bool) → nat_le (key x) (key s) ≡ b → Rises (ByKey key R) (placed_by key xs s) → Rises (ByKey key R) (if b then x ∷ placed_by key xs s else s ∷ x ∷ xs)
+    by : (b : Bool) → nat_le (key x) (key s) ≡ b → Rises (ByKey key R) (placed_by key xs s)
+        → Rises (ByKey key R) (if b then x ∷ placed_by key xs s else s ∷ x ∷ xs)
     by true e rest = (all-placed (ByKey key R x) key xs s rises.0 (behind (leb-true (key x) (key s) e)), rest)
     by false e rest =
         let lt = leb-false (key x) (key s) e in
         ((inl lt, all-map (ByKey key R x) (ByKey key R s) (first lt) xs rises.0), rises)
 
-cross : (R : ℕ → ℕ → Type 0) (key : ℕ → ℕ) (front : List ℕ) (y : ℕ) (ys : List ℕ) → AllByRecursion (λ z. AllByRecursion (λ x. R x z) front) ys → AllByRecursion (R y) ys
+cross : (R : ℕ → ℕ → Type 0) (key : ℕ → ℕ) (front : List ℕ) (y : ℕ) (ys : List ℕ)
+    → AllByRecursion (λ z. AllByRecursion (λ x. R x z) front) ys → AllByRecursion (R y) ys
     → AllByRecursion (λ z. AllByRecursion (λ x. R x z) (placed_by key front y)) ys
 cross R key front y [] all rises = tt
 cross R key front y (z ∷ ys) all rises = (all-placed (λ x. R x z) key front y all.0 rises.0, cross R key front y ys all.1 rises.1)
 
-rises-fold : (key : ℕ → ℕ) (R : ℕ → ℕ → Type 0) (front xs : List ℕ) → Rises (ByKey key R) front → Rises R xs → AllByRecursion (λ z. AllByRecursion (λ x. R x z) front) xs
+rises-fold : (key : ℕ → ℕ) (R : ℕ → ℕ → Type 0) (front xs : List ℕ) → Rises (ByKey key R) front → Rises R xs
+    → AllByRecursion (λ z. AllByRecursion (λ x. R x z) front) xs
     → Rises (ByKey key R) (fold (placed_by key) front xs)
 unfolding Rises
 rises-fold key R front [] rises given all = rises
@@ -93,7 +98,8 @@ unfolding Has
 has-placed key [] s t has = has
 has-placed key (x ∷ xs) s t has = by (nat_le (key x) (key s)) has (λ h. has-placed key xs s t h)
   where
-    by : (b : Bool) → (s ≡ t) ⊎ Has (x ∷ xs) t → ((s ≡ t) ⊎ Has xs t → Has (placed_by key xs s) t) → Has (if b then x ∷ placed_by key xs s else s ∷ x ∷ xs) t
+    by : (b : Bool) → (s ≡ t) ⊎ Has (x ∷ xs) t → ((s ≡ t) ⊎ Has xs t → Has (placed_by key xs s) t)
+        → Has (if b then x ∷ placed_by key xs s else s ∷ x ∷ xs) t
     by true (inl e) rest = inr (rest (inl e))
     by true (inr (inl e)) rest = inl e
     by true (inr (inr h)) rest = inr (rest (inr h))
@@ -108,7 +114,8 @@ placed-has key (x ∷ xs) s t has = by (nat_le (key x) (key s)) (λ h. placed-ha
     swap (inl e) = inl e
     swap (inr h) = inr (inr h)
 
-    by : (b : Bool) → (Has (placed_by key xs s) t → (s ≡ t) ⊎ Has xs t) → Has (if b then x ∷ placed_by key xs s else s ∷ x ∷ xs) t → (s ≡ t) ⊎ Has (x ∷ xs) t
+    by : (b : Bool) → (Has (placed_by key xs s) t → (s ≡ t) ⊎ Has xs t) → Has (if b then x ∷ placed_by key xs s else s ∷ x ∷ xs) t
+        → (s ≡ t) ⊎ Has (x ∷ xs) t
     by true rest (inl e) = inr (inl e)
     by true rest (inr h) = swap (rest h)
     by false rest h = h
@@ -213,8 +220,11 @@ all-at P (x ∷ xs) d each = (each 0 (omega arith), all-at P xs d (λ k lt. each
 rises-at : (R : ℕ → ℕ → Type 0) (xs : List ℕ) (d : ℕ) → ((h k : ℕ) → h < k → k < length xs → R (get_or xs h d) (get_or xs k d)) → Rises R xs
 unfolding Rises
 rises-at R [] d each = tt
-rises-at R (x ∷ xs) d each =
-    (all-at (R x) xs d (λ k lt. each 0 (suc k) (omega arith) (omega (arith, lt))), rises-at R xs d (λ h k lt within. each (suc h) (suc k) (omega (arith, lt)) (omega (arith, within))))
+rises-at R (x ∷ xs) d each = (
+  all-at (R x) xs d (λ k lt. each 0 (suc k) (omega arith) (omega (arith, lt))),
+  rises-at R xs d
+      (λ h k lt within. each (suc h) (suc k) (omega (arith, lt)) (omega (arith, within))),
+)
 
 -- as many slots as columns
 pub slots-length : (columns : List Column) → length (slots_of columns) ≡ length columns
@@ -225,7 +235,8 @@ pub slots-at : (n : ℕ) (columns : List Column) (k : ℕ) → get_or (slots_of 
 slots-at n columns k = get_or-map (λ (c : Column). c.slot) columns k (no_column n)
 
 -- columns that are in order by what orders a list have the slots of that list
-slots-are : (n : ℕ) (columns : List Column) (place : ℕ → ℕ) (R : ℕ → ℕ → Type 0) (ys : List ℕ) → length columns ≡ n → IsRenaming n (slot_at n columns) place
+slots-are : (n : ℕ) (columns : List Column) (place : ℕ → ℕ) (R : ℕ → ℕ → Type 0) (ys : List ℕ) → length columns ≡ n
+    → IsRenaming n (slot_at n columns) place
     → ((s t : ℕ) → R s t → R t s → ⊥) → ((h k : ℕ) → h < k → k < n → R (slot_at n columns h) (slot_at n columns k)) → Rises R ys
     → ((t : ℕ) → t < n → Has ys t) → ((t : ℕ) → Has ys t → t < n) → slots_of columns ≡ ys
 slots-are n columns place R ys len renaming apart each rises has within =
@@ -235,34 +246,51 @@ slots-are n columns place R ys len renaming apart each rises has within =
     (subst (R (slot_at n columns h)) (sym (slots-at n columns k)) (each h k lt (omega (arith, below, slots-length columns, len))))))
     rises
     (λ t h. let found = at-has (slots_of columns) t n h in
-    has t (subst (λ s. s < n) (sym (slots-at n columns found.0) ∙ found.2) (renaming.slot_within found.0 (omega (arith, found.1, slots-length columns, len)))))
+    has t (subst (λ s. s < n) (sym (slots-at n columns found.0) ∙ found.2)
+    (renaming.slot_within found.0 (omega (arith, found.1, slots-length columns, len)))))
     (λ t h. has-at (slots_of columns) (place t) t n
     (omega (arith, renaming.place_within t (within t h), slots-length columns, len))
     (slots-at n columns (place t) ∙ renaming.there t (within t h)))
 
-module _ (n : ℕ) (minute : ℕ → ℕ) (post : ℕ → Option ℕ) (columns : List Column) (places : List ℕ) (is : IsOrder n minute post columns places) (order : AreInOrder n columns) where
+module _ (n : ℕ) (minute : ℕ → ℕ) (post : ℕ → Option ℕ) (columns : List Column) (places : List ℕ)
+    (is : IsOrder n minute post columns places) (order : AreInOrder n columns) where
   keys : (k : ℕ) → k < n → post_key (slice_index_or columns k (no_column n)).post ≡ post_key (post (slot_at n columns k))
   keys k lt = ap post_key (is.posts k lt)
 
-  stands : (h k : ℕ) → h < k → k < n → ByKey (λ j. post_key (post j)) (ByKey minute (λ s t. s < t)) (slot_at n columns h) (slot_at n columns k)
+  stands : (h k : ℕ) → h < k → k < n
+      → ByKey (λ j. post_key (post j)) (ByKey minute (λ s t. s < t)) (slot_at n columns h) (slot_at n columns k)
   unfolding ByKey
   stands h k lt within = by (order h k lt within)
     where
       by : StandsBefore (slice_index_or columns h (no_column n)) (slice_index_or columns k (no_column n))
           → ByKey (λ j. post_key (post j)) (ByKey minute (λ s t. s < t)) (slot_at n columns h) (slot_at n columns k)
       by (inl less) = inl (omega (arith, less, keys h (omega (arith, lt, within)), keys k within))
-      by (inr (same, inl less)) = inr (omega (arith, same, keys h (omega (arith, lt, within)), keys k within), inl (omega (arith, less, is.minutes h (omega (arith, lt, within)), is.minutes k within)))
-      by (inr (same, inr (even, less))) = inr (omega (arith, same, keys h (omega (arith, lt, within)), keys k within), inr (omega (arith, even, is.minutes h (omega (arith, lt, within)), is.minutes k within), less))
+      by (inr (same, inl less)) = inr (
+        omega (arith, same, keys h (omega (arith, lt, within)), keys k within),
+        inl
+            (omega (arith, less, is.minutes h (omega (arith, lt, within)), is.minutes k within)),
+      )
+      by (inr (same, inr (even, less))) =
+          inr (
+            omega (arith, same, keys h (omega (arith, lt, within)), keys k within),
+            inr
+                (omega (arith, even, is.minutes h (omega (arith, lt, within)), is.minutes k within), less),
+          )
 
   -- columns in order by post, by minute and by slot
   pub slots-by_post : slots_of columns ≡ by_key (λ j. post_key (post j)) (by_key minute (range_with_len 0 n))
   slots-by_post =
-      slots-are n columns (place_of n places) (ByKey (λ j. post_key (post j)) (ByKey minute (λ s t. s < t))) (by_key (λ j. post_key (post j)) (by_key minute (range_with_len 0 n))) is.count is.renaming
+      slots-are n columns (place_of n places) (ByKey (λ j. post_key (post j)) (ByKey minute (λ s t. s < t)))
+      (by_key (λ j. post_key (post j)) (by_key minute (range_with_len 0 n))) is.count is.renaming
       (apart-by_key (λ j. post_key (post j)) (ByKey minute (λ s t. s < t)) (apart-by_key minute (λ s t. s < t) apart-less))
       stands
-      (rises-by_key (λ j. post_key (post j)) (ByKey minute (λ s t. s < t)) (by_key minute (range_with_len 0 n)) (rises-by_key minute (λ s t. s < t) (range_with_len 0 n) (rises-range 0 n)))
-      (λ t lt. has-by_key (λ j. post_key (post j)) (by_key minute (range_with_len 0 n)) t (has-by_key minute (range_with_len 0 n) t (has-range 0 n t (omega arith) (omega (arith, lt)))))
-      (λ t h. let below = range-has 0 n t (by_key-has minute (range_with_len 0 n) t (by_key-has (λ j. post_key (post j)) (by_key minute (range_with_len 0 n)) t h)) in omega (arith, below))
+      (rises-by_key (λ j. post_key (post j)) (ByKey minute (λ s t. s < t)) (by_key minute (range_with_len 0 n))
+      (rises-by_key minute (λ s t. s < t) (range_with_len 0 n) (rises-range 0 n)))
+      (λ t lt. has-by_key (λ j. post_key (post j)) (by_key minute (range_with_len 0 n)) t
+      (has-by_key minute (range_with_len 0 n) t (has-range 0 n t (omega arith) (omega (arith, lt)))))
+      (λ t h. let below = range-has 0 n t
+      (by_key-has minute (range_with_len 0 n) t (by_key-has (λ j. post_key (post j)) (by_key minute (range_with_len 0 n)) t h)) in
+      omega (arith, below))
 
   -- and those that stand nowhere by minute and by slot
   pub slots-by_minute : ((j : ℕ) → post j ≡ None) → slots_of columns ≡ by_key minute (range_with_len 0 n)
@@ -277,7 +305,8 @@ module _ (n : ℕ) (minute : ℕ → ℕ) (post : ℕ → Option ℕ) (columns :
     where
       later : (h k : ℕ) → ByKey (λ j. post_key (post j)) (ByKey minute (λ s t. s < t)) (slot_at n columns h) (slot_at n columns k)
           → ByKey minute (λ s t. s < t) (slot_at n columns h) (slot_at n columns k)
-      later h k (inl less) = absurd (omega (arith, less, ap post_key (nowhere (slot_at n columns h)), ap post_key (nowhere (slot_at n columns k))))
+      later h k (inl less) = absurd (omega
+          (arith, less, ap post_key (nowhere (slot_at n columns h)), ap post_key (nowhere (slot_at n columns k))))
       later h k (inr rest) = rest.1
 
 stands-on : (b c d : Column) → StandsBefore b c → StandsBefore c d → StandsBefore b d
@@ -287,22 +316,28 @@ stands-on b c d (inr one) (inl two) = inl (omega (arith, one.0, two))
 stands-on b c d (inr (same, inl one)) (inr (alike, inl two)) = inr (same ∙ alike, inl (omega (arith, one, two)))
 stands-on b c d (inr (same, inl one)) (inr (alike, inr two)) = inr (same ∙ alike, inl (omega (arith, one, two.0)))
 stands-on b c d (inr (same, inr one)) (inr (alike, inl two)) = inr (same ∙ alike, inl (omega (arith, one.0, two)))
-stands-on b c d (inr (same, inr one)) (inr (alike, inr two)) = inr (same ∙ alike, inr (omega (arith, one.0, two.0), omega (arith, one.1, two.1)))
+stands-on b c d (inr (same, inr one)) (inr (alike, inr two)) =
+    inr (same ∙ alike, inr (omega (arith, one.0, two.0), omega (arith, one.1, two.1)))
 
 -- columns are in order where each stands before the next
 pub AreInOrder-next : (n : ℕ) (columns : List Column)
-    → ((k : ℕ) → k + 1 < n → StandsBefore (slice_index_or columns k (no_column n)) (slice_index_or columns (k + 1) (no_column n))) → AreInOrder n columns
+    → ((k : ℕ) → k + 1 < n → StandsBefore (slice_index_or columns k (no_column n)) (slice_index_or columns (k + 1) (no_column n)))
+    → AreInOrder n columns
 AreInOrder-next n columns next h k lt within = by (k - h - 1) k (omega (arith, lt)) within
   where
-    by : (gap k : ℕ) → k ≡ h + gap + 1 → k < n → StandsBefore (slice_index_or columns h (no_column n)) (slice_index_or columns k (no_column n))
+    by : (gap k : ℕ) → k ≡ h + gap + 1 → k < n
+        → StandsBefore (slice_index_or columns h (no_column n)) (slice_index_or columns k (no_column n))
     by zero k e within =
         let near : k ≡ h + 1 = omega (arith, e) in
-        subst (λ (i : ℕ). StandsBefore (slice_index_or columns h (no_column n)) (slice_index_or columns i (no_column n))) (sym near) (next h (omega (arith, near, within)))
+        subst (λ (i : ℕ). StandsBefore (slice_index_or columns h (no_column n)) (slice_index_or columns i (no_column n))) (sym near)
+        (next h (omega (arith, near, within)))
     by (suc gap) k e within =
         let near : k ≡ (h + gap + 1) + 1 = omega (arith, e) in
-        stands-on (slice_index_or columns h (no_column n)) (slice_index_or columns (h + gap + 1) (no_column n)) (slice_index_or columns k (no_column n))
+        stands-on (slice_index_or columns h (no_column n)) (slice_index_or columns (h + gap + 1) (no_column n))
+        (slice_index_or columns k (no_column n))
         (by gap (h + gap + 1) refl (omega (arith, near, within)))
-        (subst (λ (i : ℕ). StandsBefore (slice_index_or columns (h + gap + 1) (no_column n)) (slice_index_or columns i (no_column n))) (sym near) (next (h + gap + 1) (omega (arith, near, within))))
+        (subst (λ (i : ℕ). StandsBefore (slice_index_or columns (h + gap + 1) (no_column n)) (slice_index_or columns i (no_column n)))
+        (sym near) (next (h + gap + 1) (omega (arith, near, within))))
 
 -- a column that ranks no lower than one of another slot stands behind it
 stands-behind : (c d : Column) → IsRanked c → IsRanked d → (c.slot ≡ d.slot → ⊥) → c.rank ≤ d.rank → StandsBefore c d
@@ -322,7 +357,8 @@ stands-behind c d rc rd ne le = ⊎_elim
     (cases_lt (post_key c.post) (post_key d.post))
 
 -- columns that were sorted, of which no two have one slot, are in order
-pub AreInOrder-sorted : (n : ℕ) (columns : List Column) → length columns ≡ n → ((h k : ℕ) → h < n → k < n → slot_at n columns h ≡ slot_at n columns k → h ≡ k)
+pub AreInOrder-sorted : (n : ℕ) (columns : List Column) → length columns ≡ n
+    → ((h k : ℕ) → h < n → k < n → slot_at n columns h ≡ slot_at n columns k → h ≡ k)
     → ((k : ℕ) → k < n → IsRanked (get_or columns k (no_column n))) → IsNonDecreasingBy (λ c. c.rank) columns → AreInOrder n columns
 AreInOrder-sorted n columns len apart ranked sorted = AreInOrder-next n columns
     (λ k lt. stands-behind (slice_index_or columns k (no_column n)) (slice_index_or columns (k + 1) (no_column n))

@@ -1,5 +1,6 @@
 -- What a row weighs with the columns at one post.
-use Rattle.std.proofs.Common.{◌≡◌, ℕ, ◌+◌, ◌-◌, ◌<◌, ◌≤◌, nat_le, Bool, true, false, cond, List, length, take, drop, get_or, Option, None, Some, refl, sym, ap, ◌∙◌, ⊎_elim, arith}
+use Rattle.std.proofs.Common.{◌≡◌, ℕ, ◌+◌, ◌-◌, ◌<◌, ◌≤◌, nat_le, Bool, true, false, cond, List, length, take, drop, get_or, Option, None}
+use Rattle.std.proofs.Common.{Some, refl, sym, ap, ◌∙◌, ⊎_elim, arith}
 use Rattle.std.specs.Prelude.{is_some}
 use Rattle.std.specs.Option.{option_map}
 use Rattle.std.proofs.lemmas.Bool.{both_ways, cases_lt, le-leb, lt-leb}
@@ -28,20 +29,28 @@ record IsStanding (pairs : PairsView) (turned : Bool) (without : Option ℕ) (sl
   pub kept : leads_to slot without ≡ false
   pub here : cond turned made.to made.from ≡ p
 
-standing : (pairs : PairsView) (turned : Bool) (without : Option ℕ) (slot p : ℕ) → pairs_post pairs turned without slot ≡ Some p → IsStanding pairs turned without slot p
+standing : (pairs : PairsView) (turned : Bool) (without : Option ℕ) (slot p : ℕ) → pairs_post pairs turned without slot ≡ Some p
+    → IsStanding pairs turned without slot p
 standing pairs turned without slot p e = by (move_at pairs.moves slot) refl e
   where
-    left : (m : Move) → move_at pairs.moves slot ≡ Some m → (t : Bool) → leads_to slot without ≡ t → cond t None (Some (cond turned m.to m.from)) ≡ Some p → IsStanding pairs turned without slot p
+    left : (m : Move) → move_at pairs.moves slot ≡ Some m → (t : Bool) → leads_to slot without ≡ t
+        → cond t None (Some (cond turned m.to m.from)) ≡ Some p → IsStanding pairs turned without slot p
     left m is false kept e = record { made = m; is = is; kept = kept; here = same_Some (cond turned m.to m.from) p e }
     left m is true kept e = absurd (none-some p e)
 
-    by : (o : Option Move) → move_at pairs.moves slot ≡ o → column_post turned without slot o ≡ Some p → IsStanding pairs turned without slot p
+    by : (o : Option Move) → move_at pairs.moves slot ≡ o → column_post turned without slot o ≡ Some p
+        → IsStanding pairs turned without slot p
     by None is e = absurd (none-some p e)
     by (Some m) is e = left m is (leads_to slot without) refl e
 
 -- nothing fits a trip that does not run
-idle : (pairs : PairsView) (i j : ℕ) → move_at pairs.moves i ≡ None → (weight (pairs_network pairs) i j ≡ None) × (weight (pairs_network pairs) j i ≡ None)
-idle pairs i j none = (ap (λ o. weighed (empty_between (walk pairs.matrix) o (move_at pairs.moves j))) none, by (move_at pairs.moves j) refl)
+idle : (pairs : PairsView) (i j : ℕ) → move_at pairs.moves i ≡ None
+    → (weight (pairs_network pairs) i j ≡ None) × (weight (pairs_network pairs) j i ≡ None)
+idle pairs i j none = (
+  ap (λ o. weighed (empty_between (walk pairs.matrix) o (move_at pairs.moves j))) none,
+  by (move_at pairs.moves j)
+      refl,
+)
   where
     weighed : Option ℕ → Option ℕ
     weighed o = option_map (λ minutes. 67108864 + (pairs_network pairs).home i + (pairs_network pairs).out j - minutes) o
@@ -51,22 +60,28 @@ idle pairs i j none = (ap (λ o. weighed (empty_between (walk pairs.matrix) o (m
 
     by : (o : Option Move) → move_at pairs.moves j ≡ o → weight (pairs_network pairs) j i ≡ None
     by None e = ap (λ m. weighed-back (empty_between (walk pairs.matrix) m (move_at pairs.moves i))) e
-    by (Some m) e = ap (λ o. weighed-back (empty_between (walk pairs.matrix) o (move_at pairs.moves i))) e ∙ ap (λ o. weighed-back (empty_between (walk pairs.matrix) (Some m) o)) none
+    by (Some m) e = ap (λ o. weighed-back (empty_between (walk pairs.matrix) o (move_at pairs.moves i))) e
+        ∙ ap (λ o. weighed-back (empty_between (walk pairs.matrix) (Some m) o)) none
 
 -- seen from the entering side, the minutes count backward
-turned-minutes : (result : Option Reach) (arrives : ℕ) → arrives ≤ 8191 → saved_until result arrives ≡ saved_from (option_map (λ (r : Reach). record { minute = 8191 - r.minute; saved = r.saved }) result) (8191 - arrives)
+turned-minutes : (result : Option Reach) (arrives : ℕ) → arrives ≤ 8191
+    → saved_until result arrives ≡ saved_from (option_map (λ (r : Reach). record { minute = 8191 - r.minute; saved = r.saved }) result)
+    (8191 - arrives)
 turned-minutes None arrives day = refl
 turned-minutes (Some r) arrives day = ap (λ b. cond b (Some r.saved) None) same
   where
     same : nat_le arrives r.minute ≡ nat_le (8191 - r.minute) (8191 - arrives)
     same = ⊎_elim
-        (λ (late : r.minute < arrives). lt-leb arrives r.minute late ∙ sym (lt-leb (8191 - r.minute) (8191 - arrives) (omega (arith, late, day))))
-        (λ (in-time : arrives ≤ r.minute). le-leb arrives r.minute in-time ∙ sym (le-leb (8191 - r.minute) (8191 - arrives) (omega (arith, in-time, day))))
+        (λ (late : r.minute < arrives). lt-leb arrives r.minute late
+        ∙ sym (lt-leb (8191 - r.minute) (8191 - arrives) (omega (arith, late, day))))
+        (λ (in-time : arrives ≤ r.minute). le-leb arrives r.minute in-time
+        ∙ sym (le-leb (8191 - r.minute) (8191 - arrives) (omega (arith, in-time, day))))
         (cases_lt r.minute arrives)
 
 -- the columns of a side are in order and in groups, and moves are of one day
 pub record IsArranged (side : SideView) : Type 0 where
-  pub order : IsOrder (side_slots side) (pairs_minute side.pairs side.turned) (pairs_post side.pairs side.turned side.without) side.columns side.places
+  pub order : IsOrder (side_slots side) (pairs_minute side.pairs side.turned) (pairs_post side.pairs side.turned side.without) side.columns
+      side.places
   pub groups : AreGroups (side_slots side) side.columns side.count side.groups
   pub moves : AreMoves (length side.pairs.matrix.walks) side.pairs.moves
 
@@ -74,8 +89,10 @@ module _ (line : LineView) (arranged : IsArranged line.side) where
   abbrev column : ℕ → Column
   column k = get_or line.side.columns k (no_column (side_slots line.side))
 
-  at-post : (k p : ℕ) → k < side_slots line.side → (column k).post ≡ Some p → IsStanding line.side.pairs line.side.turned line.side.without (side_slot line.side k) p
-  at-post k p lt e = standing line.side.pairs line.side.turned line.side.without (side_slot line.side k) p (sym (arranged.order.posts k lt) ∙ e)
+  at-post : (k p : ℕ) → k < side_slots line.side → (column k).post ≡ Some p
+      → IsStanding line.side.pairs line.side.turned line.side.without (side_slot line.side k) p
+  at-post k p lt e = standing line.side.pairs line.side.turned line.side.without (side_slot line.side k) p
+      (sym (arranged.order.posts k lt) ∙ e)
 
   -- where the column stands
   pub post-within : (k p : ℕ) → k < side_slots line.side → (column k).post ≡ Some p → p < length line.side.pairs.matrix.walks
@@ -84,7 +101,8 @@ module _ (line : LineView) (arranged : IsArranged line.side) where
       let move = arranged.moves.each (side_slot line.side k) s.made s.is in
       by s.made move line.side.turned s.here
     where
-      by : (m : Move) → IsMove (length line.side.pairs.matrix.walks) m → (t : Bool) → cond t m.to m.from ≡ p → p < length line.side.pairs.matrix.walks
+      by : (m : Move) → IsMove (length line.side.pairs.matrix.walks) m → (t : Bool) → cond t m.to m.from ≡ p
+          → p < length line.side.pairs.matrix.walks
       by m move true e = omega (arith, e, move.to)
       by m move false e = omega (arith, e, move.from)
 
@@ -92,45 +110,54 @@ module _ (line : LineView) (arranged : IsArranged line.side) where
   pub nowhere : (k : ℕ) → k < side_slots line.side → (column k).post ≡ None → line_weight line k ≡ None
   nowhere k lt e = by (move_at line.side.pairs.moves (side_slot line.side k)) refl (sym (arranged.order.posts k lt) ∙ e)
     where
-      left : (m : Move) → (t : Bool) → leads_to (side_slot line.side k) line.side.without ≡ t → cond t None (Some (cond line.side.turned m.to m.from)) ≡ None → line_weight line k ≡ None
+      left : (m : Move) → (t : Bool) → leads_to (side_slot line.side k) line.side.without ≡ t
+          → cond t None (Some (cond line.side.turned m.to m.from)) ≡ None → line_weight line k ≡ None
       left m true out e = masked line.side line.row (side_slot line.side k) true out
       left m false out e = absurd (none-some _ (sym e))
 
-      off : (t : Bool) → move_at line.side.pairs.moves (side_slot line.side k) ≡ None → all_weights line.side.pairs t line.row (side_slot line.side k) ≡ None
+      off : (t : Bool) → move_at line.side.pairs.moves (side_slot line.side k) ≡ None
+          → all_weights line.side.pairs t line.row (side_slot line.side k) ≡ None
       off true none = (idle line.side.pairs (side_slot line.side k) line.row none).0
       off false none = (idle line.side.pairs (side_slot line.side k) line.row none).1
 
-      unmade : (t : Bool) → leads_to (side_slot line.side k) line.side.without ≡ t → move_at line.side.pairs.moves (side_slot line.side k) ≡ None → line_weight line k ≡ None
+      unmade : (t : Bool) → leads_to (side_slot line.side k) line.side.without ≡ t
+          → move_at line.side.pairs.moves (side_slot line.side k) ≡ None → line_weight line k ≡ None
       unmade true out none = masked line.side line.row (side_slot line.side k) true out
       unmade false out none = masked line.side line.row (side_slot line.side k) false out ∙ off line.side.turned none
 
-      by : (o : Option Move) → move_at line.side.pairs.moves (side_slot line.side k) ≡ o → column_post line.side.turned line.side.without (side_slot line.side k) o ≡ None → line_weight line k ≡ None
+      by : (o : Option Move) → move_at line.side.pairs.moves (side_slot line.side k) ≡ o
+          → column_post line.side.turned line.side.without (side_slot line.side k) o ≡ None → line_weight line k ≡ None
       by None is e = unmade (leads_to (side_slot line.side k) line.side.without) refl is
       by (Some m) is e = left m (leads_to (side_slot line.side k) line.side.without) refl e
 
   -- the weights of the columns at a post that need a row no later than at a minute
   abbrev pub AreSaved : ℕ → ℕ → Option Reach → Type 0
-  AreSaved p latest result = (k : ℕ) → k < side_slots line.side → (column k).post ≡ Some p → (column k).minute ≤ latest → line_weight line k ≡ saved_from result (column k).minute
+  AreSaved p latest result = (k : ℕ) → k < side_slots line.side → (column k).post ≡ Some p → (column k).minute ≤ latest
+      → line_weight line k ≡ saved_from result (column k).minute
 
   pub saved-leaving : (p latest : ℕ) (result : Option Reach) → line.side.turned ≡ false
-      → ((j : ℕ) (m : Move) → move_at line.side.pairs.moves j ≡ Some m → m.from ≡ p → m.leaves ≤ latest → weight (pairs_network line.side.pairs) line.row j ≡ saved_from result m.leaves)
+      → ((j : ℕ) (m : Move) → move_at line.side.pairs.moves j ≡ Some m → m.from ≡ p → m.leaves ≤ latest
+      → weight (pairs_network line.side.pairs) line.row j ≡ saved_from result m.leaves)
       → AreSaved p latest result
   saved-leaving p latest result leaving reach k lt e soon =
       let s = at-post k p lt e in
       let slot = side_slot line.side k in
-      let minute : (column k).minute ≡ s.made.leaves = arranged.order.minutes k lt ∙ ap (column_minute line.side.turned) s.is ∙ ap (λ t. column_minute t (Some s.made)) leaving in
+      let minute : (column k).minute ≡ s.made.leaves = arranged.order.minutes k lt ∙ ap (column_minute line.side.turned) s.is
+      ∙ ap (λ t. column_minute t (Some s.made)) leaving in
       masked line.side line.row slot false s.kept
       ∙ ap (λ t. all_weights line.side.pairs t line.row slot) leaving
       ∙ reach slot s.made s.is (sym (ap (λ t. cond t s.made.to s.made.from) leaving) ∙ s.here) (omega (arith, minute, soon))
       ∙ ap (saved_from result) (sym minute)
 
   pub saved-entering : (p latest soonest : ℕ) (result : Option Reach) → soonest ≡ 8191 - latest → line.side.turned ≡ true
-      → ((i : ℕ) (m : Move) → move_at line.side.pairs.moves i ≡ Some m → m.to ≡ p → soonest ≤ m.arrives → weight (pairs_network line.side.pairs) i line.row ≡ saved_until result m.arrives)
+      → ((i : ℕ) (m : Move) → move_at line.side.pairs.moves i ≡ Some m → m.to ≡ p → soonest ≤ m.arrives
+      → weight (pairs_network line.side.pairs) i line.row ≡ saved_until result m.arrives)
       → AreSaved p latest (option_map (λ (r : Reach). record { minute = 8191 - r.minute; saved = r.saved }) result)
   saved-entering p latest soonest result is entering reach k lt e soon =
       let s = at-post k p lt e in
       let slot = side_slot line.side k in
-      let minute : (column k).minute ≡ 8191 - s.made.arrives = arranged.order.minutes k lt ∙ ap (column_minute line.side.turned) s.is ∙ ap (λ t. column_minute t (Some s.made)) entering in
+      let minute : (column k).minute ≡ 8191 - s.made.arrives = arranged.order.minutes k lt ∙ ap (column_minute line.side.turned) s.is
+      ∙ ap (λ t. column_minute t (Some s.made)) entering in
       let turned = option_map (λ (r : Reach). record { minute = 8191 - r.minute; saved = r.saved }) result in
       masked line.side line.row slot false s.kept
       ∙ ap (λ t. all_weights line.side.pairs t line.row slot) entering
@@ -146,7 +173,8 @@ module _ (line : LineView) (arranged : IsArranged line.side) where
       true-false : true ≡ false → ⊥
       true-false e = both_ways true e refl
 
-      none : (o : Option Move) → move_at line.side.pairs.moves line.row ≡ o → is_some o ≡ false → move_at line.side.pairs.moves line.row ≡ None
+      none : (o : Option Move) → move_at line.side.pairs.moves line.row ≡ o → is_some o ≡ false
+          → move_at line.side.pairs.moves line.row ≡ None
       none None is e = is
       none (Some m) is e = absurd (true-false e)
 
@@ -159,26 +187,32 @@ module _ (line : LineView) (arranged : IsArranged line.side) where
     in-group : (k : ℕ) → k < (group_at line.side.groups g).to → k < side_slots line.side
     in-group k lt = omega (arith, lt, arranged.groups.within g inside)
 
-    stand : (k : ℕ) → (group_at line.side.groups g).from ≤ k → k < (group_at line.side.groups g).to → (column k).post ≡ (group_at line.side.groups g).post
+    stand : (k : ℕ) → (group_at line.side.groups g).from ≤ k → k < (group_at line.side.groups g).to
+        → (column k).post ≡ (group_at line.side.groups g).post
     stand k after before = arranged.groups.posts g k (no_column (side_slots line.side)) inside after before
 
     pub post-there : (p : ℕ) → (group_at line.side.groups g).post ≡ Some p → p < length line.side.pairs.matrix.walks
     post-there p e =
         let begin = (group_at line.side.groups g).from in
-        post-within begin p (in-group begin (arranged.groups.after g inside)) (stand begin (omega arith) (arranged.groups.after g inside) ∙ e)
+        post-within begin p (in-group begin (arranged.groups.after g inside))
+        (stand begin (omega arith) (arranged.groups.after g inside) ∙ e)
 
     pub IsReachOf-nowhere : (group_at line.side.groups g).post ≡ None → IsReachOf line (group_at line.side.groups g) None
     IsReachOf-nowhere e k after before = nowhere k (in-group k before) (stand k after before ∙ e)
 
 -- the first column of a group that a row fits is the first that needs it no sooner than it is ready
-pub IsFirstFit-found : (line : LineView) (group : Group) (r : Reach) (upto first : ℕ) → IsReachOf line group (Some r) → upto ≤ group.to → first ≤ upto → (first < upto → group.from ≤ first)
+pub IsFirstFit-found : (line : LineView) (group : Group) (r : Reach) (upto first : ℕ) → IsReachOf line group (Some r) → upto ≤ group.to
+    → first ≤ upto → (first < upto → group.from ≤ first)
     → ((k : ℕ) (d : Column) → group.from ≤ k → k < first → (get_or line.side.columns k d).minute < r.minute)
-    → ((k : ℕ) (d : Column) → group.from ≤ k → first ≤ k → k < upto → r.minute ≤ (get_or line.side.columns k d).minute) → IsFirstFit line group r.saved upto first
+    → ((k : ℕ) (d : Column) → group.from ≤ k → first ≤ k → k < upto → r.minute ≤ (get_or line.side.columns k d).minute)
+    → IsFirstFit line group r.saved upto first
 IsFirstFit-found line group r upto first reach within le after before later = record {
   within = le;
   after = after;
-  early = λ k from lt. reach k from (omega (arith, lt, le, within)) ∙ ap (λ b. cond b (Some r.saved) None) (lt-leb r.minute (minute k) (before k none from lt));
-  fits = λ k from past lt. reach k from (omega (arith, lt, within)) ∙ ap (λ b. cond b (Some r.saved) None) (le-leb r.minute (minute k) (later k none from past lt));
+  early = λ k from lt. reach k from (omega (arith, lt, le, within))
+      ∙ ap (λ b. cond b (Some r.saved) None) (lt-leb r.minute (minute k) (before k none from lt));
+  fits = λ k from past lt. reach k from (omega (arith, lt, within))
+      ∙ ap (λ b. cond b (Some r.saved) None) (le-leb r.minute (minute k) (later k none from past lt));
 }
   where
     none : Column
@@ -188,8 +222,10 @@ IsFirstFit-found line group r upto first reach within le after before later = re
     minute k = (get_or line.side.columns k none).minute
 
 -- the columns of a group weigh the same with a row, where they fit it
-pub weighs-same : (line : LineView) (group : Group) (r : Reach) → IsReachOf line group (Some r) → (j k : ℕ) → group.from ≤ j → j < group.to → line_weight line j ≡ Some k → k ≡ r.saved
-weighs-same line group r reach j k from to fit = by (nat_le r.minute (get_or line.side.columns j (no_column (side_slots line.side))).minute) (sym fit ∙ reach j from to)
+pub weighs-same : (line : LineView) (group : Group) (r : Reach) → IsReachOf line group (Some r) → (j k : ℕ) → group.from ≤ j → j < group.to
+    → line_weight line j ≡ Some k → k ≡ r.saved
+weighs-same line group r reach j k from to fit =
+    by (nat_le r.minute (get_or line.side.columns j (no_column (side_slots line.side))).minute) (sym fit ∙ reach j from to)
   where
     by : (b : Bool) → Some k ≡ cond b (Some r.saved) None → k ≡ r.saved
     by true e = same_Some k r.saved e
@@ -199,21 +235,30 @@ weighs-same line group r reach j k from to fit = by (nat_le r.minute (get_or lin
 abbrev pub piece : List Column → ℕ → ℕ → List Column
 piece columns from to = take (to - from) (drop from columns)
 
-piece-at : (columns : List Column) (from to k : ℕ) (d : Column) → from ≤ k → k < to → get_or (piece columns from to) (k - from) d ≡ get_or columns k d
+piece-at : (columns : List Column) (from to k : ℕ) (d : Column) → from ≤ k → k < to
+    → get_or (piece columns from to) (k - from) d ≡ get_or columns k d
 piece-at columns from to k d after before =
-    get_or-take (to - from) (drop from columns) (k - from) d (omega (arith, after, before)) ∙ get_or-drop from columns (k - from) d ∙ ap (λ m. get_or columns m d) (omega (arith, after))
+    get_or-take (to - from) (drop from columns) (k - from) d (omega (arith, after, before)) ∙ get_or-drop from columns (k - from) d
+    ∙ ap (λ m. get_or columns m d) (omega (arith, after))
 
 pub length-piece : (columns : List Column) (from to : ℕ) → to ≤ length columns → length (piece columns from to) ≡ to - from
 length-piece columns from to within = omega (arith, length-take (to - from) (drop from columns), length-drop from columns, within)
 
 -- how early the columns between two places are
 pub early-piece : (columns : List Column) (from to early minute : ℕ) → from + early ≤ to
-    → ((k : ℕ) (d : Column) → k < early → (get_or (piece columns from to) k d).minute < minute) → (k : ℕ) (d : Column) → from ≤ k → k < from + early → (get_or columns k d).minute < minute
+    → ((k : ℕ) (d : Column) → k < early → (get_or (piece columns from to) k d).minute < minute) → (k : ℕ) (d : Column) → from ≤ k
+    → k < from + early → (get_or columns k d).minute < minute
 early-piece columns from to early minute within before k d after lt =
-    omega (arith, ap (λ (x : Column). x.minute) (piece-at columns from to k d after (omega (arith, lt, within))), before (k - from) d (omega (arith, after, lt)))
+    omega (
+      arith,
+      ap (λ (x : Column). x.minute) (piece-at columns from to k d after (omega (arith, lt, within))),
+      before (k - from) d
+          (omega (arith, after, lt)),
+    )
 
 pub late-piece : (columns : List Column) (from to early minute : ℕ) → to ≤ length columns
-    → ((k : ℕ) (d : Column) → early ≤ k → k < length (piece columns from to) → minute ≤ (get_or (piece columns from to) k d).minute) → (k : ℕ) (d : Column) → from + early ≤ k → k < to
+    → ((k : ℕ) (d : Column) → early ≤ k → k < length (piece columns from to) → minute ≤ (get_or (piece columns from to) k d).minute)
+    → (k : ℕ) (d : Column) → from + early ≤ k → k < to
     → minute ≤ (get_or columns k d).minute
 late-piece columns from to early minute all after k d le lt =
     omega (

@@ -14,7 +14,8 @@ module _ (w : ℕ → ℕ → Option ℕ) (a : ℕ) (plan : Plan) where
   abbrev pub last_front : Front
   last_front = grown w (opened a plan) (length plan.next) (first_front w a plan.enter (length plan.next))
 
-  pub found-over : (dist parent : List ℕ) (done : List Bool) (rows : List ℕ) (place : ℕ) (to : Option ℕ) (fall : ℕ) (next' : List (Option ℕ)) (leave' enter' : List ℕ)
+  pub found-over : (dist parent : List ℕ) (done : List Bool) (rows : List ℕ) (place : ℕ) (to : Option ℕ) (fall : ℕ)
+      (next' : List (Option ℕ)) (leave' enter' : List ℕ)
       → IsShown dist parent done rows place to fall last_front
       → next' ≡ linked_back last_front.from (length plan.next + 1) plan.next (at rows place) to
       → length leave' ≡ length (set plan.leave a GREATEST_PRICE) → length enter' ≡ length plan.enter

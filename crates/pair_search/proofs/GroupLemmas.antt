@@ -1,5 +1,6 @@
 -- Groups of columns follow on each other, and what is seen of one says nothing of the others.
-use Rattle.std.proofs.Common.{◌≡◌, ◌≢◌, ℕ, zero, suc, ◌+◌, ◌-◌, ◌<◌, ◌≤◌, Bool, true, false, cond, nat_eq, List, length, get_or, replicate, set, Option, None, Some, refl, sym, ap, subst, ◌∙◌, ⊎_elim, arith}
+use Rattle.std.proofs.Common.{◌≡◌, ◌≢◌, ℕ, zero, suc, ◌+◌, ◌-◌, ◌<◌, ◌≤◌, Bool, true, false, cond, nat_eq, List, length, get_or, replicate}
+use Rattle.std.proofs.Common.{set, Option, None, Some, refl, sym, ap, subst, ◌∙◌, ⊎_elim, arith}
 use Rattle.std.specs.Option.{option_eq}
 use Rattle.std.proofs.lemmas.Bool.{both_ways, cases_eq, eqb-true, cases_lt, lt-ltb, le-ltb}
 use Rattle.std.proofs.lemmas.List.{get_or_past, get_or-replicate, get_or-set_same, get_or-set_other, length-set}
@@ -26,11 +27,19 @@ pub begins-past : (n count : ℕ) (groups : List Group) (r : ℕ) → count ≤ 
 begins-past n count groups r le = ap (λ b. cond b (group_at groups r).from n) (le-ltb r count le)
 
 -- each group ends before those after it begin
-apart : (n : ℕ) (columns : List Column) (count : ℕ) (groups : List Group) → AreGroups n columns count groups → (r s : ℕ) → r < s → s < count → (group_at groups r).to ≤ (group_at groups s).from
+apart : (n : ℕ) (columns : List Column) (count : ℕ) (groups : List Group) → AreGroups n columns count groups → (r s : ℕ) → r < s
+    → s < count → (group_at groups r).to ≤ (group_at groups s).from
 apart n columns count groups are r zero lt within = absurd (omega (arith, lt))
 apart n columns count groups are r (suc s) lt within = ⊎_elim
-    (λ (before : r < s). omega (arith, apart n columns count groups are r s before (omega (arith, within)), are.after s (omega (arith, within)), next s (omega (arith, within))))
-    (λ (last : s ≤ r). let same : r ≡ s = omega (arith, lt, last) in omega (arith, next s (omega (arith, within)), ap (λ t. (group_at groups t).to) same))
+    (λ (before : r < s). omega (
+      arith,
+      apart n columns count groups are r s before (omega (arith, within)),
+      are.after s
+          (omega (arith, within)),
+      next s (omega (arith, within)),
+    ))
+    (λ (last : s ≤ r). let same : r ≡ s = omega (arith, lt, last) in
+    omega (arith, next s (omega (arith, within)), ap (λ t. (group_at groups t).to) same))
     (cases_lt r s)
   where
     next : (t : ℕ) → suc t < count → (group_at groups t).to ≡ (group_at groups (suc t)).from
@@ -39,7 +48,8 @@ apart n columns count groups are r (suc s) lt within = ⊎_elim
         are.next t (omega (arith, lt)) ∙ ap (begins n count groups) e ∙ begins-there n count groups (suc t) lt
 
 -- a column that stands in a group stands in no other
-elsewhere : (n : ℕ) (columns : List Column) (count : ℕ) (groups : List Group) → AreGroups n columns count groups → (r s j : ℕ) → r < count → s < count → r ≢ s
+elsewhere : (n : ℕ) (columns : List Column) (count : ℕ) (groups : List Group) → AreGroups n columns count groups → (r s j : ℕ) → r < count
+    → s < count → r ≢ s
     → (group_at groups r).from ≤ j → j < (group_at groups r).to → (group_at groups s).from ≤ j → j < (group_at groups s).to → ⊥
 elsewhere n columns count groups are r s j r-in s-in ne from to from' to' = ⊎_elim
     (λ (lt : r < s). omega (arith, apart n columns count groups are r s lt s-in, to, from'))
@@ -62,13 +72,15 @@ AreGroups-none columns groups = record {
 }
 
 -- the minutes of a group are at most its latest one
-pub to-latest : (n : ℕ) (columns : List Column) (count : ℕ) (groups : List Group) → AreGroups n columns count groups → (r k : ℕ) (d : Column) → r < count
+pub to-latest : (n : ℕ) (columns : List Column) (count : ℕ) (groups : List Group) → AreGroups n columns count groups
+    → (r k : ℕ) (d : Column) → r < count
     → (group_at groups r).from ≤ k → k < (group_at groups r).to → (get_or columns k d).minute ≤ (group_at groups r).latest
 to-latest n columns count groups are r k d lt after before =
     omega (arith, are.rise r k ((group_at groups r).to - 1) d lt after (omega (arith, before)) (omega (arith, before)), are.last r d lt)
 
 -- one more group follows on those that are found
-pub AreGroups-more : (from to : ℕ) (columns : List Column) (count : ℕ) (groups : List Group) (group : Group) → AreGroups from columns count groups → group.from ≡ from → group.to ≡ to → from < to → to ≤ 4096
+pub AreGroups-more : (from to : ℕ) (columns : List Column) (count : ℕ) (groups : List Group) (group : Group)
+    → AreGroups from columns count groups → group.from ≡ from → group.to ≡ to → from < to → to ≤ 4096
     → count < length groups → ((k : ℕ) (d : Column) → from ≤ k → k < to → (get_or columns k d).post ≡ group.post)
     → ((h k : ℕ) (d : Column) → from ≤ h → h ≤ k → k < to → (get_or columns h d).minute ≤ (get_or columns k d).minute)
     → ((d : Column) → (get_or columns (to - 1) d).minute ≡ group.latest)
@@ -81,25 +93,31 @@ AreGroups-more from to columns count groups group are begin end rises few room p
       (λ (some : 0 < count). ap (λ (g : Group). g.from) (other 0 some) ∙ sym (begins-there from count groups 0 some) ∙ are.first)
       (λ (none : count ≤ 0).
       let here : 0 ≡ count = omega (arith, none) in
-      ap (λ r. (group_at (set groups count group) r).from) here ∙ ap (λ (g : Group). g.from) new ∙ begin ∙ sym (begins-past from count groups 0 none) ∙ are.first)
+      ap (λ r. (group_at (set groups count group) r).from) here ∙ ap (λ (g : Group). g.from) new ∙ begin
+      ∙ sym (begins-past from count groups 0 none) ∙ are.first)
       (cases_lt 0 count);
   next = λ r lt. ⊎_elim
       (λ (before : r < count).
       ap (λ (g : Group). g.to) (other r before) ∙ are.next r before ∙ ⊎_elim
       (λ (inside : r + 1 < count).
-      begins-there from count groups (r + 1) inside ∙ sym (ap (λ (g : Group). g.from) (other (r + 1) inside)) ∙ sym (begins-there to (count + 1) (set groups count group) (r + 1) (omega (arith, inside))))
+      begins-there from count groups (r + 1) inside ∙ sym (ap (λ (g : Group). g.from) (other (r + 1) inside))
+      ∙ sym (begins-there to (count + 1) (set groups count group) (r + 1) (omega (arith, inside))))
       (λ (last : count ≤ r + 1).
       let here : r + 1 ≡ count = omega (arith, before, last) in
-      begins-past from count groups (r + 1) last ∙ sym begin ∙ sym (ap (λ (g : Group). g.from) new) ∙ sym (ap (λ t. (group_at (set groups count group) t).from) here)
+      begins-past from count groups (r + 1) last ∙ sym begin ∙ sym (ap (λ (g : Group). g.from) new)
+      ∙ sym (ap (λ t. (group_at (set groups count group) t).from) here)
       ∙ sym (begins-there to (count + 1) (set groups count group) (r + 1) (omega (arith, here))))
       (cases_lt (r + 1) count))
       (λ (last : count ≤ r).
       let here : r ≡ count = omega (arith, lt, last) in
-      ap (λ (g : Group). g.to) (at-new r here) ∙ end ∙ sym (begins-past to (count + 1) (set groups count group) (r + 1) (omega (arith, last))))
+      ap (λ (g : Group). g.to) (at-new r here) ∙ end
+      ∙ sym (begins-past to (count + 1) (set groups count group) (r + 1) (omega (arith, last))))
       (cases_lt r count);
   after = λ r lt. ⊎_elim
-      (λ (before : r < count). let same = other r before in omega (arith, ap (λ (g : Group). g.from) same, ap (λ (g : Group). g.to) same, are.after r before))
-      (λ (last : count ≤ r). let same = at-new r (omega (arith, lt, last)) in omega (arith, ap (λ (g : Group). g.from) same, ap (λ (g : Group). g.to) same, begin, end, rises))
+      (λ (before : r < count). let same = other r before in
+      omega (arith, ap (λ (g : Group). g.from) same, ap (λ (g : Group). g.to) same, are.after r before))
+      (λ (last : count ≤ r). let same = at-new r (omega (arith, lt, last)) in
+      omega (arith, ap (λ (g : Group). g.from) same, ap (λ (g : Group). g.to) same, begin, end, rises))
       (cases_lt r count);
   within = λ r lt. ⊎_elim
       (λ (before : r < count). omega (arith, ap (λ (g : Group). g.to) (other r before), are.within r before, rises))
@@ -108,18 +126,22 @@ AreGroups-more from to columns count groups group are begin end rises few room p
   posts = λ r k d lt after before. ⊎_elim
       (λ (old : r < count).
       let same = other r old in
-      are.posts r k d old (omega (arith, after, ap (λ (g : Group). g.from) same)) (omega (arith, before, ap (λ (g : Group). g.to) same)) ∙ sym (ap (λ (g : Group). g.post) same))
+      are.posts r k d old (omega (arith, after, ap (λ (g : Group). g.from) same)) (omega (arith, before, ap (λ (g : Group). g.to) same))
+      ∙ sym (ap (λ (g : Group). g.post) same))
       (λ (last : count ≤ r).
       let same = at-new r (omega (arith, lt, last)) in
-      posts k d (omega (arith, after, ap (λ (g : Group). g.from) same, begin)) (omega (arith, before, ap (λ (g : Group). g.to) same, end)) ∙ sym (ap (λ (g : Group). g.post) same))
+      posts k d (omega (arith, after, ap (λ (g : Group). g.from) same, begin)) (omega (arith, before, ap (λ (g : Group). g.to) same, end))
+      ∙ sym (ap (λ (g : Group). g.post) same))
       (cases_lt r count);
   rise = λ r h k d lt after le before. ⊎_elim
       (λ (old : r < count).
       let same = other r old in
-      are.rise r h k d old (omega (arith, after, ap (λ (g : Group). g.from) same)) le (omega (arith, before, ap (λ (g : Group). g.to) same)))
+      are.rise r h k d old (omega (arith, after, ap (λ (g : Group). g.from) same)) le
+      (omega (arith, before, ap (λ (g : Group). g.to) same)))
       (λ (last : count ≤ r).
       let same = at-new r (omega (arith, lt, last)) in
-      rise h k d (omega (arith, after, ap (λ (g : Group). g.from) same, begin)) le (omega (arith, before, ap (λ (g : Group). g.to) same, end)))
+      rise h k d (omega (arith, after, ap (λ (g : Group). g.from) same, begin)) le
+      (omega (arith, before, ap (λ (g : Group). g.to) same, end)))
       (cases_lt r count);
   last = λ r d lt. ⊎_elim
       (λ (old : r < count).
@@ -127,7 +149,8 @@ AreGroups-more from to columns count groups group are begin end rises few room p
       ap (λ (g : Group). (get_or columns (g.to - 1) d).minute) same ∙ are.last r d old ∙ sym (ap (λ (g : Group). g.latest) same))
       (λ (here : count ≤ r).
       let same = at-new r (omega (arith, lt, here)) in
-      ap (λ (g : Group). (get_or columns (g.to - 1) d).minute) same ∙ ap (λ t. (get_or columns (t - 1) d).minute) end ∙ last d ∙ sym (ap (λ (g : Group). g.latest) same))
+      ap (λ (g : Group). (get_or columns (g.to - 1) d).minute) same ∙ ap (λ t. (get_or columns (t - 1) d).minute) end ∙ last d
+      ∙ sym (ap (λ (g : Group). g.latest) same))
       (cases_lt r count);
 }
   where
@@ -141,8 +164,11 @@ AreGroups-more from to columns count groups group are begin end rises few room p
     other r lt = get_or-set_other groups count r group (record { post = None; from = 0; to = 0; latest = 0 }) (λ e. omega (arith, lt, e))
 
 -- columns of one group were approached
-module _ (n : ℕ) (columns : List Column) (count : ℕ) (groups : List Group) (are : AreGroups n columns count groups) (g first upto from cost near : ℕ) (enter : List ℕ) (done : List Bool)
-    (dist parent dist' parent' : List ℕ) (approached : AreApproached first upto from cost enter (as_columns dist parent done) (as_columns dist' parent' done) near) (seen : List Seen) (now : Seen) (inside : g < count)
+module _ (n : ℕ) (columns : List Column) (count : ℕ) (groups : List Group) (are : AreGroups n columns count groups)
+    (g first upto from cost near : ℕ) (enter : List ℕ) (done : List Bool)
+    (dist parent dist' parent' : List ℕ)
+    (approached : AreApproached first upto from cost enter (as_columns dist parent done) (as_columns dist' parent' done) near)
+    (seen : List Seen) (now : Seen) (inside : g < count)
     (room : g < length seen) (after : (group_at groups g).from ≤ first) (within : upto ≤ (group_at groups g).to) where
   here : (r : ℕ) → r ≡ g → seen_at (set seen g now) r ≡ now
   here r e = ap (seen_at (set seen g now)) e ∙ get_or-set_same seen g now (record { near = 0; cost = 0; from = 0 }) room
@@ -159,10 +185,13 @@ module _ (n : ℕ) (columns : List Column) (count : ℕ) (groups : List Group) (
       (λ (le : at dist j ≤ at dist' j). stays first upto _ cost near enter done dist parent dist' parent' approached j le)
       (cases_lt (at dist' j) (at dist j))
 
-  pub AreNear-look : now.near ≤ (seen_at seen g).near → now.near ≤ near → AreNear count groups done dist seen → AreNear count groups done dist' (set seen g now)
+  pub AreNear-look : now.near ≤ (seen_at seen g).near → now.near ≤ near → AreNear count groups done dist seen
+      → AreNear count groups done dist' (set seen g now)
   AreNear-look le le' old r j lt from to undone = ⊎_elim
       (λ (e : r ≡ g).
-      let was : (seen_at seen g).near ≤ at dist j = old g j inside (omega (arith, from, ap (λ t. (group_at groups t).from) e)) (omega (arith, to, ap (λ t. (group_at groups t).to) e)) undone in
+      let was : (seen_at seen g).near ≤ at dist j =
+      old g j inside (omega (arith, from, ap (λ t. (group_at groups t).from) e))
+      (omega (arith, to, ap (λ t. (group_at groups t).to) e)) undone in
       let same : (seen_at (set seen g now) r).near ≡ now.near = ap (λ (s : Seen). s.near) (here r e) in
       ⊎_elim
       (λ (nearer : at dist' j < at dist j). omega (arith, same, le', approached.least j nearer))
@@ -171,7 +200,8 @@ module _ (n : ℕ) (columns : List Column) (count : ℕ) (groups : List Group) (
       (λ (ne : r ≡ g → ⊥). omega (arith, ap (λ (s : Seen). s.near) (other r ne), as-far r j lt ne from to, old r j lt from to undone))
       (cases_eq r g)
 
-  pub AreReached-look : ((j : ℕ) → now.from ≤ j → (group_at groups g).from ≤ j → j < (group_at groups g).to → is_done done j ≡ false → at dist' j + 67111744 ≤ now.cost + at enter j)
+  pub AreReached-look : ((j : ℕ) → now.from ≤ j → (group_at groups g).from ≤ j → j < (group_at groups g).to → is_done done j ≡ false
+      → at dist' j + 67111744 ≤ now.cost + at enter j)
       → AreReached count groups enter done dist seen → AreReached count groups enter done dist' (set seen g now)
   AreReached-look mine old r j lt past from to undone = ⊎_elim
       (λ (e : r ≡ g).
@@ -179,18 +209,26 @@ module _ (n : ℕ) (columns : List Column) (count : ℕ) (groups : List Group) (
       omega (
         arith,
         ap (λ (s : Seen). s.cost) same,
-        mine j (omega (arith, past, ap (λ (s : Seen). s.from) same)) (omega (arith, from, ap (λ t. (group_at groups t).from) e)) (omega (arith, to, ap (λ t. (group_at groups t).to) e)) undone,
+        mine j (omega (arith, past, ap (λ (s : Seen). s.from) same)) (omega (arith, from, ap (λ t. (group_at groups t).from) e))
+            (omega (arith, to, ap (λ t. (group_at groups t).to) e)) undone,
       ))
       (λ (ne : r ≡ g → ⊥).
       let same = other r ne in
-      omega (arith, ap (λ (s : Seen). s.cost) same, as-far r j lt ne from to, old r j lt (omega (arith, past, ap (λ (s : Seen). s.from) same)) from to undone))
+      omega (
+        arith,
+        ap (λ (s : Seen). s.cost) same,
+        as-far r j lt ne from to,
+        old r j lt
+            (omega (arith, past, ap (λ (s : Seen). s.from) same)) from to undone,
+      ))
       (cases_eq r g)
 
 -- a column that is done no longer counts
 pub undone-before : (done : List Bool) (column j : ℕ) → is_done (set done column true) j ≡ false → is_done done j ≡ false
 undone-before done column j e = ⊎_elim
     (λ (same : j ≡ column). ⊎_elim
-    (λ (inside : column < length done). absurd (true-false (sym (ap (is_done (set done column true)) same ∙ get_or-set_same done column true false inside) ∙ e)))
+    (λ (inside : column < length done). absurd
+    (true-false (sym (ap (is_done (set done column true)) same ∙ get_or-set_same done column true false inside) ∙ e)))
     (λ (past : length done ≤ column). get_or_past done j false (omega (arith, same, past)))
     (cases_lt column (length done)))
     (λ (ne : j ≡ column → ⊥). sym (get_or-set_other done column j true false ne) ∙ e)
@@ -200,24 +238,28 @@ undone-before done column j e = ⊎_elim
     true-false e = both_ways true e refl
 
 -- nothing is seen before a search
-module _ (n count : ℕ) (groups : List Group) (done : List Bool) (dist : List ℕ) (seen : List Seen) (room : count ≤ n) (far : dist ≡ replicate n 67111745)
+module _ (n count : ℕ) (groups : List Group) (done : List Bool) (dist : List ℕ) (seen : List Seen) (room : count ≤ n)
+    (far : dist ≡ replicate n 67111745)
     (within : (r : ℕ) → r < count → (group_at groups r).to ≤ n) where
   pub AreNear-none : (nears : (r : ℕ) → r < count → (seen_at seen r).near ≤ 67111745) → AreNear count groups done dist seen
   AreNear-none nears r j lt from to undone =
       omega (arith, nears r lt, ap (λ xs. at xs j) far, get_or-replicate {A = ℕ} n j 67111745 0 (omega (arith, to, within r lt)))
 
-  pub AreReached-none : (enter : List ℕ) (small : n ≤ 4096) (froms : (r : ℕ) → r < count → 65535 ≤ (seen_at seen r).from) → AreReached count groups enter done dist seen
+  pub AreReached-none : (enter : List ℕ) (small : n ≤ 4096) (froms : (r : ℕ) → r < count → 65535 ≤ (seen_at seen r).from)
+      → AreReached count groups enter done dist seen
   AreReached-none enter small froms r j lt past from to undone = absurd (omega (arith, froms r lt, past, to, within r lt, small))
 
 -- what is nearest in a group is known
-module _ (count : ℕ) (groups : List Group) (done : List Bool) (dist : List ℕ) (seen : List Seen) (g : ℕ) (now : Seen) (room : g < length seen) where
+module _ (count : ℕ) (groups : List Group) (done : List Bool) (dist : List ℕ) (seen : List Seen) (g : ℕ) (now : Seen)
+    (room : g < length seen) where
   now-here : (r : ℕ) → r ≡ g → seen_at (set seen g now) r ≡ now
   now-here r e = ap (seen_at (set seen g now)) e ∙ get_or-set_same seen g now (record { near = 0; cost = 0; from = 0 }) room
 
   now-other : (r : ℕ) → r ≢ g → seen_at (set seen g now) r ≡ seen_at seen r
   now-other r ne = get_or-set_other seen g r now (record { near = 0; cost = 0; from = 0 }) ne
 
-  pub AreNear-known : ((j : ℕ) → (group_at groups g).from ≤ j → j < (group_at groups g).to → is_done done j ≡ false → now.near ≤ at dist j) → AreNear count groups done dist seen
+  pub AreNear-known : ((j : ℕ) → (group_at groups g).from ≤ j → j < (group_at groups g).to → is_done done j ≡ false → now.near ≤ at dist j)
+      → AreNear count groups done dist seen
       → AreNear count groups done dist (set seen g now)
   AreNear-known mine old r j lt from to undone = ⊎_elim
       (λ (e : r ≡ g).
@@ -229,7 +271,8 @@ module _ (count : ℕ) (groups : List Group) (done : List Bool) (dist : List ℕ
       (λ (ne : r ≡ g → ⊥). omega (arith, ap (λ (s : Seen). s.near) (now-other r ne), old r j lt from to undone))
       (cases_eq r g)
 
-  pub AreReached-known : (enter : List ℕ) → now.cost ≡ (seen_at seen g).cost → now.from ≡ (seen_at seen g).from → AreReached count groups enter done dist seen → AreReached count groups enter done dist (set seen g now)
+  pub AreReached-known : (enter : List ℕ) → now.cost ≡ (seen_at seen g).cost → now.from ≡ (seen_at seen g).from
+      → AreReached count groups enter done dist seen → AreReached count groups enter done dist (set seen g now)
   AreReached-known enter cost from old r j lt past after before undone = ⊎_elim
       (λ (e : r ≡ g).
       let same = now-here r e in
@@ -246,16 +289,20 @@ module _ (count : ℕ) (groups : List Group) (done : List Bool) (dist : List ℕ
       (cases_eq r g)
 
 -- what is said of lists is said of those that are equal to them
-pub AreNear-same : (count : ℕ) (groups : List Group) (done done' : List Bool) (dist dist' : List ℕ) (seen seen' : List Seen) → done ≡ done' → dist ≡ dist' → seen ≡ seen'
+pub AreNear-same : (count : ℕ) (groups : List Group) (done done' : List Bool) (dist dist' : List ℕ) (seen seen' : List Seen) → done ≡ done'
+    → dist ≡ dist' → seen ≡ seen'
     → AreNear count groups done dist seen → AreNear count groups done' dist' seen'
 AreNear-same count groups done done' dist dist' seen seen' dones dists seens near =
-    subst (λ xs. AreNear count groups xs dist' seen') dones (subst (λ xs. AreNear count groups done xs seen') dists (subst (λ xs. AreNear count groups done dist xs) seens near))
+    subst (λ xs. AreNear count groups xs dist' seen') dones
+    (subst (λ xs. AreNear count groups done xs seen') dists (subst (λ xs. AreNear count groups done dist xs) seens near))
 
-pub AreReached-same : (count : ℕ) (groups : List Group) (enter : List ℕ) (done done' : List Bool) (dist dist' : List ℕ) (seen seen' : List Seen) → done ≡ done' → dist ≡ dist' → seen ≡ seen'
+pub AreReached-same : (count : ℕ) (groups : List Group) (enter : List ℕ) (done done' : List Bool) (dist dist' : List ℕ)
+    (seen seen' : List Seen) → done ≡ done' → dist ≡ dist' → seen ≡ seen'
     → AreReached count groups enter done dist seen → AreReached count groups enter done' dist' seen'
 AreReached-same count groups enter done done' dist dist' seen seen' dones dists seens reached =
     subst (λ xs. AreReached count groups enter xs dist' seen') dones
-    (subst (λ xs. AreReached count groups enter done xs seen') dists (subst (λ xs. AreReached count groups enter done dist xs) seens reached))
+    (subst (λ xs. AreReached count groups enter done xs seen') dists
+    (subst (λ xs. AreReached count groups enter done dist xs) seens reached))
 
 -- what is seen of one group leaves how many there are
 pub length-seen : (seen : List Seen) (g : ℕ) (now : Seen) → length (set seen g now) ≡ length seen
@@ -263,4 +310,5 @@ length-seen seen g now = length-set seen g now
 
 -- of as many groups as there are nothing is seen
 pub seen-none : (m : ℕ) (seen : List Seen) (none : Seen) → seen ≡ replicate m none → (r : ℕ) → r < m → seen_at seen r ≡ none
-seen-none m seen none is r lt = ap (λ xs. seen_at xs r) is ∙ get_or-replicate {A = Seen} m r none (record { near = 0; cost = 0; from = 0 }) lt
+seen-none m seen none is r lt = ap (λ xs. seen_at xs r) is
+    ∙ get_or-replicate {A = Seen} m r none (record { near = 0; cost = 0; from = 0 }) lt

@@ -9,7 +9,8 @@ use Rattle.assignment_model.specs.Paths.{AreNextTrips}
 use Rattle.pair_search.specs.Inverse.{IsInverse}
 
 -- a row that is linked is told before its column
-pub IsInverse-some : (next before : List (Option ℕ)) (row column : ℕ) → AreNextTrips next → column < length before → next_of next row ≡ Some column → IsInverse row next before
+pub IsInverse-some : (next before : List (Option ℕ)) (row column : ℕ) → AreNextTrips next → column < length before
+    → next_of next row ≡ Some column → IsInverse row next before
     → IsInverse (row + 1) next (set before column (Some row))
 IsInverse-some next before row column are within linked so = record {
   told = λ i j lt e. ⊎_elim
@@ -17,18 +18,22 @@ IsInverse-some next before row column are within linked so = record {
       let here : j ≡ column = same_Some j column (sym e ∙ ap (next_of next) same ∙ linked) in
       ap (next_of (set before column (Some row))) here ∙ get_or-set_same before column (Some row) None within ∙ ap Some (sym same))
       (λ (ne : i ≡ row → ⊥).
-      get_or-set_other before column j (Some row) None (λ here. ne (are.once i row column (e ∙ ap Some here) linked)) ∙ so.told i j (omega arith) e)
+      get_or-set_other before column j (Some row) None (λ here. ne (are.once i row column (e ∙ ap Some here) linked))
+      ∙ so.told i j (omega arith) e)
       (cases_eq i row);
   linked = λ i j e. ⊎_elim
       (λ (here : j ≡ column).
-      let same : i ≡ row = same_Some i row (sym e ∙ ap (next_of (set before column (Some row))) here ∙ get_or-set_same before column (Some row) None within) in
+      let same : i ≡ row = same_Some i row
+      (sym e ∙ ap (next_of (set before column (Some row))) here ∙ get_or-set_same before column (Some row) None within) in
       (omega (arith, same), ap (next_of next) same ∙ linked ∙ ap Some (sym here)))
-      (λ (ne : j ≡ column → ⊥). let old = so.linked i j (sym (get_or-set_other before column j (Some row) None ne) ∙ e) in (omega (arith, old.0), old.1))
+      (λ (ne : j ≡ column → ⊥). let old = so.linked i j (sym (get_or-set_other before column j (Some row) None ne) ∙ e) in
+      (omega (arith, old.0), old.1))
       (cases_eq j column);
 }
 
 -- and one that is not adds nothing
-pub IsInverse-none : (next before : List (Option ℕ)) (row : ℕ) → next_of next row ≡ None → IsInverse row next before → IsInverse (row + 1) next before
+pub IsInverse-none : (next before : List (Option ℕ)) (row : ℕ) → next_of next row ≡ None → IsInverse row next before
+    → IsInverse (row + 1) next before
 IsInverse-none next before row none so = record {
   told = λ i j lt e. ⊎_elim
       (λ (same : i ≡ row). absurd (none-some j (sym none ∙ ap (next_of next) (sym same) ∙ e)))
@@ -38,7 +43,8 @@ IsInverse-none next before row none so = record {
 }
 
 -- before each column stands the row that is linked to it
-pub inverse-before : (next before : List (Option ℕ)) → AreApart next → IsInverse (length next) next before → (j : ℕ) → next_of before j ≡ before_of next j
+pub inverse-before : (next before : List (Option ℕ)) → AreApart next → IsInverse (length next) next before → (j : ℕ)
+    → next_of before j ≡ before_of next j
 inverse-before next before once so j = at-column (before_of next j) refl
   where
     alone : (found : Option ℕ) → next_of before j ≡ found → before_of next j ≡ None → next_of before j ≡ None

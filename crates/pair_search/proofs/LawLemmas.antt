@@ -15,8 +15,10 @@ use Rattle.pair_search.proofs.DeterminedLemmas.{dist_from-is}
 use Rattle.pair_search.proofs.FrontLemmas.{leave_after-is, enter_after-is}
 
 -- columns that a row has looked at are as far as is computed
-pub looked-is : (w : ℕ → Option ℕ) (from start : ℕ) (enter : List ℕ) (done : List Bool) (dist parent dist' parent' : List ℕ) → length dist' ≡ length dist
-    → AreLooked w (length dist) from start enter (as_columns dist parent done) (as_columns dist' parent' done) → dist' ≡ dist_from w start enter done dist
+pub looked-is : (w : ℕ → Option ℕ) (from start : ℕ) (enter : List ℕ) (done : List Bool) (dist parent dist' parent' : List ℕ)
+    → length dist' ≡ length dist
+    → AreLooked w (length dist) from start enter (as_columns dist parent done) (as_columns dist' parent' done)
+    → dist' ≡ dist_from w start enter done dist
 looked-is w from start enter done dist parent dist' parent' len are =
     dist_from-is w start enter done dist dist' len are.nearer are.covered (λ j lt. (are.reached j lt).undone)
     (λ j lt e. let r = are.reached j lt in none-some r.weight (sym e ∙ r.fits))
@@ -33,14 +35,17 @@ entering-is a plan dist fall leave' enter' len shifted = enter_after-is plan dis
 
 -- columns in their order are those that are computed
 pub arranged-is : (pairs : PairsView) (turned : Bool) (without : Option ℕ) (columns : List Column) (places : List ℕ)
-    → IsOrder (length pairs.moves) (pairs_minute pairs turned) (pairs_post pairs turned without) columns places → AreInOrder (length pairs.moves) columns
+    → IsOrder (length pairs.moves) (pairs_minute pairs turned) (pairs_post pairs turned without) columns places
+    → AreInOrder (length pairs.moves) columns
     → slots_of columns ≡ arranged pairs turned without
 unfolding arranged
 arranged-is pairs turned without columns places is order =
     slots-by_post (length pairs.moves) (pairs_minute pairs turned) (pairs_post pairs turned without) columns places is order
 
 -- and so are departures
-pub departing-is : (pairs : PairsView) (columns : List Column) (places : List ℕ) → IsOrder (length pairs.moves) (pairs_minute pairs false) (λ _. None) columns places
+pub departing-is : (pairs : PairsView) (columns : List Column) (places : List ℕ)
+    → IsOrder (length pairs.moves) (pairs_minute pairs false) (λ _. None) columns places
     → AreInOrder (length pairs.moves) columns → slots_of columns ≡ departing pairs
 unfolding departing
-departing-is pairs columns places is order = slots-by_minute (length pairs.moves) (pairs_minute pairs false) (λ _. None) columns places is order (λ j. refl)
+departing-is pairs columns places is order =
+    slots-by_minute (length pairs.moves) (pairs_minute pairs false) (λ _. None) columns places is order (λ j. refl)

@@ -1,5 +1,6 @@
 -- Columns that are looked at from a place of the tree, group by group.
-use Rattle.std.proofs.Common.{◌≡◌, ◌≢◌, ℕ, ◌+◌, ◌<◌, ◌≤◌, Bool, false, List, length, set, Option, None, Some, refl, sym, ap, subst, ◌∙◌, ⊎_elim, arith}
+use Rattle.std.proofs.Common.{◌≡◌, ◌≢◌, ℕ, ◌+◌, ◌<◌, ◌≤◌, Bool, false, List, length, set, Option, None, Some, refl, sym, ap, subst, ◌∙◌}
+use Rattle.std.proofs.Common.{⊎_elim, arith}
 use Rattle.std.proofs.lemmas.Bool.{cases_eq, cases_lt}
 use Rattle.std.proofs.lemmas.List.{get_or-set_same, get_or-set_other}
 use Rattle.std.proofs.lemmas.Option.{none-some}
@@ -7,7 +8,8 @@ use Rattle.pair_search.specs.Groups.{AreApproached}
 use Rattle.pair_search.specs.Search.{at, is_done, as_columns, AreLooked, Columns}
 
 -- no column is approached yet
-pub AreApproached-none : (first from cost near : ℕ) (enter : List ℕ) (done : List Bool) (dist parent : List ℕ) → AreApproached first first from cost enter (as_columns dist parent done) (as_columns dist parent done) near
+pub AreApproached-none : (first from cost near : ℕ) (enter : List ℕ) (done : List Bool) (dist parent : List ℕ)
+    → AreApproached first first from cost enter (as_columns dist parent done) (as_columns dist parent done) near
 AreApproached-none first from cost near enter done dist parent = record {
   covered = λ j after before. absurd (omega (arith, after, before));
   nearer = λ j. omega arith;
@@ -22,7 +24,8 @@ AreApproached-none first from cost near enter done dist parent = record {
 -- one more is approached, which is not nearer by this
 pub AreApproached-kept : (first column from cost near : ℕ) (enter : List ℕ) (done : List Bool) (dist0 parent0 dist parent : List ℕ)
     → (is_done done column ≡ false → at dist column + 67111744 ≤ cost + at enter column)
-    → AreApproached first column from cost enter (as_columns dist0 parent0 done) (as_columns dist parent done) near → AreApproached first (column + 1) from cost enter (as_columns dist0 parent0 done) (as_columns dist parent done) near
+    → AreApproached first column from cost enter (as_columns dist0 parent0 done) (as_columns dist parent done) near
+    → AreApproached first (column + 1) from cost enter (as_columns dist0 parent0 done) (as_columns dist parent done) near
 AreApproached-kept first column from cost near enter done dist0 parent0 dist parent kept l = record {
   covered = λ j after before undone. ⊎_elim
       (λ (e : j ≡ column).
@@ -42,43 +45,47 @@ AreApproached-kept first column from cost near enter done dist0 parent0 dist par
 
 -- one more is approached, and is nearer by this
 pub AreApproached-set : (first column from cost near near' d : ℕ) (enter : List ℕ) (done : List Bool) (dist0 parent0 dist parent : List ℕ)
-    → first ≤ column → column < length dist → column < length parent → is_done done column ≡ false → d + 67111744 ≡ cost + at enter column → d < at dist column → near' ≤ near → near' ≤ d
+    → first ≤ column → column < length dist → column < length parent → is_done done column ≡ false → d + 67111744 ≡ cost + at enter column
+    → d < at dist column → near' ≤ near → near' ≤ d
     → AreApproached first column from cost enter (as_columns dist0 parent0 done) (as_columns dist parent done) near
-    → AreApproached first (column + 1) from cost enter (as_columns dist0 parent0 done) (as_columns (set dist column d) (set parent column from) done) near'
-AreApproached-set first column from cost near near' d enter done dist0 parent0 dist parent after inside inside' undone exact less le le' l = record {
-  covered = λ j after before free. ⊎_elim
-      (λ (e : j ≡ column). let price : at enter j ≡ at enter column = ap (at enter) e in omega (arith, here j e, price, exact))
-      (λ (ne : j ≡ column → ⊥). omega (arith, other j ne, l.covered j after (omega (arith, before, ne)) free))
-      (cases_eq j column);
-  nearer = λ j. ⊎_elim
-      (λ (e : j ≡ column). let was : at dist j ≡ at dist column = ap (at dist) e in omega (arith, here j e, was, less, l.nearer j))
-      (λ (ne : j ≡ column → ⊥). omega (arith, other j ne, l.nearer j))
-      (cases_eq j column);
-  same = λ j le. ⊎_elim
-      (λ (e : j ≡ column). let was : at dist j ≡ at dist column = ap (at dist) e in absurd (omega (arith, le, here j e, was, less, l.nearer j)))
-      (λ (ne : j ≡ column → ⊥). get_or-set_other parent column j from 0 ne ∙ l.same j (omega (arith, le, other j ne)))
-      (cases_eq j column);
-  between = λ j lt. ⊎_elim
-      (λ (e : j ≡ column). (omega (arith, e, after), omega (arith, e)))
-      (λ (ne : j ≡ column → ⊥). let b = l.between j (omega (arith, lt, other j ne)) in (b.0, omega (arith, b.1)))
-      (cases_eq j column);
-  undone = λ j lt. ⊎_elim
-      (λ (e : j ≡ column). ap (is_done done) e ∙ undone)
-      (λ (ne : j ≡ column → ⊥). l.undone j (omega (arith, lt, other j ne)))
-      (cases_eq j column);
-  by = λ j lt. ⊎_elim
-      (λ (e : j ≡ column). ap (at (set parent column from)) e ∙ get_or-set_same parent column from 0 inside')
-      (λ (ne : j ≡ column → ⊥). get_or-set_other parent column j from 0 ne ∙ l.by j (omega (arith, lt, other j ne)))
-      (cases_eq j column);
-  exact = λ j lt. ⊎_elim
-      (λ (e : j ≡ column). let price : at enter j ≡ at enter column = ap (at enter) e in omega (arith, here j e, price, exact))
-      (λ (ne : j ≡ column → ⊥). omega (arith, other j ne, l.exact j (omega (arith, lt, other j ne))))
-      (cases_eq j column);
-  least = λ j lt. ⊎_elim
-      (λ (e : j ≡ column). omega (arith, here j e, le'))
-      (λ (ne : j ≡ column → ⊥). omega (arith, le, other j ne, l.least j (omega (arith, lt, other j ne))))
-      (cases_eq j column);
-}
+    → AreApproached first (column + 1) from cost enter (as_columns dist0 parent0 done)
+    (as_columns (set dist column d) (set parent column from) done) near'
+AreApproached-set first column from cost near near' d enter done dist0 parent0 dist parent after inside inside' undone exact less le le'
+    l = record {
+      covered = λ j after before free. ⊎_elim
+          (λ (e : j ≡ column). let price : at enter j ≡ at enter column = ap (at enter) e in omega (arith, here j e, price, exact))
+          (λ (ne : j ≡ column → ⊥). omega (arith, other j ne, l.covered j after (omega (arith, before, ne)) free))
+          (cases_eq j column);
+      nearer = λ j. ⊎_elim
+          (λ (e : j ≡ column). let was : at dist j ≡ at dist column = ap (at dist) e in omega (arith, here j e, was, less, l.nearer j))
+          (λ (ne : j ≡ column → ⊥). omega (arith, other j ne, l.nearer j))
+          (cases_eq j column);
+      same = λ j le. ⊎_elim
+          (λ (e : j ≡ column). let was : at dist j ≡ at dist column = ap (at dist) e in
+          absurd (omega (arith, le, here j e, was, less, l.nearer j)))
+          (λ (ne : j ≡ column → ⊥). get_or-set_other parent column j from 0 ne ∙ l.same j (omega (arith, le, other j ne)))
+          (cases_eq j column);
+      between = λ j lt. ⊎_elim
+          (λ (e : j ≡ column). (omega (arith, e, after), omega (arith, e)))
+          (λ (ne : j ≡ column → ⊥). let b = l.between j (omega (arith, lt, other j ne)) in (b.0, omega (arith, b.1)))
+          (cases_eq j column);
+      undone = λ j lt. ⊎_elim
+          (λ (e : j ≡ column). ap (is_done done) e ∙ undone)
+          (λ (ne : j ≡ column → ⊥). l.undone j (omega (arith, lt, other j ne)))
+          (cases_eq j column);
+      by = λ j lt. ⊎_elim
+          (λ (e : j ≡ column). ap (at (set parent column from)) e ∙ get_or-set_same parent column from 0 inside')
+          (λ (ne : j ≡ column → ⊥). get_or-set_other parent column j from 0 ne ∙ l.by j (omega (arith, lt, other j ne)))
+          (cases_eq j column);
+      exact = λ j lt. ⊎_elim
+          (λ (e : j ≡ column). let price : at enter j ≡ at enter column = ap (at enter) e in omega (arith, here j e, price, exact))
+          (λ (ne : j ≡ column → ⊥). omega (arith, other j ne, l.exact j (omega (arith, lt, other j ne))))
+          (cases_eq j column);
+      least = λ j lt. ⊎_elim
+          (λ (e : j ≡ column). omega (arith, here j e, le'))
+          (λ (ne : j ≡ column → ⊥). omega (arith, le, other j ne, l.least j (omega (arith, lt, other j ne))))
+          (cases_eq j column);
+    }
   where
     here : (j : ℕ) → j ≡ column → at (set dist column d) j ≡ d
     here j e = ap (at (set dist column d)) e ∙ get_or-set_same dist column d 0 inside
@@ -87,67 +94,77 @@ AreApproached-set first column from cost near near' d enter done dist0 parent0 d
     other j ne = get_or-set_other dist column j d 0 ne
 
 -- a column that was not nearer by this is as it was
-pub stays : (first upto from cost near : ℕ) (enter : List ℕ) (done : List Bool) (dist parent dist' parent' : List ℕ) → AreApproached first upto from cost enter (as_columns dist parent done) (as_columns dist' parent' done) near
+pub stays : (first upto from cost near : ℕ) (enter : List ℕ) (done : List Bool) (dist parent dist' parent' : List ℕ)
+    → AreApproached first upto from cost enter (as_columns dist parent done) (as_columns dist' parent' done) near
     → (j : ℕ) → at dist j ≤ at dist' j → at dist' j ≡ at dist j
 stays first upto from cost near enter done dist parent dist' parent' l j le = omega (arith, le, l.nearer j)
 
 -- A group of columns is looked at. Those that fit weigh the same. Before a place, those from a first one on fit, and are
 -- approached. From that place on, columns are no farther than as they would be reached.
-pub AreLooked-group : (w : ℕ → Option ℕ) (begin first upto end from start weight cost near : ℕ) (enter : List ℕ) (was : Columns) (done : List Bool) (dist parent dist' parent' : List ℕ)
-    → (first < upto → begin ≤ first) → upto ≤ end → ((j k : ℕ) → begin ≤ j → j < end → w j ≡ Some k → (k ≡ weight) × (cost + weight ≡ start + 67111744))
+pub AreLooked-group : (w : ℕ → Option ℕ) (begin first upto end from start weight cost near : ℕ) (enter : List ℕ) (was : Columns)
+    (done : List Bool) (dist parent dist' parent' : List ℕ)
+    → (first < upto → begin ≤ first) → upto ≤ end
+    → ((j k : ℕ) → begin ≤ j → j < end → w j ≡ Some k → (k ≡ weight) × (cost + weight ≡ start + 67111744))
     → ((j : ℕ) → begin ≤ j → j < first → w j ≡ None) → ((j : ℕ) → begin ≤ j → first ≤ j → j < upto → w j ≡ Some weight)
     → ((j : ℕ) → begin ≤ j → upto ≤ j → j < end → is_done done j ≡ false → at dist j + 67111744 ≤ cost + at enter j)
     → AreApproached first upto from cost enter (as_columns dist parent done) (as_columns dist' parent' done) near
-    → AreLooked w begin from start enter was (as_columns dist parent done) → AreLooked w end from start enter was (as_columns dist' parent' done)
-AreLooked-group w begin first upto end from start weight cost near enter was done dist parent dist' parent' le le' weigh none fits seen a l = record {
-  done = l.done;
-  covered = λ j k lt was-undone fit.
-      let undone : is_done done j ≡ false = ap (λ xs. is_done xs j) l.done ∙ was-undone in
-      ⊎_elim
-      (λ (before : j < begin). omega (arith, a.nearer j, l.covered j k before was-undone fit))
-      (λ (after : begin ≤ j). ⊎_elim
-      (λ (looked : j < upto). ⊎_elim
-      (λ (early : j < first). absurd (none-some k (sym (none j after early) ∙ fit)))
-      (λ (in-time : first ≤ j). let weighs = weigh j k after lt fit in omega (arith, weighs.0, weighs.1, a.covered j in-time looked undone))
-      (cases_lt j first))
-      (λ (left : upto ≤ j). let weighs = weigh j k after lt fit in omega (arith, weighs.0, weighs.1, a.nearer j, seen j after left lt undone))
-      (cases_lt j upto))
-      (cases_lt j begin);
-  nearer = λ j. omega (arith, a.nearer j, l.nearer j);
-  same = λ j h. a.same j (omega (arith, h, l.nearer j, a.nearer j)) ∙ l.same j (omega (arith, h, a.nearer j));
-  reached = λ j lt. ⊎_elim
-      (λ (nearer : at dist' j < at dist j).
-      let b = a.between j nearer in
-      let after : begin ≤ j = omega (arith, b.0, le (omega (arith, b.0, b.1))) in
-      let fit = fits j after b.0 b.1 in
-      record {
-        undone = a.undone j nearer;
-        by = a.by j nearer;
-        weight = weight;
-        fits = fit;
-        exact = omega (arith, (weigh j weight after (omega (arith, b.1, le')) fit).1, a.exact j nearer);
-      })
-      (λ (as-far : at dist j ≤ at dist' j).
-      let same : at dist' j ≡ at dist j = omega (arith, as-far, a.nearer j) in
-      let old = l.reached j (omega (arith, lt, same)) in
-      record {
-        undone = old.undone;
-        by = a.same j as-far ∙ old.by;
-        weight = old.weight;
-        fits = old.fits;
-        exact = omega (arith, same, old.exact);
-      })
-      (cases_lt (at dist' j) (at dist j));
-}
+    → AreLooked w begin from start enter was (as_columns dist parent done)
+    → AreLooked w end from start enter was (as_columns dist' parent' done)
+AreLooked-group w begin first upto end from start weight cost near enter was done dist parent dist' parent' le le' weigh none fits seen a
+    l = record {
+      done = l.done;
+      covered = λ j k lt was-undone fit.
+          let undone : is_done done j ≡ false = ap (λ xs. is_done xs j) l.done ∙ was-undone in
+          ⊎_elim
+          (λ (before : j < begin). omega (arith, a.nearer j, l.covered j k before was-undone fit))
+          (λ (after : begin ≤ j). ⊎_elim
+          (λ (looked : j < upto). ⊎_elim
+          (λ (early : j < first). absurd (none-some k (sym (none j after early) ∙ fit)))
+          (λ (in-time : first ≤ j). let weighs = weigh j k after lt fit in
+          omega (arith, weighs.0, weighs.1, a.covered j in-time looked undone))
+          (cases_lt j first))
+          (λ (left : upto ≤ j). let weighs = weigh j k after lt fit in
+          omega (arith, weighs.0, weighs.1, a.nearer j, seen j after left lt undone))
+          (cases_lt j upto))
+          (cases_lt j begin);
+      nearer = λ j. omega (arith, a.nearer j, l.nearer j);
+      same = λ j h. a.same j (omega (arith, h, l.nearer j, a.nearer j)) ∙ l.same j (omega (arith, h, a.nearer j));
+      reached = λ j lt. ⊎_elim
+          (λ (nearer : at dist' j < at dist j).
+          let b = a.between j nearer in
+          let after : begin ≤ j = omega (arith, b.0, le (omega (arith, b.0, b.1))) in
+          let fit = fits j after b.0 b.1 in
+          record {
+            undone = a.undone j nearer;
+            by = a.by j nearer;
+            weight = weight;
+            fits = fit;
+            exact = omega (arith, (weigh j weight after (omega (arith, b.1, le')) fit).1, a.exact j nearer);
+          })
+          (λ (as-far : at dist j ≤ at dist' j).
+          let same : at dist' j ≡ at dist j = omega (arith, as-far, a.nearer j) in
+          let old = l.reached j (omega (arith, lt, same)) in
+          record {
+            undone = old.undone;
+            by = a.same j as-far ∙ old.by;
+            weight = old.weight;
+            fits = old.fits;
+            exact = omega (arith, same, old.exact);
+          })
+          (cases_lt (at dist' j) (at dist j));
+    }
 
 -- what is said of columns is said of lists that are equal to theirs
-pub AreApproached-same : (first upto from cost near : ℕ) (enter : List ℕ) (done done1 : List Bool) (dist dist1 parent parent1 dist' dist1' parent' parent1' : List ℕ)
+pub AreApproached-same : (first upto from cost near : ℕ) (enter : List ℕ) (done done1 : List Bool)
+    (dist dist1 parent parent1 dist' dist1' parent' parent1' : List ℕ)
     → done1 ≡ done → dist1 ≡ dist → parent1 ≡ parent → dist' ≡ dist1' → parent' ≡ parent1'
     → AreApproached first upto from cost enter (as_columns dist1 parent1 done1) (as_columns dist1' parent1' done1) near
     → AreApproached first upto from cost enter (as_columns dist parent done) (as_columns dist' parent' done) near
-AreApproached-same first upto from cost near enter done done1 dist dist1 parent parent1 dist' dist1' parent' parent1' dones dists parents dists' parents' a =
+AreApproached-same first upto from cost near enter done done1 dist dist1 parent parent1 dist' dist1' parent' parent1' dones dists parents
+    dists' parents' a =
     subst (λ xs. AreApproached first upto from cost enter (as_columns dist parent xs) (as_columns dist' parent' xs) near) dones
     (subst (λ xs. AreApproached first upto from cost enter (as_columns xs parent done1) (as_columns dist' parent' done1) near) dists
     (subst (λ xs. AreApproached first upto from cost enter (as_columns dist1 xs done1) (as_columns dist' parent' done1) near) parents
     (subst (λ xs. AreApproached first upto from cost enter (as_columns dist1 parent1 done1) (as_columns xs parent' done1) near) (sym dists')
-    (subst (λ xs. AreApproached first upto from cost enter (as_columns dist1 parent1 done1) (as_columns dist1' xs done1) near) (sym parents') a))))
+    (subst (λ xs. AreApproached first upto from cost enter (as_columns dist1 parent1 done1) (as_columns dist1' xs done1) near)
+    (sym parents') a))))

@@ -1,5 +1,6 @@
 -- A loose plan is what a search over its pairs may begin with, and what it leaves is loose again.
-use Rattle.std.proofs.Common.{◌≡◌, ◌≢◌, ℕ, ◌+◌, ◌-◌, ◌≤◌, Bool, true, false, length, Option, None, Some, refl, sym, ap, subst, ◌∙◌, ⊎_elim, inl, inr, ◌⊎◌, arith}
+use Rattle.std.proofs.Common.{◌≡◌, ◌≢◌, ℕ, ◌+◌, ◌-◌, ◌≤◌, Bool, true, false, length, Option, None, Some, refl, sym, ap, subst, ◌∙◌, ⊎_elim}
+use Rattle.std.proofs.Common.{inl, inr, ◌⊎◌, arith}
 use Rattle.std.specs.Prelude.{IsSome, IfSome, unwrap_or}
 use Rattle.std.specs.Option.{option_map}
 use Rattle.std.proofs.lemmas.Bool.{both_ways, cases_eq}
@@ -20,7 +21,8 @@ pub record IsWithout (w v : ℕ → ℕ → Option ℕ) (b : Option ℕ) : Type 
 pub weight-fits : (network : Network) (i j k : ℕ) → weight network i j ≡ Some k → Fits network i j
 weight-fits network i j k e = by (network.empty i j) refl e
   where
-    by : (minutes : Option ℕ) → network.empty i j ≡ minutes → option_map (λ m. 67108864 + network.home i + network.out j - m) minutes ≡ Some k → Fits network i j
+    by : (minutes : Option ℕ) → network.empty i j ≡ minutes
+        → option_map (λ m. 67108864 + network.home i + network.out j - m) minutes ≡ Some k → Fits network i j
     by None is e = absurd (none-some k e)
     by (Some m) is e = subst IsSome (sym is) refl
 
@@ -31,7 +33,8 @@ fits-weight network i j fits = by (network.empty i j) refl
     by : (minutes : Option ℕ) → network.empty i j ≡ minutes → weight network i j ≡ Some (weight_to network i (Some j))
     by None is = let none = subst IsSome is fits in cc none
     by (Some m) is =
-        let found : weight network i j ≡ Some (67108864 + network.home i + network.out j - m) = ap (option_map (λ m. 67108864 + network.home i + network.out j - m)) is in
+        let found : weight network i j ≡ Some (67108864 + network.home i + network.out j - m) =
+        ap (option_map (λ m. 67108864 + network.home i + network.out j - m)) is in
         found ∙ ap Some (sym (ap (λ w. unwrap_or w 0) found))
 
 weight-most : (network : Network) (slots : ℕ) → IsDay network slots → (i j k : ℕ) → weight network i j ≡ Some k → k ≤ 67111744
@@ -42,7 +45,8 @@ weight-most network slots day i j k e = by (network.empty i j) e
     by (Some m) e = let same = same_Some (67108864 + network.home i + network.out j - m) k e in omega (arith, same, day.home i, day.out j)
 
 -- the weights of a network of one day
-pub AreWeights-network : (network : Network) (slots : ℕ) (departs : ℕ → ℕ) → IsDay network slots → AreDepartures network departs → AreWeights (weight network) slots
+pub AreWeights-network : (network : Network) (slots : ℕ) (departs : ℕ → ℕ) → IsDay network slots → AreDepartures network departs
+    → AreWeights (weight network) slots
 AreWeights-network network slots departs day clock = record {
   within = λ i j k e. let runs = clock.runs i j (weight-fits network i j k e) in (day.within i runs.0, day.within j runs.1);
   most = weight-most network slots day;
@@ -71,7 +75,8 @@ is-at None j = inr (λ e. none-some j e)
 is-at (Some s) j = ⊎_elim (λ (e : s ≡ j). inl (ap Some e)) (λ (ne : s ≡ j → ⊥). inr (λ e. ne (same_Some s j e))) (cases_eq s j)
 
 -- a search from a leaving side may begin
-pub MayBegin-left : (network : Network) (slots : ℕ) (plan : Plan) (a : ℕ) (b : Option ℕ) (w : ℕ → ℕ → Option ℕ) → IsDay network slots → IsWithout w (weight network) b
+pub MayBegin-left : (network : Network) (slots : ℕ) (plan : Plan) (a : ℕ) (b : Option ℕ) (w : ℕ → ℕ → Option ℕ) → IsDay network slots
+    → IsWithout w (weight network) b
     → IsLoose network plan (Some a) b → MayBegin w slots (λ _. false) a b plan.next plan.leave plan.enter
 MayBegin-left network slots plan a b w day without loose = record {
   start = day.within a loose.before.0;
@@ -79,7 +84,8 @@ MayBegin-left network slots plan a b w day without loose = record {
   matched = record {
     once = loose.links.once;
     tight = λ i j e.
-        without.all i j (price plan.leave i + price plan.enter j) (λ at-b. (said (λ s. (network.live s ≡ true) × ((h : ℕ) → next_of plan.next h ≢ Some s)) b j loose.after at-b).1 i e)
+        without.all i j (price plan.leave i + price plan.enter j)
+        (λ at-b. (said (λ s. (network.live s ≡ true) × ((h : ℕ) → next_of plan.next h ≢ Some s)) b j loose.after at-b).1 i e)
         (fits-weight network i j (loose.links.fits i j e) ∙ ap Some (sym (loose.tight i j e)));
     left = λ i e. absurd (both_ways true (sym e) refl);
     first = λ i e. ap (next_of plan.next) (sym (same_Some a i e)) ∙ loose.before.1;
@@ -95,8 +101,10 @@ MayBegin-left network slots plan a b w day without loose = record {
 }
 
 -- what a search leaves is loose, where each trip that runs is added
-pub IsLoose-matched : (network : Network) (departs : ℕ → ℕ) (plan : Plan) (out : ℕ → Bool) (b : Option ℕ) (w : ℕ → ℕ → Option ℕ) → AreDepartures network departs → IsWithout w (weight network) b
-    → ((i : ℕ) → network.live i ≡ true → out i ≡ false) → ((s : ℕ) → b ≡ Some s → network.live s ≡ true) → length plan.leave ≡ length plan.next → length plan.enter ≡ length plan.next
+pub IsLoose-matched : (network : Network) (departs : ℕ → ℕ) (plan : Plan) (out : ℕ → Bool) (b : Option ℕ) (w : ℕ → ℕ → Option ℕ)
+    → AreDepartures network departs → IsWithout w (weight network) b
+    → ((i : ℕ) → network.live i ≡ true → out i ≡ false) → ((s : ℕ) → b ≡ Some s → network.live s ≡ true)
+    → length plan.leave ≡ length plan.next → length plan.enter ≡ length plan.next
     → IsMatched w out None b plan.next plan.leave plan.enter → Covers w out None plan.leave plan.enter → IsLoose network plan None b
 IsLoose-matched network departs plan out b w clock without added lives leaves enters matched covers = record {
   leaves = leaves;
@@ -105,11 +113,13 @@ IsLoose-matched network departs plan out b w clock without added lives leaves en
   dead = λ s dead. (
     no-next s dead (next_of plan.next s) refl,
     matched.leave_zero s (λ e. none-some s e) (no-next s dead (next_of plan.next s) refl),
-    matched.enter_zero s (λ at-b. both_ways (network.live s) dead (lives s at-b)) (λ i e. both_ways (network.live s) dead (clock.runs i s (fits i s e)).1),
+    matched.enter_zero s (λ at-b. both_ways (network.live s) dead (lives s at-b))
+        (λ i e. both_ways (network.live s) dead (clock.runs i s (fits i s e)).1),
   );
   before = tt;
   after = after b refl;
-  covers = λ i j k _ away e. covers i j k (added i (clock.runs i j (weight-fits network i j k e)).0) (λ e. none-some i e) (without.all i j k away e);
+  covers = λ i j k _ away e. covers i j k (added i (clock.runs i j (weight-fits network i j k e)).0) (λ e. none-some i e)
+      (without.all i j k away e);
   tight = λ i j e. sym (ap (λ o. unwrap_or o 0) (weighs i j e));
   leave_zero = λ s _ none. matched.leave_zero s (λ e. none-some s e) none;
   enter_zero = matched.enter_zero;
@@ -127,14 +137,21 @@ IsLoose-matched network departs plan out b w clock without added lives leaves en
 
     after : (o : Option ℕ) → b ≡ o → IfSome o (λ s. (network.live s ≡ true) × ((i : ℕ) → next_of plan.next i ≢ Some s))
     after None e = tt
-    after (Some s) e = (lives s e, λ i linked. none-some (price plan.leave i + price plan.enter s) (sym (without.none i s e) ∙ matched.tight i s linked))
+    after (Some s) e = (
+      lives s e,
+      λ i linked. none-some (price plan.leave i + price plan.enter s)
+          (sym (without.none i s e) ∙ matched.tight i s linked),
+    )
 
 -- b of a loose plan runs
-pub lives-after : (network : Network) (plan : Plan) (a b : Option ℕ) → IsLoose network plan a b → (s : ℕ) → b ≡ Some s → network.live s ≡ true
-lives-after network plan a b loose s e = (said (λ s. (network.live s ≡ true) × ((h : ℕ) → next_of plan.next h ≢ Some s)) b s loose.after e).0
+pub lives-after : (network : Network) (plan : Plan) (a b : Option ℕ) → IsLoose network plan a b → (s : ℕ) → b ≡ Some s
+    → network.live s ≡ true
+lives-after network plan a b loose s e =
+    (said (λ s. (network.live s ≡ true) × ((h : ℕ) → next_of plan.next h ≢ Some s)) b s loose.after e).0
 
 -- links of a loose plan are next trips
-pub AreNextTrips-loose : (network : Network) (slots : ℕ) (departs : ℕ → ℕ) (plan : Plan) (a b : Option ℕ) → IsDay network slots → AreDepartures network departs → length plan.next ≡ slots
+pub AreNextTrips-loose : (network : Network) (slots : ℕ) (departs : ℕ → ℕ) (plan : Plan) (a b : Option ℕ) → IsDay network slots
+    → AreDepartures network departs → length plan.next ≡ slots
     → IsLoose network plan a b → AreNextTrips plan.next
 AreNextTrips-loose network slots departs plan a b day clock len loose = record {
   within = λ i j e. omega (arith, day.within j (clock.runs i j (loose.links.fits i j e)).1, len);
@@ -142,8 +159,10 @@ AreNextTrips-loose network slots departs plan a b day clock len loose = record {
 }
 
 -- the path of a search from a leaving side
-pub IsLeftPath-loose : (network : Network) (slots : ℕ) (departs : ℕ → ℕ) (old new : Plan) (a : ℕ) (b b' : Option ℕ) → IsDay network slots → AreDepartures network departs → length old.next ≡ slots
-    → length new.next ≡ length old.next → IsLoose network old (Some a) b → IsLoose network new None b' → IsPath (next_of old.next) (before_of old.next) (next_of new.next) a
+pub IsLeftPath-loose : (network : Network) (slots : ℕ) (departs : ℕ → ℕ) (old new : Plan) (a : ℕ) (b b' : Option ℕ) → IsDay network slots
+    → AreDepartures network departs → length old.next ≡ slots
+    → length new.next ≡ length old.next → IsLoose network old (Some a) b → IsLoose network new None b'
+    → IsPath (next_of old.next) (before_of old.next) (next_of new.next) a
     → IsLeftPath old.next new.next a
 IsLeftPath-loose network slots departs old new a b b' day clock len same was is path = record {
   lists = record {

@@ -48,7 +48,8 @@ swapped-twice i j m = ⊎_elim
     (cases_eq m j))
     (cases_eq m i)
 
-at-swapped : (d : Column) (xs ys : List Column) (i j : ℕ) → i < length xs → j < length xs → ys ≡ swap xs i j → (m : ℕ) → get_or ys m d ≡ get_or xs (swapped i j m) d
+at-swapped : (d : Column) (xs ys : List Column) (i j : ℕ) → i < length xs → j < length xs → ys ≡ swap xs i j → (m : ℕ)
+    → get_or ys m d ≡ get_or xs (swapped i j m) d
 at-swapped d xs ys i j li lj is m =
     let s = swapped_from_swap xs ys i j d li lj is in
     ⊎_elim
@@ -69,7 +70,8 @@ pub record AreColumns (n : ℕ) (minute : ℕ → ℕ) (post : ℕ → Option �
   pub apart : (h k : ℕ) → h < n → k < n → slot_at n columns h ≡ slot_at n columns k → h ≡ k
   pub found : (j : ℕ) → j < n → (k : ℕ) × (k < n) × (slot_at n columns k ≡ j)
 
-AreColumns-swap : (n : ℕ) (minute : ℕ → ℕ) (post : ℕ → Option ℕ) (xs : List Column) (i j : ℕ) → i < length xs → j < length xs → AreColumns n minute post xs → AreColumns n minute post (swap xs i j)
+AreColumns-swap : (n : ℕ) (minute : ℕ → ℕ) (post : ℕ → Option ℕ) (xs : List Column) (i j : ℕ) → i < length xs → j < length xs
+    → AreColumns n minute post xs → AreColumns n minute post (swap xs i j)
 AreColumns-swap n minute post xs i j li lj are = record {
   count = length_permutation xs (swap xs i j) (IsPermutation-swap xs (swap xs i j) i j li lj refl) ∙ are.count;
   within = λ k lt. omega (arith, slots k, are.within (swapped i j k) (inside k lt));
@@ -94,9 +96,11 @@ AreColumns-swap n minute post xs i j li lj are = record {
     inside k lt = swapped-within n i j k (omega (arith, li, are.count)) (omega (arith, lj, are.count)) lt
 
 -- the columns by their slots
-pub AreColumns-listed : (n : ℕ) (minute : ℕ → ℕ) (post : ℕ → Option ℕ) (columns : List Column) → length columns ≡ n → ((j : ℕ) (d : Column) → j < n → (get_or columns j d).slot ≡ j)
+pub AreColumns-listed : (n : ℕ) (minute : ℕ → ℕ) (post : ℕ → Option ℕ) (columns : List Column) → length columns ≡ n
+    → ((j : ℕ) (d : Column) → j < n → (get_or columns j d).slot ≡ j)
     → ((j : ℕ) (d : Column) → j < n → (get_or columns j d).minute ≡ minute j)
-    → ((j : ℕ) (d : Column) → j < n → (get_or columns j d).post ≡ post j) → ((j : ℕ) (d : Column) → j < n → IsRanked (get_or columns j d)) → AreColumns n minute post columns
+    → ((j : ℕ) (d : Column) → j < n → (get_or columns j d).post ≡ post j) → ((j : ℕ) (d : Column) → j < n → IsRanked (get_or columns j d))
+    → AreColumns n minute post columns
 AreColumns-listed n minute post columns count slots minutes posts ranked = record {
   count = count;
   within = λ k lt. omega (arith, here k lt, lt);
@@ -112,17 +116,24 @@ AreColumns-listed n minute post columns count slots minutes posts ranked = recor
 
 -- columns that stand by their slots, with what they are
 pub AreColumns-own : (columns : List Column) → ((j : ℕ) (d : Column) → j < length columns → (get_or columns j d).slot ≡ j)
-    → ((j : ℕ) (d : Column) → j < length columns → IsRanked (get_or columns j d)) → AreColumns (length columns) (λ j. (get_or columns j (no_column (length columns))).minute) (λ j. (get_or columns j (no_column (length columns))).post) columns
-AreColumns-own columns slots ranked = AreColumns-listed (length columns) (λ j. (get_or columns j (no_column (length columns))).minute) (λ j. (get_or columns j (no_column (length columns))).post) columns refl slots
+    → ((j : ℕ) (d : Column) → j < length columns → IsRanked (get_or columns j d))
+    → AreColumns (length columns) (λ j. (get_or columns j (no_column (length columns))).minute)
+    (λ j. (get_or columns j (no_column (length columns))).post) columns
+AreColumns-own columns slots ranked =
+    AreColumns-listed (length columns) (λ j. (get_or columns j (no_column (length columns))).minute)
+    (λ j. (get_or columns j (no_column (length columns))).post) columns refl slots
     (λ j d lt. ap (λ (c : Column). c.minute) (get_or_default columns j d (no_column (length columns)) lt))
     (λ j d lt. ap (λ (c : Column). c.post) (get_or_default columns j d (no_column (length columns)) lt)) ranked
 
 -- and in another order
-pub AreColumns-sorted : (n : ℕ) (minute : ℕ → ℕ) (post : ℕ → Option ℕ) (xs ys : List Column) → IsPermutation xs ys → AreColumns n minute post xs → AreColumns n minute post ys
-AreColumns-sorted n minute post xs ys permutation are = IsPermutation-keeps xs (AreColumns n minute post) are (AreColumns-swap n minute post) ys permutation
+pub AreColumns-sorted : (n : ℕ) (minute : ℕ → ℕ) (post : ℕ → Option ℕ) (xs ys : List Column) → IsPermutation xs ys
+    → AreColumns n minute post xs → AreColumns n minute post ys
+AreColumns-sorted n minute post xs ys permutation are =
+    IsPermutation-keeps xs (AreColumns n minute post) are (AreColumns-swap n minute post) ys permutation
 
 -- columns that were sorted and numbered are in order
-pub IsOrder-sorted : (n : ℕ) (minute : ℕ → ℕ) (post : ℕ → Option ℕ) (columns : List Column) (places : List ℕ) → AreColumns n minute post columns → length places ≡ n
+pub IsOrder-sorted : (n : ℕ) (minute : ℕ → ℕ) (post : ℕ → Option ℕ) (columns : List Column) (places : List ℕ)
+    → AreColumns n minute post columns → length places ≡ n
     → ((k : ℕ) → k < n → place_of n places (slot_at n columns k) ≡ k) → IsOrder n minute post columns places
 IsOrder-sorted n minute post columns places are len numbered = record {
   count = are.count;
@@ -132,7 +143,8 @@ IsOrder-sorted n minute post columns places are len numbered = record {
     place_within = λ j lt. let was = are.found j lt in omega (arith, at-place j was.0 was.1 was.2, was.1);
     there = λ j lt. let was = are.found j lt in ap (slot_at n columns) (at-place j was.0 was.1 was.2) ∙ was.2;
     back = numbered;
-    no_slot = λ k past. let none : slot_at n columns k ≡ n = ap (λ (c : Column). c.slot) (get_or_past columns k (no_column n) (omega (arith, past, are.count))) in omega (arith, none);
+    no_slot = λ k past. let none : slot_at n columns k ≡ n =
+        ap (λ (c : Column). c.slot) (get_or_past columns k (no_column n) (omega (arith, past, are.count))) in omega (arith, none);
     no_place = λ j past. let none : place_of n places j ≡ n = get_or_past places j n (omega (arith, past, len)) in omega (arith, none);
   };
   minutes = are.minutes;

@@ -1,5 +1,6 @@
 -- What is said of rows and columns is said of them by the places of the columns, and the other way round.
-use Rattle.std.proofs.Common.{◌≡◌, ℕ, ◌+◌, ◌<◌, ◌≤◌, Bool, List, [], ◌∷◌, length, Option, None, Some, refl, sym, ap, subst, ◌∙◌, ⊎_elim, arith}
+use Rattle.std.proofs.Common.{◌≡◌, ℕ, ◌+◌, ◌<◌, ◌≤◌, Bool, List, [], ◌∷◌, length, Option, None, Some, refl, sym, ap, subst, ◌∙◌, ⊎_elim}
+use Rattle.std.proofs.Common.{arith}
 use Rattle.std.specs.Prelude.{IsSome, IfSome}
 use Rattle.std.specs.Option.{option_map}
 use Rattle.std.proofs.lemmas.Bool.{cases_lt}
@@ -18,7 +19,8 @@ mapped : (f : ℕ → ℕ) (o : Option ℕ) (k : ℕ) → option_map f o ≡ Som
 mapped f None k e = absurd (none-some k e)
 mapped f (Some j) k e = (j, refl, same_Some (f j) k e)
 
-none-placed : (n : ℕ) (slot place : ℕ → ℕ) (next placed : List (Option ℕ)) (enter entering : List ℕ) → AreRenamed n slot place next placed enter entering
+none-placed : (n : ℕ) (slot place : ℕ → ℕ) (next placed : List (Option ℕ)) (enter entering : List ℕ)
+    → AreRenamed n slot place next placed enter entering
     → (i : ℕ) → next_of next i ≡ None → next_of placed i ≡ None
 none-placed n slot place next placed enter entering r i none = by (next_of placed i) refl
   where
@@ -26,7 +28,8 @@ none-placed n slot place next placed enter entering r i none = by (next_of place
     by None e = e
     by (Some k) e = absurd (none-some (slot k) (sym none ∙ (r.linked i k e).1))
 
-none-slotted : (n : ℕ) (slot place : ℕ → ℕ) (next placed : List (Option ℕ)) (enter entering : List ℕ) → AreRenamed n slot place next placed enter entering
+none-slotted : (n : ℕ) (slot place : ℕ → ℕ) (next placed : List (Option ℕ)) (enter entering : List ℕ)
+    → AreRenamed n slot place next placed enter entering
     → (i : ℕ) → next_of placed i ≡ None → next_of next i ≡ None
 none-slotted n slot place next placed enter entering r i none = by (next_of next i) refl
   where
@@ -36,17 +39,20 @@ none-slotted n slot place next placed enter entering r i none = by (next_of next
 
 -- a place whose slot is one of so many is one of them
 slot-inside : (n : ℕ) (slot place : ℕ → ℕ) → IsRenaming n slot place → (k : ℕ) → slot k < n → k < n
-slot-inside n slot place ρ k inside = ⊎_elim (λ (lt : k < n). lt) (λ (past : n ≤ k). absurd (omega (arith, ρ.no_slot k past, inside))) (cases_lt k n)
+slot-inside n slot place ρ k inside =
+    ⊎_elim (λ (lt : k < n). lt) (λ (past : n ≤ k). absurd (omega (arith, ρ.no_slot k past, inside))) (cases_lt k n)
 
 -- weights by places
-pub AreWeights-placed : (w : ℕ → ℕ → Option ℕ) (n : ℕ) (slot place : ℕ → ℕ) → AreWeights w n → IsRenaming n slot place → AreWeights (λ i k. w i (slot k)) n
+pub AreWeights-placed : (w : ℕ → ℕ → Option ℕ) (n : ℕ) (slot place : ℕ → ℕ) → AreWeights w n → IsRenaming n slot place
+    → AreWeights (λ i k. w i (slot k)) n
 AreWeights-placed w n slot place weights ρ = record {
   within = λ i k v e. let both = weights.within i (slot k) v e in (both.0, slot-inside n slot place ρ k both.1);
   most = λ i k v e. weights.most i (slot k) v e;
 }
 
 -- a search by places may begin
-pub MayBegin-placed : (w : ℕ → ℕ → Option ℕ) (n : ℕ) (slot place : ℕ → ℕ) (out : ℕ → Bool) (a : ℕ) (b : Option ℕ) (next placed : List (Option ℕ)) (leave enter entering : List ℕ)
+pub MayBegin-placed : (w : ℕ → ℕ → Option ℕ) (n : ℕ) (slot place : ℕ → ℕ) (out : ℕ → Bool) (a : ℕ) (b : Option ℕ)
+    (next placed : List (Option ℕ)) (leave enter entering : List ℕ)
     → AreWeights w n → IsRenaming n slot place → AreRenamed n slot place next placed enter entering → MayBegin w n out a b next leave enter
     → MayBegin (λ i k. w i (slot k)) n out a (option_map place b) placed leave entering
 MayBegin-placed w n slot place out a b next placed leave enter entering weights ρ r begins = record {
@@ -86,7 +92,8 @@ MayBegin-placed w n slot place out a b next placed leave enter entering weights 
         (cases_lt j n)
 
 -- links that are matched by places are matched
-pub IsMatched-slotted : (w : ℕ → ℕ → Option ℕ) (n : ℕ) (slot place : ℕ → ℕ) (out : ℕ → Bool) (b : Option ℕ) (next placed : List (Option ℕ)) (leave enter entering : List ℕ)
+pub IsMatched-slotted : (w : ℕ → ℕ → Option ℕ) (n : ℕ) (slot place : ℕ → ℕ) (out : ℕ → Bool) (b : Option ℕ) (next placed : List (Option ℕ))
+    (leave enter entering : List ℕ)
     → IsRenaming n slot place → AreRenamed n slot place next placed enter entering → ((i j : ℕ) → b ≡ Some j → w i j ≡ None)
     → IsMatched (λ i k. w i (slot k)) out None (option_map place b) placed leave entering → IsMatched w out None b next leave enter
 IsMatched-slotted w n slot place out b next placed leave enter entering ρ r last matched = record {
@@ -100,7 +107,8 @@ IsMatched-slotted w n slot place out b next placed leave enter entering ρ r las
   leave_zero = λ i other none. matched.leave_zero i other (none-placed n slot place next placed enter entering r i none);
   enter_zero = λ j other none. ⊎_elim
       (λ (lt : j < n).
-      sym (enters j lt) ∙ matched.enter_zero (place j) (λ e. let was = mapped place b (place j) e in other (was.1 ∙ ap Some (same was.0 j lt was.2)))
+      sym (enters j lt) ∙ matched.enter_zero (place j)
+      (λ e. let was = mapped place b (place j) e in other (was.1 ∙ ap Some (same was.0 j lt was.2)))
       (λ i linked. none i ((r.linked i (place j) linked).1 ∙ ap Some (ρ.there j lt))))
       (λ (past : n ≤ j). get_or_past enter j 0 (omega (arith, past, r.slots)))
       (cases_lt j n);
@@ -115,15 +123,18 @@ IsMatched-slotted w n slot place out b next placed leave enter entering ρ r las
         (λ (past : n ≤ h). absurd (omega (arith, ρ.no_place h past, e, ρ.place_within j lt)))
         (cases_lt h n)
 
-pub Covers-slotted : (w : ℕ → ℕ → Option ℕ) (n : ℕ) (slot place : ℕ → ℕ) (out : ℕ → Bool) (next placed : List (Option ℕ)) (leave enter entering : List ℕ)
-    → AreWeights w n → IsRenaming n slot place → AreRenamed n slot place next placed enter entering → Covers (λ i k. w i (slot k)) out None leave entering → Covers w out None leave enter
+pub Covers-slotted : (w : ℕ → ℕ → Option ℕ) (n : ℕ) (slot place : ℕ → ℕ) (out : ℕ → Bool) (next placed : List (Option ℕ))
+    (leave enter entering : List ℕ)
+    → AreWeights w n → IsRenaming n slot place → AreRenamed n slot place next placed enter entering
+    → Covers (λ i k. w i (slot k)) out None leave entering → Covers w out None leave enter
 Covers-slotted w n slot place out next placed leave enter entering weights ρ r covers i j k inside other e =
     let lt = (weights.within i j k e).1 in
     let enters : price entering (place j) ≡ price enter j = r.prices (place j) (ρ.place_within j lt) ∙ ap (price enter) (ρ.there j lt) in
     omega (arith, covers i (place j) k inside other (ap (w i) (ρ.there j lt) ∙ e), enters)
 
 -- and a path by places is a path
-pub IsPath-slotted : (n : ℕ) (slot place : ℕ → ℕ) (next placed next' placed' : List (Option ℕ)) (enter entering enter' entering' : List ℕ) (a : ℕ)
+pub IsPath-slotted : (n : ℕ) (slot place : ℕ → ℕ) (next placed next' placed' : List (Option ℕ)) (enter entering enter' entering' : List ℕ)
+    (a : ℕ)
     → AreRenamed n slot place next placed enter entering → AreRenamed n slot place next' placed' enter' entering' → AreApart placed
     → IsPath (next_of placed) (before_of placed) (next_of placed') a → IsPath (next_of next) (before_of next) (next_of next') a
 IsPath-slotted n slot place next placed next' placed' enter entering enter' entering' a r r' apart path = record {
@@ -137,7 +148,8 @@ IsPath-slotted n slot place next placed next' placed' enter entering enter' ente
     same s t e = by (next_of placed t) refl
       where
         by : (o : Option ℕ) → next_of placed t ≡ o → next_of next' s ≡ next_of next t
-        by None q = none-slotted n slot place next' placed' enter' entering' r' s (e ∙ q) ∙ sym (none-slotted n slot place next placed enter entering r t q)
+        by None q = none-slotted n slot place next' placed' enter' entering' r' s (e ∙ q)
+            ∙ sym (none-slotted n slot place next placed enter entering r t q)
         by (Some k) q = (r'.linked s k (e ∙ q)).1 ∙ sym (r.linked t k q).1
 
     some : (s : ℕ) → IsSome (next_of placed s) → IsSome (next_of next s)
@@ -163,13 +175,16 @@ IsPath-slotted n slot place next placed next' placed' enter entering enter' ente
             subst (λ o. IfSome o (λ t. before_of next t ≡ None)) (sym q)
             (free j (subst (λ o. IfSome o (λ t. before_of placed t ≡ None)) (r'.told s j q).1 h))
 
-    on : (s : ℕ) (path : List ℕ) → IsPassedOn (next_of placed) (before_of placed) (next_of placed') s path → IsPassedOn (next_of next) (before_of next) (next_of next') s path
+    on : (s : ℕ) (path : List ℕ) → IsPassedOn (next_of placed) (before_of placed) (next_of placed') s path
+        → IsPassedOn (next_of next) (before_of next) (next_of next') s path
     on s [] h = last s h
     on s (t ∷ path) h = (same s t h.0, some t h.1, on t path h.2)
 
 -- links by places
-pub AreRenamed-placed : (n : ℕ) (slot place : ℕ → ℕ) (next placed : List (Option ℕ)) (enter entering : List ℕ) → IsRenaming n slot place → ((i j : ℕ) → next_of next i ≡ Some j → j < n)
-    → ((i : ℕ) → next_of placed i ≡ option_map place (next_of next i)) → ((k : ℕ) → k < n → price entering k ≡ price enter (slot k)) → length enter ≡ n → length entering ≡ n
+pub AreRenamed-placed : (n : ℕ) (slot place : ℕ → ℕ) (next placed : List (Option ℕ)) (enter entering : List ℕ) → IsRenaming n slot place
+    → ((i j : ℕ) → next_of next i ≡ Some j → j < n)
+    → ((i : ℕ) → next_of placed i ≡ option_map place (next_of next i)) → ((k : ℕ) → k < n → price entering k ≡ price enter (slot k))
+    → length enter ≡ n → length entering ≡ n
     → AreRenamed n slot place next placed enter entering
 AreRenamed-placed n slot place next placed enter entering ρ within links prices len len' = record {
   told = λ i j e. (within i j e, links i ∙ ap (option_map place) e);
@@ -183,8 +198,10 @@ AreRenamed-placed n slot place next placed enter entering ρ within links prices
 }
 
 -- links by slots
-pub AreRenamed-slotted : (n : ℕ) (slot place : ℕ → ℕ) (next placed : List (Option ℕ)) (enter entering : List ℕ) → IsRenaming n slot place → ((i k : ℕ) → next_of placed i ≡ Some k → k < n)
-    → ((i : ℕ) → next_of next i ≡ option_map slot (next_of placed i)) → ((j : ℕ) → j < n → price enter j ≡ price entering (place j)) → length enter ≡ n → length entering ≡ n
+pub AreRenamed-slotted : (n : ℕ) (slot place : ℕ → ℕ) (next placed : List (Option ℕ)) (enter entering : List ℕ) → IsRenaming n slot place
+    → ((i k : ℕ) → next_of placed i ≡ Some k → k < n)
+    → ((i : ℕ) → next_of next i ≡ option_map slot (next_of placed i)) → ((j : ℕ) → j < n → price enter j ≡ price entering (place j))
+    → length enter ≡ n → length entering ≡ n
     → AreRenamed n slot place next placed enter entering
 AreRenamed-slotted n slot place next placed enter entering ρ within links prices len len' = record {
   told = λ i j e.
@@ -198,14 +215,19 @@ AreRenamed-slotted n slot place next placed enter entering ρ within links price
 }
 
 -- a column that a row is linked to by its place is one of so many
-pub within-placed : (w : ℕ → ℕ → Option ℕ) (n : ℕ) (slot place : ℕ → ℕ) (out : ℕ → Bool) (a b : Option ℕ) (placed : List (Option ℕ)) (leave entering : List ℕ) → AreWeights w n → IsRenaming n slot place
+pub within-placed : (w : ℕ → ℕ → Option ℕ) (n : ℕ) (slot place : ℕ → ℕ) (out : ℕ → Bool) (a b : Option ℕ) (placed : List (Option ℕ))
+    (leave entering : List ℕ) → AreWeights w n → IsRenaming n slot place
     → IsMatched (λ i k. w i (slot k)) out a b placed leave entering → (i k : ℕ) → next_of placed i ≡ Some k → k < n
 within-placed w n slot place out a b placed leave entering weights ρ matched i k e =
     slot-inside n slot place ρ k (weights.within i (slot k) (price leave i + price entering k) (matched.tight i k e)).1
 
 -- links that are matched by places, by slots
-pub AreRenamed-matched : (w : ℕ → ℕ → Option ℕ) (n : ℕ) (slot place : ℕ → ℕ) (out : ℕ → Bool) (a b : Option ℕ) (next placed : List (Option ℕ)) (leave enter entering : List ℕ) → AreWeights w n
-    → IsRenaming n slot place → IsMatched (λ i k. w i (slot k)) out a b placed leave entering → ((i : ℕ) → next_of next i ≡ option_map slot (next_of placed i))
-    → ((j : ℕ) → j < n → price enter j ≡ price entering (place j)) → length enter ≡ n → length entering ≡ n → AreRenamed n slot place next placed enter entering
+pub AreRenamed-matched : (w : ℕ → ℕ → Option ℕ) (n : ℕ) (slot place : ℕ → ℕ) (out : ℕ → Bool) (a b : Option ℕ)
+    (next placed : List (Option ℕ)) (leave enter entering : List ℕ) → AreWeights w n
+    → IsRenaming n slot place → IsMatched (λ i k. w i (slot k)) out a b placed leave entering
+    → ((i : ℕ) → next_of next i ≡ option_map slot (next_of placed i))
+    → ((j : ℕ) → j < n → price enter j ≡ price entering (place j)) → length enter ≡ n → length entering ≡ n
+    → AreRenamed n slot place next placed enter entering
 AreRenamed-matched w n slot place out a b next placed leave enter entering weights ρ matched links prices len len' =
-    AreRenamed-slotted n slot place next placed enter entering ρ (within-placed w n slot place out a b placed leave entering weights ρ matched) links prices len len'
+    AreRenamed-slotted n slot place next placed enter entering ρ
+    (within-placed w n slot place out a b placed leave entering weights ρ matched) links prices len len'

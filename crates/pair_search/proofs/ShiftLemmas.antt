@@ -1,5 +1,6 @@
 -- Where a search has ended, the shift of prices keeps links tight and pairs covered.
-use Rattle.std.proofs.Common.{◌≡◌, ◌≢◌, ℕ, ◌+◌, ◌-◌, ◌<◌, ◌≤◌, Bool, true, false, List, length, set, Option, None, Some, refl, sym, ap, subst, ◌∙◌, ⊎_elim, arith}
+use Rattle.std.proofs.Common.{◌≡◌, ◌≢◌, ℕ, ◌+◌, ◌-◌, ◌<◌, ◌≤◌, Bool, true, false, List, length, set, Option, None, Some, refl, sym, ap}
+use Rattle.std.proofs.Common.{subst, ◌∙◌, ⊎_elim, arith}
 use Rattle.std.specs.Prelude.{IsSome, IfSome}
 use Rattle.std.proofs.lemmas.Bool.{cases_Bool, cases_eq, cases_lt}
 use Rattle.std.proofs.lemmas.List.{get_or-set_same, get_or-set_other, get_or_past}
@@ -16,7 +17,8 @@ use Rattle.pair_search.specs.Search.{at, is_done, Problem, problem, IsGiven, Tre
 use Rattle.pair_search.proofs.InverseLemmas.{inverse-before}
 
 -- linked rows and columns are among so many
-pub AreNextTrips-matched : (w : ℕ → ℕ → Option ℕ) (n : ℕ) (out : ℕ → Bool) (a b : Option ℕ) (next : List (Option ℕ)) (leave enter : List ℕ) → AreWeights w n → length next ≡ n
+pub AreNextTrips-matched : (w : ℕ → ℕ → Option ℕ) (n : ℕ) (out : ℕ → Bool) (a b : Option ℕ) (next : List (Option ℕ)) (leave enter : List ℕ)
+    → AreWeights w n → length next ≡ n
     → IsMatched w out a b next leave enter → AreNextTrips next
 AreNextTrips-matched w n out a b next leave enter weights len matched = record {
   within = λ i j e. omega (arith, (weights.within i j (price leave i + price enter j) (matched.tight i j e)).1, len);
@@ -24,19 +26,25 @@ AreNextTrips-matched w n out a b next leave enter weights len matched = record {
 }
 
 -- a column that fits a row has no price above the greatest
-pub enter-low : (w : ℕ → ℕ → Option ℕ) (n : ℕ) (out : ℕ → Bool) (a b : Option ℕ) (next : List (Option ℕ)) (leave enter : List ℕ) → AreWeights w n
+pub enter-low : (w : ℕ → ℕ → Option ℕ) (n : ℕ) (out : ℕ → Bool) (a b : Option ℕ) (next : List (Option ℕ)) (leave enter : List ℕ)
+    → AreWeights w n
     → IsMatched w out a b next leave enter → (i j k : ℕ) → w i j ≡ Some k → price enter j ≤ 67111744
 enter-low w n out a b next leave enter weights matched i j k fits = by (before_of next j) refl
   where
     by : (before : Option ℕ) → before_of next j ≡ before → price enter j ≤ 67111744
     by None e =
-        omega (arith, matched.enter_zero j (λ last. none-some k (sym (matched.last i j last) ∙ fits)) (λ h linked. none-some h (sym e ∙ before-next next h j matched.once linked)))
+        omega (
+          arith,
+          matched.enter_zero j (λ last. none-some k (sym (matched.last i j last) ∙ fits))
+              (λ h linked. none-some h (sym e ∙ before-next next h j matched.once linked)),
+        )
     by (Some h) e =
         let linked = matched.tight h j (next-before next h j e) in
         omega (arith, weights.most h j (price leave h + price enter j) linked)
 
 -- a row other than the one at which a search begins has no price above it
-leave-low : (w : ℕ → ℕ → Option ℕ) (n : ℕ) (out : ℕ → Bool) (a b : Option ℕ) (next : List (Option ℕ)) (leave enter : List ℕ) → AreWeights w n
+leave-low : (w : ℕ → ℕ → Option ℕ) (n : ℕ) (out : ℕ → Bool) (a b : Option ℕ) (next : List (Option ℕ)) (leave enter : List ℕ)
+    → AreWeights w n
     → IsMatched w out a b next leave enter → (i : ℕ) → a ≢ Some i → price leave i ≤ 67111744
 leave-low w n out a b next leave enter weights matched i other = by (next_of next i) refl
   where
@@ -48,7 +56,8 @@ set-other : (leave : List ℕ) (a x i : ℕ) → Some a ≢ Some i → price (se
 set-other leave a x i other = get_or-set_other leave a i x 0 (λ e. other (ap Some (sym e)))
 
 -- the price of the row at which a search begins is not asked
-matched-set : (w : ℕ → ℕ → Option ℕ) (out : ℕ → Bool) (a x : ℕ) (b : Option ℕ) (next : List (Option ℕ)) (leave enter : List ℕ) → IsMatched w out (Some a) b next leave enter
+matched-set : (w : ℕ → ℕ → Option ℕ) (out : ℕ → Bool) (a x : ℕ) (b : Option ℕ) (next : List (Option ℕ)) (leave enter : List ℕ)
+    → IsMatched w out (Some a) b next leave enter
     → IsMatched w out (Some a) b next (set leave a x) enter
 matched-set w out a x b next leave enter matched = record {
   once = matched.once;
@@ -62,12 +71,15 @@ matched-set w out a x b next leave enter matched = record {
   enter_zero = matched.enter_zero;
 }
 
-covers-set : (w : ℕ → ℕ → Option ℕ) (out : ℕ → Bool) (a x : ℕ) (leave enter : List ℕ) → Covers w out (Some a) leave enter → Covers w out (Some a) (set leave a x) enter
+covers-set : (w : ℕ → ℕ → Option ℕ) (out : ℕ → Bool) (a x : ℕ) (leave enter : List ℕ) → Covers w out (Some a) leave enter
+    → Covers w out (Some a) (set leave a x) enter
 covers-set w out a x leave enter covers i j k inside other fits = omega (arith, covers i j k inside other fits, set-other leave a x i other)
 
 -- what a search is given as it begins
-IsGiven-begun : (w : ℕ → ℕ → Option ℕ) (n : ℕ) (out : ℕ → Bool) (a : ℕ) (b : Option ℕ) (next before : List (Option ℕ)) (leave enter : List ℕ) → n ≤ 4096 → AreWeights w n
-    → length next ≡ n → length leave ≡ n → IsInverse (length next) next before → MayBegin w n out a b next leave enter → IsGiven (problem w n a before (set leave a 67111744) enter)
+IsGiven-begun : (w : ℕ → ℕ → Option ℕ) (n : ℕ) (out : ℕ → Bool) (a : ℕ) (b : Option ℕ) (next before : List (Option ℕ))
+    (leave enter : List ℕ) → n ≤ 4096 → AreWeights w n
+    → length next ≡ n → length leave ≡ n → IsInverse (length next) next before → MayBegin w n out a b next leave enter
+    → IsGiven (problem w n a before (set leave a 67111744) enter)
 IsGiven-begun w n out a b next before leave enter few weights len len' inverse begins =
     let matched = begins.matched in
     let root : price (set leave a 67111744) a ≡ 67111744 = get_or-set_same leave a 67111744 0 (omega (arith, begins.start, len')) in
@@ -77,9 +89,11 @@ IsGiven-begun w n out a b next before leave enter few weights len len' inverse b
       start = begins.start;
       root = λ j e. none-some j (sym (matched.first a refl) ∙ (inverse.linked a j e).1);
       once = λ h j i e f. same_Some h j (sym (inverse.linked i h e).1 ∙ (inverse.linked i j f).1);
-      rows = λ i j e. let linked = (inverse.linked i j e).1 in weights.within i j (price leave i + price enter j) (matched.tight i j linked);
+      rows = λ i j e. let linked = (inverse.linked i j e).1 in
+          weights.within i j (price leave i + price enter j) (matched.tight i j linked);
       leave_low = λ i. ⊎_elim
-          (λ (e : i ≡ a). let same : price (set leave a 67111744) i ≡ price (set leave a 67111744) a = ap (price (set leave a 67111744)) e in omega (arith, same, root))
+          (λ (e : i ≡ a). let same : price (set leave a 67111744) i ≡ price (set leave a 67111744) a = ap (price (set leave a 67111744))
+          e in omega (arith, same, root))
           (λ (ne : i ≡ a → ⊥).
           let other : Some a ≢ Some i = λ e. ne (sym (same_Some a i e)) in
           omega (arith, set-other leave a 67111744 i other, leave-low w n out (Some a) b next leave enter weights matched i other))
@@ -101,12 +115,15 @@ IsGiven-begun w n out a b next before leave enter few weights len len' inverse b
     in-tree i j to true e = absurd (none-some j (sym (begins.matched.left i e) ∙ to))
 
 -- the same, said of the first row of the tree and of the prices that it begins with
-pub given-at : (w : ℕ → ℕ → Option ℕ) (n : ℕ) (out : ℕ → Bool) (a : ℕ) (b : Option ℕ) (next before : List (Option ℕ)) (leave enter : List ℕ) (first : ℕ) (raised : List ℕ)
-    → n ≤ 4096 → AreWeights w n → length next ≡ n → length leave ≡ n → IsInverse (length next) next before → MayBegin w n out a b next leave enter → first ≡ a → raised ≡ set leave a 67111744
+pub given-at : (w : ℕ → ℕ → Option ℕ) (n : ℕ) (out : ℕ → Bool) (a : ℕ) (b : Option ℕ) (next before : List (Option ℕ))
+    (leave enter : List ℕ) (first : ℕ) (raised : List ℕ)
+    → n ≤ 4096 → AreWeights w n → length next ≡ n → length leave ≡ n → IsInverse (length next) next before
+    → MayBegin w n out a b next leave enter → first ≡ a → raised ≡ set leave a 67111744
     → IsGiven (problem w n first before raised enter)
 given-at w n out a b next before leave enter first raised few weights len len' inverse begins same set-is =
     subst (λ x. IsGiven (problem w n x before raised enter)) (sym same)
-    (subst (λ prices. IsGiven (problem w n a before prices enter)) (sym set-is) (IsGiven-begun w n out a b next before leave enter few weights len len' inverse begins))
+    (subst (λ prices. IsGiven (problem w n a before prices enter)) (sym set-is)
+    (IsGiven-begun w n out a b next before leave enter few weights len len' inverse begins))
 
 -- a search has ended over links that are matched but for its first row
 pub record IsOver (p : Problem) (s : TreeView) (end : End) (out : ℕ → Bool) (b : Option ℕ) (next : List (Option ℕ)) : Type 0 where
@@ -120,7 +137,8 @@ pub record IsOver (p : Problem) (s : TreeView) (end : End) (out : ℕ → Bool) 
   pub slots : length next ≡ p.n
 
 -- the row that is linked to a column that is done, and its place
-place-of : (p : Problem) (s : TreeView) (end : End) (out : ℕ → Bool) (b : Option ℕ) (next : List (Option ℕ)) → IsOver p s end out b next → (i j : ℕ) → next_of next i ≡ Some j
+place-of : (p : Problem) (s : TreeView) (end : End) (out : ℕ → Bool) (b : Option ℕ) (next : List (Option ℕ)) → IsOver p s end out b next
+    → (i j : ℕ) → next_of next i ≡ Some j
     → is_done s.done j ≡ true → (t : ℕ) × (t < s.size) × (at s.rows t ≡ i) × (at s.dist j ≡ at s.far t)
 place-of p s end out b next o i j linked done =
     let before = o.inverse.told i j (next-within next i j linked) linked in
@@ -128,7 +146,8 @@ place-of p s end out b next o i j linked done =
     (at-tree.place, at-tree.within.1, same_Some (at s.rows at-tree.place) i (sym at-tree.linked ∙ before), at-tree.far)
 
 -- a row that is linked can lose what its column gains
-pub enough : (p : Problem) (s : TreeView) (end : End) (out : ℕ → Bool) (b : Option ℕ) (next : List (Option ℕ)) → IsOver p s end out b next → (i j : ℕ) → next_of next i ≡ Some j
+pub enough : (p : Problem) (s : TreeView) (end : End) (out : ℕ → Bool) (b : Option ℕ) (next : List (Option ℕ)) → IsOver p s end out b next
+    → (i j : ℕ) → next_of next i ≡ Some j
     → end.fall - at s.dist j ≤ at p.leave i
 enough p s end out b next o i j linked = ⊎_elim
     (λ (done : is_done s.done j ≡ true).
@@ -141,23 +160,29 @@ enough p s end out b next o i j linked = ⊎_elim
     (cases_Bool (is_done s.done j))
 
 -- a column that gains has no price above the greatest
-pub gain-low : (p : Problem) (s : TreeView) (end : End) (out : ℕ → Bool) (b : Option ℕ) (next : List (Option ℕ)) → IsOver p s end out b next → (j : ℕ) → j < p.n → at s.dist j < end.fall
+pub gain-low : (p : Problem) (s : TreeView) (end : End) (out : ℕ → Bool) (b : Option ℕ) (next : List (Option ℕ))
+    → IsOver p s end out b next → (j : ℕ) → j < p.n → at s.dist j < end.fall
     → at p.enter j ≤ 67111744
 gain-low p s end out b next o j inside near =
     let from = o.tree.reached j inside (omega (arith, near, o.ended.low)) in
     o.given.enter_low (at s.rows (at s.parent j)) j from.weight from.fits
 
 -- what the row at a place of the tree is linked to
-row-linked : (p : Problem) (s : TreeView) (end : End) (out : ℕ → Bool) (b : Option ℕ) (next : List (Option ℕ)) → IsOver p s end out b next → (t : ℕ) → 0 < t → t < s.size
+row-linked : (p : Problem) (s : TreeView) (end : End) (out : ℕ → Bool) (b : Option ℕ) (next : List (Option ℕ)) → IsOver p s end out b next
+    → (t : ℕ) → 0 < t → t < s.size
     → (via : IsVia p s t) × (next_of next (at s.rows t) ≡ Some via.column)
-row-linked p s end out b next o t positive lt = let via = o.tree.via t positive lt in (via, (o.inverse.linked (at s.rows t) via.column via.linked).1)
+row-linked p s end out b next o t positive lt = let via = o.tree.via t positive lt in
+    (via, (o.inverse.linked (at s.rows t) via.column via.linked).1)
 
-not-first : (p : Problem) (s : TreeView) (end : End) (out : ℕ → Bool) (b : Option ℕ) (next : List (Option ℕ)) → IsOver p s end out b next → (i j : ℕ) → next_of next i ≡ Some j → i ≢ p.a
+not-first : (p : Problem) (s : TreeView) (end : End) (out : ℕ → Bool) (b : Option ℕ) (next : List (Option ℕ)) → IsOver p s end out b next
+    → (i j : ℕ) → next_of next i ≡ Some j → i ≢ p.a
 not-first p s end out b next o i j linked = λ e. none-some j (sym (o.matched.first p.a refl) ∙ ap (next_of next) (sym e) ∙ linked)
 
 -- the row at a place of the tree loses what prices fall past it
-leave-at : (p : Problem) (s : TreeView) (end : End) (out : ℕ → Bool) (b : Option ℕ) (next : List (Option ℕ)) (leave enter : List ℕ) → IsOver p s end out b next
-    → IsShifted p.n p.a next s.dist end.fall p.leave p.enter leave enter → (t : ℕ) → t < s.size → price leave (at s.rows t) ≡ price p.leave (at s.rows t) - (end.fall - at s.far t)
+leave-at : (p : Problem) (s : TreeView) (end : End) (out : ℕ → Bool) (b : Option ℕ) (next : List (Option ℕ)) (leave enter : List ℕ)
+    → IsOver p s end out b next
+    → IsShifted p.n p.a next s.dist end.fall p.leave p.enter leave enter → (t : ℕ) → t < s.size
+    → price leave (at s.rows t) ≡ price p.leave (at s.rows t) - (end.fall - at s.far t)
 leave-at p s end out b next leave enter o shifted t lt = ⊎_elim
     (λ (e : t ≡ 0).
     let first : at s.rows t ≡ p.a = ap (at s.rows) e ∙ o.tree.root.1 in
@@ -167,12 +192,14 @@ leave-at p s end out b next leave enter o shifted t lt = ⊎_elim
     omega (arith, far, new, old, shifted.root))
     (λ (ne : t ≡ 0 → ⊥).
     let linked = row-linked p s end out b next o t (omega arith) lt in
-    let loses : lost s.dist end.fall (next_of next (at s.rows t)) ≡ end.fall - at s.dist linked.0.column = ap (lost s.dist end.fall) linked.1 in
+    let loses : lost s.dist end.fall (next_of next (at s.rows t)) ≡ end.fall - at s.dist linked.0.column =
+    ap (lost s.dist end.fall) linked.1 in
     omega (arith, shifted.rows (at s.rows t) (not-first p s end out b next o (at s.rows t) linked.0.column linked.1), loses, linked.0.far))
     (cases_eq t 0)
 
 -- rows of the tree are not left out
-inside-at : (p : Problem) (s : TreeView) (end : End) (out : ℕ → Bool) (b : Option ℕ) (next : List (Option ℕ)) → IsOver p s end out b next → (t : ℕ) → t < s.size → out (at s.rows t) ≡ false
+inside-at : (p : Problem) (s : TreeView) (end : End) (out : ℕ → Bool) (b : Option ℕ) (next : List (Option ℕ)) → IsOver p s end out b next
+    → (t : ℕ) → t < s.size → out (at s.rows t) ≡ false
 inside-at p s end out b next o t lt = ⊎_elim
     (λ (e : t ≡ 0). ap out (ap (at s.rows) e ∙ o.tree.root.1) ∙ o.inside)
     (λ (ne : t ≡ 0 → ⊥).
@@ -185,7 +212,8 @@ inside-at p s end out b next o t lt = ⊎_elim
     by j to true e = absurd (none-some j (sym (o.matched.left (at s.rows t) e) ∙ to))
 
 -- pairs stay covered, and those of the first row are
-pub covers-over : (p : Problem) (s : TreeView) (end : End) (out : ℕ → Bool) (b : Option ℕ) (next : List (Option ℕ)) (leave enter : List ℕ) → IsOver p s end out b next
+pub covers-over : (p : Problem) (s : TreeView) (end : End) (out : ℕ → Bool) (b : Option ℕ) (next : List (Option ℕ)) (leave enter : List ℕ)
+    → IsOver p s end out b next
     → IsShifted p.n p.a next s.dist end.fall p.leave p.enter leave enter → Covers p.w out None leave enter
 covers-over p s end out b next leave enter o shifted i j k inside _ fits =
     let columns = (o.given.weights.within i j k fits).1 in
@@ -202,9 +230,20 @@ covers-over p s end out b next leave enter o shifted i j k inside _ fits =
         let columns = (o.given.weights.within i j k fits).1 in
         let fits-at : p.w (at s.rows t) j ≡ Some k = ap (λ r. p.w r j) e ∙ fits in
         let new : price leave (at s.rows t) ≡ price leave i = ap (price leave) e in
-        omega (arith, new, leave-at p s end out b next leave enter o shifted t lt, o.tree.covered t j k lt fits-at, shifted.columns j columns, o.ended.rows t lt, o.tree.within t lt, o.ended.later)
+        omega (
+          arith,
+          new,
+          leave-at p s end out b next leave enter o shifted t lt,
+          o.tree.covered t j k lt fits-at,
+          shifted.columns j
+              columns,
+          o.ended.rows t lt,
+          o.tree.within t lt,
+          o.ended.later,
+        )
 
-    by : i ≢ p.a → k ≤ price p.leave i + price p.enter j → price enter j ≡ price p.enter j + (end.fall - at s.dist j) → (to : Option ℕ) → next_of next i ≡ to → k ≤ price leave i + price enter j
+    by : i ≢ p.a → k ≤ price p.leave i + price p.enter j → price enter j ≡ price p.enter j + (end.fall - at s.dist j) → (to : Option ℕ)
+        → next_of next i ≡ to → k ≤ price leave i + price enter j
     by ne covered gains None e =
         let loses : lost s.dist end.fall (next_of next i) ≡ 0 = ap (lost s.dist end.fall) e in
         omega (arith, shifted.rows i ne, loses, covered, gains)
@@ -217,14 +256,16 @@ covers-over p s end out b next leave enter o shifted i j k inside _ fits =
         (cases_Bool (is_done s.done c))
 
 -- the tree leads back from where the search ended
-pub LeadsBack-over : (p : Problem) (s : TreeView) (end : End) (out : ℕ → Bool) (b : Option ℕ) (next : List (Option ℕ)) → IsOver p s end out b next → length s.parent ≡ p.n → length s.rows ≡ p.n + 1
+pub LeadsBack-over : (p : Problem) (s : TreeView) (end : End) (out : ℕ → Bool) (b : Option ℕ) (next : List (Option ℕ))
+    → IsOver p s end out b next → length s.parent ≡ p.n → length s.rows ≡ p.n + 1
     → LeadsBack next s.parent s.rows end.from
 LeadsBack-over p s end out b next o parents rows = record {
   inside = omega (arith, o.ended.within, o.tree.count, rows);
   root = ap (next_of next) o.tree.root.1 ∙ o.matched.first p.a refl;
   linked = λ t positive le. subst IsSome (sym (row-linked p s end out b next o t positive (omega (arith, o.ended.within))).1) refl;
   back = λ t j le linked. ⊎_elim
-      (λ (e : t ≡ 0). absurd (none-some j (sym (o.matched.first p.a refl) ∙ ap (next_of next) (sym o.tree.root.1 ∙ ap (at s.rows) (sym e)) ∙ linked)))
+      (λ (e : t ≡ 0). absurd (none-some j
+      (sym (o.matched.first p.a refl) ∙ ap (next_of next) (sym o.tree.root.1 ∙ ap (at s.rows) (sym e)) ∙ linked)))
       (λ (ne : t ≡ 0 → ⊥).
       let to = row-linked p s end out b next o t (omega arith) (omega (arith, o.ended.within)) in
       let same : to.0.column ≡ j = same_Some to.0.column j (sym to.1 ∙ linked) in
@@ -241,21 +282,32 @@ LeadsBack-over p s end out b next o parents rows = record {
 }
 
 -- on the way back each column has the weight of the row from which it was reached
-tight-from : (p : Problem) (s : TreeView) (end : End) (out : ℕ → Bool) (b : Option ℕ) (next : List (Option ℕ)) (leave enter : List ℕ) → IsOver p s end out b next
+tight-from : (p : Problem) (s : TreeView) (end : End) (out : ℕ → Bool) (b : Option ℕ) (next : List (Option ℕ)) (leave enter : List ℕ)
+    → IsOver p s end out b next
     → IsShifted p.n p.a next s.dist end.fall p.leave p.enter leave enter → (j : ℕ) → j < p.n → at s.dist j ≤ end.fall
     → p.w (at s.rows (at s.parent j)) j ≡ Some (price leave (at s.rows (at s.parent j)) + price enter j)
 tight-from p s end out b next leave enter o shifted j inside near =
     let from = o.tree.reached j inside (omega (arith, near, o.ended.low)) in
     let sum : from.weight ≡ price leave (at s.rows (at s.parent j)) + price enter j =
-    omega (arith, from.exact, leave-at p s end out b next leave enter o shifted (at s.parent j) from.within, shifted.columns j inside, o.ended.rows (at s.parent j) from.within, o.tree.within (at s.parent j) from.within, o.ended.later) in
+    omega (
+      arith,
+      from.exact,
+      leave-at p s end out b next leave enter o shifted (at s.parent j) from.within,
+      shifted.columns j inside,
+      o.ended.rows (at s.parent j) from.within,
+      o.tree.within (at s.parent j) from.within,
+      o.ended.later,
+    ) in
     from.fits ∙ ap Some sum
 
-pub IsTightBack-over : (p : Problem) (s : TreeView) (end : End) (out : ℕ → Bool) (b : Option ℕ) (next : List (Option ℕ)) (leave enter : List ℕ) → IsOver p s end out b next
+pub IsTightBack-over : (p : Problem) (s : TreeView) (end : End) (out : ℕ → Bool) (b : Option ℕ) (next : List (Option ℕ))
+    (leave enter : List ℕ) → IsOver p s end out b next
     → IsShifted p.n p.a next s.dist end.fall p.leave p.enter leave enter → IsTightBack p.w out next leave enter s.parent s.rows end.from
 IsTightBack-over p s end out b next leave enter o shifted = record {
   inside = λ t le. inside-at p s end out b next o t (omega (arith, o.ended.within));
   tight = λ t j le linked. ⊎_elim
-      (λ (e : t ≡ 0). absurd (none-some j (sym (o.matched.first p.a refl) ∙ ap (next_of next) (sym o.tree.root.1 ∙ ap (at s.rows) (sym e)) ∙ linked)))
+      (λ (e : t ≡ 0). absurd (none-some j
+      (sym (o.matched.first p.a refl) ∙ ap (next_of next) (sym o.tree.root.1 ∙ ap (at s.rows) (sym e)) ∙ linked)))
       (λ (ne : t ≡ 0 → ⊥).
       let lt : t < s.size = omega (arith, o.ended.within) in
       let to = row-linked p s end out b next o t (omega arith) lt in
@@ -267,15 +319,24 @@ IsTightBack-over p s end out b next leave enter o shifted = record {
 }
 
 -- and links are matched but for the row where the search ended
-pub IsPassing-over : (p : Problem) (s : TreeView) (end : End) (out : ℕ → Bool) (b : Option ℕ) (next : List (Option ℕ)) (leave enter : List ℕ) → IsOver p s end out b next → length enter ≡ p.n
-    → IsShifted p.n p.a next s.dist end.fall p.leave p.enter leave enter → IsPassing p.w out p.a b next leave enter (at s.rows end.from) end.to
+pub IsPassing-over : (p : Problem) (s : TreeView) (end : End) (out : ℕ → Bool) (b : Option ℕ) (next : List (Option ℕ))
+    (leave enter : List ℕ) → IsOver p s end out b next → length enter ≡ p.n
+    → IsShifted p.n p.a next s.dist end.fall p.leave p.enter leave enter
+    → IsPassing p.w out p.a b next leave enter (at s.rows end.from) end.to
 IsPassing-over p s end out b next leave enter o len shifted = record {
   once = o.matched.once;
   tight = λ i j linked.
       let loses : lost s.dist end.fall (next_of next i) ≡ end.fall - at s.dist j = ap (lost s.dist end.fall) linked in
       let column = (o.given.rows i j (o.inverse.told i j (next-within next i j linked) linked)).1 in
       let sum : price p.leave i + price p.enter j ≡ price leave i + price enter j =
-      omega (arith, shifted.rows i (not-first p s end out b next o i j linked), loses, shifted.columns j column, enough p s end out b next o i j linked) in
+      omega (
+        arith,
+        shifted.rows i (not-first p s end out b next o i j linked),
+        loses,
+        shifted.columns j column,
+        enough p s end out b next
+            o i j linked,
+      ) in
       o.matched.tight i j linked ∙ ap Some sum;
   left = o.matched.left;
   last = o.matched.last;
@@ -284,10 +345,22 @@ IsPassing-over p s end out b next leave enter o len shifted = record {
       omega (arith, shifted.rows i other, loses, o.matched.leave_zero i (λ e. other (sym (same_Some p.a i e))) none);
   enter_zero = λ j other _ none. ⊎_elim
       (λ (inside : j < p.n).
-      omega (arith, shifted.columns j inside, o.matched.enter_zero j other none, o.ended.columns j inside (undone j inside none (is_done s.done j) refl)))
+      omega (
+        arith,
+        shifted.columns j inside,
+        o.matched.enter_zero j other none,
+        o.ended.columns j inside
+            (undone j inside none (is_done s.done j) refl),
+      ))
       (λ (past : p.n ≤ j). get_or_past enter j 0 (omega (arith, past, len)))
       (cases_lt j p.n);
-  alone = λ none. omega (arith, leave-at p s end out b next leave enter o shifted end.from o.ended.within, o.ended.alone none, o.tree.within end.from o.ended.within, o.ended.later);
+  alone = λ none. omega (
+    arith,
+    leave-at p s end out b next leave enter o shifted end.from o.ended.within,
+    o.ended.alone none,
+    o.tree.within end.from o.ended.within,
+    o.ended.later,
+  );
   column = λ j to.
       let ended = o.ended.column j to in (
         subst (λ t. p.w (at s.rows t) j ≡ Some (price leave (at s.rows t) + price enter j)) ended.2
@@ -298,10 +371,12 @@ IsPassing-over p s end out b next leave enter o len shifted = record {
   where
     undone : (j : ℕ) → j < p.n → ((i : ℕ) → next_of next i ≢ Some j) → (done : Bool) → is_done s.done j ≡ done → is_done s.done j ≡ false
     undone j inside none false e = e
-    undone j inside none true e = let at-tree = o.tree.done j inside e in absurd (none (at s.rows at-tree.place) (o.inverse.linked (at s.rows at-tree.place) j at-tree.linked).1)
+    undone j inside none true e = let at-tree = o.tree.done j inside e in
+        absurd (none (at s.rows at-tree.place) (o.inverse.linked (at s.rows at-tree.place) j at-tree.linked).1)
 
 -- the column at which a search ends was the next of none
-pub free-over : (p : Problem) (s : TreeView) (end : End) (out : ℕ → Bool) (b : Option ℕ) (next : List (Option ℕ)) → IsOver p s end out b next → IfSome end.to (λ j. before_of next j ≡ None)
+pub free-over : (p : Problem) (s : TreeView) (end : End) (out : ℕ → Bool) (b : Option ℕ) (next : List (Option ℕ))
+    → IsOver p s end out b next → IfSome end.to (λ j. before_of next j ≡ None)
 free-over p s end out b next o = by end.to refl
   where
     by : (to : Option ℕ) → end.to ≡ to → IfSome to (λ j. before_of next j ≡ None)
@@ -309,9 +384,12 @@ free-over p s end out b next o = by end.to refl
     by (Some j) e = sym (inverse-before next p.before o.matched.once o.inverse j) ∙ (o.ended.column j e).3
 
 -- where a tree that began so has grown until the search ended
-pub IsOver-grown : (w : ℕ → ℕ → Option ℕ) (n : ℕ) (out : ℕ → Bool) (a : ℕ) (b : Option ℕ) (next before : List (Option ℕ)) (leave enter : List ℕ) (first : ℕ) (raised : List ℕ) (s : TreeView) (end : End)
-    → n ≤ 4096 → AreWeights w n → length next ≡ n → length leave ≡ n → IsInverse (length next) next before → MayBegin w n out a b next leave enter → first ≡ a → raised ≡ set leave a 67111744
-    → IsTree (problem w n first before raised enter) s → HasEnded (problem w n first before raised enter) s end → IsOver (problem w n first before raised enter) s end out b next
+pub IsOver-grown : (w : ℕ → ℕ → Option ℕ) (n : ℕ) (out : ℕ → Bool) (a : ℕ) (b : Option ℕ) (next before : List (Option ℕ))
+    (leave enter : List ℕ) (first : ℕ) (raised : List ℕ) (s : TreeView) (end : End)
+    → n ≤ 4096 → AreWeights w n → length next ≡ n → length leave ≡ n → IsInverse (length next) next before
+    → MayBegin w n out a b next leave enter → first ≡ a → raised ≡ set leave a 67111744
+    → IsTree (problem w n first before raised enter) s → HasEnded (problem w n first before raised enter) s end
+    → IsOver (problem w n first before raised enter) s end out b next
 IsOver-grown w n out a b next before leave enter first raised s end few weights len len' inverse begins same set-is tree ended = record {
   given = given-at w n out a b next before leave enter first raised few weights len len' inverse begins same set-is;
   tree = tree;
@@ -319,7 +397,8 @@ IsOver-grown w n out a b next before leave enter first raised s end few weights 
   inside = ap out same ∙ begins.inside;
   matched =
       subst (λ x. IsMatched w out (Some x) b next raised enter) (sym same)
-      (subst (λ prices. IsMatched w out (Some a) b next prices enter) (sym set-is) (matched-set w out a 67111744 b next leave enter begins.matched));
+      (subst (λ prices. IsMatched w out (Some a) b next prices enter) (sym set-is)
+      (matched-set w out a 67111744 b next leave enter begins.matched));
   covers =
       subst (λ x. Covers w out (Some x) raised enter) (sym same)
       (subst (λ prices. Covers w out (Some a) prices enter) (sym set-is) (covers-set w out a 67111744 leave enter begins.covers));

@@ -16,7 +16,8 @@ abbrev pub all_weights : PairsView → Bool → ℕ → ℕ → Option ℕ
 all_weights pairs turned i j = if turned then weight (pairs_network pairs) j i else weight (pairs_network pairs) i j
 
 -- the weights of pairs from one side are those that are computed
-pub weight-side : (pairs : PairsView) (turned : Bool) (without : Option ℕ) (side : SideView) → IsSideOf pairs turned without side → side_weight side ≡ weight_from pairs turned without
+pub weight-side : (pairs : PairsView) (turned : Bool) (without : Option ℕ) (side : SideView) → IsSideOf pairs turned without side
+    → side_weight side ≡ weight_from pairs turned without
 unfolding side_weight
 weight-side pairs turned without side is = ap (λ (s : SideView). weight_from s.pairs s.turned s.without) is
 
@@ -28,7 +29,8 @@ leads (Some s) j = ⊎_elim
     (λ (ne : s ≡ j → ⊥). inr (λ e. ne (same_Some s j e), ne_eqb s j ne))
     (cases_eq s j)
 
-pub masked : (side : SideView) (i j : ℕ) (left : Bool) → leads_to j side.without ≡ left → side_weight side i j ≡ cond left None (all_weights side.pairs side.turned i j)
+pub masked : (side : SideView) (i j : ℕ) (left : Bool) → leads_to j side.without ≡ left
+    → side_weight side i j ≡ cond left None (all_weights side.pairs side.turned i j)
 unfolding side_weight
 masked side i j left e = ap (λ t. cond t None (all_weights side.pairs side.turned i j)) e
 

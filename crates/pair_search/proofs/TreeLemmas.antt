@@ -1,5 +1,6 @@
 -- The tree of a search keeps its invariant as a row comes in.
-use Rattle.std.proofs.Common.{◌≡◌, ◌≢◌, ℕ, ◌+◌, ◌<◌, ◌≤◌, Bool, true, false, not, cond, List, length, set, replicate, count_by, None, Some, refl, sym, ap, ◌∙◌, ⊎_elim, inr, ◌⊎◌, arith}
+use Rattle.std.proofs.Common.{◌≡◌, ◌≢◌, ℕ, ◌+◌, ◌<◌, ◌≤◌, Bool, true, false, not, cond, List, length, set, replicate, count_by, None, Some}
+use Rattle.std.proofs.Common.{refl, sym, ap, ◌∙◌, ⊎_elim, inr, ◌⊎◌, arith}
 use Rattle.std.proofs.lemmas.Bool.{both_ways, cases_Bool, cases_eq, cases_lt}
 use Rattle.std.proofs.lemmas.List.{get_or-set_same, get_or-set_other, get_or-replicate}
 use Rattle.std.proofs.lemmas.List.Folds.{sum_by-replicate}
@@ -7,7 +8,8 @@ use Rattle.std.proofs.lemmas.List.Sums.{sum_by-set}
 use Rattle.std.proofs.Math.Nat.{le_antisymm}
 use Rattle.trip_model.specs.Links.{next_of}
 use Rattle.pair_search.specs.declared.grow.End.{End}
-use Rattle.pair_search.specs.Search.{at, is_done, as_columns, AreLooked, Problem, IsInside, IsGiven, TreeView, IsVia, IsIn, IsFrom, IsTree, IsNext, IsBest}
+use Rattle.pair_search.specs.Search.{at, is_done, as_columns, AreLooked, Problem, IsInside, IsGiven, TreeView, IsVia, IsIn, IsFrom, IsTree}
+use Rattle.pair_search.specs.Search.{IsNext, IsBest}
 
 -- a tree of these lists
 abbrev pub tree_with : List ℕ → List ℕ → List Bool → List ℕ → List ℕ → ℕ → ℕ → TreeView
@@ -15,7 +17,8 @@ tree_with dist parent done rows far size reach =
     record { dist = dist; parent = parent; done = done; rows = rows; far = far; size = size; reach = reach }
 
 -- one column more is done
-count-done : (done : List Bool) (column : ℕ) → column < length done → is_done done column ≡ false → count_by not (set done column true) + 1 ≡ count_by not done
+count-done : (done : List Bool) (column : ℕ) → column < length done → is_done done column ≡ false
+    → count_by not (set done column true) + 1 ≡ count_by not done
 count-done done column inside undone =
     let was : ◌≡◌ {A = ℕ} (cond (not (is_done done column)) 1 0) 1 = ap (λ b. cond (not b) 1 0) undone in
     omega (arith, sum_by-set (λ b. cond (not b) 1 0) done column true false inside, was)
@@ -26,18 +29,22 @@ pub record IsVisit (p : Problem) (s : TreeView) (row column : ℕ) (dist parent 
   pub done : length s.done ≡ p.n
   pub rows : length s.rows ≡ p.n + 1
   pub far : length s.far ≡ p.n + 1
-  pub looked : AreLooked (p.w row) p.n s.size (at s.dist column + at p.leave row) p.enter (as_columns s.dist s.parent (set s.done column true)) (as_columns dist parent (set s.done column true))
+  pub looked : AreLooked (p.w row) p.n s.size (at s.dist column + at p.leave row) p.enter
+      (as_columns s.dist s.parent (set s.done column true)) (as_columns dist parent (set s.done column true))
 
 -- the tree with the row
 abbrev visited : TreeView → ℕ → ℕ → List ℕ → List ℕ → TreeView
 visited s row column dist parent =
-    tree_with dist parent (set s.done column true) (set s.rows s.size row) (set s.far s.size (at s.dist column)) (s.size + 1) (at s.dist column)
+    tree_with dist parent (set s.done column true) (set s.rows s.size row) (set s.far s.size (at s.dist column)) (s.size + 1)
+    (at s.dist column)
 
 -- there is room for one row more
-pub tree-room : (p : Problem) (s : TreeView) (column : ℕ) → IsTree p s → column < length s.done → is_done s.done column ≡ false → s.size ≤ p.n
+pub tree-room : (p : Problem) (s : TreeView) (column : ℕ) → IsTree p s → column < length s.done → is_done s.done column ≡ false
+    → s.size ≤ p.n
 tree-room p s column tree inside undone = omega (arith, tree.count, count-done s.done column inside undone)
 
-room : (p : Problem) (s : TreeView) (row column : ℕ) (dist parent : List ℕ) → IsTree p s → IsVisit p s row column dist parent → s.size < p.n + 1
+room : (p : Problem) (s : TreeView) (row column : ℕ) (dist parent : List ℕ) → IsTree p s → IsVisit p s row column dist parent
+    → s.size < p.n + 1
 room p s row column dist parent tree v = omega (arith, tree-room p s column tree (omega (arith, v.next.within, v.done)) v.next.undone)
 
 rows-new : (p : Problem) (s : TreeView) (row column : ℕ) (dist parent : List ℕ) → IsTree p s → IsVisit p s row column dist parent
@@ -48,7 +55,8 @@ rows-new p s row column dist parent tree v t e =
 far-new : (p : Problem) (s : TreeView) (row column : ℕ) (dist parent : List ℕ) → IsTree p s → IsVisit p s row column dist parent
     → (t : ℕ) → t ≡ s.size → at (set s.far s.size (at s.dist column)) t ≡ at s.dist column
 far-new p s row column dist parent tree v t e =
-    ap (at (set s.far s.size (at s.dist column))) e ∙ get_or-set_same s.far s.size (at s.dist column) 0 (omega (arith, room p s row column dist parent tree v, v.far))
+    ap (at (set s.far s.size (at s.dist column))) e
+    ∙ get_or-set_same s.far s.size (at s.dist column) 0 (omega (arith, room p s row column dist parent tree v, v.far))
 
 at-old : (xs : List ℕ) (size x t : ℕ) → t < size → at (set xs size x) t ≡ at xs t
 at-old xs size x t lt = get_or-set_other xs size t x 0 (λ e. absurd (omega (arith, lt, e)))
@@ -115,13 +123,16 @@ visit-via p s row column dist parent tree v t positive lt = ⊎_elim
     })
     (cases_lt t s.size)
 
-visit-apart : (p : Problem) (s : TreeView) (row column : ℕ) (dist parent : List ℕ) → IsGiven p → IsTree p s → IsVisit p s row column dist parent
+visit-apart : (p : Problem) (s : TreeView) (row column : ℕ) (dist parent : List ℕ) → IsGiven p → IsTree p s
+    → IsVisit p s row column dist parent
     → (r t : ℕ) → r < t → t < s.size + 1 → at (set s.rows s.size row) r ≢ at (set s.rows s.size row) t
 visit-apart p s row column dist parent given tree v r t less lt = ⊎_elim
-    (λ (old : t < s.size). λ same. tree.apart r t less old (sym (at-old s.rows s.size row r (omega arith)) ∙ same ∙ at-old s.rows s.size row t old))
+    (λ (old : t < s.size). λ same. tree.apart r t less old
+    (sym (at-old s.rows s.size row r (omega arith)) ∙ same ∙ at-old s.rows s.size row t old))
     (λ (new : s.size ≤ t). λ same.
     let e : t ≡ s.size = omega (arith, new, lt) in
-    let row-at : at s.rows r ≡ row = sym (at-old s.rows s.size row r (omega arith)) ∙ same ∙ rows-new p s row column dist parent tree v t e in
+    let row-at : at s.rows r ≡ row = sym (at-old s.rows s.size row r (omega arith)) ∙ same
+    ∙ rows-new p s row column dist parent tree v t e in
     ⊎_elim
     (λ (first : r ≡ 0).
     let start : row ≡ p.a = sym row-at ∙ ap (at s.rows) first ∙ tree.root.1 in
@@ -132,14 +143,22 @@ visit-apart p s row column dist parent given tree v r t less lt = ⊎_elim
     (cases_eq r 0))
     (cases_lt t s.size)
 
-visit-covered : (p : Problem) (s : TreeView) (row column : ℕ) (dist parent : List ℕ) → IsGiven p → IsTree p s → IsVisit p s row column dist parent
+visit-covered : (p : Problem) (s : TreeView) (row column : ℕ) (dist parent : List ℕ) → IsGiven p → IsTree p s
+    → IsVisit p s row column dist parent
     → (t j k : ℕ) → t < s.size + 1 → p.w (at (set s.rows s.size row) t) j ≡ Some k
     → at dist j + k ≤ at (set s.far s.size (at s.dist column)) t + at p.leave (at (set s.rows s.size row) t) + at p.enter j
 visit-covered p s row column dist parent given tree v t j k lt fits = ⊎_elim
     (λ (old : t < s.size).
     let r = at-old s.rows s.size row t old in
     let leaves : at p.leave (at (set s.rows s.size row) t) ≡ at p.leave (at s.rows t) = ap (at p.leave) r in
-    omega (arith, tree.covered t j k old (ap (λ i. p.w i j) (sym r) ∙ fits), v.looked.nearer j, at-old s.far s.size (at s.dist column) t old, leaves))
+    omega (
+      arith,
+      tree.covered t j k old (ap (λ i. p.w i j) (sym r) ∙ fits),
+      v.looked.nearer j,
+      at-old s.far s.size (at s.dist column) t
+          old,
+      leaves,
+    ))
     (λ (new : s.size ≤ t).
     let e : t ≡ s.size = omega (arith, new, lt) in
     let r = rows-new p s row column dist parent tree v t e in
@@ -150,7 +169,15 @@ visit-covered p s row column dist parent given tree v t j k lt fits = ⊎_elim
     ⊎_elim
     (λ (done : is_done (set s.done column true) j ≡ true).
     let kept = keeps p s row column dist parent v j done in
-    omega (arith, kept.0, done-near p s row column dist parent tree v j inside done, given.covers row j k (inside-row p s row column v.next) fit, leaves, far))
+    omega (
+      arith,
+      kept.0,
+      done-near p s row column dist parent tree v j inside done,
+      given.covers row j k
+          (inside-row p s row column v.next) fit,
+      leaves,
+      far,
+    ))
     (λ (undone : is_done (set s.done column true) j ≡ false).
     omega (arith, v.looked.covered j k inside undone fit, leaves, far))
     (cases_Bool (is_done (set s.done column true) j)))
@@ -205,8 +232,10 @@ visit-reached p s row column dist parent tree v j lt near = ⊎_elim
     let far = le_antisymm (v.looked.nearer j) le in
     let old = tree.reached j lt (omega (arith, far, near)) in
     let by = v.looked.same j le in
-    let r : at (set s.rows s.size row) (at parent j) ≡ at s.rows (at s.parent j) = ap (at (set s.rows s.size row)) by ∙ at-old s.rows s.size row (at s.parent j) old.within in
-    let f : at (set s.far s.size (at s.dist column)) (at parent j) ≡ at s.far (at s.parent j) = ap (at (set s.far s.size (at s.dist column))) by ∙ at-old s.far s.size (at s.dist column) (at s.parent j) old.within in
+    let r : at (set s.rows s.size row) (at parent j) ≡ at s.rows (at s.parent j) = ap (at (set s.rows s.size row)) by
+    ∙ at-old s.rows s.size row (at s.parent j) old.within in
+    let f : at (set s.far s.size (at s.dist column)) (at parent j) ≡ at s.far (at s.parent j) =
+    ap (at (set s.far s.size (at s.dist column))) by ∙ at-old s.far s.size (at s.dist column) (at s.parent j) old.within in
     let leaves : at p.leave (at (set s.rows s.size row) (at parent j)) ≡ at p.leave (at s.rows (at s.parent j)) = ap (at p.leave) r in
     record {
       within = omega (arith, by, old.within);
@@ -217,12 +246,25 @@ visit-reached p s row column dist parent tree v j lt near = ⊎_elim
     (cases_lt (at dist j) (at s.dist j))
 
 -- the tree with a row more
-pub IsTree-visit : (p : Problem) (s : TreeView) (row column : ℕ) (dist parent : List ℕ) → IsGiven p → IsTree p s → IsVisit p s row column dist parent
-    → IsTree p (tree_with dist parent (set s.done column true) (set s.rows s.size row) (set s.far s.size (at s.dist column)) (s.size + 1) (at s.dist column))
+pub IsTree-visit : (p : Problem) (s : TreeView) (row column : ℕ) (dist parent : List ℕ) → IsGiven p → IsTree p s
+    → IsVisit p s row column dist parent
+    → IsTree p (tree_with dist parent (set s.done column true) (set s.rows s.size row) (set s.far s.size (at s.dist column)) (s.size + 1)
+    (at s.dist column))
 IsTree-visit p s row column dist parent given tree v = record {
-  root = (omega arith, at-old s.rows s.size row 0 tree.root.0 ∙ tree.root.1, at-old s.far s.size (at s.dist column) 0 tree.root.0 ∙ tree.root.2);
+  root = (
+    omega arith,
+    at-old s.rows s.size row 0 tree.root.0 ∙ tree.root.1,
+    at-old s.far s.size (at s.dist column) 0 tree.root.0
+        ∙ tree.root.2,
+  );
   within = λ t lt. ⊎_elim
-      (λ (old : t < s.size). omega (arith, at-old s.far s.size (at s.dist column) t old, tree.within t old, tree.later column v.next.within v.next.undone))
+      (λ (old : t < s.size). omega (
+        arith,
+        at-old s.far s.size (at s.dist column) t old,
+        tree.within t old,
+        tree.later column v.next.within
+            v.next.undone,
+      ))
       (λ (new : s.size ≤ t). omega (arith, far-new p s row column dist parent tree v t (omega (arith, new, lt))))
       (cases_lt t s.size);
   via = visit-via p s row column dist parent tree v;
@@ -235,14 +277,18 @@ IsTree-visit p s row column dist parent given tree v = record {
 }
 
 -- of the best row and the one that came in the sooner is the best
-pub IsBest-more : (p : Problem) (s s' : TreeView) (row far : ℕ) (best end : End) → IsBest p s best → s.size < length s.rows → s.size < length s.far
+pub IsBest-more : (p : Problem) (s s' : TreeView) (row far : ℕ) (best end : End) → IsBest p s best → s.size < length s.rows
+    → s.size < length s.far
     → s'.rows ≡ set s.rows s.size row → s'.far ≡ set s.far s.size far → s'.size ≡ s.size + 1 → s'.reach ≡ far → far < best.fall
-    → (end ≡ best) ⊎ (end ≡ record { from = s.size; to = None; fall = far + at p.leave row }) → end.fall ≤ best.fall → end.fall ≤ far + at p.leave row → IsBest p s' end
+    → (end ≡ best) ⊎ (end ≡ record { from = s.size; to = None; fall = far + at p.leave row }) → end.fall ≤ best.fall
+    → end.fall ≤ far + at p.leave row → IsBest p s' end
 IsBest-more p s s' row far best end is in-rows in-far rows fars size reach near one sooner soon = record {
-  alone = ⊎_elim (λ (e : end ≡ best). ap (λ (x : End). x.to) e ∙ is.alone) (λ (e : end ≡ record { from = s.size; to = None; fall = far + at p.leave row }). ap (λ (x : End). x.to) e) one;
+  alone = ⊎_elim (λ (e : end ≡ best). ap (λ (x : End). x.to) e ∙ is.alone)
+      (λ (e : end ≡ record { from = s.size; to = None; fall = far + at p.leave row }). ap (λ (x : End). x.to) e) one;
   within = ⊎_elim
       (λ (e : end ≡ best). let same : end.from ≡ best.from = ap (λ (x : End). x.from) e in omega (arith, same, is.within, size))
-      (λ (e : end ≡ record { from = s.size; to = None; fall = far + at p.leave row }). let same : end.from ≡ s.size = ap (λ (x : End). x.from) e in omega (arith, same, size))
+      (λ (e : end ≡ record { from = s.size; to = None; fall = far + at p.leave row }). let same : end.from ≡ s.size = ap (λ
+      (x : End). x.from) e in omega (arith, same, size))
       one;
   least = λ t lt. ⊎_elim
       (λ (old : t < s.size). omega (arith, is.least t old, sooner, far-old t old, leave-old t old))
@@ -251,7 +297,8 @@ IsBest-more p s s' row far best end is in-rows in-far rows fars size reach near 
   exact = ⊎_elim
       (λ (e : end ≡ best).
       let fall : end.fall ≡ best.fall = ap (λ (x : End). x.fall) e in
-      let from : at s'.far end.from + at p.leave (at s'.rows end.from) ≡ at s'.far best.from + at p.leave (at s'.rows best.from) = ap (λ (x : End). at s'.far x.from + at p.leave (at s'.rows x.from)) e in
+      let from : at s'.far end.from + at p.leave (at s'.rows end.from) ≡ at s'.far best.from + at p.leave (at s'.rows best.from) =
+      ap (λ (x : End). at s'.far x.from + at p.leave (at s'.rows x.from)) e in
       omega (arith, fall, from, is.exact, far-old best.from is.within, leave-old best.from is.within))
       (λ (e : end ≡ record { from = s.size; to = None; fall = far + at p.leave row }).
       let fall : end.fall ≡ far + at p.leave row = ap (λ (x : End). x.fall) e in
@@ -260,7 +307,8 @@ IsBest-more p s s' row far best end is in-rows in-far rows fars size reach near 
       one;
   later = ⊎_elim
       (λ (e : end ≡ best). let fall : end.fall ≡ best.fall = ap (λ (x : End). x.fall) e in omega (arith, fall, near, reach))
-      (λ (e : end ≡ record { from = s.size; to = None; fall = far + at p.leave row }). let fall : end.fall ≡ far + at p.leave row = ap (λ (x : End). x.fall) e in omega (arith, fall, reach))
+      (λ (e : end ≡ record { from = s.size; to = None; fall = far + at p.leave row }). let fall : end.fall ≡ far + at p.leave
+      row = ap (λ (x : End). x.fall) e in omega (arith, fall, reach))
       one;
   low = omega (arith, sooner, is.low);
 }
@@ -278,9 +326,11 @@ IsBest-more p s s' row far best end is in-rows in-far rows fars size reach near 
     leave-here t e = ap (at p.leave) (ap (at s'.rows) e ∙ ap (λ xs. at xs s.size) rows ∙ get_or-set_same s.rows s.size row 0 in-rows)
 
 -- the tree of the first row alone
-pub IsTree-begun : (p : Problem) (dist0 parent0 dist parent : List ℕ) (done : List Bool) (rows far : List ℕ) → IsGiven p → at p.leave p.a ≡ 67111744
+pub IsTree-begun : (p : Problem) (dist0 parent0 dist parent : List ℕ) (done : List Bool) (rows far : List ℕ) → IsGiven p
+    → at p.leave p.a ≡ 67111744
     → dist0 ≡ replicate p.n 67111745 → done ≡ replicate p.n false → at rows 0 ≡ p.a → at far 0 ≡ 0
-    → AreLooked (p.w p.a) p.n 0 67111744 p.enter (as_columns dist0 parent0 done) (as_columns dist parent done) → IsTree p (tree_with dist parent done rows far 1 0)
+    → AreLooked (p.w p.a) p.n 0 67111744 p.enter (as_columns dist0 parent0 done) (as_columns dist parent done)
+    → IsTree p (tree_with dist parent done rows far 1 0)
 IsTree-begun p dist0 parent0 dist parent done rows far given price dists dones row near looked = record {
   root = (omega arith, row, near);
   within = λ t lt. let e : t ≡ 0 = omega arith in let f : at far t ≡ 0 = ap (at far) e ∙ near in omega (arith, f);
@@ -307,7 +357,8 @@ IsTree-begun p dist0 parent0 dist parent done rows far given price dists dones r
         fits = ap (λ r. p.w r j) first ∙ from.fits;
         exact = omega (arith, from.exact, leaves, price, f);
       };
-  count = let undone-columns : count_by not done ≡ p.n = ap (λ (bs : List Bool). count_by not bs) dones ∙ all-open p.n in omega (arith, undone-columns);
+  count = let undone-columns : count_by not done ≡ p.n = ap (λ (bs : List Bool). count_by not bs) dones ∙ all-open p.n in
+      omega (arith, undone-columns);
 }
   where
     undone : (j : ℕ) → j < p.n → is_done done j ≡ false

@@ -1,5 +1,6 @@
 -- Searches over columns in their order, and from the entering side.
-use Rattle.std.specs.Prelude.{◌≡◌, ℕ, suc, ◌+◌, ◌*◌, ◌<◌, ◌⊎◌, ◌==◌, Bool, false, List, map, position, unwrap_or, replicate, length, slice_index_or, Option, None, Some, if◌then◌else◌}
+use Rattle.std.specs.Prelude.{◌≡◌, ℕ, suc, ◌+◌, ◌*◌, ◌<◌, ◌⊎◌, ◌==◌, Bool, false, List, map, position, unwrap_or, replicate, length}
+use Rattle.std.specs.Prelude.{slice_index_or, Option, None, Some, if◌then◌else◌}
 use Rattle.std.specs.List.{range_with_len}
 use Rattle.std.specs.Option.{option_map}
 use Rattle.assignment_model.specs.Prices.{Plan, price, weight}
@@ -86,4 +87,5 @@ StandsBefore c d = (post_key c.post < post_key d.post)
 
 -- each column comes before those after it
 abbrev pub AreInOrder : ℕ → List Column → Type 0
-AreInOrder n columns = (h k : ℕ) → h < k → k < n → StandsBefore (slice_index_or columns h (no_column n)) (slice_index_or columns k (no_column n))
+AreInOrder n columns = (h k : ℕ) → h < k → k < n
+    → StandsBefore (slice_index_or columns h (no_column n)) (slice_index_or columns k (no_column n))

@@ -25,7 +25,8 @@ abbrev pub Covers : (ℕ → ℕ → Option ℕ) → (ℕ → Bool) → Option �
 Covers w out a leave enter = (i j k : ℕ) → out i ≡ false → a ≢ Some i → w i j ≡ Some k → k ≤ price leave i + price enter j
 
 -- a search may begin at a row. Links are matched but for it and for b, prices cover the other rows, and it is not left out
-pub record MayBegin (w : ℕ → ℕ → Option ℕ) (n : ℕ) (out : ℕ → Bool) (a : ℕ) (b : Option ℕ) (next : List (Option ℕ)) (leave enter : List ℕ) : Type 0 where
+pub record MayBegin (w : ℕ → ℕ → Option ℕ) (n : ℕ) (out : ℕ → Bool) (a : ℕ) (b : Option ℕ) (next : List (Option ℕ))
+    (leave enter : List ℕ) : Type 0 where
   pub start : a < n
   pub inside : out a ≡ false
   pub matched : IsMatched w out (Some a) b next leave enter

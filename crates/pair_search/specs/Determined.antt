@@ -1,5 +1,6 @@
 -- What a search finds, computed from its start: the weights, the links with their prices, and the row from which it goes out.
-use Rattle.std.specs.Prelude.{ℕ, zero, suc, ◌+◌, ◌-◌, ◌==◌, ◌&&◌, min, nat_lt, not, Bool, true, false, List, [], ◌∷◌, map, replicate, length, slice_set, Option, None, Some, if◌then◌else◌}
+use Rattle.std.specs.Prelude.{ℕ, zero, suc, ◌+◌, ◌-◌, ◌==◌, ◌&&◌, min, nat_lt, not, Bool, true, false, List, [], ◌∷◌, map, replicate}
+use Rattle.std.specs.Prelude.{length, slice_set, Option, None, Some, if◌then◌else◌}
 use Rattle.std.specs.List.{range_with_len}
 use Rattle.assignment_model.specs.Prices.{Plan, price}
 use Rattle.trip_model.specs.Links.{next_of, before_of}
@@ -26,7 +27,8 @@ nearness dist bound (Some j) = at dist j
 abbrev pub first_nearest : ℕ → List Bool → List ℕ → ℕ → Option ℕ
 first_nearest zero done dist bound = None
 first_nearest (suc j) done dist bound =
-    if not (is_done done j) && nat_lt (at dist j) (nearness dist bound (first_nearest j done dist bound)) then Some j else first_nearest j done dist bound
+    if not (is_done done j) && nat_lt (at dist j) (nearness dist bound (first_nearest j done dist bound)) then Some j
+    else first_nearest j done dist bound
 
 -- how far a column is once a row has looked at it, at a cost less the weight of the pair; before it was so far
 abbrev pub approached : Bool → Option ℕ → ℕ → ℕ → ℕ
@@ -36,7 +38,8 @@ approached false (Some weight) cost far = min far (cost - weight)
 
 -- how far columns are once a row has looked at them, which is so far with its price
 abbrev pub dist_from : (ℕ → Option ℕ) → ℕ → List ℕ → List Bool → List ℕ → List ℕ
-dist_from w start enter done dist = map (λ j. approached (is_done done j) (w j) (start + at enter j) (at dist j)) (range_with_len 0 (length dist))
+dist_from w start enter done dist =
+    map (λ j. approached (is_done done j) (w j) (start + at enter j) (at dist j)) (range_with_len 0 (length dist))
 
 -- the rows from which columns were reached, where those that came nearer were reached from this one
 abbrev pub rows_from : ℕ → List ℕ → List ℕ → List ℕ → List ℕ
@@ -56,7 +59,8 @@ looked w row start enter front = record {
 
 -- the row comes in that is linked to a column, and looks at all columns
 unfoldable pub visited : (ℕ → ℕ → Option ℕ) → Plan → ℕ → ℕ → Front → Front
-visited w plan column row front = looked (w row) row (at front.dist column + price plan.leave row) plan.enter (record front { done = slice_set front.done column true })
+visited w plan column row front =
+    looked (w row) row (at front.dist column + price plan.leave row) plan.enter (record front { done = slice_set front.done column true })
 
 -- Pick after pick, so many at most: the nearest column that is nearer than the best end. One that is linked to none ends the
 -- search. Else the row comes in that is linked to it

@@ -8,7 +8,8 @@ use Rattle.pair_search.specs.declared.tree.Tree.{Tree}
 
 -- Lists of columns and of the tree's rows show a front, and the row at a place its best end. A column that was reached was so
 -- from the row at the place which is its parent
-pub record IsShown (dist parent : List ℕ) (done : List Bool) (rows : List ℕ) (place : ℕ) (to : Option ℕ) (fall : ℕ) (front : Front) : Type 0 where
+pub record IsShown (dist parent : List ℕ) (done : List Bool) (rows : List ℕ) (place : ℕ) (to : Option ℕ) (fall : ℕ)
+    (front : Front) : Type 0 where
   pub far : dist ≡ front.dist
   pub closed : done ≡ front.done
   pub from : (j : ℕ) → j < length dist → at dist j < FAR → at rows (at parent j) ≡ at front.from j
@@ -21,7 +22,8 @@ abbrev pub Shows : Tree → ℕ → Option ℕ → ℕ → Front → Type 0
 Shows tree place to fall front = IsShown tree.dist.items tree.parent.items tree.done.items tree.rows.items place to fall front
 
 -- a search with so many rows in its tree shows a front, from which it ends as the whole does
-pub record IsOnWay (w : ℕ → ℕ → Option ℕ) (plan : Plan) (whole : Front) (size : ℕ) (dist parent : List ℕ) (done : List Bool) (rows : List ℕ) (place : ℕ) (to : Option ℕ) (fall : ℕ) : Type 0 where
+pub record IsOnWay (w : ℕ → ℕ → Option ℕ) (plan : Plan) (whole : Front) (size : ℕ) (dist parent : List ℕ) (done : List Bool)
+    (rows : List ℕ) (place : ℕ) (to : Option ℕ) (fall : ℕ) : Type 0 where
   pub front : Front
   pub shown : IsShown dist parent done rows place to fall front
   pub picks : ℕ

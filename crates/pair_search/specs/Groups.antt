@@ -1,5 +1,6 @@
 -- Groups of columns, and what a search has seen of them.
-use Rattle.std.specs.Prelude.{◌≡◌, ℕ, ◌+◌, ◌-◌, ◌<◌, ◌≤◌, nat_lt, Bool, false, List, length, slice_index_or, Option, None, Some, if◌then◌else◌}
+use Rattle.std.specs.Prelude.{◌≡◌, ℕ, ◌+◌, ◌-◌, ◌<◌, ◌≤◌, nat_lt, Bool, false, List, length, slice_index_or, Option, None, Some}
+use Rattle.std.specs.Prelude.{if◌then◌else◌}
 use Rattle.trip_model.specs.declared.limits.TheConstants.{MOST_SLOTS}
 use Rattle.pair_search.specs.declared.groups.Group.{Group}
 use Rattle.pair_search.specs.declared.limits.TheConstants.{GREATEST_PRICE}
@@ -32,7 +33,8 @@ pub record AreGroups (n : ℕ) (columns : List Column) (count : ℕ) (groups : L
   pub next : (r : ℕ) → r < count → (group_at groups r).to ≡ begins n count groups (r + 1)
   pub after : (r : ℕ) → r < count → (group_at groups r).from < (group_at groups r).to
   pub within : (r : ℕ) → r < count → (group_at groups r).to ≤ n
-  pub posts : (r k : ℕ) (d : Column) → r < count → (group_at groups r).from ≤ k → k < (group_at groups r).to → (slice_index_or columns k d).post ≡ (group_at groups r).post
+  pub posts : (r k : ℕ) (d : Column) → r < count → (group_at groups r).from ≤ k → k < (group_at groups r).to
+      → (slice_index_or columns k d).post ≡ (group_at groups r).post
   pub rise : (r h k : ℕ) (d : Column) → r < count → (group_at groups r).from ≤ h → h ≤ k → k < (group_at groups r).to
       → (slice_index_or columns h d).minute ≤ (slice_index_or columns k d).minute
   pub last : (r : ℕ) (d : Column) → r < count → (slice_index_or columns ((group_at groups r).to - 1) d).minute ≡ (group_at groups r).latest
@@ -40,7 +42,8 @@ pub record AreGroups (n : ℕ) (columns : List Column) (count : ℕ) (groups : L
 -- The columns of one side of pairs are in order and in groups. Their order is the one that is computed: by post, then by minute,
 -- then by slot.
 pub record IsOrderOf (pairs : PairsView) (turned : Bool) (without : Option ℕ) (order : Order) : Type 0 where
-  pub columns : IsOrder (length pairs.moves) (pairs_minute pairs turned) (pairs_post pairs turned without) order.columns.items order.places.items
+  pub columns : IsOrder (length pairs.moves) (pairs_minute pairs turned) (pairs_post pairs turned without) order.columns.items
+      order.places.items
   pub slots : slots_of order.columns.items ≡ arranged pairs turned without
   pub groups : AreGroups (length pairs.moves) order.columns.items order.count order.groups.items
 
@@ -50,11 +53,13 @@ seen_at seen r = slice_index_or seen r (record { near = 0; cost = 0; from = 0 })
 
 -- of the columns of each group that are not done none is nearer than what was seen of it
 abbrev pub AreNear : ℕ → List Group → List Bool → List ℕ → List Seen → Type 0
-AreNear count groups done dist seen = (r j : ℕ) → r < count → (group_at groups r).from ≤ j → j < (group_at groups r).to → is_done done j ≡ false → (seen_at seen r).near ≤ at dist j
+AreNear count groups done dist seen = (r j : ℕ) → r < count → (group_at groups r).from ≤ j → j < (group_at groups r).to
+    → is_done done j ≡ false → (seen_at seen r).near ≤ at dist j
 
 -- those from a place on are no farther than as they are reached at a cost
 abbrev pub AreReached : ℕ → List Group → List ℕ → List Bool → List ℕ → List Seen → Type 0
-AreReached count groups enter done dist seen = (r j : ℕ) → r < count → (seen_at seen r).from ≤ j → (group_at groups r).from ≤ j → j < (group_at groups r).to → is_done done j ≡ false
+AreReached count groups enter done dist seen = (r j : ℕ) → r < count → (seen_at seen r).from ≤ j → (group_at groups r).from ≤ j
+    → j < (group_at groups r).to → is_done done j ≡ false
     → at dist j + GREATEST_PRICE ≤ (seen_at seen r).cost + at enter j
 
 -- what a tree has seen of the groups of a side is so

@@ -27,13 +27,16 @@ pub record LeadsBack (next : List (Option ℕ)) (parent rows : List ℕ) (top : 
   pub within : (t : ℕ) → t ≤ top → at rows t < length next
 
 -- the rows at these places are not left out. Each column of the way back has the weight of the row that it leads to
-pub record IsTightBack (w : ℕ → ℕ → Option ℕ) (out : ℕ → Bool) (next : List (Option ℕ)) (leave enter : List ℕ) (parent rows : List ℕ) (top : ℕ) : Type 0 where
+pub record IsTightBack (w : ℕ → ℕ → Option ℕ) (out : ℕ → Bool) (next : List (Option ℕ)) (leave enter : List ℕ) (parent rows : List ℕ)
+    (top : ℕ) : Type 0 where
   pub inside : (t : ℕ) → t ≤ top → out (at rows t) ≡ false
-  pub tight : (t j : ℕ) → t ≤ top → next_of next (at rows t) ≡ Some j → w (at rows (at parent j)) j ≡ Some (price leave (at rows (at parent j)) + price enter j)
+  pub tight : (t j : ℕ) → t ≤ top → next_of next (at rows t) ≡ Some j
+      → w (at rows (at parent j)) j ≡ Some (price leave (at rows (at parent j)) + price enter j)
 
 -- Links that are matched but for a row. It is to be linked to a column that is linked to none. Or it is to be linked to none,
 -- and then it has no price.
-pub record IsPassing (w : ℕ → ℕ → Option ℕ) (out : ℕ → Bool) (a : ℕ) (b : Option ℕ) (next : List (Option ℕ)) (leave enter : List ℕ) (row : ℕ) (to : Option ℕ) : Type 0 where
+pub record IsPassing (w : ℕ → ℕ → Option ℕ) (out : ℕ → Bool) (a : ℕ) (b : Option ℕ) (next : List (Option ℕ)) (leave enter : List ℕ)
+    (row : ℕ) (to : Option ℕ) : Type 0 where
   pub once : AreApart next
   pub tight : (i j : ℕ) → next_of next i ≡ Some j → w i j ≡ Some (price leave i + price enter j)
   pub left : (i : ℕ) → out i ≡ true → next_of next i ≡ None

@@ -1,6 +1,7 @@
 -- The search from one row: a tree of rows, how far they and the columns are from it, and along which rows they were
 -- reached.
-use Rattle.std.specs.Prelude.{◌≡◌, ◌≢◌, ℕ, ◌+◌, ◌<◌, ◌≤◌, ◌⊎◌, Bool, true, false, not, List, length, count_by, Option, None, Some, slice_index_or}
+use Rattle.std.specs.Prelude.{◌≡◌, ◌≢◌, ℕ, ◌+◌, ◌<◌, ◌≤◌, ◌⊎◌, Bool, true, false, not, List, length, count_by, Option, None, Some}
+use Rattle.std.specs.Prelude.{slice_index_or}
 use Rattle.pair_search.specs.declared.limits.TheConstants.{GREATEST_PRICE, FAR}
 use Rattle.trip_model.specs.declared.limits.TheConstants.{MOST_SLOTS}
 use Rattle.trip_model.specs.Links.{next_of, AreApart}
@@ -102,7 +103,15 @@ pub record TreeView : Type 0 where
 -- a tree with so many rows, whose search has gone so far
 abbrev pub tree_of : Tree → ℕ → ℕ → TreeView
 tree_of tree size reach =
-    record { dist = tree.dist.items; parent = tree.parent.items; done = tree.done.items; rows = tree.rows.items; far = tree.far.items; size = size; reach = reach }
+    record {
+      dist = tree.dist.items;
+      parent = tree.parent.items;
+      done = tree.done.items;
+      rows = tree.rows.items;
+      far = tree.far.items;
+      size = size;
+      reach = reach;
+    }
 
 -- the row at a place of the tree came in by the column that it is linked to
 pub record IsVia (p : Problem) (s : TreeView) (t : ℕ) : Type 0 where
@@ -134,7 +143,8 @@ pub record IsTree (p : Problem) (s : TreeView) : Type 0 where
   pub within : (t : ℕ) → t < s.size → at s.far t ≤ s.reach
   pub via : (t : ℕ) → 0 < t → t < s.size → IsVia p s t
   pub apart : (r t : ℕ) → r < t → t < s.size → at s.rows r ≢ at s.rows t
-  pub covered : (t j k : ℕ) → t < s.size → p.w (at s.rows t) j ≡ Some k → at s.dist j + k ≤ at s.far t + at p.leave (at s.rows t) + at p.enter j
+  pub covered : (t j k : ℕ) → t < s.size → p.w (at s.rows t) j ≡ Some k
+      → at s.dist j + k ≤ at s.far t + at p.leave (at s.rows t) + at p.enter j
   pub later : (j : ℕ) → j < p.n → is_done s.done j ≡ false → s.reach ≤ at s.dist j
   pub done : (j : ℕ) → j < p.n → is_done s.done j ≡ true → IsIn p s j
   pub reached : (j : ℕ) → j < p.n → at s.dist j < FAR → IsFrom p s j

@@ -1,5 +1,6 @@
 -- The pairs of trips, seen from the side that they leave or from the side that they enter.
-use Rattle.std.specs.Prelude.{◌≡◌, ℕ, ◌<◌, ◌≤◌, Bool, true, false, List, length, slice_index_or, Option, None, Some, IfNone, IfSome, if◌then◌else◌}
+use Rattle.std.specs.Prelude.{◌≡◌, ℕ, ◌<◌, ◌≤◌, Bool, true, false, List, length, slice_index_or, Option, None, Some, IfNone, IfSome}
+use Rattle.std.specs.Prelude.{if◌then◌else◌}
 use Rattle.assignment_model.specs.Prices.{weight}
 use Rattle.trip_model.specs.Links.{leads_to}
 use Rattle.trip_model.specs.Plain.{move_at}
@@ -40,7 +41,8 @@ side_slots side = length side.pairs.moves
 -- what a row and a column weigh, where they fit
 unfoldable pub side_weight : SideView → ℕ → ℕ → Option ℕ
 side_weight side i j =
-    if leads_to j side.without then None else (if side.turned then weight (pairs_network side.pairs) j i else weight (pairs_network side.pairs) i j)
+    if leads_to j side.without then None
+    else (if side.turned then weight (pairs_network side.pairs) j i else weight (pairs_network side.pairs) i j)
 
 -- the slot of the column at a place
 abbrev pub side_slot : SideView → ℕ → ℕ
@@ -73,7 +75,8 @@ line_weight line = place_weight line.side line.row
 
 -- what a row weighs with the columns of a group: the same with each that it is in time for
 abbrev pub IsReachOf : LineView → Group → Option Reach → Type 0
-IsReachOf line group reach = (k : ℕ) → group.from ≤ k → k < group.to → line_weight line k ≡ saved_from reach (slice_index_or line.side.columns k (no_column (side_slots line.side))).minute
+IsReachOf line group reach = (k : ℕ) → group.from ≤ k → k < group.to
+    → line_weight line k ≡ saved_from reach (slice_index_or line.side.columns k (no_column (side_slots line.side))).minute
 
 -- Of the columns of a group before a place those from one on weigh the same with a row, and those before it do not fit.
 pub record IsFirstFit (line : LineView) (group : Group) (saved upto first : ℕ) : Type 0 where

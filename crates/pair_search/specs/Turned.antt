@@ -7,7 +7,8 @@ use Rattle.pair_search.specs.Inverse.{IsInverse}
 
 -- a search may begin at b over the inverse of links
 abbrev pub MayBeginTurned : (ℕ → ℕ → Option ℕ) → ℕ → ℕ → Option ℕ → List (Option ℕ) → List ℕ → List ℕ → Type 0
-MayBeginTurned w n b a links leave enter = (was : List (Option ℕ)) → IsInverse (length links) links was → MayBegin w n (λ _. false) b a was enter leave
+MayBeginTurned w n b a links leave enter = (was : List (Option ℕ)) → IsInverse (length links) links was
+    → MayBegin w n (λ _. false) b a was enter leave
 
 -- from the inverse of old links it has led along a path from b to a list whose inverse the new ones are
 pub record IsFoundTurned (w : ℕ → ℕ → Option ℕ) (b : ℕ) (a : Option ℕ) (old new : List (Option ℕ)) (leave enter : List ℕ) : Type 0 where

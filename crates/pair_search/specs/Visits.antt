@@ -28,7 +28,8 @@ AreVisited w groups (suc r) dist dist' was now =
 abbrev pub RowsVisit : (ℕ → ℕ → Option ℕ) → List Group → ℕ → List ℕ → ℕ → List ℕ → List ℕ → ℕ → ℕ → Type 0
 RowsVisit w groups count rows zero dist dist' was now = (dist' ≡ dist) × (now ≡ was)
 RowsVisit w groups count rows (suc t) dist dist' was now =
-    (mid : List ℕ) × (paid : ℕ) × RowsVisit w groups count rows t dist mid was paid × AreVisited (w (at rows t)) groups count mid dist' paid now
+    (mid : List ℕ) × (paid : ℕ) × RowsVisit w groups count rows t dist mid was paid
+    × AreVisited (w (at rows t)) groups count mid dist' paid now
 
 -- The rows of a search visit all groups, one after the other. No two of them are alike, so no pair is visited twice.
 pub record VisitsOnce (w : ℕ → ℕ → Option ℕ) (groups : List Group) (count : ℕ) (rows dist dist' : List ℕ) (was now : ℕ) : Type 0 where

@@ -19,8 +19,10 @@ fn group_end(columns: &[Column], from: usize) -> usize
     requires { from < length columns.now }
     ensures after { from < result }
     ensures within { result ≤ length columns.now }
-    ensures posts { (k : ℕ) (d : _) → from ≤ k → k < result → (slice_index_or columns.now k d).post ≡ (slice_index_or columns.now from d).post }
-    ensures rise { (h k : ℕ) (d : _) → from ≤ h → h ≤ k → k < result → (slice_index_or columns.now h d).minute ≤ (slice_index_or columns.now k d).minute }
+    ensures posts { (k : ℕ) (d : _) → from ≤ k → k < result
+        → (slice_index_or columns.now k d).post ≡ (slice_index_or columns.now from d).post }
+    ensures rise { (h k : ℕ) (d : _) → from ≤ h → h ≤ k → k < result
+        → (slice_index_or columns.now h d).minute ≤ (slice_index_or columns.now k d).minute }
 {
     let mut to = from + 1;
     while to < columns.len()

@@ -1,4 +1,5 @@
-ghost use Rattle.std.specs.Prelude.{◌≡◌, ℕ, ◌+◌, ◌*◌, ◌<◌, ◌≤◌, ◌⊎◌, min, nat_lt, true, List, length, vec_len, slice_set, replicate, Option, None, Some, if◌then◌else◌};
+ghost use Rattle.std.specs.Prelude.{◌≡◌, ℕ, ◌+◌, ◌*◌, ◌<◌, ◌≤◌, ◌⊎◌, min, nat_lt, true, List, length, vec_len, slice_set, replicate};
+ghost use Rattle.std.specs.Prelude.{Option, None, Some, if◌then◌else◌};
 ghost use Rattle.trip_model.specs.Links.{next_of, before_of};
 ghost use Rattle.trip_model.specs.declared.limits.TheConstants.{MOST_SLOTS};
 ghost use Rattle.pair_search.specs.declared.limits.TheConstants.{FAR};
@@ -66,7 +67,8 @@ impl Tree {
         ensures tree { (before : List (Option ℕ)) → IsGiven (problem_of side.now a before leave.new enter.now)
             → IsTree (problem_of side.now a before leave.new enter.now) (tree_of self.new 1 0) }
         ensures shown { Shows self.new 0 None GREATEST_PRICE (first_front (place_weight side.now) a enter.now (side_slots side.now)) }
-        ensures visited { AreVisited (place_weight side.now a) side.now.groups side.now.count (replicate (side_slots side.now) FAR) self.new.dist.items steps.old steps.new }
+        ensures visited { AreVisited (place_weight side.now a) side.now.groups side.now.count (replicate (side_slots side.now) FAR)
+            self.new.dist.items steps.old steps.new }
         ensures counted { steps.new ≤ steps.old + side_slots side.now }
     {
         leave[a as usize] = GREATEST_PRICE;
@@ -107,10 +109,12 @@ impl Tree {
             → IsNext (problem_of side.now a before leave.now enter.now) (tree_of self.old place reach) row column
             → IsTree (problem_of side.now a before leave.now enter.now) (tree_of self.new (place + 1) (at self.old.dist.items column)) }
         ensures done { self.new.done.items ≡ slice_set self.old.done.items column true }
-        ensures looked { AreLooked (place_weight side.now row) (side_slots side.now) place (at self.old.dist.items column + at leave.now row) enter.now
+        ensures looked { AreLooked (place_weight side.now row) (side_slots side.now) place
+            (at self.old.dist.items column + at leave.now row) enter.now
             (as_columns self.old.dist.items self.old.parent.items (slice_set self.old.done.items column true))
             (as_columns self.new.dist.items self.new.parent.items (slice_set self.old.done.items column true)) }
-        ensures visited { AreVisited (place_weight side.now row) side.now.groups side.now.count self.old.dist.items self.new.dist.items steps.old steps.new }
+        ensures visited { AreVisited (place_weight side.now row) side.now.groups side.now.count self.old.dist.items self.new.dist.items
+            steps.old steps.new }
         ensures counted { steps.new ≤ steps.old + side_slots side.now }
     {
         let distance = self.dist[column as usize];
@@ -143,8 +147,11 @@ impl Tree {
             → Shows self.old 0 None (at leave.now (at self.old.rows.items 0)) front
             → Shows self.new result.from result.to result.fall
             (grown (place_weight side.now) (record { next = next; leave = leave.now; enter = enter.now }) (side_slots side.now) front) }
-        ensures visited { (first : List ℕ) (was : ℕ) → RowsVisit (place_weight side.now) side.now.groups side.now.count self.old.rows.items 1 first self.old.dist.items was steps.old
-            → VisitsOnce (place_weight side.now) side.now.groups side.now.count self.new.rows.items first self.new.dist.items was steps.new }
+        ensures visited { (first : List ℕ) (was : ℕ)
+            → RowsVisit (place_weight side.now) side.now.groups side.now.count self.old.rows.items 1 first self.old.dist.items was
+            steps.old
+            → VisitsOnce (place_weight side.now) side.now.groups side.now.count self.new.rows.items first self.new.dist.items was
+            steps.new }
         ensures counted { steps.new ≤ steps.old + side_slots side.now * side_slots side.now }
     {
         let mut size = 1;

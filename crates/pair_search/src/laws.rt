@@ -15,12 +15,15 @@ ghost use Rattle.pair_search.specs.declared.order.Column.{Column};
 /// they are as far as is computed. Where the search has ended, so are the prices.
 pub fn one_search_law()
     ensures pick { (n j bound : ℕ) (done : List Bool) (dist : List ℕ) → j < n → is_done done j ≡ false → at dist j < bound
-        → ((h : ℕ) → h < n → is_done done h ≡ false → at dist j ≤ at dist h) → ((h : ℕ) → h < j → is_done done h ≡ false → at dist j < at dist h)
+        → ((h : ℕ) → h < n → is_done done h ≡ false → at dist j ≤ at dist h)
+        → ((h : ℕ) → h < j → is_done done h ≡ false → at dist j < at dist h)
         → first_nearest n done dist bound ≡ Some j }
     ensures end { (n bound : ℕ) (done : List Bool) (dist : List ℕ) → ((h : ℕ) → h < n → is_done done h ≡ false → bound ≤ at dist h)
         → first_nearest n done dist bound ≡ None }
-    ensures look { (w : ℕ → Option ℕ) (from start : ℕ) (enter : List ℕ) (done : List Bool) (dist parent dist' parent' : List ℕ) → length dist' ≡ length dist
-        → AreLooked w (length dist) from start enter (as_columns dist parent done) (as_columns dist' parent' done) → dist' ≡ dist_from w start enter done dist }
+    ensures look { (w : ℕ → Option ℕ) (from start : ℕ) (enter : List ℕ) (done : List Bool) (dist parent dist' parent' : List ℕ)
+        → length dist' ≡ length dist
+        → AreLooked w (length dist) from start enter (as_columns dist parent done) (as_columns dist' parent' done)
+        → dist' ≡ dist_from w start enter done dist }
     ensures leave { (a : ℕ) (plan : Plan) (dist : List ℕ) (fall : ℕ) (leave' enter' : List ℕ) → length leave' ≡ length plan.leave
         → IsShifted (length plan.enter) a plan.next dist fall plan.leave plan.enter leave' enter' → leave' ≡ leave_after a plan dist fall }
     ensures enter { (a : ℕ) (plan : Plan) (dist : List ℕ) (fall : ℕ) (leave' enter' : List ℕ) → length enter' ≡ length plan.enter

@@ -35,9 +35,11 @@ impl<'a> Line<'a> {
     // And the minute from which on such a column may need it.
     fn reach(&self, post: u16, latest: u16) -> Option<Reach>
         requires { post < length self.now.side.pairs.matrix.walks }
-        ensures { (k : ℕ) → k < side_slots self.now.side → (slice_index_or self.now.side.columns k (no_column (side_slots self.now.side))).post ≡ Some post
+        ensures { (k : ℕ) → k < side_slots self.now.side
+            → (slice_index_or self.now.side.columns k (no_column (side_slots self.now.side))).post ≡ Some post
             → (slice_index_or self.now.side.columns k (no_column (side_slots self.now.side))).minute ≤ latest
-            → line_weight self.now k ≡ saved_from result (slice_index_or self.now.side.columns k (no_column (side_slots self.now.side))).minute }
+            → line_weight self.now k ≡ saved_from result
+            (slice_index_or self.now.side.columns k (no_column (side_slots self.now.side))).minute }
     {
         let side = self.side;
         // Its clauses say that moves are of one day.

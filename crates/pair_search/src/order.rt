@@ -82,7 +82,8 @@ fn list_columns(pairs: &Pairs<'_>, turned: bool, without: Option<u16>, columns: 
     requires { length columns.old ≡ length pairs.now.moves }
     ensures slots { (j : ℕ) (d : _) → j < length columns.old → (slice_index_or columns.new j d).slot ≡ j }
     ensures minutes { (j : ℕ) (d : _) → j < length columns.old → (slice_index_or columns.new j d).minute ≡ pairs_minute pairs.now turned j }
-    ensures posts { (j : ℕ) (d : _) → j < length columns.old → (slice_index_or columns.new j d).post ≡ pairs_post pairs.now turned without j }
+    ensures posts { (j : ℕ) (d : _) → j < length columns.old
+        → (slice_index_or columns.new j d).post ≡ pairs_post pairs.now turned without j }
     ensures ranked { (j : ℕ) (d : _) → j < length columns.old → IsRanked (slice_index_or columns.new j d) }
 {
     for slot in 0..pairs.slots() {
@@ -129,7 +130,8 @@ fn sort(columns: &mut [Column], places: &mut [u16])
     requires few { length columns.old ≤ MOST_SLOTS }
     requires slots { (j : ℕ) (d : _) → j < length columns.old → (slice_index_or columns.old j d).slot ≡ j }
     requires ranked { (j : ℕ) (d : _) → j < length columns.old → IsRanked (slice_index_or columns.old j d) }
-    ensures numbered { (minute : ℕ → ℕ) (post : ℕ → Option ℕ) → ((j : ℕ) (d : _) → j < length columns.old → (slice_index_or columns.old j d).minute ≡ minute j)
+    ensures numbered { (minute : ℕ → ℕ) (post : ℕ → Option ℕ)
+        → ((j : ℕ) (d : _) → j < length columns.old → (slice_index_or columns.old j d).minute ≡ minute j)
         → ((j : ℕ) (d : _) → j < length columns.old → (slice_index_or columns.old j d).post ≡ post j)
         → IsOrder (length columns.old) minute post columns.new places.new }
     ensures sorted { AreInOrder (length columns.old) columns.new }
@@ -152,7 +154,8 @@ fn arrange(
 )
     requires columns { length columns.old ≡ length pairs.now.moves }
     requires places { length places.old ≡ length pairs.now.moves }
-    ensures order { IsOrder (length pairs.now.moves) (pairs_minute pairs.now turned) (pairs_post pairs.now turned without) columns.new places.new }
+    ensures order { IsOrder (length pairs.now.moves) (pairs_minute pairs.now turned) (pairs_post pairs.now turned without) columns.new
+        places.new }
     ensures slots { slots_of columns.new ≡ arranged pairs.now turned without }
 {
     // Its clause says how many there may be.
@@ -166,7 +169,8 @@ fn arrange_departures(pairs: &Pairs<'_>, columns: &mut [Column], places: &mut [u
     requires columns { length columns.old ≡ length pairs.now.moves }
     requires places { length places.old ≡ length pairs.now.moves }
     ensures count { length columns.new ≡ length pairs.now.moves }
-    ensures renaming { IsRenaming (length pairs.now.moves) (slot_at (length pairs.now.moves) columns.new) (place_of (length pairs.now.moves) places.new) }
+    ensures renaming { IsRenaming (length pairs.now.moves) (slot_at (length pairs.now.moves) columns.new)
+        (place_of (length pairs.now.moves) places.new) }
     ensures slots { slots_of columns.new ≡ departing pairs.now }
 {
     // Its clause says how many there may be.
@@ -223,7 +227,8 @@ fn columns_before(columns: &[Column], minute: u16) -> usize
 // none does.
 fn first_of_few(columns: &[Column], from: u16, upto: u16, minute: u16) -> u16
     requires within { upto ≤ length columns.now }
-    requires rise { (h k : ℕ) (d : _) → from ≤ h → h ≤ k → k < upto → (slice_index_or columns.now h d).minute ≤ (slice_index_or columns.now k d).minute }
+    requires rise { (h k : ℕ) (d : _) → from ≤ h → h ≤ k → k < upto
+        → (slice_index_or columns.now h d).minute ≤ (slice_index_or columns.now k d).minute }
     ensures within { result ≤ upto }
     ensures after { result < upto → from ≤ result }
     ensures before { (k : ℕ) (d : _) → from ≤ k → k < result → (slice_index_or columns.now k d).minute < minute }
@@ -241,7 +246,8 @@ fn first_of_few(columns: &[Column], from: u16, upto: u16, minute: u16) -> u16
 /// column needs it latest, so one comparison tells whether there is any.
 pub(crate) fn first_from(columns: &[Column], from: u16, upto: u16, minute: u16) -> u16
     requires within { upto ≤ length columns.now }
-    requires rise { (h k : ℕ) (d : _) → from ≤ h → h ≤ k → k < upto → (slice_index_or columns.now h d).minute ≤ (slice_index_or columns.now k d).minute }
+    requires rise { (h k : ℕ) (d : _) → from ≤ h → h ≤ k → k < upto
+        → (slice_index_or columns.now h d).minute ≤ (slice_index_or columns.now k d).minute }
     ensures within { result ≤ upto }
     ensures after { result < upto → from ≤ result }
     ensures before { (k : ℕ) (d : _) → from ≤ k → k < result → (slice_index_or columns.now k d).minute < minute }

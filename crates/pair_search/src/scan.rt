@@ -33,7 +33,8 @@ fn approach<L: Ledger>(
     requires cost { cost ≤ 3 * GREATEST_PRICE }
     requires low { (j : ℕ) → first ≤ j → j < upto → at enter.now j ≤ GREATEST_PRICE }
     requires enough { (j : ℕ) → first ≤ j → j < upto → GREATEST_PRICE ≤ cost + at enter.now j }
-    ensures approached { AreApproached first upto from cost enter.now (as_columns dist.old parent.old done.now) (as_columns dist.new parent.new done.now) result }
+    ensures approached { AreApproached first upto from cost enter.now (as_columns dist.old parent.old done.now)
+        (as_columns dist.new parent.new done.now) result }
     ensures counted { visits.new ≡ visits.old + (upto - first) }
 {
     let mut near = FAR;
@@ -65,7 +66,8 @@ fn cut(was: Seen, cost: u64, to: u16) -> u16
 // What is seen of a group after its columns from a place on were approached at a cost.
 fn renewed(was: Seen, near: u64, cost: u64, from: u16) -> Seen
     ensures near { (result.near ≤ was.near) × (result.near ≤ near) }
-    ensures reached { ((result.cost ≡ was.cost) × (result.from ≡ was.from)) ⊎ ((cost < was.cost) × (result.cost ≡ cost) × (result.from ≡ from)) }
+    ensures reached { ((result.cost ≡ was.cost) × (result.from ≡ was.from))
+        ⊎ ((cost < was.cost) × (result.cost ≡ cost) × (result.from ≡ from)) }
 {
     let near = near.min(was.near);
     if cost < was.cost {
@@ -139,7 +141,8 @@ impl Tree {
             → AreLooked (line_weight line.now) (group_at line.now.side.groups group).from from start enter.now was (columns_of self.old)
             → AreLooked (line_weight line.now) (group_at line.now.side.groups group).to from start enter.now was (columns_of self.new) }
         ensures seen { IsSeen line.now.side enter.now self.new }
-        ensures visited { IsVisited (line_weight line.now) (group_at line.now.side.groups group) self.old.dist.items self.new.dist.items steps.old steps.new }
+        ensures visited { IsVisited (line_weight line.now) (group_at line.now.side.groups group) self.old.dist.items self.new.dist.items
+            steps.old steps.new }
     {
         let Some(reach) = line.reach_of(group) else {
             steps.tick();
@@ -185,9 +188,11 @@ impl Tree {
         requires covers { (j k : ℕ) → line_weight line.now j ≡ Some k → k ≤ start + at enter.now j }
         ensures slots { vec_len self.new.dist ≡ vec_len self.old.dist }
         ensures rows { (self.new.rows.items ≡ self.old.rows.items) × (self.new.far.items ≡ self.old.far.items) }
-        ensures looked { AreLooked (line_weight line.now) (side_slots line.now.side) from start enter.now (columns_of self.old) (columns_of self.new) }
+        ensures looked { AreLooked (line_weight line.now) (side_slots line.now.side) from start enter.now (columns_of self.old)
+            (columns_of self.new) }
         ensures seen { IsSeen line.now.side enter.now self.new }
-        ensures visited { AreVisited (line_weight line.now) line.now.side.groups line.now.side.count self.old.dist.items self.new.dist.items steps.old steps.new }
+        ensures visited { AreVisited (line_weight line.now) line.now.side.groups line.now.side.count self.old.dist.items
+            self.new.dist.items steps.old steps.new }
         ensures counted { steps.new ≤ steps.old + side_slots line.now.side }
     {
         let side = line.side;
@@ -216,9 +221,11 @@ impl Tree {
         requires covers { (j k : ℕ) → place_weight side.now row j ≡ Some k → k ≤ start + at enter.now j }
         ensures slots { vec_len self.new.dist ≡ vec_len self.old.dist }
         ensures rows { (self.new.rows.items ≡ self.old.rows.items) × (self.new.far.items ≡ self.old.far.items) }
-        ensures looked { AreLooked (place_weight side.now row) (side_slots side.now) from start enter.now (columns_of self.old) (columns_of self.new) }
+        ensures looked { AreLooked (place_weight side.now row) (side_slots side.now) from start enter.now (columns_of self.old)
+            (columns_of self.new) }
         ensures seen { IsSeen side.now enter.now self.new }
-        ensures visited { AreVisited (place_weight side.now row) side.now.groups side.now.count self.old.dist.items self.new.dist.items steps.old steps.new }
+        ensures visited { AreVisited (place_weight side.now row) side.now.groups side.now.count self.old.dist.items self.new.dist.items
+            steps.old steps.new }
         ensures counted { steps.new ≤ steps.old + side_slots side.now }
     {
         self.look_along(&side.line(row), from, start, enter, steps);
@@ -244,7 +251,8 @@ fn nearest_of(
     ensures reached { (enter : List ℕ) → AreReached side.now.count side.now.groups enter done.now dist.now seen.old
         → AreReached side.now.count side.now.groups enter done.now dist.now seen.new }
     ensures low { result.distance ≤ best.distance }
-    ensures least { (j : ℕ) → (group_at side.now.groups group).from ≤ j → j < (group_at side.now.groups group).to → is_done done.now j ≡ false
+    ensures least { (j : ℕ) → (group_at side.now.groups group).from ≤ j → j < (group_at side.now.groups group).to
+        → is_done done.now j ≡ false
         → result.distance ≤ at dist.now j }
     ensures one { (result ≡ best) ⊎ IsNearer (group_at side.now.groups group).from done.now dist.now best result }
 {

@@ -41,11 +41,14 @@ fn search<L: Ledger>(
     requires leave { length leave.old ≡ side_slots side.now }
     requires enter { length enter.old ≡ side_slots side.now }
     requires before { length before.old ≡ side_slots side.now }
-    requires begins { (out : ℕ → Bool) × (b : Option ℕ) × MayBegin (place_weight side.now) (side_slots side.now) out a b next.old leave.old enter.old }
+    requires begins { (out : ℕ → Bool) × (b : Option ℕ)
+        × MayBegin (place_weight side.now) (side_slots side.now) out a b next.old leave.old enter.old }
     ensures path { IsPath (next_of next.old) (before_of next.old) (next_of next.new) a }
-    ensures matched { (out : ℕ → Bool) (b : Option ℕ) → MayBegin (place_weight side.now) (side_slots side.now) out a b next.old leave.old enter.old
+    ensures matched { (out : ℕ → Bool) (b : Option ℕ)
+        → MayBegin (place_weight side.now) (side_slots side.now) out a b next.old leave.old enter.old
         → IsMatched (place_weight side.now) out None b next.new leave.new enter.new }
-    ensures covers { (out : ℕ → Bool) (b : Option ℕ) → MayBegin (place_weight side.now) (side_slots side.now) out a b next.old leave.old enter.old
+    ensures covers { (out : ℕ → Bool) (b : Option ℕ)
+        → MayBegin (place_weight side.now) (side_slots side.now) out a b next.old leave.old enter.old
         → Covers (place_weight side.now) out None leave.new enter.new }
     ensures plan { ◌≡◌ {A = Plan} (record { next = next.new; leave = leave.new; enter = enter.new })
         (found (place_weight side.now) a (record { next = next.old; leave = leave.old; enter = enter.old })) }
@@ -109,14 +112,18 @@ impl Placed {
         requires next { length next.old ≡ side_slots side.now }
         requires leave { length leave.old ≡ side_slots side.now }
         requires enter { length enter.old ≡ side_slots side.now }
-        requires begins { (out : ℕ → Bool) × (b : Option ℕ) × MayBegin (side_weight side.now) (side_slots side.now) out a b next.old leave.old enter.old }
+        requires begins { (out : ℕ → Bool) × (b : Option ℕ)
+            × MayBegin (side_weight side.now) (side_slots side.now) out a b next.old leave.old enter.old }
         ensures path { IsPath (next_of next.old) (before_of next.old) (next_of next.new) a }
-        ensures matched { (out : ℕ → Bool) (b : Option ℕ) → MayBegin (side_weight side.now) (side_slots side.now) out a b next.old leave.old enter.old
+        ensures matched { (out : ℕ → Bool) (b : Option ℕ)
+            → MayBegin (side_weight side.now) (side_slots side.now) out a b next.old leave.old enter.old
             → IsMatched (side_weight side.now) out None b next.new leave.new enter.new }
-        ensures covers { (out : ℕ → Bool) (b : Option ℕ) → MayBegin (side_weight side.now) (side_slots side.now) out a b next.old leave.old enter.old
+        ensures covers { (out : ℕ → Bool) (b : Option ℕ)
+            → MayBegin (side_weight side.now) (side_slots side.now) out a b next.old leave.old enter.old
             → Covers (side_weight side.now) out None leave.new enter.new }
         ensures plan { ◌≡◌ {A = Plan} (record { next = next.new; leave = leave.new; enter = enter.new })
-            (found_by (slots_of side.now.columns) (side_weight side.now) a (record { next = next.old; leave = leave.old; enter = enter.old })) }
+            (found_by (slots_of side.now.columns) (side_weight side.now) a
+            (record { next = next.old; leave = leave.old; enter = enter.old })) }
         ensures visited { SearchesOnce side.now steps.old steps.new }
         ensures counted { steps.new ≤ steps.old + side_slots side.now * side_slots side.now + side_slots side.now }
     {
@@ -193,17 +200,21 @@ pub fn search_links<L: Ledger>(
     requires links { length links.old ≡ side_slots side.now }
     requires leave { vec_len leave.old ≡ side_slots side.now }
     requires enter { vec_len enter.old ≡ side_slots side.now }
-    requires begins { (out : ℕ → Bool) × (b : Option ℕ) × MayBegin (side_weight side.now) (side_slots side.now) out a b links.old leave.old.items enter.old.items }
+    requires begins { (out : ℕ → Bool) × (b : Option ℕ)
+        × MayBegin (side_weight side.now) (side_slots side.now) out a b links.old leave.old.items enter.old.items }
     ensures links { length links.new ≡ length links.old }
     ensures leave { (vec_len leave.new ≡ vec_len leave.old) × (vec_capacity leave.new ≡ vec_capacity leave.old) }
     ensures enter { (vec_len enter.new ≡ vec_len enter.old) × (vec_capacity enter.new ≡ vec_capacity enter.old) }
     ensures path { IsPath (next_of links.old) (before_of links.old) (next_of links.new) a }
-    ensures matched { (out : ℕ → Bool) (b : Option ℕ) → MayBegin (side_weight side.now) (side_slots side.now) out a b links.old leave.old.items enter.old.items
+    ensures matched { (out : ℕ → Bool) (b : Option ℕ)
+        → MayBegin (side_weight side.now) (side_slots side.now) out a b links.old leave.old.items enter.old.items
         → IsMatched (side_weight side.now) out None b links.new leave.new.items enter.new.items }
-    ensures covers { (out : ℕ → Bool) (b : Option ℕ) → MayBegin (side_weight side.now) (side_slots side.now) out a b links.old leave.old.items enter.old.items
+    ensures covers { (out : ℕ → Bool) (b : Option ℕ)
+        → MayBegin (side_weight side.now) (side_slots side.now) out a b links.old leave.old.items enter.old.items
         → Covers (side_weight side.now) out None leave.new.items enter.new.items }
     ensures plan { ◌≡◌ {A = Plan} (record { next = links.new; leave = leave.new.items; enter = enter.new.items })
-        (found_by (slots_of side.now.columns) (side_weight side.now) a (record { next = links.old; leave = leave.old.items; enter = enter.old.items })) }
+        (found_by (slots_of side.now.columns) (side_weight side.now) a
+        (record { next = links.old; leave = leave.old.items; enter = enter.old.items })) }
     ensures visited { SearchesOnce side.now steps.old steps.new }
     ensures counted { steps.new ≤ steps.old + side_slots side.now * side_slots side.now + side_slots side.now }
 {
@@ -228,11 +239,13 @@ pub fn search_befores<L: Ledger>(
     requires leave { vec_len leave.old ≡ side_slots side.now }
     requires enter { vec_len enter.old ≡ side_slots side.now }
     requires apart { AreNextTrips links.old }
-    requires begins { (a : Option ℕ) × MayBeginTurned (side_weight side.now) (side_slots side.now) b a links.old leave.old.items enter.old.items }
+    requires begins { (a : Option ℕ)
+        × MayBeginTurned (side_weight side.now) (side_slots side.now) b a links.old leave.old.items enter.old.items }
     ensures links { length links.new ≡ length links.old }
     ensures leave { (vec_len leave.new ≡ vec_len leave.old) × (vec_capacity leave.new ≡ vec_capacity leave.old) }
     ensures enter { (vec_len enter.new ≡ vec_len enter.old) × (vec_capacity enter.new ≡ vec_capacity enter.old) }
-    ensures found { (a : Option ℕ) → MayBeginTurned (side_weight side.now) (side_slots side.now) b a links.old leave.old.items enter.old.items
+    ensures found { (a : Option ℕ)
+        → MayBeginTurned (side_weight side.now) (side_slots side.now) b a links.old leave.old.items enter.old.items
         → IsFoundTurned (side_weight side.now) b a links.old links.new leave.new.items enter.new.items }
     ensures plan { ◌≡◌ {A = Plan} (record { next = links.new; leave = leave.new.items; enter = enter.new.items })
         (turned_plan (found_by (slots_of side.now.columns) (side_weight side.now) b

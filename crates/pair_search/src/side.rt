@@ -34,9 +34,18 @@ impl<'a> Model for Side<'a> {
 
     ghost Value = { SideView };
 
-    ghost view = { λ s. record { pairs = s.pairs.now; turned = s.turned; without = s.without; columns = s.columns.now; places = s.places.now; groups = s.groups.now; count = s.count } };
+    ghost view = { λ s. record {
+      pairs = s.pairs.now;
+      turned = s.turned;
+      without = s.without;
+      columns = s.columns.now;
+      places = s.places.now;
+      groups = s.groups.now;
+      count = s.count;
+    } };
 
-    ghost invariant = { λ s. (IsOrder (length s.pairs.now.moves) (pairs_minute s.pairs.now s.turned) (pairs_post s.pairs.now s.turned s.without) s.columns.now s.places.now)
+    ghost invariant = { λ s. (IsOrder (length s.pairs.now.moves) (pairs_minute s.pairs.now s.turned)
+        (pairs_post s.pairs.now s.turned s.without) s.columns.now s.places.now)
         × (AreGroups (length s.pairs.now.moves) s.columns.now s.count s.groups.now) };
 }
 

@@ -12,12 +12,15 @@ use Rattle.feed_desk.specs.Drawn.{HasDrawn}
 use Rattle.feed_desk.specs.declared.draw.Drawn.{Drawn}
 use Rattle.plan_commands.specs.Chart.{chart_does, chart_text}
 
-pub chart-given : {E : Type 0} (read : ReadView) (said : FeedView) (matrix : MatrixView) (drawn : Drawn) (text prefix : List ℕ) → IsMatrixFor said matrix → HasDrawn said.base said.lines matrix drawn
+pub chart-given : {E : Type 0} (read : ReadView) (said : FeedView) (matrix : MatrixView) (drawn : Drawn) (text prefix : List ℕ)
+    → IsMatrixFor said matrix → HasDrawn said.base said.lines matrix drawn
     → text ≡ chart_text drawn.desk.script.timetable drawn.desk.matrix prefix drawn.blocks → prefix ≡ said.settings.prefix
-    → (result : Result OutcomeView E) → IfOk result (λ outcome. outcome ≡ refusing_first drawn.refused text drawn.ending) → IfOk result (IsGivenOf chart_does read said)
+    → (result : Result OutcomeView E) → IfOk result (λ outcome. outcome ≡ refusing_first drawn.refused text drawn.ending)
+    → IfOk result (IsGivenOf chart_does read said)
 chart-given read said matrix drawn text prefix is has printed same (Err e) put = tt
 chart-given read said matrix drawn text prefix is has printed same (Ok outcome) put =
-    let here = put ∙ (λ i. refusing_first (has.refused i) ((printed ∙ (λ j. chart_text (has.timetable j) (has.matrix_is j) (same j) drawn.blocks)) i) (has.ending i)) in
+    let here = put ∙ (λ i. refusing_first (has.refused i)
+    ((printed ∙ (λ j. chart_text (has.timetable j) (has.matrix_is j) (same j) drawn.blocks)) i) (has.ending i)) in
     record {
       gives = record { matrix = matrix; matrix_is = is; plan = drawn.desk.plan; blocks = drawn.blocks; drawn = has.plan; done = here };
       ends = ap (λ (o : OutcomeView). o.ending) here;

@@ -22,11 +22,13 @@ pub put-alone : (refused : List ℕ) (timetable : TimetableView) (matrix : Matri
 put-alone refused timetable matrix (Err fault) = (refl, refl)
 put-alone refused timetable matrix (Ok claimed) = by (verdict_of timetable matrix claimed)
   where
-    by : (verdict : Verdict) → ((verdict_outcome refused timetable claimed verdict).writes ≡ []) × ((verdict_outcome refused timetable claimed verdict).lines ≡ None)
+    by : (verdict : Verdict) → ((verdict_outcome refused timetable claimed verdict).writes ≡ [])
+        × ((verdict_outcome refused timetable claimed verdict).lines ≡ None)
     by (Yes vehicles minutes) = (refl, refl)
     by (No reason) = (refl, refl)
 
-module _ (read : ReadView) (said : FeedView) (timetable : TimetableView) (matrix : MatrixView) (stands : timetable ≡ standing said) (is : IsMatrixFor said matrix) where
+module _ (read : ReadView) (said : FeedView) (timetable : TimetableView) (matrix : MatrixView) (stands : timetable ≡ standing said)
+    (is : IsMatrixFor said matrix) where
   -- the verdict on a claim
   pub check-given : {E : Type 0} (result : Result OutcomeView E) (refused : List ℕ) → refused ≡ refused_of said
       → (claim : Result ClaimedView ClaimFault) → claim ≡ claim_in read said → Proves timetable matrix claim
@@ -35,7 +37,14 @@ module _ (read : ReadView) (said : FeedView) (timetable : TimetableView) (matrix
   check-given (Ok outcome) refused refused_is claim claim_is proved done =
       let here : outcome ≡ checked read said matrix = done ∙ (λ i. claim_outcome (refused_is i) (stands i) matrix (claim_is i)) in
       record {
-        gives = record { matrix = matrix; matrix_is = is; done = here; proved = subst (λ (t : TimetableView). Proves t matrix (claim_in read said)) stands (subst (Proves timetable matrix) claim_is proved) };
-        ends = λ other other_is. ap (λ (o : OutcomeView). o.ending) (here ∙ ap (checked read said) (matrix-same said.entries said.pulls (length said.base.places) matrix other is other_is));
+        gives = record {
+          matrix = matrix;
+          matrix_is = is;
+          done = here;
+          proved = subst (λ (t : TimetableView). Proves t matrix (claim_in read said)) stands
+              (subst (Proves timetable matrix) claim_is proved);
+        };
+        ends = λ other other_is. ap (λ (o : OutcomeView). o.ending)
+            (here ∙ ap (checked read said) (matrix-same said.entries said.pulls (length said.base.places) matrix other is other_is));
         unkept = λ _. ap (λ (o : OutcomeView). o.lines) here ∙ (put-alone (refused_of said) (standing said) matrix (claim_in read said)).1;
       }

@@ -50,7 +50,8 @@ checked read said matrix = claim_outcome (refused_of said) (standing said) matri
 -- A claim against which no reason holds proves its blocks: it is a certificate, and they are least over all blockings.
 abbrev pub Proves : TimetableView → MatrixView → Result ClaimedView ClaimFault → Type 0
 Proves timetable matrix read = (claimed : ClaimedView) → read ≡ Ok claimed → reason_of timetable matrix claimed ≡ None
-    → IsCertificate (network_of timetable matrix) (length timetable.slots) claimed × IsLeast (network_of timetable matrix) (blocks_in claimed.blocks)
+    → IsCertificate (network_of timetable matrix) (length timetable.slots) claimed
+    × IsLeast (network_of timetable matrix) (blocks_in claimed.blocks)
 
 -- The verdict by a matrix of the feed is put. A yes proves the blocks.
 pub record IsChecked (read : ReadView) (said : FeedView) (outcome : OutcomeView) : Type 0 where

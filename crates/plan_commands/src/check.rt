@@ -49,7 +49,8 @@ fn judged(
     requires places { length timetable.now.places ≡ length matrix.now.walks }
     requires blocks { AreBlockRows timetable.now claimed.now.blocks }
     requires prices { ArePriceRows timetable.now claimed.now.prices }
-    ensures { IfOk result (λ outcome. outcome ≡ verdict_outcome refused.now timetable.now claimed.now (verdict_of timetable.now matrix.now claimed.now)) }
+    ensures { IfOk result (λ outcome. outcome ≡ verdict_outcome refused.now timetable.now claimed.now
+        (verdict_of timetable.now matrix.now claimed.now)) }
 {
     told_law();
     match check(timetable, matrix, claimed) {
@@ -76,7 +77,8 @@ fn checked(
     requires places { length timetable.now.places ≡ length matrix.now.walks }
     requires blocks { IsWithinLimit blocks.now }
     requires prices { IsWithinLimit prices.now }
-    ensures done { IfOk result (λ outcome. outcome ≡ claim_outcome refused.now timetable.now matrix.now (claimed_of timetable.now blocks.now prices.now)) }
+    ensures done { IfOk result (λ outcome. outcome ≡ claim_outcome refused.now timetable.now matrix.now
+        (claimed_of timetable.now blocks.now prices.now)) }
     ensures proved { Proves timetable.now matrix.now (claimed_of timetable.now blocks.now prices.now) }
 {
     plain_law();

@@ -1,12 +1,14 @@
 -- A history after an edit, an undo and a redo.
-use Rattle.std.proofs.Common.{◌≡◌, ℕ, ◌+◌, ◌-◌, ◌<◌, ◌≤◌, ◌==◌, Bool, true, false, cond, List, [], ◌∷◌, ◌++◌, length, drop, take, Option, None, Some, refl, sym, ap, subst, ◌∙◌, arith, length-append}
+use Rattle.std.proofs.Common.{◌≡◌, ℕ, ◌+◌, ◌-◌, ◌<◌, ◌≤◌, ◌==◌, Bool, true, false, cond, List, [], ◌∷◌, ◌++◌, length, drop, take, Option}
+use Rattle.std.proofs.Common.{None, Some, refl, sym, ap, subst, ◌∙◌, arith, length-append}
 use Rattle.std.specs.Prelude.{slice_get}
 use Rattle.assignment_model.specs.Paths.{with_slot}
 use Rattle.assignment_model.specs.Prices.{Plan, IsCertified, IsDay}
 use Rattle.trip_model.specs.Network.{Network, AreDepartures}
 use Rattle.undo_log.specs.Log.{LogView, latest_items, last_item}
 use Rattle.undo_log.proofs.LastItem.{take_last_item}
-use Rattle.plan_history.specs.Items.{undone_by, redone_by, IsWhole, IsItem, LeadsBack, LeadsForth, plans_along, AreAlong, AreItemsOf, IsNoted}
+use Rattle.plan_history.specs.Items.{undone_by, redone_by, IsWhole, IsItem, LeadsBack, LeadsForth, plans_along, AreAlong, AreItemsOf}
+use Rattle.plan_history.specs.Items.{IsNoted}
 use Rattle.plan_history.specs.Stands.{stands, differences}
 use Rattle.plan_history.specs.declared.item.Item.{Item}
 use Rattle.plan_history.specs.declared.stand.Stand.{Stand}
@@ -15,7 +17,8 @@ use Rattle.plan_history.proofs.LedLemmas.{plans-last, length-plans, plans-drop, 
 use Rattle.plan_history.proofs.WriteLemmas.{length-stands}
 
 -- a certified plan is whole
-pub IsWhole-certified : (network : Network) (slots : ℕ) (departs : ℕ → ℕ) (plan : Plan) → IsDay network slots → AreDepartures network departs → length plan.next ≡ slots → IsCertified network plan → IsWhole plan
+pub IsWhole-certified : (network : Network) (slots : ℕ) (departs : ℕ → ℕ) (plan : Plan) → IsDay network slots
+    → AreDepartures network departs → length plan.next ≡ slots → IsCertified network plan → IsWhole plan
 IsWhole-certified network slots departs plan day clock e is = record {
   few = omega (arith, e, day.few);
   leaves = is.leaves;
@@ -24,15 +27,18 @@ IsWhole-certified network slots departs plan day clock e is = record {
 }
 
 -- with one slot more there are no fewer
-pub length-with_slot : (links : List (Option ℕ)) (s : ℕ) → (length links ≤ length (with_slot links s)) × (length (with_slot links s) ≤ length links + 1)
+pub length-with_slot : (links : List (Option ℕ)) (s : ℕ)
+    → (length links ≤ length (with_slot links s)) × (length (with_slot links s) ≤ length links + 1)
 length-with_slot links s = by (length links == s)
   where
-    by : (more : Bool) → (length links ≤ length (cond more (links ++ None ∷ []) links)) × (length (cond more (links ++ None ∷ []) links) ≤ length links + 1)
+    by : (more : Bool) → (length links ≤ length (cond more (links ++ None ∷ []) links))
+        × (length (cond more (links ++ None ∷ []) links) ≤ length links + 1)
     by true = (omega (arith, length-append links (None ∷ [])), omega (arith, length-append links (None ∷ [])))
     by false = (omega arith, omega arith)
 
 -- what is noted is the item of the edit
-item-noted : (old new : Plan) (was now : LogView Item) → IsWhole old → IsWhole new → length old.next ≤ length new.next → (noted : IsNoted was now (stands old) new) → IsItem old new noted.item
+item-noted : (old new : Plan) (was now : LogView Item) → IsWhole old → IsWhole new → length old.next ≤ length new.next
+    → (noted : IsNoted was now (stands old) new) → IsItem old new noted.item
 item-noted old new was now older newer fewer noted = record {
   older = older;
   newer = newer;
@@ -43,14 +49,16 @@ item-noted old new was now older newer fewer noted = record {
 }
 
 -- an item is noted by a copy of the stands, and by the plan that was lent
-pub noted-of : (old new lent : Plan) (was now : LogView Item) (copied : List Stand) → copied ≡ stands old → lent ≡ new → IsNoted was now copied lent → IsNoted was now (stands old) new
+pub noted-of : (old new lent : Plan) (was now : LogView Item) (copied : List Stand) → copied ≡ stands old → lent ≡ new
+    → IsNoted was now copied lent → IsNoted was now (stands old) new
 noted-of old new lent was now copied stood is noted =
     let P : List Stand → Type 0 = λ s. IsNoted was now s lent in
     let Q : Plan → Type 0 = λ p. IsNoted was now (stands old) p in
     subst Q is (subst P stood noted)
 
 -- after an edit
-pub AreItems-noted : (old new : Plan) (was now : LogView Item) → AreItemsOf old was → IsWhole new → length old.next ≤ length new.next → IsNoted was now (stands old) new → AreItemsOf new now
+pub AreItems-noted : (old new : Plan) (was now : LogView Item) → AreItemsOf old was → IsWhole new → length old.next ≤ length new.next
+    → IsNoted was now (stands old) new → AreItemsOf new now
 AreItems-noted old new was now items newer fewer noted =
     let is : IsItem old new noted.item = item-noted old new was now items.whole newer fewer noted in
     let to : undone_by new noted.item ≡ old = undone-item old new noted.item is in
@@ -66,7 +74,8 @@ AreItems-noted old new was now items newer fewer noted =
       forth = subst S (sym noted.undone) tt;
     }
 
-pub earlier-noted : (old new : Plan) (was now : LogView Item) → AreItemsOf old was → IsWhole new → length old.next ≤ length new.next → IsNoted was now (stands old) new
+pub earlier-noted : (old new : Plan) (was now : LogView Item) → AreItemsOf old was → IsWhole new → length old.next ≤ length new.next
+    → IsNoted was now (stands old) new
     → plans_along undone_by new now.kept ≡ latest_items (plans_along undone_by old was.kept ++ old ∷ [])
 earlier-noted old new was now items newer fewer noted =
     let is : IsItem old new noted.item = item-noted old new was now items.whole newer fewer noted in
@@ -81,18 +90,21 @@ earlier-noted old new was now items newer fewer noted =
     ∙ ap (λ (k : ℕ). drop (k - 256) (plans_along undone_by old was.kept ++ old ∷ [])) same))
 
 -- the last item that is kept leads back, and the last that is undone forth
-pub leads-back : (plan : Plan) (was now : LogView Item) (item : Item) → AreItemsOf plan was → was ≡ record now { kept = now.kept ++ item ∷ [] } → LeadsBack plan item
+pub leads-back : (plan : Plan) (was now : LogView Item) (item : Item) → AreItemsOf plan was
+    → was ≡ record now { kept = now.kept ++ item ∷ [] } → LeadsBack plan item
 leads-back plan was now item items e =
     let P : LogView Item → Type 0 = λ l. AreAlong undone_by LeadsBack plan l.kept in
     (last-along undone_by LeadsBack plan now.kept item (subst P e items.back)).0
 
-pub leads-forth : (plan : Plan) (was now : LogView Item) (item : Item) → AreItemsOf plan was → was ≡ record now { undone = now.undone ++ item ∷ [] } → LeadsForth plan item
+pub leads-forth : (plan : Plan) (was now : LogView Item) (item : Item) → AreItemsOf plan was
+    → was ≡ record now { undone = now.undone ++ item ∷ [] } → LeadsForth plan item
 leads-forth plan was now item items e =
     let P : LogView Item → Type 0 = λ l. AreAlong redone_by LeadsForth plan l.undone in
     (last-along redone_by LeadsForth plan now.undone item (subst P e items.forth)).0
 
 -- after an undo
-pub AreItems-undone : (plan : Plan) (was now : LogView Item) (item : Item) → AreItemsOf plan was → was ≡ record now { kept = now.kept ++ item ∷ [] }
+pub AreItems-undone : (plan : Plan) (was now : LogView Item) (item : Item) → AreItemsOf plan was
+    → was ≡ record now { kept = now.kept ++ item ∷ [] }
     → AreItemsOf (undone_by plan item) (record now { undone = now.undone ++ item ∷ [] })
 AreItems-undone plan was now item items e =
     let P : LogView Item → Type 0 = λ l. AreAlong undone_by LeadsBack plan l.kept in
@@ -105,23 +117,28 @@ AreItems-undone plan was now item items e =
     record {
       whole = leads.older;
       back = both.1;
-      forth = along-last redone_by LeadsForth (undone_by plan item) now.undone item (subst Q (sym to) leads) (subst R (sym to) (subst P' e items.forth));
+      forth = along-last redone_by LeadsForth (undone_by plan item) now.undone item (subst Q (sym to) leads)
+          (subst R (sym to) (subst P' e items.forth));
     }
 
 pub earlier-undone : (plan : Plan) (was now : LogView Item) (item : Item) → was ≡ record now { kept = now.kept ++ item ∷ [] }
     → plans_along undone_by plan was.kept ≡ plans_along undone_by (undone_by plan item) now.kept ++ undone_by plan item ∷ []
-earlier-undone plan was now item e = ap (λ (l : LogView Item). plans_along undone_by plan l.kept) e ∙ plans-last undone_by plan now.kept item
+earlier-undone plan was now item e = ap (λ (l : LogView Item). plans_along undone_by plan l.kept) e
+    ∙ plans-last undone_by plan now.kept item
 
-pub later-undone : (plan : Plan) (was now : LogView Item) (item : Item) → AreItemsOf plan was → was ≡ record now { kept = now.kept ++ item ∷ [] }
+pub later-undone : (plan : Plan) (was now : LogView Item) (item : Item) → AreItemsOf plan was
+    → was ≡ record now { kept = now.kept ++ item ∷ [] }
     → plans_along redone_by (undone_by plan item) (now.undone ++ item ∷ []) ≡ plans_along redone_by plan was.undone ++ plan ∷ []
 later-undone plan was now item items e =
-    let to : redone_by (undone_by plan item) item ≡ plan = redone-item (undone_by plan item) plan item (leads-back plan was now item items e) in
+    let to : redone_by (undone_by plan item) item ≡ plan =
+    redone-item (undone_by plan item) plan item (leads-back plan was now item items e) in
     plans-last redone_by (undone_by plan item) now.undone item
     ∙ (ap (λ (p : Plan). plans_along redone_by p now.undone ++ p ∷ []) to
     ∙ ap (λ (l : LogView Item). plans_along redone_by plan l.undone ++ plan ∷ []) (sym e))
 
 -- after a redo
-pub AreItems-redone : (plan : Plan) (was now : LogView Item) (item : Item) → AreItemsOf plan was → was ≡ record now { undone = now.undone ++ item ∷ [] }
+pub AreItems-redone : (plan : Plan) (was now : LogView Item) (item : Item) → AreItemsOf plan was
+    → was ≡ record now { undone = now.undone ++ item ∷ [] }
     → AreItemsOf (redone_by plan item) (record now { kept = now.kept ++ item ∷ [] })
 AreItems-redone plan was now item items e =
     let P : LogView Item → Type 0 = λ l. AreAlong redone_by LeadsForth plan l.undone in
@@ -133,18 +150,22 @@ AreItems-redone plan was now item items e =
     let R : Plan → Type 0 = λ p. AreAlong undone_by LeadsBack p now.kept in
     record {
       whole = leads.newer;
-      back = along-last undone_by LeadsBack (redone_by plan item) now.kept item (subst Q (sym to) leads) (subst R (sym to) (subst P' e items.back));
+      back = along-last undone_by LeadsBack (redone_by plan item) now.kept item (subst Q (sym to) leads)
+          (subst R (sym to) (subst P' e items.back));
       forth = both.1;
     }
 
 pub later-redone : (plan : Plan) (was now : LogView Item) (item : Item) → was ≡ record now { undone = now.undone ++ item ∷ [] }
     → plans_along redone_by plan was.undone ≡ plans_along redone_by (redone_by plan item) now.undone ++ redone_by plan item ∷ []
-later-redone plan was now item e = ap (λ (l : LogView Item). plans_along redone_by plan l.undone) e ∙ plans-last redone_by plan now.undone item
+later-redone plan was now item e = ap (λ (l : LogView Item). plans_along redone_by plan l.undone) e
+    ∙ plans-last redone_by plan now.undone item
 
-pub earlier-redone : (plan : Plan) (was now : LogView Item) (item : Item) → AreItemsOf plan was → was ≡ record now { undone = now.undone ++ item ∷ [] }
+pub earlier-redone : (plan : Plan) (was now : LogView Item) (item : Item) → AreItemsOf plan was
+    → was ≡ record now { undone = now.undone ++ item ∷ [] }
     → plans_along undone_by (redone_by plan item) (now.kept ++ item ∷ []) ≡ plans_along undone_by plan was.kept ++ plan ∷ []
 earlier-redone plan was now item items e =
-    let to : undone_by (redone_by plan item) item ≡ plan = undone-item plan (redone_by plan item) item (leads-forth plan was now item items e) in
+    let to : undone_by (redone_by plan item) item ≡ plan =
+    undone-item plan (redone_by plan item) item (leads-forth plan was now item items e) in
     plans-last undone_by (redone_by plan item) now.kept item
     ∙ (ap (λ (p : Plan). plans_along undone_by p now.kept ++ p ∷ []) to
     ∙ ap (λ (l : LogView Item). plans_along undone_by plan l.kept ++ plan ∷ []) (sym e))
@@ -162,7 +183,8 @@ pub last-differences : (plan : Plan) (log : LogView Item) (item : Item) → AreI
 last-differences plan log item items is old e =
     let split : take (length log.kept - 1) log.kept ++ item ∷ [] ≡ log.kept = take_last_item log.kept item is in
     let P : List Item → Type 0 = λ xs. AreAlong undone_by LeadsBack plan xs in
-    let leads : LeadsBack plan item = (last-along undone_by LeadsBack plan (take (length log.kept - 1) log.kept) item (subst P (sym split) items.back)).0 in
+    let leads : LeadsBack plan item =
+    (last-along undone_by LeadsBack plan (take (length log.kept - 1) log.kept) item (subst P (sym split) items.back)).0 in
     let last : last_item (plans_along undone_by plan log.kept) ≡ Some (undone_by plan item) =
     ap (λ (xs : List Item). last_item (plans_along undone_by plan xs)) (sym split)
     ∙ (ap (λ (ps : List Plan). last_item ps) (plans-last undone_by plan (take (length log.kept - 1) log.kept) item)
@@ -171,7 +193,8 @@ last-differences plan log item items is old e =
     leads.changes ∙ ap (λ (p : Plan). differences p plan) same
 
 -- nothing was kept or undone, and is not then
-pub AreItems-none : (old new : Plan) (log : LogView Item) → plans_along undone_by old log.kept ≡ [] → plans_along redone_by old log.undone ≡ [] → IsWhole new → AreItemsOf new log
+pub AreItems-none : (old new : Plan) (log : LogView Item) → plans_along undone_by old log.kept ≡ []
+    → plans_along redone_by old log.undone ≡ [] → IsWhole new → AreItemsOf new log
 AreItems-none old new log kept undone whole =
     let R : List Item → Type 0 = λ xs. AreAlong undone_by LeadsBack new xs in
     let S : List Item → Type 0 = λ xs. AreAlong redone_by LeadsForth new xs in
@@ -181,5 +204,6 @@ AreItems-none old new log kept undone whole =
       forth = subst S (sym (plans-none redone_by old log.undone undone)) tt;
     }
 
-pub plans-other : (step : Plan → Item → Plan) (old new : Plan) (items : List Item) → plans_along step old items ≡ [] → plans_along step new items ≡ []
+pub plans-other : (step : Plan → Item → Plan) (old new : Plan) (items : List Item) → plans_along step old items ≡ []
+    → plans_along step new items ≡ []
 plans-other step old new items e = ap (plans_along step new) (plans-none step old items e)

@@ -4,11 +4,13 @@ use Rattle.assignment_model.specs.Prices.{Plan}
 use Rattle.plan_history.specs.Items.{led, plans_along, AreAlong}
 use Rattle.plan_history.specs.declared.item.Item.{Item}
 
-pub led-last : (step : Plan → Item → Plan) (plan : Plan) (items : List Item) (item : Item) → led step plan (items ++ item ∷ []) ≡ led step (step plan item) items
+pub led-last : (step : Plan → Item → Plan) (plan : Plan) (items : List Item) (item : Item)
+    → led step plan (items ++ item ∷ []) ≡ led step (step plan item) items
 led-last step plan [] item = refl
 led-last step plan (x ∷ items) item = ap (λ (p : Plan). step p x) (led-last step plan items item)
 
-pub plans-last : (step : Plan → Item → Plan) (plan : Plan) (items : List Item) (item : Item) → plans_along step plan (items ++ item ∷ []) ≡ plans_along step (step plan item) items ++ step plan item ∷ []
+pub plans-last : (step : Plan → Item → Plan) (plan : Plan) (items : List Item) (item : Item)
+    → plans_along step plan (items ++ item ∷ []) ≡ plans_along step (step plan item) items ++ step plan item ∷ []
 plans-last step plan [] item = refl
 plans-last step plan (x ∷ items) item =
     ap (λ (p : Plan). step p x ∷ plans_along step plan (items ++ item ∷ [])) (led-last step plan items item)
@@ -18,7 +20,8 @@ pub length-plans : (step : Plan → Item → Plan) (plan : Plan) (items : List I
 length-plans step plan [] = refl
 length-plans step plan (x ∷ items) = ap suc (length-plans step plan items)
 
-pub plans-drop : (step : Plan → Item → Plan) (plan : Plan) (k : ℕ) (items : List Item) → plans_along step plan (drop k items) ≡ drop k (plans_along step plan items)
+pub plans-drop : (step : Plan → Item → Plan) (plan : Plan) (k : ℕ) (items : List Item)
+    → plans_along step plan (drop k items) ≡ drop k (plans_along step plan items)
 plans-drop step plan zero items = refl
 plans-drop step plan (suc k) [] = refl
 plans-drop step plan (suc k) (x ∷ items) = plans-drop step plan k items

@@ -1,11 +1,13 @@
 -- Stands that are written over a plan, and changes that are noted.
-use Rattle.std.proofs.Common.{◌≡◌, ◌≢◌, ℕ, ◌+◌, ◌-◌, ◌<◌, ◌≤◌, ◌==◌, ◌&&◌, nat_eq, Bool, true, false, List, [], ◌∷◌, ◌++◌, length, get_or, take, replicate, map, Option, None, Some, refl, sym, ap, ◌∙◌, ⊎_elim, arith, length-append, length-set}
+use Rattle.std.proofs.Common.{◌≡◌, ◌≢◌, ℕ, ◌+◌, ◌-◌, ◌<◌, ◌≤◌, ◌==◌, ◌&&◌, nat_eq, Bool, true, false, List, [], ◌∷◌, ◌++◌, length, get_or}
+use Rattle.std.proofs.Common.{take, replicate, map, Option, None, Some, refl, sym, ap, ◌∙◌, ⊎_elim, arith, length-append, length-set}
 use Rattle.std.specs.Prelude.{flat_map, slice_get}
 use Rattle.std.specs.List.{range_with_len}
 use Rattle.std.specs.Option.{option_eq}
 use Rattle.std.proofs.lemmas.Bool.{cases_lt, eqb-true, eq-eqb}
 use Rattle.std.proofs.lemmas.Grind.{flat_map-append}
-use Rattle.std.proofs.lemmas.List.{append-nil, ext_get_or, get_or_append_left, get_or-append_right, get_or-replicate, get_or_past, get_or-set_same, get_or-set_other, get_or-take, length-replicate, length-take, take_more}
+use Rattle.std.proofs.lemmas.List.{append-nil, ext_get_or, get_or_append_left, get_or-append_right, get_or-replicate, get_or_past}
+use Rattle.std.proofs.lemmas.List.{get_or-set_same, get_or-set_other, get_or-take, length-replicate, length-take, take_more}
 use Rattle.std.proofs.lemmas.List.FromFn.{map-range_with_len_more, get_or-map-range_with_len, length-map-range_with_len}
 use Rattle.std.proofs.lemmas.Option.{slice_get_past, slice_get-get_or}
 use Rattle.assignment_model.specs.Prices.{Plan}
@@ -17,18 +19,22 @@ use Rattle.plan_history.specs.declared.stand.Changed.{Changed}
 
 -- one more number at the end of a range
 pub range_more : (a n : ℕ) → range_with_len a (n + 1) ≡ range_with_len a n ++ (a + n) ∷ []
-range_more a n = same_map (range_with_len a (n + 1)) ∙ (map-range_with_len_more (λ (x : ℕ). x) a n (a + n) refl ∙ ap (λ (xs : List ℕ). xs ++ (a + n) ∷ []) (sym (same_map (range_with_len a n))))
+range_more a n = same_map (range_with_len a (n + 1))
+    ∙ (map-range_with_len_more (λ (x : ℕ). x) a n (a + n) refl
+    ∙ ap (λ (xs : List ℕ). xs ++ (a + n) ∷ []) (sym (same_map (range_with_len a n))))
   where
     same_map : (xs : List ℕ) → xs ≡ map (λ (x : ℕ). x) xs
     same_map [] = refl
     same_map (x ∷ xs) = ap (λ (ys : List ℕ). x ∷ ys) (same_map xs)
 
 -- the stands of one slot more
-pub stands_more : (plan : Plan) (n : ℕ) → map (stand_at plan) (range_with_len 0 (n + 1)) ≡ map (stand_at plan) (range_with_len 0 n) ++ stand_at plan n ∷ []
+pub stands_more : (plan : Plan) (n : ℕ)
+    → map (stand_at plan) (range_with_len 0 (n + 1)) ≡ map (stand_at plan) (range_with_len 0 n) ++ stand_at plan n ∷ []
 stands_more plan n = map-range_with_len_more (stand_at plan) 0 n n (omega arith)
 
 -- the changes of one slot more
-pub changes_more : (was : List Stand) (plan : Plan) (n : ℕ) → changes_upto was plan (n + 1) ≡ changes_upto was plan n ++ changed_at was plan n
+pub changes_more : (was : List Stand) (plan : Plan) (n : ℕ)
+    → changes_upto was plan (n + 1) ≡ changes_upto was plan n ++ changed_at was plan n
 changes_more was plan n =
     ap (flat_map (changed_at was plan)) (range_more 0 n)
     ∙ (flat_map-append (changed_at was plan) (range_with_len 0 n) ((0 + n) ∷ [])
@@ -52,9 +58,13 @@ pub same-stand : (before : Option Stand) (after : Stand) → same_stand before a
 same-stand None after e = cc
 same-stand (Some before) after e =
     let e1 = both-left (option_eq nat_eq before.next after.next && before.leave == after.leave) (before.enter == after.enter) e in
-    let nexts : before.next ≡ after.next = same-next before.next after.next (both-left (option_eq nat_eq before.next after.next) (before.leave == after.leave) e1) in
-    let leaves : before.leave ≡ after.leave = eqb-true before.leave after.leave (both-right (option_eq nat_eq before.next after.next) (before.leave == after.leave) e1) in
-    let enters : before.enter ≡ after.enter = eqb-true before.enter after.enter (both-right (option_eq nat_eq before.next after.next && before.leave == after.leave) (before.enter == after.enter) e) in
+    let nexts : before.next ≡ after.next =
+    same-next before.next after.next (both-left (option_eq nat_eq before.next after.next) (before.leave == after.leave) e1) in
+    let leaves : before.leave ≡ after.leave =
+    eqb-true before.leave after.leave (both-right (option_eq nat_eq before.next after.next) (before.leave == after.leave) e1) in
+    let enters : before.enter ≡ after.enter =
+    eqb-true before.enter after.enter
+    (both-right (option_eq nat_eq before.next after.next && before.leave == after.leave) (before.enter == after.enter) e) in
     ap Some (stand-three before after nexts leaves enters)
   where
     both-left : (a b : Bool) → (a && b) ≡ true → a ≡ true
@@ -101,19 +111,27 @@ pub record IsOf (n : ℕ) (plan : Plan) : Type 0 where
 -- plans of as many slots that have the same for each are one
 pub plan_same : (n : ℕ) (a b : Plan) → IsOf n a → IsOf n b → ((s : ℕ) → s < n → stand_at a s ≡ stand_at b s) → a ≡ b
 plan_same n a b of_a of_b same =
-    let nexts : a.next ≡ b.next = ext_get_or None a.next b.next (of_a.nexts ∙ sym of_b.nexts) (λ i h. ap (λ (st : Stand). st.next) (same i (omega (arith, h, of_a.nexts)))) in
-    let leaves : a.leave ≡ b.leave = ext_get_or 0 a.leave b.leave (of_a.leaves ∙ sym of_b.leaves) (λ i h. ap (λ (st : Stand). st.leave) (same i (omega (arith, h, of_a.leaves)))) in
-    let enters : a.enter ≡ b.enter = ext_get_or 0 a.enter b.enter (of_a.enters ∙ sym of_b.enters) (λ i h. ap (λ (st : Stand). st.enter) (same i (omega (arith, h, of_a.enters)))) in
+    let nexts : a.next ≡ b.next = ext_get_or None a.next b.next (of_a.nexts ∙ sym of_b.nexts)
+    (λ i h. ap (λ (st : Stand). st.next) (same i (omega (arith, h, of_a.nexts)))) in
+    let leaves : a.leave ≡ b.leave =
+    ext_get_or 0 a.leave b.leave (of_a.leaves ∙ sym of_b.leaves)
+    (λ i h. ap (λ (st : Stand). st.leave) (same i (omega (arith, h, of_a.leaves)))) in
+    let enters : a.enter ≡ b.enter =
+    ext_get_or 0 a.enter b.enter (of_a.enters ∙ sym of_b.enters)
+    (λ i h. ap (λ (st : Stand). st.enter) (same i (omega (arith, h, of_a.enters)))) in
     let byn : a ≡ record a { next = b.next } = ap (λ (x : List (Option ℕ)). record a { next = x }) nexts in
-    let byl : record a { next = b.next } ≡ record b { enter = a.enter } = ap (λ (x : List ℕ). record b { leave = x; enter = a.enter }) leaves in
+    let byl : record a { next = b.next } ≡ record b { enter = a.enter } =
+    ap (λ (x : List ℕ). record b { leave = x; enter = a.enter }) leaves in
     byn ∙ (byl ∙ ap (λ (x : List ℕ). record b { enter = x }) enters)
 
 -- a list that is cut or extended
 pub get_or-resized : {X : Type 0} → (xs : List X) (n i : ℕ) (x : X) → i < n → get_or (resized xs n x) i x ≡ get_or xs i x
 get_or-resized xs n i x h =
     ⊎_elim
-    (λ (l : i < length xs). get_or_append_left (take n xs) (replicate (n - length xs) x) x i (omega (arith, l, h, length-take n xs)) ∙ get_or-take n xs i x h)
-    (λ (l : length xs ≤ i). get_or-append_right (take n xs) (replicate (n - length xs) x) (length xs) i x (omega (arith, l, h, length-take n xs)) l ∙ (filled (n - length xs) (i - length xs) ∙ sym (get_or_past xs i x l)))
+    (λ (l : i < length xs). get_or_append_left (take n xs) (replicate (n - length xs) x) x i (omega (arith, l, h, length-take n xs))
+    ∙ get_or-take n xs i x h)
+    (λ (l : length xs ≤ i). get_or-append_right (take n xs) (replicate (n - length xs) x) (length xs) i x
+    (omega (arith, l, h, length-take n xs)) l ∙ (filled (n - length xs) (i - length xs) ∙ sym (get_or_past xs i x l)))
     (cases_lt i (length xs))
   where
     filled : (k m : ℕ) → get_or (replicate k x) m x ≡ x
@@ -135,7 +153,8 @@ IsOf-with_slots plan n = record {
 
 pub stand-with_slots : (plan : Plan) (n s : ℕ) → s < n → stand_at (with_slots plan n) s ≡ stand_at plan s
 stand-with_slots plan n s h =
-    stand-three (stand_at (with_slots plan n) s) (stand_at plan s) (get_or-resized plan.next n s None h) (get_or-resized plan.leave n s 0 h) (get_or-resized plan.enter n s 0 h)
+    stand-three (stand_at (with_slots plan n) s) (stand_at plan s) (get_or-resized plan.next n s None h)
+    (get_or-resized plan.leave n s 0 h) (get_or-resized plan.enter n s 0 h)
 
 -- a slot in which a stand is written
 pub IsOf-with_stand : (n : ℕ) (plan : Plan) (s : ℕ) (stand : Option Stand) → IsOf n plan → IsOf n (with_stand plan s stand)
@@ -146,7 +165,8 @@ IsOf-with_stand n plan s (Some stand) of = record {
   enters = length-set plan.enter s stand.enter ∙ of.enters;
 }
 
-pub stand-written : (n : ℕ) (plan : Plan) (s : ℕ) (stand : Stand) → IsOf n plan → s < n → stand_at (with_stand plan s (Some stand)) s ≡ stand
+pub stand-written : (n : ℕ) (plan : Plan) (s : ℕ) (stand : Stand) → IsOf n plan → s < n
+    → stand_at (with_stand plan s (Some stand)) s ≡ stand
 stand-written n plan s stand of h =
     stand-three (stand_at (with_stand plan s (Some stand)) s) stand
     (get_or-set_same plan.next s stand.next None (omega (arith, h, of.nexts)))
@@ -162,11 +182,13 @@ stand-other plan s (Some stand) i h =
     (get_or-set_other plan.enter s i stand.enter 0 h)
 
 -- changes are written one after the other
-pub written-append : (part : Changed → Option Stand) (plan : Plan) (xs ys : List Changed) → written part plan (xs ++ ys) ≡ written part (written part plan xs) ys
+pub written-append : (part : Changed → Option Stand) (plan : Plan) (xs ys : List Changed)
+    → written part plan (xs ++ ys) ≡ written part (written part plan xs) ys
 written-append part plan [] ys = refl
 written-append part plan (x ∷ xs) ys = written-append part (with_stand plan x.slot (part x)) xs ys
 
-pub length-written : (part : Changed → Option Stand) (plan : Plan) (xs : List Changed) → length (written part plan xs).next ≡ length plan.next
+pub length-written : (part : Changed → Option Stand) (plan : Plan) (xs : List Changed)
+    → length (written part plan xs).next ≡ length plan.next
 length-written part plan [] = refl
 length-written part plan (x ∷ xs) = length-written part (with_stand plan x.slot (part x)) xs ∙ one (part x)
   where
@@ -174,7 +196,8 @@ length-written part plan (x ∷ xs) = length-written part (with_stand plan x.slo
     one None = refl
     one (Some stand) = length-set plan.next x.slot stand.next
 
-pub written_next : (part : Changed → Option Stand) (plan q r : Plan) (xs : List Changed) (i : ℕ) (d : Changed) → i < length xs → q ≡ written part plan (take i xs)
+pub written_next : (part : Changed → Option Stand) (plan q r : Plan) (xs : List Changed) (i : ℕ) (d : Changed) → i < length xs
+    → q ≡ written part plan (take i xs)
     → r ≡ with_stand q (get_or xs i d).slot (part (get_or xs i d)) → r ≡ written part plan (take (i + 1) xs)
 written_next part plan q r xs i d h was is =
     is

@@ -1,5 +1,6 @@
 -- What a plan has for its slots, and the slots for which two plans differ.
-use Rattle.std.specs.Prelude.{ℕ, ◌==◌, nat_eq, ◌&&◌, Bool, false, List, [], ◌∷◌, length, map, flat_map, slice_get, Option, None, Some, if◌then◌else◌}
+use Rattle.std.specs.Prelude.{ℕ, ◌==◌, nat_eq, ◌&&◌, Bool, false, List, [], ◌∷◌, length, map, flat_map, slice_get, Option, None, Some}
+use Rattle.std.specs.Prelude.{if◌then◌else◌}
 use Rattle.std.specs.List.{range_with_len}
 use Rattle.std.specs.Option.{option_eq}
 use Rattle.assignment_model.specs.Prices.{Plan, price}

@@ -254,7 +254,8 @@ impl PlanHistory {
     /// kept.
     pub fn last_change(&self) -> Option<&[Changed]>
         ensures none { IsNone result ↔ (self.now.earlier ≡ []) }
-        ensures changes { IfSome result (λ changes. (plan : PlanView) → last_item self.now.earlier ≡ Some plan → changes.now ≡ differences plan self.now.plan) }
+        ensures changes { IfSome result
+            (λ changes. (plan : PlanView) → last_item self.now.earlier ≡ Some plan → changes.now ≡ differences plan self.now.plan) }
     {
         match self.log.last_kept() {
             Some(item) => Some(item.changes.as_slice()),

@@ -1,6 +1,7 @@
 ghost use Rattle.std.specs.Prelude.{◌≡◌, ◌+◌, ◌++◌, ◌<◌, ◌≤◌, [], length, slice_get, vec_len, vec_capacity};
 ghost use Rattle.std.specs.List.{All};
-ghost use Rattle.plan_history.specs.Items.{with_stand, written, stood_before, stood_after, HasRoomFor, undone_by, redone_by, LeadsBack, LeadsForth};
+ghost use Rattle.plan_history.specs.Items.{with_stand, written, stood_before, stood_after, HasRoomFor, undone_by, redone_by, LeadsBack};
+ghost use Rattle.plan_history.specs.Items.{LeadsForth};
 ghost use Rattle.plan_history.specs.Stands.{changed_at, changes_upto, change_of};
 ghost use Rattle.trip_model.specs.declared.limits.TheConstants.{MOST_SLOTS};
 

@@ -9,6 +9,7 @@ use Rattle.edit_script.specs.declared.fault.EditFault.TheVariants as fault
 use Rattle.edit_script.specs.Changes.{edited}
 use Rattle.edit_script.specs.Made.{IsJudged}
 
-pub accepted-wants : (t : TimetableView) (edit : Edit) → IsOk (edited t edit) → (refused : EditFault) → IsJudged (Err refused) t edit → refused ≡ fault.Memory
+pub accepted-wants : (t : TimetableView) (edit : Edit) → IsOk (edited t edit) → (refused : EditFault) → IsJudged (Err refused) t edit
+    → refused ≡ fault.Memory
 accepted-wants t edit ok fault.Memory is = refl
 accepted-wants t edit ok refused is = absurd (false≢true (subst IsOk is ok))

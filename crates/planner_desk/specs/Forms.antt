@@ -32,7 +32,8 @@ planner_line_of row = line_by (name_in (field_at row 0)) (edit_of (drop 1 row))
 
 -- the lines of the records of a file, at most so many
 abbrev pub planner_script_of : List ℕ → Result (List PlannerLine) FeedFault
-planner_script_of bytes = provided (nat_le (length (records bytes)) MOST_PLANNER_EDITS) (TooManyRecords PlannerEdits) (Ok (map planner_line_of (records bytes)))
+planner_script_of bytes = provided (nat_le (length (records bytes)) MOST_PLANNER_EDITS) (TooManyRecords PlannerEdits)
+    (Ok (map planner_line_of (records bytes)))
 
 -- the edit of a line, if it has one, is in form, and a planner may ask for it
 abbrev pub IsPlannerLine : PlannerLine → Type 0

@@ -48,11 +48,13 @@ abbrev pub NothingStands : Type 0
 NothingStands = (planner : List ℕ) (standing : List Standing) → undone planner standing ≡ Err fault.NothingToUndo → HasNone planner standing
 
 abbrev pub HolderStands : Type 0
-HolderStands = (planner : List ℕ) (standing : List Standing) (number : ℕ) → undone planner standing ≡ Err (fault.HeldBy number) → IsHeld planner standing number
+HolderStands = (planner : List ℕ) (standing : List Standing) (number : ℕ) → undone planner standing ≡ Err (fault.HeldBy number)
+    → IsHeld planner standing number
 
 -- the records that stand after an accepted record fold without a refusal, where those before it did
 abbrev pub StaysFolding : Type 0
-StaysFolding = (base : TimetableView) (standing next : List Standing) (r : Standing) → Folds base standing → standing_after base standing r ≡ Ok next → Folds base next
+StaysFolding = (base : TimetableView) (standing next : List Standing) (r : Standing) → Folds base standing
+    → standing_after base standing r ≡ Ok next → Folds base next
 
 -- after any records those that stand fold without a refusal
 abbrev pub AlwaysFolds : Type 0

@@ -1,5 +1,6 @@
 -- Records that stand: the timetable of them, and what an undo takes out.
-use Rattle.std.specs.Prelude.{ℕ, ◌+◌, ◌&&◌, Bool, not, List, [], ◌∷◌, fold, map, drop, remove, slice_index_or, Option, Some, None, IsOk, Result, Ok, Err, ⊤, if◌then◌else◌}
+use Rattle.std.specs.Prelude.{ℕ, ◌+◌, ◌&&◌, Bool, not, List, [], ◌∷◌, fold, map, drop, remove, slice_index_or, Option, Some, None, IsOk}
+use Rattle.std.specs.Prelude.{Result, Ok, Err, ⊤, if◌then◌else◌}
 use Rattle.std.specs.Str.{bytes_eq}
 use Rattle.trip_model.specs.Timetable.{TimetableView}
 use Rattle.edit_script.specs.declared.edit.Edit.TheVariants.{Undo}

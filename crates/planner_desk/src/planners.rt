@@ -169,7 +169,8 @@ impl Planners {
         requires form { InForm asked.now.edit }
         requires trip { EditsTrip asked.now.edit }
         requires due { IsDue (timetable_of self.old.base self.old.standing) asked.now.edit judged }
-        ensures kept { IfOk result (λ _. self.new ≡ record self.old { standing = self.old.standing ++ asked_record number asked.now ∷ [] }) }
+        ensures kept { IfOk result (λ _. self.new ≡ record self.old
+            { standing = self.old.standing ++ asked_record number asked.now ∷ [] }) }
         ensures unchanged { OnErr result (self.new ≡ self.old) }
     {
         let last = record_of(self.alloc, number, asked)?;
@@ -188,10 +189,12 @@ impl Planners {
     fn change(&mut self, number: u32, asked: &PlannerEdit) -> Result<(), PlannerFault>
         requires form { InForm asked.now.edit }
         requires trip { EditsTrip asked.now.edit }
-        ensures accepted { IfOk result (λ _. self.new ≡ record self.old { standing = self.old.standing ++ asked_record number asked.now ∷ [] }) }
+        ensures accepted { IfOk result
+            (λ _. self.new ≡ record self.old { standing = self.old.standing ++ asked_record number asked.now ∷ [] }) }
         ensures due { IfOk result (λ _. IsOk (edited (timetable_of self.old.base self.old.standing) asked.now.edit)) }
         ensures refused { IfErr result (λ refused. IsRefusal refused
-            (if_accepted self.old.standing (asked_record number asked.now) (edited (timetable_of self.old.base self.old.standing) asked.now.edit))) }
+            (if_accepted self.old.standing (asked_record number asked.now)
+            (edited (timetable_of self.old.base self.old.standing) asked.now.edit))) }
         ensures unchanged { OnErr result (self.new ≡ self.old) }
     {
         match self.script.judge(&asked.edit) {
@@ -236,9 +239,11 @@ impl Planners {
     pub fn step(&mut self, number: u32, asked: &PlannerEdit) -> Result<(), PlannerFault>
         requires form { InForm asked.now.edit }
         requires may { MayAsk asked.now.edit }
-        ensures accepted { IfOk result (λ _. standing_after self.old.base self.old.standing (asked_record number asked.now) ≡ Ok self.new.standing) }
+        ensures accepted { IfOk result
+            (λ _. standing_after self.old.base self.old.standing (asked_record number asked.now) ≡ Ok self.new.standing) }
         ensures base { self.new.base ≡ self.old.base }
-        ensures refused { IfErr result (λ refused. IsRefusal refused (standing_after self.old.base self.old.standing (asked_record number asked.now))) }
+        ensures refused { IfErr result
+            (λ refused. IsRefusal refused (standing_after self.old.base self.old.standing (asked_record number asked.now))) }
         ensures unchanged { OnErr result (self.new ≡ self.old) }
     {
         match &asked.edit {

@@ -24,15 +24,18 @@ use Rattle.planners_command.specs.Reading.{lines_in}
 use Rattle.planners_command.specs.Stepped.{HasNumbers}
 
 -- how a run ends that does this, and that it appends no lines
-ends-by : (said : FeedView) (lines : Result (List PlannerLine) FeedFault) (outcome : OutcomeView) → GivesBy said lines outcome → EndsBy said lines outcome.ending
+ends-by : (said : FeedView) (lines : Result (List PlannerLine) FeedFault) (outcome : OutcomeView) → GivesBy said lines outcome
+    → EndsBy said lines outcome.ending
 ends-by said (Ok lines) outcome gives = ap (λ (o : OutcomeView). o.ending) gives.planned.done
 ends-by said (Err refused) outcome gives = ap (λ (o : OutcomeView). o.ending) gives
 
-unkept-by : (said : FeedView) (lines : Result (List PlannerLine) FeedFault) (outcome : OutcomeView) → GivesBy said lines outcome → outcome.lines ≡ None
+unkept-by : (said : FeedView) (lines : Result (List PlannerLine) FeedFault) (outcome : OutcomeView) → GivesBy said lines outcome
+    → outcome.lines ≡ None
 unkept-by said (Ok lines) outcome gives = ap (λ (o : OutcomeView). o.lines) gives.planned.done
 unkept-by said (Err refused) outcome gives = ap (λ (o : OutcomeView). o.lines) gives
 
-given-of : (read : ReadView) (said : FeedView) (outcome : OutcomeView) → GivesBy said (lines_in read) outcome → IsGivenOf planners_does read said outcome
+given-of : (read : ReadView) (said : FeedView) (outcome : OutcomeView) → GivesBy said (lines_in read) outcome
+    → IsGivenOf planners_does read said outcome
 given-of read said outcome gives = record {
   gives = gives;
   ends = ends-by said (lines_in read) outcome gives;
@@ -40,12 +43,15 @@ given-of read said outcome gives = record {
 }
 
 -- a script of planners that was read, and one that is refused
-pub lines-given : {E : Type 0} (read : ReadView) (said : FeedView) (lines : List PlannerLine) → lines_in read ≡ Ok lines → (result : Result OutcomeView E)
+pub lines-given : {E : Type 0} (read : ReadView) (said : FeedView) (lines : List PlannerLine) → lines_in read ≡ Ok lines
+    → (result : Result OutcomeView E)
     → IfOk result (IsPlanners said lines) → IfOk result (IsGivenOf planners_does read said)
 lines-given read said lines is (Err e) planned = tt
 lines-given read said lines is (Ok outcome) planned = given-of read said outcome (subst (λ due. GivesBy said due outcome) (sym is) planned)
 
-pub refused-given : {E : Type 0} (read : ReadView) (said : FeedView) (refused : FeedFault) → lines_in read ≡ Err refused → (result : Result OutcomeView E) → IfOk result (λ outcome. outcome ≡ refusing refused) → IfOk result (IsGivenOf planners_does read said)
+pub refused-given : {E : Type 0} (read : ReadView) (said : FeedView) (refused : FeedFault) → lines_in read ≡ Err refused
+    → (result : Result OutcomeView E) → IfOk result (λ outcome. outcome ≡ refusing refused)
+    → IfOk result (IsGivenOf planners_does read said)
 refused-given read said refused is (Err e) put = tt
 refused-given read said refused is (Ok outcome) put = given-of read said outcome (subst (λ due. GivesBy said due outcome) (sym is) put)
 
@@ -65,11 +71,16 @@ planners-of said lines matrix edited matrix_is is are (Ok outcome) planned = rec
 }
 
 -- the numbers behind what becomes of the records and the records that stand
-pub planned-put : {E : Type 0} (refused : List ℕ) (end : Ending) (base : TimetableView) (matrix : MatrixView) (lines : List PlannerLine) (timetable : TimetableView) (standing : List Standing) (text above whole : List ℕ) (ending : Ending)
-    → standing ≡ stand_after base lines → timetable ≡ timetable_of base standing → text ≡ answers_to base lines (length lines) → above ≡ text ++ standing_text standing → HasNumbers timetable matrix above whole
-    → ending ≡ ending_after base lines end → (result : Result OutcomeView E) → IfOk result (λ outcome. outcome ≡ refusing_first refused whole ending) → IfOk result (IsPlanned refused end base matrix lines)
-planned-put refused end base matrix lines timetable standing text above whole ending stand is text_is above_is has ending_is (Err e) done = tt
-planned-put refused end base matrix lines timetable standing text above whole ending stand is text_is above_is has ending_is (Ok outcome) done =
+pub planned-put : {E : Type 0} (refused : List ℕ) (end : Ending) (base : TimetableView) (matrix : MatrixView) (lines : List PlannerLine)
+    (timetable : TimetableView) (standing : List Standing) (text above whole : List ℕ) (ending : Ending)
+    → standing ≡ stand_after base lines → timetable ≡ timetable_of base standing → text ≡ answers_to base lines (length lines)
+    → above ≡ text ++ standing_text standing → HasNumbers timetable matrix above whole
+    → ending ≡ ending_after base lines end → (result : Result OutcomeView E)
+    → IfOk result (λ outcome. outcome ≡ refusing_first refused whole ending) → IfOk result (IsPlanned refused end base matrix lines)
+planned-put refused end base matrix lines timetable standing text above whole ending stand is text_is above_is has ending_is (Err e) done =
+    tt
+planned-put refused end base matrix lines timetable standing text above whole ending stand is text_is above_is has ending_is (Ok outcome)
+    done =
     let here : timetable ≡ timetable_after base lines = is ∙ ap (timetable_of base) stand in
     let put : whole ≡ planners_text base lines has.numbers =
     has.put ∙ (λ i. (above_is ∙ (λ j. text_is j ++ standing_text (stand j))) i ++ has.numbers)

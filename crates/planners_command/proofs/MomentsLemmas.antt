@@ -23,7 +23,9 @@ pub answers-none : (base : TimetableView) (lines : List PlannerLine) → answers
 unfolding answers_to
 answers-none base lines = refl
 
-answers-suc : (base : TimetableView) (lines : List PlannerLine) (n : ℕ) → answers_to base lines (suc n) ≡ answers_to base lines n ++ answer_line (n + 1) (stand_at base lines n) (line_at lines n) (refusal_in (step_at base lines n))
+answers-suc : (base : TimetableView) (lines : List PlannerLine) (n : ℕ)
+    → answers_to base lines (suc n) ≡ answers_to base lines n
+    ++ answer_line (n + 1) (stand_at base lines n) (line_at lines n) (refusal_in (step_at base lines n))
 unfolding answers_to
 answers-suc base lines n = refl
 
@@ -31,7 +33,8 @@ pub some-none : (base : TimetableView) (lines : List PlannerLine) → some_refus
 unfolding some_refused
 some-none base lines = refl
 
-some-suc : (base : TimetableView) (lines : List PlannerLine) (n : ℕ) → some_refused base lines (suc n) ≡ (some_refused base lines n || is_some (refusal_in (step_at base lines n)))
+some-suc : (base : TimetableView) (lines : List PlannerLine) (n : ℕ)
+    → some_refused base lines (suc n) ≡ (some_refused base lines n || is_some (refusal_in (step_at base lines n)))
 unfolding some_refused
 some-suc base lines n = refl
 
@@ -39,11 +42,14 @@ some-suc base lines n = refl
 pub stand-none : (base : TimetableView) (lines : List PlannerLine) → stand_at base lines 0 ≡ []
 stand-none base lines = ap (planners_machine base) (first-none lines)
 
-pub stand-suc : (base : TimetableView) (lines : List PlannerLine) (n : ℕ) → stand_at base lines (suc n) ≡ or_stays (stand_at base lines n) (step_at base lines n)
-stand-suc base lines n = ap (planners_machine base) (first-next lines n) ∙ fold_push (with_record base) [] (first_records lines n) (record_at lines n)
+pub stand-suc : (base : TimetableView) (lines : List PlannerLine) (n : ℕ)
+    → stand_at base lines (suc n) ≡ or_stays (stand_at base lines n) (step_at base lines n)
+stand-suc base lines n = ap (planners_machine base) (first-next lines n)
+    ∙ fold_push (with_record base) [] (first_records lines n) (record_at lines n)
 
 -- what is put of a record is the same by those that stand after it: a refused one changes nothing, and of others none are told
-answer-same : (number : ℕ) (standing : List Standing) (line : PlannerLine) (due : Result (List Standing) PlannerFault) → answer_line number (or_stays standing due) line (refusal_in due) ≡ answer_line number standing line (refusal_in due)
+answer-same : (number : ℕ) (standing : List Standing) (line : PlannerLine) (due : Result (List Standing) PlannerFault)
+    → answer_line number (or_stays standing due) line (refusal_in due) ≡ answer_line number standing line (refusal_in due)
 unfolding answer_line
 answer-same number standing line (Ok next) = refl
 answer-same number standing line (Err refused) = refl
@@ -59,6 +65,8 @@ module _ (base : TimetableView) (lines : List PlannerLine) (n k : ℕ) (next : k
   pub some-next : some_refused base lines k ≡ (some_refused base lines n || is_some (refusal_in (step_at base lines n)))
   some-next = sym (ap (some_refused base lines) is_suc) ∙ some-suc base lines n
 
-  pub answers-next : answers_to base lines k ≡ answers_to base lines n ++ answer_line (n + 1) (or_stays (stand_at base lines n) (step_at base lines n)) (line_at lines n) (refusal_in (step_at base lines n))
+  pub answers-next : answers_to base lines k ≡ answers_to base lines n
+      ++ answer_line (n + 1) (or_stays (stand_at base lines n) (step_at base lines n)) (line_at lines n) (refusal_in (step_at base lines n))
   answers-next = sym (ap (answers_to base lines) is_suc) ∙ answers-suc base lines n
-      ∙ ap (λ text. answers_to base lines n ++ text) (sym (answer-same (n + 1) (stand_at base lines n) (line_at lines n) (step_at base lines n)))
+      ∙ ap (λ text. answers_to base lines n ++ text)
+      (sym (answer-same (n + 1) (stand_at base lines n) (line_at lines n) (step_at base lines n)))

@@ -26,9 +26,11 @@ AreMade = (slots : List Slot) → made (trip_moves slots) ≡ live_moves slots
 
 abbrev pub ReachesMaxima : Type 0
 ReachesMaxima = (places : ℕ) (moves : List (Option Move)) → AreMoves places moves
-    → IsFewest (plain_network moves) (blocks_along (first_in_first_out moves) (by_departure moves)) × (pos (length (blocks_along (first_in_first_out moves) (by_departure moves))) ≡ sum_of_maxima (deficit (made moves)) places)
+    → IsFewest (plain_network moves) (blocks_along (first_in_first_out moves) (by_departure moves))
+    × (pos (length (blocks_along (first_in_first_out moves) (by_departure moves))) ≡ sum_of_maxima (deficit (made moves)) places)
 
-module _ (makes : MakesMoves) (are_made : AreMade) (reaches : ReachesMaxima) (timetable : TimetableView) (matrix : MatrixView) (plan : Plan) (blocks : List (List ℕ)) (valid : IsTimetable timetable) (is : IsScheduled timetable matrix plan blocks) where
+module _ (makes : MakesMoves) (are_made : AreMade) (reaches : ReachesMaxima) (timetable : TimetableView) (matrix : MatrixView)
+    (plan : Plan) (blocks : List (List ℕ)) (valid : IsTimetable timetable) (is : IsScheduled timetable matrix plan blocks) where
   abbrev moves : List (Option Move)
   moves = trip_moves timetable.slots
 
@@ -41,9 +43,11 @@ module _ (makes : MakesMoves) (are_made : AreMade) (reaches : ReachesMaxima) (ti
   maxima : pos (length without) ≡ sum_of_maxima (deficit (live_moves timetable.slots)) (length timetable.places)
   maxima = reached.1 ∙ ap (λ ms. sum_of_maxima (deficit ms) (length timetable.places)) (are_made timetable.slots)
 
-  pub numbers-put : {E : Type 0} (fixed vehicles minutes : ℕ) (old new : List ℕ) → pos fixed ≡ sum_of_maxima (deficit (live_moves timetable.slots)) (length timetable.places) → vehicles ≡ length blocks
+  pub numbers-put : {E : Type 0} (fixed vehicles minutes : ℕ) (old new : List ℕ)
+      → pos fixed ≡ sum_of_maxima (deficit (live_moves timetable.slots)) (length timetable.places) → vehicles ≡ length blocks
       → minutes ≡ empty_minutes (network_of timetable matrix) blocks
-      → (result : Result (Unit {0}) E) → OnOk result (new ≡ old ++ numbers_line fixed vehicles minutes) → OnOk result (HasNumbers timetable matrix old new)
+      → (result : Result (Unit {0}) E) → OnOk result (new ≡ old ++ numbers_line fixed vehicles minutes)
+      → OnOk result (HasNumbers timetable matrix old new)
   numbers-put fixed vehicles minutes old new fixed_is vehicles_is minutes_is (Err e) put = tt
   numbers-put fixed vehicles minutes old new fixed_is vehicles_is minutes_is (Ok u) put =
       let count : fixed ≡ length without = ap unsigned_abs (fixed_is ∙ sym maxima) in

@@ -43,7 +43,8 @@ planner_fault_text fault.Memory = []
 -- what is put of a record behind its number, by those that stood before it
 abbrev pub answer_text : List Standing → PlannerLine → Option PlannerFault → List ℕ
 answer_text standing line None = codes ": ok" ++ 10 ∷ []
-answer_text standing line (Some refused) = codes ": refused" ++ (trip_text standing line refused ++ (codes ": " ++ (planner_fault_text refused ++ 10 ∷ [])))
+answer_text standing line (Some refused) = codes ": refused"
+    ++ (trip_text standing line refused ++ (codes ": " ++ (planner_fault_text refused ++ 10 ∷ [])))
 
 unfoldable pub answer_line : ℕ → List Standing → PlannerLine → Option PlannerFault → List ℕ
 answer_line number standing line refused = codes "planner " ++ (decimal number ++ answer_text standing line refused)
@@ -51,7 +52,8 @@ answer_line number standing line refused = codes "planner " ++ (decimal number +
 -- what is put of so many of the first records
 unfoldable pub answers_to : TimetableView → List PlannerLine → ℕ → List ℕ
 answers_to base lines zero = []
-answers_to base lines (suc n) = answers_to base lines n ++ answer_line (n + 1) (stand_at base lines n) (line_at lines n) (refusal_in (step_at base lines n))
+answers_to base lines (suc n) = answers_to base lines n
+    ++ answer_line (n + 1) (stand_at base lines n) (line_at lines n) (refusal_in (step_at base lines n))
 
 -- a record that stands, as it is printed: its planner, and the record of its edit as it is written
 unfoldable pub asked_line : PlannerEdit → List ℕ

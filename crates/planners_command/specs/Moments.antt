@@ -1,5 +1,6 @@
 -- The records of planners over a base timetable: which stand at each moment, and what the rules say of each step.
-use Rattle.std.specs.Prelude.{◌≡◌, ℕ, zero, suc, ◌+◌, Bool, false, List, [], ◌∷◌, ◌++◌, length, is_some, IsOk, Option, None, Some, Result, Ok, Err, slice_index_or, ◌||◌}
+use Rattle.std.specs.Prelude.{◌≡◌, ℕ, zero, suc, ◌+◌, Bool, false, List, [], ◌∷◌, ◌++◌, length, is_some, IsOk, Option, None, Some, Result}
+use Rattle.std.specs.Prelude.{Ok, Err, slice_index_or, ◌||◌}
 use Rattle.edit_script.specs.declared.edit.Edit.TheVariants.{Undo}
 use Rattle.trip_model.specs.Timetable.{TimetableView}
 use Rattle.planner_desk.specs.Laws.{HasNone, IsHeld, TakesBack}
@@ -58,7 +59,11 @@ IsUndoAt lines n planner = line_at lines n ≡ line.Edit (record { planner = pla
 -- tells the first later record that names the trip of the planner's last one.
 pub record ArePlanners (base : TimetableView) (lines : List PlannerLine) : Type 0 where
   pub folds : (m : ℕ) → Folds base (stand_at base lines m)
-  pub unchanged : (n : ℕ) (refused : PlannerFault) → step_at base lines n ≡ Err refused → stand_at base lines (suc n) ≡ stand_at base lines n
-  pub taken : (n : ℕ) (planner : List ℕ) → IsUndoAt lines n planner → IsOk (step_at base lines n) → TakesBack planner (stand_at base lines n) (stand_at base lines (suc n))
-  pub nothing : (n : ℕ) (planner : List ℕ) → IsUndoAt lines n planner → step_at base lines n ≡ Err fault.NothingToUndo → HasNone planner (stand_at base lines n)
-  pub held : (n : ℕ) (planner : List ℕ) (number : ℕ) → IsUndoAt lines n planner → step_at base lines n ≡ Err (fault.HeldBy number) → IsHeld planner (stand_at base lines n) number
+  pub unchanged : (n : ℕ) (refused : PlannerFault) → step_at base lines n ≡ Err refused
+      → stand_at base lines (suc n) ≡ stand_at base lines n
+  pub taken : (n : ℕ) (planner : List ℕ) → IsUndoAt lines n planner → IsOk (step_at base lines n)
+      → TakesBack planner (stand_at base lines n) (stand_at base lines (suc n))
+  pub nothing : (n : ℕ) (planner : List ℕ) → IsUndoAt lines n planner → step_at base lines n ≡ Err fault.NothingToUndo
+      → HasNone planner (stand_at base lines n)
+  pub held : (n : ℕ) (planner : List ℕ) (number : ℕ) → IsUndoAt lines n planner → step_at base lines n ≡ Err (fault.HeldBy number)
+      → IsHeld planner (stand_at base lines n) number

@@ -31,7 +31,8 @@ abbrev pub ending_after : TimetableView → List PlannerLine → Ending → Endi
 ending_after base lines end = ending_with (some_refused base lines (length lines)) end
 
 -- It is put behind the lines of the refused records of the script, with the numbers of the planners' timetable.
-pub record IsPlanned (refused : List ℕ) (end : Ending) (base : TimetableView) (matrix : MatrixView) (lines : List PlannerLine) (outcome : OutcomeView) : Type 0 where
+pub record IsPlanned (refused : List ℕ) (end : Ending) (base : TimetableView) (matrix : MatrixView) (lines : List PlannerLine)
+    (outcome : OutcomeView) : Type 0 where
   pub numbers : List ℕ
   pub numbered : IsNumbered (timetable_after base lines) matrix numbers
   pub done : outcome ≡ refusing_first refused (planners_text base lines numbers) (ending_after base lines end)

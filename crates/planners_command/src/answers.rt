@@ -80,7 +80,8 @@ fn push_answer(
     refused: &Option<PlannerFault>,
 ) -> Result<(), Memory>
     requires { IsToldIn refused.now }
-    ensures { OnOk result (string_bytes text.new ≡ string_bytes text.old ++ spec.answer_line number planners.now.standing line.now refused.now) }
+    ensures { OnOk result (string_bytes text.new ≡ string_bytes text.old
+        ++ spec.answer_line number planners.now.standing line.now refused.now) }
 {
     let Some(refused) = refused else {
         writeln!(text, "planner {number}: ok")?;

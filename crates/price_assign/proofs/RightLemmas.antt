@@ -27,7 +27,8 @@ commuted : (w : ℕ → ℕ → Option ℕ) (i j x y : ℕ) → w i j ≡ Some (
 commuted w i j x y e = let sum : x + y ≡ y + x = omega arith in e ∙ ap Some sum
 
 -- a search from an entering side may begin
-pub MayBegin-right : (network : Network) (slots : ℕ) (plan : Plan) (a : Option ℕ) (b : ℕ) (w : ℕ → ℕ → Option ℕ) → IsDay network slots → IsWithout w (λ i j. weight network j i) a
+pub MayBegin-right : (network : Network) (slots : ℕ) (plan : Plan) (a : Option ℕ) (b : ℕ) (w : ℕ → ℕ → Option ℕ) → IsDay network slots
+    → IsWithout w (λ i j. weight network j i) a
     → IsLoose network plan a (Some b) → MayBeginTurned w slots b a plan.next plan.leave plan.enter
 MayBegin-right network slots plan a b w day without loose was inverse = record {
   start = day.within b loose.after.0;
@@ -37,11 +38,13 @@ MayBegin-right network slots plan a b w day without loose was inverse = record {
     tight = λ i j e.
         let linked = (inverse.linked j i e).1 in
         without.all i j (price plan.enter i + price plan.leave j) (λ at-a. none-some i (sym (before j at-a) ∙ linked))
-        (commuted (λ i j. weight network j i) i j (price plan.leave j) (price plan.enter i) (fits-weight network j i (loose.links.fits j i linked) ∙ ap Some (sym (loose.tight j i linked))));
+        (commuted (λ i j. weight network j i) i j (price plan.leave j) (price plan.enter i)
+        (fits-weight network j i (loose.links.fits j i linked) ∙ ap Some (sym (loose.tight j i linked))));
     left = λ i e. absurd (both_ways true (sym e) refl);
     first = λ i e. first i (next_of was i) refl (same_Some b i e);
     last = without.none;
-    leave_zero = λ i other none. loose.enter_zero i other (λ h linked. none-some h (sym none ∙ inverse.told h i (next-within plan.next h i linked) linked));
+    leave_zero = λ i other none. loose.enter_zero i other
+        (λ h linked. none-some h (sym none ∙ inverse.told h i (next-within plan.next h i linked) linked));
     enter_zero = λ j other none. loose.leave_zero j other (next-none j none (next_of plan.next j) refl);
   };
   covers = λ i j k _ other e. ⊎_elim
@@ -62,8 +65,10 @@ MayBegin-right network slots plan a b w day without loose was inverse = record {
     next-none j none (Some i) e = absurd (none i (inverse.told j i (next-within plan.next j i e) e))
 
 -- and what it leaves is loose without it
-pub IsLoose-right : (network : Network) (departs : ℕ → ℕ) (plan new : Plan) (a : Option ℕ) (b : ℕ) (w : ℕ → ℕ → Option ℕ) → AreDepartures network departs → IsWithout w (λ i j. weight network j i) a
-    → IsLoose network plan a (Some b) → length new.leave ≡ length new.next → length new.enter ≡ length new.next → IsFoundTurned w b a plan.next new.next new.leave new.enter
+pub IsLoose-right : (network : Network) (departs : ℕ → ℕ) (plan new : Plan) (a : Option ℕ) (b : ℕ) (w : ℕ → ℕ → Option ℕ)
+    → AreDepartures network departs → IsWithout w (λ i j. weight network j i) a
+    → IsLoose network plan a (Some b) → length new.leave ≡ length new.next → length new.enter ≡ length new.next
+    → IsFoundTurned w b a plan.next new.next new.leave new.enter
     → IsLoose network new a None
 IsLoose-right network departs plan new a b w clock without loose leaves enters found = record {
   leaves = leaves;
@@ -87,7 +92,8 @@ IsLoose-right network departs plan new a b w clock without loose leaves enters f
 
     weighs : (i j : ℕ) → next_of new.next i ≡ Some j → weight network i j ≡ Some (price new.leave i + price new.enter j)
     weighs i j e =
-        commuted (weight network) i j (price new.enter j) (price new.leave i) (without.some j i (price new.enter j + price new.leave i) (found.matched.tight j i (told i j e)))
+        commuted (weight network) i j (price new.enter j) (price new.leave i)
+        (without.some j i (price new.enter j + price new.leave i) (found.matched.tight j i (told i j e)))
 
     fits : (i j : ℕ) → next_of new.next i ≡ Some j → Fits network i j
     fits i j e = weight-fits network i j (price new.leave i + price new.enter j) (weighs i j e)
@@ -116,16 +122,20 @@ IsLoose-right network departs plan new a b w clock without loose leaves enters f
       where
         by : (o : Option ℕ) → next_of new.next s ≡ o → next_of new.next s ≡ None
         by None none = none
-        by (Some j) linked = absurd (none-some (price new.enter j + price new.leave s) (sym (without.none j s e) ∙ found.matched.tight j s (told s j linked)))
+        by (Some j) linked = absurd (none-some (price new.enter j + price new.leave s)
+            (sym (without.none j s e) ∙ found.matched.tight j s (told s j linked)))
 
 -- the path of such a search
-pub IsRightPath-loose : (network : Network) (slots : ℕ) (departs : ℕ → ℕ) (old new : Plan) (a : Option ℕ) (b : ℕ) (w : ℕ → ℕ → Option ℕ) → IsDay network slots → AreDepartures network departs → length old.next ≡ slots
-    → length new.next ≡ length old.next → IsLoose network old a (Some b) → IsLoose network new a None → IsFoundTurned w b a old.next new.next new.leave new.enter
+pub IsRightPath-loose : (network : Network) (slots : ℕ) (departs : ℕ → ℕ) (old new : Plan) (a : Option ℕ) (b : ℕ) (w : ℕ → ℕ → Option ℕ)
+    → IsDay network slots → AreDepartures network departs → length old.next ≡ slots
+    → length new.next ≡ length old.next → IsLoose network old a (Some b) → IsLoose network new a None
+    → IsFoundTurned w b a old.next new.next new.leave new.enter
     → IsRightPath old.next new.next b
 IsRightPath-loose network slots departs old new a b w day clock len same was is found =
     let hads : next_of found.was ≡ before_of old.next = λ j s. inverse-before old.next found.was was.links.once found.inverse_was s j in
     let bys : before_of found.was ≡ next_of old.next =
-    λ j s. sym (inverse-before found.was old.next (inverse-apart old.next found.was found.inverse_was) (inverse-swap old.next found.was found.inverse_was) s) j in
+    λ j s. sym (inverse-before found.was old.next (inverse-apart old.next found.was found.inverse_was)
+    (inverse-swap old.next found.was found.inverse_was) s) j in
     let givens : next_of found.now ≡ before_of new.next =
     λ j s. inverse-before new.next found.now is.links.once (inverse-swap found.now new.next found.inverse_now) s j in
     record {
@@ -135,5 +145,7 @@ IsRightPath-loose network slots departs old new a b w day clock len same was is 
         slots = same;
       };
       slot = omega (arith, day.within b was.after.0, len);
-      path = subst (λ f. IsPath f (next_of old.next) (before_of new.next) b) hads (subst (λ f. IsPath (next_of found.was) f (before_of new.next) b) bys (subst (λ f. IsPath (next_of found.was) (before_of found.was) f b) givens found.path));
+      path = subst (λ f. IsPath f (next_of old.next) (before_of new.next) b) hads
+          (subst (λ f. IsPath (next_of found.was) f (before_of new.next) b) bys
+          (subst (λ f. IsPath (next_of found.was) (before_of found.was) f b) givens found.path));
     }

@@ -8,7 +8,11 @@ resized xs slots x = take slots xs ++ replicate (slots - length xs) x
 
 -- a plan cut to so many slots, or with slots at its end that have no next trip and no price
 abbrev pub with_slots : Plan → ℕ → Plan
-with_slots plan slots = record { next = resized plan.next slots None; leave = resized plan.leave slots 0; enter = resized plan.enter slots 0 }
+with_slots plan slots = record {
+  next = resized plan.next slots None;
+  leave = resized plan.leave slots 0;
+  enter = resized plan.enter slots 0;
+}
 
 -- a plan in which a slot has this next trip and these prices
 abbrev pub with_entry : Plan → ℕ → Option ℕ → ℕ → ℕ → Plan

@@ -178,7 +178,8 @@ impl Plan {
         ensures slots { length self.new.next ≡ length pairs.now.moves }
         ensures certified { IsCertified (pairs_network pairs.now) self.new }
         ensures plan { self.new ≡ solved pairs.now }
-        ensures counted { steps.new ≤ steps.old + length pairs.now.moves * (length pairs.now.moves * length pairs.now.moves + length pairs.now.moves) }
+        ensures counted { steps.new ≤ steps.old + length
+            pairs.now.moves * (length pairs.now.moves * length pairs.now.moves + length pairs.now.moves) }
     {
         // Its clauses say that the network is one of one day, along which departures rise.
         let slots = pairs.slots();

@@ -1,5 +1,6 @@
 -- What the records of blocks come to, record by record: the blocks that they make, and their empty minutes.
-use Rattle.std.proofs.Common.{◌≡◌, ℕ, zero, suc, ◌+◌, ◌<◌, Bool, true, false, List, [], ◌∷◌, length, map, get_or, drop, Option, None, Some, if◌then◌else◌, refl, sym, ap, subst, ◌∙◌, drop-cons, add-one, arith}
+use Rattle.std.proofs.Common.{◌≡◌, ℕ, zero, suc, ◌+◌, ◌<◌, Bool, true, false, List, [], ◌∷◌, length, map, get_or, drop, Option, None, Some}
+use Rattle.std.proofs.Common.{if◌then◌else◌, refl, sym, ap, subst, ◌∙◌, drop-cons, add-one, arith}
 use Rattle.std.specs.Prelude.{IsSome, unwrap_or}
 use Rattle.std.specs.List.{AllByRecursion}
 use Rattle.std.proofs.lemmas.Bool.{false≢true}
@@ -25,7 +26,8 @@ names-drop rows zero known = known
 names-drop [] (suc n) known = known
 names-drop (r ∷ rows) (suc n) known = names-drop rows n known.1
 
-pub known-each : {X : Type 0} (slot_of : X → Option ℕ) (rows : List X) → AreKnown (map slot_of rows) → AllByRecursion (λ r. IsSome (slot_of r)) rows
+pub known-each : {X : Type 0} (slot_of : X → Option ℕ) (rows : List X) → AreKnown (map slot_of rows)
+    → AllByRecursion (λ r. IsSome (slot_of r)) rows
 known-each slot_of [] known = tt
 known-each slot_of (r ∷ rows) known = (known 0 (omega arith), known-each slot_of rows (λ at lt. known (suc at) (omega (arith, lt))))
 
@@ -42,7 +44,8 @@ abbrev pub minutes_of : Network → Option ℕ → List BlockRow → ℕ
 minutes_of network before [] = 0
 minutes_of network before (r ∷ rows) =
     minutes_before network before (unwrap_or r.slot 0)
-    + (if begin_with rows r.block then minutes_of network (Some (unwrap_or r.slot 0)) rows else network.home (unwrap_or r.slot 0) + minutes_of network None rows)
+    + (if begin_with rows r.block then minutes_of network (Some (unwrap_or r.slot 0)) rows
+    else network.home (unwrap_or r.slot 0) + minutes_of network None rows)
 
 -- the empty minutes of blocks, of which the first goes on after a trip, or begins
 go_on : Network → Option ℕ → List ℕ → ℕ
@@ -58,14 +61,17 @@ unfolding minutes_on go_on
 minutes_on-none network [] = refl
 minutes_on-none network (block ∷ blocks) = sym (sum_by-cons (block_minutes network) block blocks)
 
-go_on-more : (network : Network) (before : Option ℕ) (s : ℕ) (block : List ℕ) → go_on network before (s ∷ block) ≡ minutes_before network before s + minutes_after network s block
+go_on-more : (network : Network) (before : Option ℕ) (s : ℕ) (block : List ℕ)
+    → go_on network before (s ∷ block) ≡ minutes_before network before s + minutes_after network s block
 unfolding go_on
 go_on-more network None s block = refl
 go_on-more network (Some i) s block = refl
 
 -- one more trip before blocks
 minutes_on-more : (network : Network) (before : Option ℕ) (s : ℕ) (blocks : List (List ℕ)) (joins : Bool) → (blocks ≡ [] → joins ≡ false)
-    → minutes_before network before s + (if joins then minutes_on network (Some s) blocks else network.home s + minutes_on network None blocks) ≡ minutes_on network before (with_trip_before blocks joins (Some s))
+    → minutes_before network before
+    s + (if joins then minutes_on network (Some s) blocks else network.home s + minutes_on network None blocks) ≡ minutes_on network
+    before (with_trip_before blocks joins (Some s))
 unfolding minutes_on go_on
 minutes_on-more network before s [] true apart = absurd (false≢true (sym (apart refl)))
 minutes_on-more network before s [] false apart = let more = go_on-more network before s [] in omega (arith, more)
@@ -89,13 +95,16 @@ filled (r ∷ rows) number known none = absurd (by (blocks_in rows) (begin_with 
 -- the minutes of records that begin with one that names s
 minutes_of-first : (network : Network) (before : Option ℕ) (r : BlockRow) (rows : List BlockRow) (s : ℕ) → r.slot ≡ Some s
     → minutes_of network before (r ∷ rows)
-    ≡ minutes_before network before s + (if begin_with rows r.block then minutes_of network (Some s) rows else network.home s + minutes_of network None rows)
+    ≡ minutes_before network before
+    s + (if begin_with rows r.block then minutes_of network (Some s) rows else network.home s + minutes_of network None rows)
 minutes_of-first network before r rows s is =
     ap (λ slot. minutes_before network before (unwrap_or slot 0)
-    + (if begin_with rows r.block then minutes_of network (Some (unwrap_or slot 0)) rows else network.home (unwrap_or slot 0) + minutes_of network None rows)) is
+    + (if begin_with rows r.block then minutes_of network (Some (unwrap_or slot 0)) rows
+    else network.home (unwrap_or slot 0) + minutes_of network None rows)) is
 
 -- the records' minutes are those of their blocks
-minutes_of-is : (network : Network) (before : Option ℕ) (rows : List BlockRow) → EachNames rows → minutes_of network before rows ≡ minutes_on network before (blocks_in rows)
+minutes_of-is : (network : Network) (before : Option ℕ) (rows : List BlockRow) → EachNames rows
+    → minutes_of network before rows ≡ minutes_on network before (blocks_in rows)
 unfolding minutes_on
 minutes_of-is network before [] known = refl
 minutes_of-is network before (r ∷ rows) known =
@@ -109,45 +118,61 @@ minutes_of-is network before (r ∷ rows) known =
     ∙ ap (λ s. minutes_on network before (with_trip_before (blocks_in rows) joins s)) (sym slot.1)
 
 -- the records of a claim come to the empty minutes of the blocks that they make
-pub minutes_of-blocks : (network : Network) (rows : List BlockRow) → EachNames rows → minutes_of network None rows ≡ empty_minutes network (blocks_in rows)
+pub minutes_of-blocks : (network : Network) (rows : List BlockRow) → EachNames rows
+    → minutes_of network None rows ≡ empty_minutes network (blocks_in rows)
 minutes_of-blocks network rows known = minutes_of-is network None rows known ∙ minutes_on-none network (blocks_in rows)
 
 -- after a record the next one goes on from its trip, or begins
-goes_on : (network : Network) (r : BlockRow) (rows : List BlockRow) (d : BlockRow) (s : ℕ) (joins : Bool) → r.slot ≡ Some s → begin_with rows r.block ≡ joins
+goes_on : (network : Network) (r : BlockRow) (rows : List BlockRow) (d : BlockRow) (s : ℕ) (joins : Bool) → r.slot ≡ Some s
+    → begin_with rows r.block ≡ joins
     → minutes_of network (slot_on r (get_or rows 0 d)) rows ≡ minutes_of network (if joins then Some s else None) rows
 goes_on network r [] d s joins is e = refl
-goes_on network r (q ∷ rows) d s joins is e = let slot : slot_on r q ≡ (if joins then Some s else None) = λ i. if e i then is i else None in ap (λ before. minutes_of network before (q ∷ rows)) slot
+goes_on network r (q ∷ rows) d s joins is e = let slot : slot_on r q ≡ (if joins then Some s else None) = λ i. if e i then is i
+    else None in ap (λ before. minutes_of network before (q ∷ rows)) slot
 
 -- the first of the records after one is the next one
 first-after : (rows : List BlockRow) (at : ℕ) → get_or (drop (suc at) rows) 0 (block_row [] 0) ≡ block_row rows (suc at)
 first-after rows at = get_or-drop (suc at) rows 0 _ ∙ (let e : suc at + 0 ≡ suc at = omega arith in ap (block_row rows) e)
 
 -- what the record of a number brings, and what those after it do
-minutes-step : (network : Network) (before : Option ℕ) (rows : List BlockRow) (at s : ℕ) → at < length rows → (block_row rows at).slot ≡ Some s
+minutes-step : (network : Network) (before : Option ℕ) (rows : List BlockRow) (at s : ℕ) → at < length rows
+    → (block_row rows at).slot ≡ Some s
     → (joins : Bool) → begin_with (drop (suc at) rows) (block_row rows at).block ≡ joins
-    → minutes_of network before (drop at rows) ≡ minutes_before network before s + (if joins then 0 else network.home s) + minutes_of network (slot_before rows (suc at)) (drop (suc at) rows)
+    → minutes_of network before (drop at rows) ≡ minutes_before network before s + (if joins then 0 else network.home s) + minutes_of
+    network (slot_before rows (suc at)) (drop (suc at) rows)
 minutes-step network before rows at s lt is joins e =
     ap (minutes_of network before) (drop-cons rows at _ lt)
     ∙ minutes_of-first network before (block_row rows at) (drop (suc at) rows) s is
-    ∙ ap (λ j. minutes_before network before s + (if j then minutes_of network (Some s) (drop (suc at) rows) else network.home s + minutes_of network None (drop (suc at) rows))) e
-    ∙ by joins (sym (goes_on network (block_row rows at) (drop (suc at) rows) (block_row [] 0) s joins is e) ∙ ap (λ q. minutes_of network (slot_on (block_row rows at) q) (drop (suc at) rows)) (first-after rows at))
+    ∙ ap (λ j. minutes_before network before
+    s + (if j then minutes_of network (Some s) (drop (suc at) rows)
+    else network.home s + minutes_of network None (drop (suc at) rows))) e
+    ∙ by joins (sym (goes_on network (block_row rows at) (drop (suc at) rows) (block_row [] 0) s joins is e)
+    ∙ ap (λ q. minutes_of network (slot_on (block_row rows at) q) (drop (suc at) rows)) (first-after rows at))
   where
-    by : (joins : Bool) → minutes_of network (if joins then Some s else None) (drop (suc at) rows) ≡ minutes_of network (slot_before rows (suc at)) (drop (suc at) rows)
-        → minutes_before network before s + (if joins then minutes_of network (Some s) (drop (suc at) rows) else network.home s + minutes_of network None (drop (suc at) rows))
-        ≡ minutes_before network before s + (if joins then 0 else network.home s) + minutes_of network (slot_before rows (suc at)) (drop (suc at) rows)
+    by : (joins : Bool) → minutes_of network (if joins then Some s else None) (drop (suc at) rows) ≡ minutes_of network
+        (slot_before rows (suc at)) (drop (suc at) rows)
+        → minutes_before network before
+        s + (if joins then minutes_of network (Some s) (drop (suc at) rows)
+        else network.home s + minutes_of network None (drop (suc at) rows))
+        ≡ minutes_before network before s + (if joins then 0 else network.home s) + minutes_of network (slot_before rows (suc at))
+        (drop (suc at) rows)
     by true same = omega (arith, same)
     by false same = omega (arith, same)
 
-pub minutes-next : (network : Network) (before : Option ℕ) (rows : List BlockRow) (at s : ℕ) → at < length rows → (block_row rows at).slot ≡ Some s
+pub minutes-next : (network : Network) (before : Option ℕ) (rows : List BlockRow) (at s : ℕ) → at < length rows
+    → (block_row rows at).slot ≡ Some s
     → (joins : Bool) → begin_with (drop (at + 1) rows) (block_row rows at).block ≡ joins
-    → minutes_of network before (drop at rows) ≡ minutes_before network before s + (if joins then 0 else network.home s) + minutes_of network (slot_before rows (at + 1)) (drop (at + 1) rows)
+    → minutes_of network before (drop at rows) ≡ minutes_before network before s + (if joins then 0 else network.home s) + minutes_of
+    network (slot_before rows (at + 1)) (drop (at + 1) rows)
 minutes-next network before rows at s lt is =
     subst (λ next. (joins : Bool) → begin_with (drop next rows) (block_row rows at).block ≡ joins
-    → minutes_of network before (drop at rows) ≡ minutes_before network before s + (if joins then 0 else network.home s) + minutes_of network (slot_before rows next) (drop next rows))
+    → minutes_of network before (drop at rows) ≡ minutes_before network before s + (if joins then 0 else network.home s) + minutes_of
+    network (slot_before rows next) (drop next rows))
     (sym (add-one at)) (minutes-step network before rows at s lt is)
 
 -- a record brings a block exactly where the next one does not go on from it
-blocks_in-first : (blocks : List (List ℕ)) (joins : Bool) (s : ℕ) → (blocks ≡ [] → joins ≡ false) → length (with_trip_before blocks joins (Some s)) ≡ (if joins then 0 else 1) + length blocks
+blocks_in-first : (blocks : List (List ℕ)) (joins : Bool) (s : ℕ) → (blocks ≡ [] → joins ≡ false)
+    → length (with_trip_before blocks joins (Some s)) ≡ (if joins then 0 else 1) + length blocks
 blocks_in-first [] true s apart = absurd (false≢true (sym (apart refl)))
 blocks_in-first [] false s apart = omega arith
 blocks_in-first (block ∷ blocks) true s apart = omega arith

@@ -10,7 +10,8 @@ abbrev pub NoneBelow : {A : Type 0} → (ℕ → Option A) → ℕ → Type 0
 NoneBelow f n = (k : ℕ) → k < n → f k ≡ None
 
 -- the first of a range and what comes after it
-skip : {A : Type 0} (f : ℕ → Option A) (a n : ℕ) → f (a + 0) ≡ None → first_of (map f (range_with_len a (suc n))) ≡ first_of (map f (range_with_len (a + 1) n))
+skip : {A : Type 0} (f : ℕ → Option A) (a n : ℕ) → f (a + 0) ≡ None
+    → first_of (map f (range_with_len a (suc n))) ≡ first_of (map f (range_with_len (a + 1) n))
 skip f a n none =
     ap (λ found. option_or found (first_of (map f (range_with_len (a + 1) n)))) ((let e : a ≡ a + 0 = omega arith in ap f e) ∙ none)
 
@@ -38,7 +39,8 @@ none_first f n m none le = sym (none-from f 0 n (λ k lt. (let e : 0 + k ≡ k =
 -- one is found, and none below it
 pub found_first : {A : Type 0} (f : ℕ → Option A) (n m : ℕ) (r : A) → NoneBelow f m → m < n → Some r ≡ f m → Some r ≡ first_at f n
 found_first f n m r none lt e =
-    sym (found-from f 0 n m r (λ k below. (let e : 0 + k ≡ k = omega arith in ap f e) ∙ none k below) lt ((let e : 0 + m ≡ m = omega arith in ap f e) ∙ sym e))
+    sym (found-from f 0 n m r (λ k below. (let e : 0 + k ≡ k = omega arith in ap f e) ∙ none k below) lt
+    ((let e : 0 + m ≡ m = omega arith in ap f e) ∙ sym e))
 
 -- where none is found, there is none at any number
 pub or-none : {A : Type 0} (a b : Option A) → option_or a b ≡ None → (a ≡ None) × (b ≡ None)

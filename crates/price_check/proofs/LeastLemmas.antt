@@ -1,5 +1,6 @@
 -- The blocks along the links of a claim's plan are the claim's blocks.
-use Rattle.std.proofs.Common.{◌≡◌, ℕ, zero, suc, ◌<◌, ◌≤◌, ◌==◌, ◌||◌, not, nat_eq, Bool, true, false, List, [], ◌∷◌, length, map, filter, All, Option, None, Some, if◌then◌else◌, refl, sym, ap, subst, ◌∙◌, ⊎_elim, arith}
+use Rattle.std.proofs.Common.{◌≡◌, ℕ, zero, suc, ◌<◌, ◌≤◌, ◌==◌, ◌||◌, not, nat_eq, Bool, true, false, List, [], ◌∷◌, length, map, filter}
+use Rattle.std.proofs.Common.{All, Option, None, Some, if◌then◌else◌, refl, sym, ap, subst, ◌∙◌, ⊎_elim, arith}
 use Rattle.std.specs.Prelude.{is_none, ⊤}
 use Rattle.std.specs.List.{AllByRecursion, list_any, range_with_len}
 use Rattle.std.specs.Option.{option_eq}
@@ -30,16 +31,21 @@ use Rattle.price_check.proofs.NamedLemmas.{named-stands, is-slot, slot-is, named
 use Rattle.price_check.proofs.PlanLemmas.{next-cases, after-next, times-more, times-head, at-plan, next-plan}
 
 -- a slot that a record names stands in those that are named
-at-stands : (rows : List BlockRow) (at s : ℕ) → at < length rows → (block_row rows at).slot ≡ Some s → 0 < times s (slots_named (block_slots rows))
+at-stands : (rows : List BlockRow) (at s : ℕ) → at < length rows → (block_row rows at).slot ≡ Some s
+    → 0 < times s (slots_named (block_slots rows))
 at-stands rows at s lt is =
-    named-stands (block_slots rows) at s (omega (arith, lt, length-map rows (λ (r : BlockRow). r.slot))) (get_or-map (λ (r : BlockRow). r.slot) rows at _ None lt ∙ is)
+    named-stands (block_slots rows) at s (omega (arith, lt, length-map rows (λ (r : BlockRow). r.slot)))
+    (get_or-map (λ (r : BlockRow). r.slot) rows at _ None lt ∙ is)
 
 -- where no slot is named twice, one record alone names it
-one-record : (rows : List BlockRow) (a b s : ℕ) → times s (slots_named (block_slots rows)) ≤ 1 → a < length rows → b < length rows → (block_row rows a).slot ≡ Some s → (block_row rows b).slot ≡ Some s → a ≡ b
+one-record : (rows : List BlockRow) (a b s : ℕ) → times s (slots_named (block_slots rows)) ≤ 1 → a < length rows → b < length rows
+    → (block_row rows a).slot ≡ Some s → (block_row rows b).slot ≡ Some s → a ≡ b
 one-record [] a b s few a_in b_in is_a is_b = absurd (omega arith)
 one-record (r ∷ rows) zero zero s few a_in b_in is_a is_b = refl
-one-record (r ∷ rows) zero (suc b) s few a_in b_in is_a is_b = absurd (omega (arith, few, times-head r rows s is_a, at-stands rows b s (omega (arith, b_in)) is_b))
-one-record (r ∷ rows) (suc a) zero s few a_in b_in is_a is_b = absurd (omega (arith, few, times-head r rows s is_b, at-stands rows a s (omega (arith, a_in)) is_a))
+one-record (r ∷ rows) zero (suc b) s few a_in b_in is_a is_b =
+    absurd (omega (arith, few, times-head r rows s is_a, at-stands rows b s (omega (arith, b_in)) is_b))
+one-record (r ∷ rows) (suc a) zero s few a_in b_in is_a is_b =
+    absurd (omega (arith, few, times-head r rows s is_b, at-stands rows a s (omega (arith, a_in)) is_a))
 one-record (r ∷ rows) (suc a) (suc b) s few a_in b_in is_a is_b =
     ap suc (one-record rows a b s (omega (arith, few, times-more r rows s)) (omega (arith, a_in)) (omega (arith, b_in)) is_a is_b)
 
@@ -64,7 +70,8 @@ LinkedAs : (ℕ → Option ℕ) → List BlockRow → Type 0
 LinkedAs next [] = ⊤
 LinkedAs next (r ∷ rows) = ((s : ℕ) → r.slot ≡ Some s → next s ≡ slot_after r rows) × LinkedAs next rows
 
-linked-same : (f g : ℕ → Option ℕ) (rows : List BlockRow) → ((s : ℕ) → 0 < times s (slots_named (block_slots rows)) → f s ≡ g s) → LinkedAs f rows → LinkedAs g rows
+linked-same : (f g : ℕ → Option ℕ) (rows : List BlockRow) → ((s : ℕ) → 0 < times s (slots_named (block_slots rows)) → f s ≡ g s)
+    → LinkedAs f rows → LinkedAs g rows
 unfolding LinkedAs
 linked-same f g [] same linked = tt
 linked-same f g (r ∷ rows) same linked = (
@@ -84,7 +91,8 @@ linked-next (r ∷ rows) few = (
   where
     not-first : (s : ℕ) → 0 < times s (slots_named (block_slots rows)) → option_eq nat_eq r.slot (Some s) ≡ false
     not-first s there = ⊎_elim
-        (λ (here : option_eq nat_eq r.slot (Some s) ≡ true). absurd (omega (arith, few s, times-head r rows s (is-slot s r.slot here), there)))
+        (λ (here : option_eq nat_eq r.slot (Some s) ≡ true). absurd
+        (omega (arith, few s, times-head r rows s (is-slot s r.slot here), there)))
         (λ (no : option_eq nat_eq r.slot (Some s) ≡ false). no)
         (cases_Bool (option_eq nat_eq r.slot (Some s)))
 
@@ -100,21 +108,24 @@ first_slot ((i ∷ js) ∷ blocks) = Some i
 
 first_slot-is : (rows : List BlockRow) (q : BlockRow) (s : ℕ) → q.slot ≡ Some s → first_slot (blocks_in (q ∷ rows)) ≡ Some s
 unfolding first_slot
-first_slot-is rows q s is = ap (λ slot. first_slot (with_trip_before (blocks_in rows) (begin_with rows q.block) slot)) is ∙ by (blocks_in rows) (begin_with rows q.block)
+first_slot-is rows q s is = ap (λ slot. first_slot (with_trip_before (blocks_in rows) (begin_with rows q.block) slot)) is
+    ∙ by (blocks_in rows) (begin_with rows q.block)
   where
     by : (blocks : List (List ℕ)) (joins : Bool) → first_slot (with_trip_before blocks joins (Some s)) ≡ Some s
     by [] joins = refl
     by (block ∷ blocks) true = refl
     by (block ∷ blocks) false = refl
 
-after-first : (r : BlockRow) (rows : List BlockRow) → EachNames rows → slot_after r rows ≡ (if begin_with rows r.block then first_slot (blocks_in rows) else None)
+after-first : (r : BlockRow) (rows : List BlockRow) → EachNames rows
+    → slot_after r rows ≡ (if begin_with rows r.block then first_slot (blocks_in rows) else None)
 unfolding first_slot
 after-first r [] known = refl
 after-first r (q ∷ rows) known =
     let slot = slot-there q.slot known.0 in
     ap (λ o. if r.block == q.block then o else None) (slot.1 ∙ sym (first_slot-is rows q slot.0 slot.1))
 
-goes-more : (links : List (Option ℕ)) (s : ℕ) (blocks : List (List ℕ)) (joins : Bool) → AllByRecursion (Goes links) blocks → next_of links s ≡ (if joins then first_slot blocks else None)
+goes-more : (links : List (Option ℕ)) (s : ℕ) (blocks : List (List ℕ)) (joins : Bool) → AllByRecursion (Goes links) blocks
+    → next_of links s ≡ (if joins then first_slot blocks else None)
     → AllByRecursion (Goes links) (with_trip_before blocks joins (Some s))
 unfolding Goes first_slot
 goes-more links s [] true each next = (next, tt)
@@ -123,13 +134,15 @@ goes-more links s ([] ∷ blocks) joins each next = absurd each.0
 goes-more links s ((j ∷ js) ∷ blocks) true each next = ((next, each.0), each.1)
 goes-more links s ((j ∷ js) ∷ blocks) false each next = (next, each)
 
-goes-blocks : (links : List (Option ℕ)) (rows : List BlockRow) → EachNames rows → LinkedAs (next_of links) rows → AllByRecursion (Goes links) (blocks_in rows)
+goes-blocks : (links : List (Option ℕ)) (rows : List BlockRow) → EachNames rows → LinkedAs (next_of links) rows
+    → AllByRecursion (Goes links) (blocks_in rows)
 unfolding LinkedAs
 goes-blocks links [] known linked = tt
 goes-blocks links (r ∷ rows) known linked =
     let slot = slot-there r.slot known.0 in
     subst (λ s. AllByRecursion (Goes links) (with_trip_before (blocks_in rows) (begin_with rows r.block) s)) (sym slot.1)
-    (goes-more links slot.0 (blocks_in rows) (begin_with rows r.block) (goes-blocks links rows known.1 linked.1) (linked.0 slot.0 slot.1 ∙ after-first r rows known.1))
+    (goes-more links slot.0 (blocks_in rows) (begin_with rows r.block) (goes-blocks links rows known.1 linked.1)
+    (linked.0 slot.0 slot.1 ∙ after-first r rows known.1))
 
 -- the slots from which the blocks begin, of which the first goes on or begins
 heads : List (List ℕ) → List ℕ
@@ -145,10 +158,12 @@ heads_on (Some i) (block ∷ blocks) = heads blocks
 -- a slot is the next of none exactly where no slot is before it
 FirstsAre : List (Option ℕ) → Option ℕ → List BlockRow → Type 0
 FirstsAre links before [] = ⊤
-FirstsAre links before (r ∷ rows) = ((s : ℕ) → r.slot ≡ Some s → is_first links s ≡ is_none before) × FirstsAre links (before_rest r rows) rows
+FirstsAre links before (r ∷ rows) = ((s : ℕ) → r.slot ≡ Some s → is_first links s ≡ is_none before)
+    × FirstsAre links (before_rest r rows) rows
 
 heads-more : (before : Option ℕ) (s : ℕ) (blocks : List (List ℕ)) (joins : Bool)
-    → (if is_none before then s ∷ heads_on (if joins then Some s else None) blocks else heads_on (if joins then Some s else None) blocks) ≡ heads_on before (with_trip_before blocks joins (Some s))
+    → (if is_none before then s ∷ heads_on (if joins then Some s else None) blocks
+    else heads_on (if joins then Some s else None) blocks) ≡ heads_on before (with_trip_before blocks joins (Some s))
 unfolding heads heads_on
 heads-more None s [] true = refl
 heads-more None s [] false = refl
@@ -169,20 +184,24 @@ filter-heads links before (r ∷ rows) known firsts =
     let s = slot.0 in
     let xs = slots_named (block_slots rows) in
     let joins = begin_with rows r.block in
-    let rest = filter-heads links (before_rest r rows) rows known.1 firsts.1 ∙ ap (λ b. heads_on b (blocks_in rows)) (before_rest-is r rows s slot.1) in
+    let rest = filter-heads links (before_rest r rows) rows known.1 firsts.1
+    ∙ ap (λ b. heads_on b (blocks_in rows)) (before_rest-is r rows s slot.1) in
     ap (λ o. filter (is_first links) (slots_named (o ∷ block_slots rows))) slot.1
     ∙ (λ k. if firsts.0 s slot.1 k then s ∷ rest k else rest k)
     ∙ heads-more before s (blocks_in rows) joins
     ∙ ap (λ o. heads_on before (with_trip_before (blocks_in rows) joins o)) (sym slot.1)
 
 -- the links from the head of a block give the block
-along-is : (links : List (Option ℕ)) (most i : ℕ) (js : List ℕ) → GoesOn links i js → length js ≤ most → along links most (next_of links i) ≡ js
+along-is : (links : List (Option ℕ)) (most i : ℕ) (js : List ℕ) → GoesOn links i js → length js ≤ most
+    → along links most (next_of links i) ≡ js
 along-is links zero i [] goes le = refl
 along-is links (suc most) i [] goes le = ap (along links (suc most)) goes
 along-is links zero i (j ∷ js) goes le = absurd (omega arith)
-along-is links (suc most) i (j ∷ js) goes le = ap (along links (suc most)) goes.0 ∙ ap (λ xs. j ∷ xs) (along-is links most j js goes.1 (omega (arith, le)))
+along-is links (suc most) i (j ∷ js) goes le = ap (along links (suc most)) goes.0
+    ∙ ap (λ xs. j ∷ xs) (along-is links most j js goes.1 (omega (arith, le)))
 
-blocks-heads : (links : List (Option ℕ)) (blocks : List (List ℕ)) → AllByRecursion (Goes links) blocks → length (slots_in blocks) ≤ 8191 → map (block_from links) (heads blocks) ≡ blocks
+blocks-heads : (links : List (Option ℕ)) (blocks : List (List ℕ)) → AllByRecursion (Goes links) blocks → length (slots_in blocks) ≤ 8191
+    → map (block_from links) (heads blocks) ≡ blocks
 unfolding Goes heads
 blocks-heads links [] each le = refl
 blocks-heads links ([] ∷ blocks) each le = absurd each.0
@@ -195,7 +214,8 @@ blocks-heads links ((i ∷ js) ∷ blocks) each le =
 any-none : (links : List (Option ℕ)) (s : ℕ) → ((h : ℕ) → next_of links h ≡ Some s → ⊥) → list_any (leads_to s) links ≡ false
 any-none [] s none = refl
 any-none (None ∷ links) s none = any-none links s (λ h. none (suc h))
-any-none (Some j ∷ links) s none = ap (λ b. b || list_any (leads_to s) links) (ne_eqb j s (λ e. none 0 (ap Some e))) ∙ any-none links s (λ h. none (suc h))
+any-none (Some j ∷ links) s none = ap (λ b. b || list_any (leads_to s) links) (ne_eqb j s (λ e. none 0 (ap Some e)))
+    ∙ any-none links s (λ h. none (suc h))
 
 any-some : (links : List (Option ℕ)) (s h : ℕ) → next_of links h ≡ Some s → list_any (leads_to s) links ≡ true
 any-some [] s h e = absurd (none-some s e)
@@ -207,14 +227,16 @@ any-some (link ∷ links) s (suc h) e = or-true (leads_to s link) (list_any (lea
     or-true false b e = e
 
 -- a slot before a record is linked to its trip
-slot_on-parts : (r q : BlockRow) (i : ℕ) → slot_on r q ≡ Some i → (r.slot ≡ Some i) × ((if r.block == q.block then q.slot else None) ≡ q.slot)
+slot_on-parts : (r q : BlockRow) (i : ℕ) → slot_on r q ≡ Some i
+    → (r.slot ≡ Some i) × ((if r.block == q.block then q.slot else None) ≡ q.slot)
 slot_on-parts r q i e = by (r.block == q.block) e
   where
     by : (same : Bool) → (if same then r.slot else None) ≡ Some i → (r.slot ≡ Some i) × ((if same then q.slot else None) ≡ q.slot)
     by true e = (e, refl)
     by false e = absurd (none-some i e)
 
-linked-at : (next : ℕ → Option ℕ) (rows : List BlockRow) (at i s : ℕ) → LinkedAs next rows → suc at < length rows → slot_on (block_row rows at) (block_row rows (suc at)) ≡ Some i
+linked-at : (next : ℕ → Option ℕ) (rows : List BlockRow) (at i s : ℕ) → LinkedAs next rows → suc at < length rows
+    → slot_on (block_row rows at) (block_row rows (suc at)) ≡ Some i
     → (block_row rows (suc at)).slot ≡ Some s → next i ≡ Some s
 unfolding LinkedAs
 linked-at next [] at i s linked lt before is = absurd (omega arith)
@@ -224,23 +246,27 @@ linked-at next (r ∷ q ∷ rows) zero i s linked lt before is =
 linked-at next (r ∷ q ∷ rows) (suc at) i s linked lt before is = linked-at next (q ∷ rows) at i s linked.1 (omega (arith, lt)) before is
 
 firsts-from : (links : List (Option ℕ)) (before : Option ℕ) (rows : List BlockRow)
-    → ((at s : ℕ) → at < length rows → (block_row rows at).slot ≡ Some s → is_first links s ≡ is_none (before_at before rows at)) → FirstsAre links before rows
+    → ((at s : ℕ) → at < length rows → (block_row rows at).slot ≡ Some s → is_first links s ≡ is_none (before_at before rows at))
+    → FirstsAre links before rows
 unfolding FirstsAre
 firsts-from links before [] each = tt
 firsts-from links before (r ∷ rows) each = (
   λ s is. each 0 s (omega arith) is,
-  firsts-from links (before_rest r rows) rows (λ at s lt is. each (suc at) s (omega (arith, lt)) is ∙ ap is_none (before_at-more before r rows at lt)),
+  firsts-from links (before_rest r rows) rows
+      (λ at s lt is. each (suc at) s (omega (arith, lt)) is ∙ ap is_none (before_at-more before r rows at lt)),
 )
 
 -- the first trips of blocks are the next of none, and the others of those before them
-firsts-are : (n : ℕ) (rows : List BlockRow) → ((s : ℕ) → times s (slots_named (block_slots rows)) ≤ 1) → LinkedAs (next_of (map (next_in rows) (range_with_len 0 n))) rows
+firsts-are : (n : ℕ) (rows : List BlockRow) → ((s : ℕ) → times s (slots_named (block_slots rows)) ≤ 1)
+    → LinkedAs (next_of (map (next_in rows) (range_with_len 0 n))) rows
     → FirstsAre (map (next_in rows) (range_with_len 0 n)) None rows
 firsts-are n rows few linked = firsts-from links None rows (λ at s lt is. by at s lt is (before_at None rows at) refl)
   where
     links : List (Option ℕ)
     links = map (next_in rows) (range_with_len 0 n)
 
-    by : (at s : ℕ) → at < length rows → (block_row rows at).slot ≡ Some s → (before : Option ℕ) → before_at None rows at ≡ before → is_first links s ≡ is_none (before_at None rows at)
+    by : (at s : ℕ) → at < length rows → (block_row rows at).slot ≡ Some s → (before : Option ℕ) → before_at None rows at ≡ before
+        → is_first links s ≡ is_none (before_at None rows at)
     by at s lt is None e =
         ap not (any-none links s (λ h leads. (let found = next-record None rows h s (next-plan (next_in rows) n h s leads) in
         let same = one-record rows found.0 at s (few s) found.1 lt found.2 is in
@@ -255,26 +281,33 @@ length-named (None ∷ slots) = omega (arith, length-named slots)
 length-named (Some s ∷ slots) = omega (arith, length-named slots)
 
 -- the blocks along the links of the plan are those of the claim
-blocks-along : (live : ℕ → Bool) (n : ℕ) (rows : List BlockRow) → ((s : ℕ) → live s ≡ true → s < n) → NameOnce live (block_slots rows) → length rows ≤ 4096
+blocks-along : (live : ℕ → Bool) (n : ℕ) (rows : List BlockRow) → ((s : ℕ) → live s ≡ true → s < n) → NameOnce live (block_slots rows)
+    → length rows ≤ 4096
     → blocks_along (map (next_in rows) (range_with_len 0 n)) (slots_named (block_slots rows)) ≡ blocks_in rows
 unfolding heads_on
 blocks-along live n rows within names few =
     let links = map (next_in rows) (range_with_len 0 n) in
     let known = names-known rows names.known in
     let once = named-once live (block_slots rows) names in
-    let linked = linked-same (next_in rows) (next_of links) rows (λ s there. sym (at-plan (next_in rows) n s None (within s (standing-live live (block_slots rows) names s there)))) (linked-next rows once) in
-    let size : length (slots_in (blocks_in rows)) ≤ 8191 = omega (arith, ap length (slots_in-blocks rows), length-named (block_slots rows), length-map rows (λ (r : BlockRow). r.slot), few) in
+    let linked = linked-same (next_in rows) (next_of links) rows
+    (λ s there. sym (at-plan (next_in rows) n s None (within s (standing-live live (block_slots rows) names s there))))
+    (linked-next rows once) in
+    let size : length (slots_in (blocks_in rows)) ≤ 8191 =
+    omega (arith, ap length (slots_in-blocks rows), length-named (block_slots rows), length-map rows (λ (r : BlockRow). r.slot), few) in
     ap (map (block_from links)) (filter-heads links None rows known (firsts-are n rows once linked))
     ∙ blocks-heads links (blocks_in rows) (goes-blocks links rows known linked) size
 
 -- the blocks of a certificate are least
-pub certificate-least : (t : TimetableView) (m : MatrixView) (claimed : ClaimedView) → IsTimetable t → All IsPull m.pulls → length claimed.blocks ≤ 4096
+pub certificate-least : (t : TimetableView) (m : MatrixView) (claimed : ClaimedView) → IsTimetable t → All IsPull m.pulls
+    → length claimed.blocks ≤ 4096
     → IsCertificate (network_of t m) (length t.slots) claimed → IsLeast (network_of t m) (blocks_in claimed.blocks)
 certificate-least t m claimed valid pulls few proved =
     let network = network_of t m in
     let moves = trip_moves t.slots in
     let size = length-map t.slots move_of_slot in
-    let day = subst (IsDay network) size (IsDay-deadhead (length t.places) moves m (AreMoves-trips t valid) pulls (omega (arith, size, valid.slots))) in
+    let day = subst (IsDay network) size
+    (IsDay-deadhead (length t.places) moves m (AreMoves-trips t valid) pulls (omega (arith, size, valid.slots))) in
     subst (IsLeast network) (blocks-along network.live (length t.slots) claimed.blocks (network-within t m) proved.blocks few)
-    (IsLeast-certified network (length t.slots) (plan_of (length t.slots) claimed) (λ s. minute_left (move_at moves s)) day (length-map-range_with_len (next_in claimed.blocks) 0 (length t.slots)) proved.certified (network-departures t m valid)
+    (IsLeast-certified network (length t.slots) (plan_of (length t.slots) claimed) (λ s. minute_left (move_at moves s)) day
+    (length-map-range_with_len (next_in claimed.blocks) 0 (length t.slots)) proved.certified (network-departures t m valid)
     (slots_named (block_slots claimed.blocks)) proved.blocks.once)

@@ -1,5 +1,6 @@
 -- The plan that a claim gives: its links and its prices, slot by slot and all together.
-use Rattle.std.proofs.Common.{◌≡◌, ◌≢◌, ℕ, zero, suc, ◌+◌, ◌<◌, ◌≤◌, ◌==◌, ◌||◌, nat_eq, cond, inl, inr, ◌⊎◌, Bool, true, false, List, [], ◌∷◌, length, map, get_or, sum_by, Option, None, Some, if◌then◌else◌, refl, sym, ap, ◌∙◌, ⊎_elim, arith}
+use Rattle.std.proofs.Common.{◌≡◌, ◌≢◌, ℕ, zero, suc, ◌+◌, ◌<◌, ◌≤◌, ◌==◌, ◌||◌, nat_eq, cond, inl, inr, ◌⊎◌, Bool, true, false, List, []}
+use Rattle.std.proofs.Common.{◌∷◌, length, map, get_or, sum_by, Option, None, Some, if◌then◌else◌, refl, sym, ap, ◌∙◌, ⊎_elim, arith}
 use Rattle.std.specs.Prelude.{IsSome}
 use Rattle.std.specs.List.{AllByRecursion, range_with_len}
 use Rattle.std.specs.Option.{option_eq}
@@ -26,7 +27,8 @@ use Rattle.price_check.proofs.NamedLemmas.{is-slot, slot-is, times-named}
 sum-but : (f g : ℕ → ℕ) (s : ℕ) (xs : List ℕ) → times s xs ≡ 0 → ((x : ℕ) → x ≢ s → f x ≡ g x) → sum_by f xs ≡ sum_by g xs
 sum-but f g s [] none same = refl
 sum-but f g s (x ∷ xs) none same =
-    let differs : x ≢ s = λ e. (let one : ◌≡◌ {A = ℕ} (cond (x == s) 1 0) 1 = ap (λ b. cond b 1 0) (eq-eqb x s e) in absurd (omega (arith, one, none, times-cons s x xs))) in
+    let differs : x ≢ s = λ e. (let one : ◌≡◌ {A = ℕ} (cond (x == s) 1 0) 1 = ap (λ b. cond b 1 0) (eq-eqb x s e) in
+    absurd (omega (arith, one, none, times-cons s x xs))) in
     omega (arith, sum_by-cons f x xs, sum_by-cons g x xs, same x differs, sum-but f g s xs (omega (arith, times-cons s x xs, none)) same)
 
 -- what the records bring, each with those after it
@@ -36,7 +38,8 @@ total bring (r ∷ rows) = bring r rows + total bring rows
 
 -- what a value of the first record that names a slot comes to over all slots that are named, where none is twice
 pub sum-picked : {X : Type 0} (slot_of : X → Option ℕ) (bring : X → List X → ℕ) (value : List X → ℕ → ℕ)
-    → ((r : X) (rows : List X) (s : ℕ) → value (r ∷ rows) s ≡ (if option_eq nat_eq (slot_of r) (Some s) then bring r rows else value rows s))
+    → ((r : X) (rows : List X) (s : ℕ)
+    → value (r ∷ rows) s ≡ (if option_eq nat_eq (slot_of r) (Some s) then bring r rows else value rows s))
     → (rows : List X) → AllByRecursion (λ r. IsSome (slot_of r)) rows → ((s : ℕ) → times s (slots_named (map slot_of rows)) ≤ 1)
     → sum_by (value rows) (slots_named (map slot_of rows)) ≡ total bring rows
 sum-picked slot_of bring value is [] known few = refl
@@ -47,8 +50,11 @@ sum-picked slot_of bring value is (r ∷ rows) known few =
     let head : slots_named (map slot_of (r ∷ rows)) ≡ s ∷ xs = ap (λ o. slots_named (o ∷ map slot_of rows)) slot.1 in
     let one : ◌≡◌ {A = ℕ} (cond (s == s) 1 0) 1 = ap (λ b. cond b 1 0) (eq-eqb s s refl) in
     let none : times s xs ≡ 0 = omega (arith, few s, ap (times s) head, times-cons s s xs, one) in
-    let first : value (r ∷ rows) s ≡ bring r rows = is r rows s ∙ ap (λ b. if b then bring r rows else value rows s) (slot-is s (slot_of r) slot.1) in
-    let others = sum-but (value (r ∷ rows)) (value rows) s xs none (λ x differs. is r rows x ∙ ap (λ b. if b then bring r rows else value rows x) (ap (λ o. option_eq nat_eq o (Some x)) slot.1 ∙ ne_eqb s x (λ e. differs (sym e)))) in
+    let first : value (r ∷ rows) s ≡ bring r rows = is r rows s
+    ∙ ap (λ b. if b then bring r rows else value rows s) (slot-is s (slot_of r) slot.1) in
+    let others = sum-but (value (r ∷ rows)) (value rows) s xs none
+    (λ x differs. is r rows x ∙ ap (λ b. if b then bring r rows else value rows x)
+    (ap (λ o. option_eq nat_eq o (Some x)) slot.1 ∙ ne_eqb s x (λ e. differs (sym e)))) in
     let rest = sum-picked slot_of bring value is rows known.1 (λ t. omega (arith, few t, ap (times t) head, times-cons t s xs)) in
     ap (sum_by (value (r ∷ rows))) head ∙ sum_by-cons (value (r ∷ rows)) s xs ∙ (λ i. first i + (others ∙ rest) i)
 
@@ -78,12 +84,14 @@ first_weight-none network (r ∷ rows) = by r.slot
     by None = refl
     by (Some j) = refl
 
-first_weight-after : (network : Network) (r : BlockRow) (rows : List BlockRow) → first_weight network (before_rest r rows) rows ≡ weight_after network r rows
+first_weight-after : (network : Network) (r : BlockRow) (rows : List BlockRow)
+    → first_weight network (before_rest r rows) rows ≡ weight_after network r rows
 unfolding first_weight
 first_weight-after network r [] = sym (link_weight-none network r.slot)
 first_weight-after network r (q ∷ rows) = by (r.block == q.block) q.slot
   where
-    by : (same : Bool) (slot : Option ℕ) → link_weight network (if same then r.slot else None) slot ≡ link_weight network r.slot (if same then slot else None)
+    by : (same : Bool) (slot : Option ℕ)
+        → link_weight network (if same then r.slot else None) slot ≡ link_weight network r.slot (if same then slot else None)
     by true slot = refl
     by false None = sym (link_weight-none network r.slot)
     by false (Some j) = sym (link_weight-none network r.slot)
@@ -93,25 +101,29 @@ sum_below-first f zero = omega arith
 sum_below-first f (suc n) = omega (arith, sum_below-first f n)
 
 weights-total : (network : Network) (before : Option ℕ) (rows : List BlockRow)
-    → sum_below (λ at. link_weight network (before_at before rows at) (block_row rows at).slot) (length rows) ≡ first_weight network before rows + total (weight_after network) rows
+    → sum_below (λ at. link_weight network (before_at before rows at) (block_row rows at).slot) (length rows) ≡ first_weight network before
+    rows + total (weight_after network) rows
 unfolding first_weight
 weights-total network before [] = refl
 weights-total network before (r ∷ rows) =
     let front = sum_below-first (λ at. link_weight network (before_at before (r ∷ rows) at) (block_row (r ∷ rows) at).slot) (length rows) in
-    let shift = sum_below-same (λ at. link_weight network (before_at before (r ∷ rows) (suc at)) (block_row rows at).slot) (λ at. link_weight network (before_at (before_rest r rows) rows at) (block_row rows at).slot) (length rows)
+    let shift = sum_below-same (λ at. link_weight network (before_at before (r ∷ rows) (suc at)) (block_row rows at).slot)
+    (λ at. link_weight network (before_at (before_rest r rows) rows at) (block_row rows at).slot) (length rows)
     (λ at lt. ap (λ b. link_weight network b (block_row rows at).slot) (before_at-more before r rows at lt)) in
     omega (arith, front, shift, weights-total network (before_rest r rows) rows, first_weight-after network r rows)
 
 pub weight_sum-is : (network : Network) (rows : List BlockRow) → weight_sum network rows ≡ total (weight_after network) rows
 weight_sum-is network rows =
     sum_by-range (weight_before network rows) (length rows)
-    ∙ sum_below-same (weight_before network rows) (λ at. link_weight network (before_at None rows at) (block_row rows at).slot) (length rows) (λ at lt. ap (λ b. link_weight network b (block_row rows at).slot) (sym (before_at-none rows at)))
+    ∙ sum_below-same (weight_before network rows) (λ at. link_weight network (before_at None rows at) (block_row rows at).slot)
+    (length rows) (λ at lt. ap (λ b. link_weight network b (block_row rows at).slot) (sym (before_at-none rows at)))
     ∙ weights-total network None rows
     ∙ (let none = first_weight-none network rows in omega (arith, none))
 
 -- the weight of the link from a slot, by its record
 pub weight-picked : (network : Network) (r : BlockRow) (rows : List BlockRow) (s : ℕ)
-    → weight_to network s (next_in (r ∷ rows) s) ≡ (if option_eq nat_eq r.slot (Some s) then weight_after network r rows else weight_to network s (next_in rows s))
+    → weight_to network s (next_in (r ∷ rows) s) ≡ (if option_eq nat_eq r.slot (Some s) then weight_after network r rows
+    else weight_to network s (next_in rows s))
 weight-picked network r rows s = by (option_eq nat_eq r.slot (Some s)) refl
   where
     same : (next : Option ℕ) → weight_to network s next ≡ link_weight network (Some s) next
@@ -119,7 +131,9 @@ weight-picked network r rows s = by (option_eq nat_eq r.slot (Some s)) refl
     same (Some j) = refl
 
     by : (b : Bool) → option_eq nat_eq r.slot (Some s) ≡ b
-        → weight_to network s (if option_eq nat_eq r.slot (Some s) then slot_after r rows else next_in rows s) ≡ (if option_eq nat_eq r.slot (Some s) then weight_after network r rows else weight_to network s (next_in rows s))
+        → weight_to network s (if option_eq nat_eq r.slot (Some s) then slot_after r rows
+        else next_in rows s) ≡ (if option_eq nat_eq r.slot (Some s) then weight_after network r rows
+        else weight_to network s (next_in rows s))
     by true e =
         ap (λ b. weight_to network s (if b then slot_after r rows else next_in rows s)) e ∙ same (slot_after r rows)
         ∙ ap (λ slot. link_weight network slot (slot_after r rows)) (sym (is-slot s r.slot e))
@@ -132,29 +146,35 @@ weight-picked network r rows s = by (option_eq nat_eq r.slot (Some s)) refl
 pub next-cases : (r : BlockRow) (rows : List BlockRow) (i j : ℕ) → next_in (r ∷ rows) i ≡ Some j
     → ((r.slot ≡ Some i) × (slot_after r rows ≡ Some j)) ⊎ (next_in rows i ≡ Some j)
 next-cases r rows i j e = ⊎_elim
-    (λ (here : option_eq nat_eq r.slot (Some i) ≡ true). inl (is-slot i r.slot here, sym (ap (λ b. if b then slot_after r rows else next_in rows i) here) ∙ e))
+    (λ (here : option_eq nat_eq r.slot (Some i) ≡ true). inl
+    (is-slot i r.slot here, sym (ap (λ b. if b then slot_after r rows else next_in rows i) here) ∙ e))
     (λ (later : option_eq nat_eq r.slot (Some i) ≡ false). inr (sym (ap (λ b. if b then slot_after r rows else next_in rows i) later) ∙ e))
     (cases_Bool (option_eq nat_eq r.slot (Some i)))
 
 -- the trip after that of a record is that of the next one
-pub after-next : (r q : BlockRow) (rows : List BlockRow) (j : ℕ) → slot_after r (q ∷ rows) ≡ Some j → (q.slot ≡ Some j) × (slot_on r q ≡ r.slot)
+pub after-next : (r q : BlockRow) (rows : List BlockRow) (j : ℕ) → slot_after r (q ∷ rows) ≡ Some j
+    → (q.slot ≡ Some j) × (slot_on r q ≡ r.slot)
 after-next r q rows j e = by (r.block == q.block) e
   where
     by : (same : Bool) → (if same then q.slot else None) ≡ Some j → (q.slot ≡ Some j) × ((if same then r.slot else None) ≡ r.slot)
     by true e = (e, refl)
     by false e = absurd (none-some j e)
 
-pub times-more : (r : BlockRow) (rows : List BlockRow) (j : ℕ) → times j (slots_named (block_slots rows)) ≤ times j (slots_named (block_slots (r ∷ rows)))
+pub times-more : (r : BlockRow) (rows : List BlockRow) (j : ℕ)
+    → times j (slots_named (block_slots rows)) ≤ times j (slots_named (block_slots (r ∷ rows)))
 times-more r rows j = omega (arith, times-named j r.slot (block_slots rows))
 
-pub times-head : (r : BlockRow) (rows : List BlockRow) (j : ℕ) → r.slot ≡ Some j → times j (slots_named (block_slots (r ∷ rows))) ≡ 1 + times j (slots_named (block_slots rows))
+pub times-head : (r : BlockRow) (rows : List BlockRow) (j : ℕ) → r.slot ≡ Some j
+    → times j (slots_named (block_slots (r ∷ rows))) ≡ 1 + times j (slots_named (block_slots rows))
 times-head r rows j is =
-    let head : times j (slots_named (block_slots (r ∷ rows))) ≡ times j (j ∷ slots_named (block_slots rows)) = ap (λ o. times j (slots_named (o ∷ block_slots rows))) is in
+    let head : times j (slots_named (block_slots (r ∷ rows))) ≡ times j (j ∷ slots_named (block_slots rows)) =
+    ap (λ o. times j (slots_named (o ∷ block_slots rows))) is in
     let one : ◌≡◌ {A = ℕ} (cond (j == j) 1 0) 1 = ap (λ b. cond b 1 0) (eq-eqb j j refl) in
     omega (arith, head, times-cons j j (slots_named (block_slots rows)), one)
 
 -- a slot to which the records lead stands in those after the first
-stands-later : (r : BlockRow) (rows : List BlockRow) (i j : ℕ) → next_in (r ∷ rows) i ≡ Some j → 0 < times j (slots_named (block_slots rows))
+stands-later : (r : BlockRow) (rows : List BlockRow) (i j : ℕ) → next_in (r ∷ rows) i ≡ Some j
+    → 0 < times j (slots_named (block_slots rows))
 stands-later r [] i j e = ⊎_elim
     (λ (here : (r.slot ≡ Some i) × (slot_after r [] ≡ Some j)). absurd (none-some j here.1))
     (λ (later : next_in [] i ≡ Some j). absurd (none-some j later))
@@ -165,12 +185,15 @@ stands-later r (q ∷ rows) i j e = ⊎_elim
     (next-cases r (q ∷ rows) i j e)
 
 -- a slot that follows a record follows no later one, where none stands twice
-once-after : (r : BlockRow) (rows : List BlockRow) (i j : ℕ) → times j (slots_named (block_slots rows)) ≤ 1 → slot_after r rows ≡ Some j → next_in rows i ≡ Some j → ⊥
+once-after : (r : BlockRow) (rows : List BlockRow) (i j : ℕ) → times j (slots_named (block_slots rows)) ≤ 1 → slot_after r rows ≡ Some j
+    → next_in rows i ≡ Some j → ⊥
 once-after r [] i j few here later = none-some j here
-once-after r (q ∷ rows) i j few here later = absurd (omega (arith, few, times-head q rows j (after-next r q rows j here).0, stands-later q rows i j later))
+once-after r (q ∷ rows) i j few here later =
+    absurd (omega (arith, few, times-head q rows j (after-next r q rows j here).0, stands-later q rows i j later))
 
 -- no trip is the next of two
-pub next-once : (rows : List BlockRow) (h i j : ℕ) → times j (slots_named (block_slots rows)) ≤ 1 → next_in rows h ≡ Some j → next_in rows i ≡ Some j → h ≡ i
+pub next-once : (rows : List BlockRow) (h i j : ℕ) → times j (slots_named (block_slots rows)) ≤ 1 → next_in rows h ≡ Some j
+    → next_in rows i ≡ Some j → h ≡ i
 next-once [] h i j few a b = absurd (none-some j a)
 next-once (r ∷ rows) h i j few a b =
     let rest : times j (slots_named (block_slots rows)) ≤ 1 = omega (arith, few, times-more r rows j) in
@@ -186,13 +209,15 @@ next-once (r ∷ rows) h i j few a b =
     (next-cases r rows h j a)
 
 -- the next trip fits, where each record fits after the one before it
-after-fits : (network : Network) (r : BlockRow) (rows : List BlockRow) (i j : ℕ) → Chained network (before_rest r rows) rows → r.slot ≡ Some i → slot_after r rows ≡ Some j → Fits network i j
+after-fits : (network : Network) (r : BlockRow) (rows : List BlockRow) (i j : ℕ) → Chained network (before_rest r rows) rows
+    → r.slot ≡ Some i → slot_after r rows ≡ Some j → Fits network i j
 after-fits network r [] i j chained is e = absurd (none-some j e)
 after-fits network r (q ∷ rows) i j chained is e =
     let next = after-next r q rows j e in
     sym (λ k. fit network ((next.1 ∙ is) k) (next.0 k)) ∙ chained.0
 
-pub next-fits : (network : Network) (before : Option ℕ) (rows : List BlockRow) (i j : ℕ) → Chained network before rows → next_in rows i ≡ Some j → Fits network i j
+pub next-fits : (network : Network) (before : Option ℕ) (rows : List BlockRow) (i j : ℕ) → Chained network before rows
+    → next_in rows i ≡ Some j → Fits network i j
 next-fits network before [] i j chained e = absurd (none-some j e)
 next-fits network before (r ∷ rows) i j chained e = ⊎_elim
     (λ (here : (r.slot ≡ Some i) × (slot_after r rows ≡ Some j)). after-fits network r rows i j chained.1 here.0 here.1)
@@ -200,10 +225,17 @@ next-fits network before (r ∷ rows) i j chained e = ⊎_elim
     (next-cases r rows i j e)
 
 -- the record of the prices of a slot that some record names, and of one that none names
-pub row-there : (rows : List PriceRow) (s : ℕ) → stands (price_slots rows) s ≡ true → (at : ℕ) × (at < length rows) × ((price_row rows at).slot ≡ Some s) × (row_of rows s ≡ price_row rows at)
+pub row-there : (rows : List PriceRow) (s : ℕ) → stands (price_slots rows) s ≡ true
+    → (at : ℕ) × (at < length rows) × ((price_row rows at).slot ≡ Some s) × (row_of rows s ≡ price_row rows at)
 row-there [] s e = absurd (false≢true e)
 row-there (r ∷ rows) s e = ⊎_elim
-    (λ (here : option_eq nat_eq r.slot (Some s) ≡ true). (0, omega arith, is-slot s r.slot here, ap (λ b. if b then r else row_of rows s) here))
+    (λ (here : option_eq nat_eq r.slot (Some s) ≡ true). (
+      0,
+      omega arith,
+      is-slot s r.slot here,
+      ap (λ b. if b then r else row_of rows s)
+          here,
+    ))
     (λ (later : option_eq nat_eq r.slot (Some s) ≡ false).
     let found = row-there rows s (sym (ap (λ b. b || stands (price_slots rows) s) later) ∙ e) in
     (suc found.0, omega (arith, found.1), found.2, ap (λ b. if b then r else row_of rows s) later ∙ found.3))

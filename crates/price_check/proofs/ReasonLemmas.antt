@@ -1,5 +1,6 @@
 -- No reason holds against a certificate.
-use Rattle.std.proofs.Common.{◌≡◌, ℕ, zero, suc, ◌+◌, ◌<◌, ◌≤◌, ◌==◌, ◌&&◌, not, nat_eq, nat_lt, cond, Bool, true, false, List, [], ◌∷◌, length, Option, None, Some, if◌then◌else◌, refl, sym, ap, ◌∙◌, arith}
+use Rattle.std.proofs.Common.{◌≡◌, ℕ, zero, suc, ◌+◌, ◌<◌, ◌≤◌, ◌==◌, ◌&&◌, not, nat_eq, nat_lt, cond, Bool, true, false, List, [], ◌∷◌}
+use Rattle.std.proofs.Common.{length, Option, None, Some, if◌then◌else◌, refl, sym, ap, ◌∙◌, arith}
 use Rattle.std.specs.Bool.{then_some}
 use Rattle.std.specs.Option.{option_and_then, option_eq, option_or}
 use Rattle.std.proofs.lemmas.Bool.{eq-eqb, le-ltb}
@@ -20,7 +21,8 @@ use Rattle.price_check.specs.declared.verdict.Reason.{Reason}
 use Rattle.price_check.specs.declared.verdict.Reason.TheVariants.{TripTwice, TripMissing, NotFit, MinutesDiffer, PriceLow, SumsDiffer}
 use Rattle.price_check.specs.Claim.{ClaimedView, block_slots, price_slots, block_row, price_row, slot_before}
 use Rattle.price_check.specs.Certificate.{slots_named, NameOnce, row_of, IsCertificate, AreShown}
-use Rattle.price_check.specs.Reasons.{first_at, unknown, twice, missing, fit, differing, differs, minutes_before, lower, low, low_from, first_low_from, price_sum, weight_sum, stands, repeats, misnamed, unproved, reason_of}
+use Rattle.price_check.specs.Reasons.{first_at, unknown, twice, missing, fit, differing, differs, minutes_before, lower, low, low_from}
+use Rattle.price_check.specs.Reasons.{first_low_from, price_sum, weight_sum, stands, repeats, misnamed, unproved, reason_of}
 use Rattle.price_check.proofs.CertificateLemmas.{network-departures, network-within}
 use Rattle.price_check.proofs.CertifiedLemmas.{plan-prices, plan-weights, plan-price}
 use Rattle.price_check.proofs.ChainLemmas.{chained-from, before_at-none, fit-blocks}
@@ -40,14 +42,17 @@ none-or : {A : Type 0} (a b : Option A) → a ≡ None → b ≡ None → option
 none-or a b is_a is_b = ap (λ found. option_or found b) is_a ∙ is_b
 
 -- none of the first three reasons holds where the records of a file name each live slot once
-missing-none : (t : TimetableView) (m : MatrixView) (paper : Paper) (slots : List (Option ℕ)) → NameOnce (network_of t m).live slots → NoneBelow (missing t paper slots) (length t.slots)
-missing-none t m paper slots names s lt = none-then ((slot_at t s).trip.live && not (stands slots s)) (TripMissing paper s) (by (slot_at t s).trip.live refl)
+missing-none : (t : TimetableView) (m : MatrixView) (paper : Paper) (slots : List (Option ℕ)) → NameOnce (network_of t m).live slots
+    → NoneBelow (missing t paper slots) (length t.slots)
+missing-none t m paper slots names s lt =
+    none-then ((slot_at t s).trip.live && not (stands slots s)) (TripMissing paper s) (by (slot_at t s).trip.live refl)
   where
     by : (live : Bool) → (slot_at t s).trip.live ≡ live → ((slot_at t s).trip.live && not (stands slots s)) ≡ false
     by false e = ap (λ live. live && not (stands slots s)) e
     by true e = λ i. e i && not (stands-once (network_of t m).live slots names s (live-is t m s lt ∙ e) i)
 
-unknown-all : (live : ℕ → Bool) (paper : Paper) (slots : List (Option ℕ)) → NameOnce live slots → NoneBelow (unknown paper slots) (length slots)
+unknown-all : (live : ℕ → Bool) (paper : Paper) (slots : List (Option ℕ)) → NameOnce live slots
+    → NoneBelow (unknown paper slots) (length slots)
 unknown-all live paper slots names at lt = unknown-none paper slots at (names.known at lt)
 
 twice-all : (live : ℕ → Bool) (paper : Paper) (slots : List (Option ℕ)) → NameOnce live slots → NoneBelow (twice paper slots) (length slots)
@@ -67,14 +72,18 @@ differing-none network rows shown at lt = by (block_row rows at).slot refl
     by None e = ap (option_and_then (λ j. differs (at + 1) given (minutes j))) e
     by (Some s) e =
         ap (option_and_then (λ j. differs (at + 1) given (minutes j))) e
-        ∙ none-then (not (given == minutes s)) (MinutesDiffer (at + 1) given (minutes s)) (ap not (eq-eqb given (minutes s) (shown at s lt e)))
+        ∙ none-then (not (given == minutes s)) (MinutesDiffer (at + 1) given (minutes s))
+        (ap not (eq-eqb given (minutes s) (shown at s lt e)))
 
 -- the record of the prices of a slot that a record names is that one
-price-stands : (rows : List PriceRow) (at s : ℕ) → at < length rows → (price_row rows at).slot ≡ Some s → 0 < times s (slots_named (price_slots rows))
+price-stands : (rows : List PriceRow) (at s : ℕ) → at < length rows → (price_row rows at).slot ≡ Some s
+    → 0 < times s (slots_named (price_slots rows))
 price-stands rows at s lt is =
-    named-stands (price_slots rows) at s (omega (arith, lt, length-map rows (λ (r : PriceRow). r.slot))) (get_or-map (λ (r : PriceRow). r.slot) rows at _ None lt ∙ is)
+    named-stands (price_slots rows) at s (omega (arith, lt, length-map rows (λ (r : PriceRow). r.slot)))
+    (get_or-map (λ (r : PriceRow). r.slot) rows at _ None lt ∙ is)
 
-row-at : (rows : List PriceRow) (at s : ℕ) → times s (slots_named (price_slots rows)) ≤ 1 → at < length rows → (price_row rows at).slot ≡ Some s → row_of rows s ≡ price_row rows at
+row-at : (rows : List PriceRow) (at s : ℕ) → times s (slots_named (price_slots rows)) ≤ 1 → at < length rows
+    → (price_row rows at).slot ≡ Some s → row_of rows s ≡ price_row rows at
 row-at [] at s few lt is = absurd (omega arith)
 row-at (r ∷ rows) zero s few lt is = ap (λ b. if b then r else row_of rows s) (slot-is s r.slot is)
 row-at (r ∷ rows) (suc at) s few lt is =
@@ -93,14 +102,17 @@ lower-none : (i j prices : ℕ) (weighs : Option ℕ) → ((k : ℕ) → weighs 
 lower-none i j prices None reach = refl
 lower-none i j prices (Some k) reach = none-then (nat_lt prices k) (PriceLow i j) (le-ltb prices k (reach k refl))
 
-low-none : (network : Network) (rows : List PriceRow) → ((a b i j k : ℕ) → a < length rows → b < length rows → (price_row rows a).slot ≡ Some i → (price_row rows b).slot ≡ Some j → weight network i j ≡ Some k
+low-none : (network : Network) (rows : List PriceRow)
+    → ((a b i j k : ℕ) → a < length rows → b < length rows → (price_row rows a).slot ≡ Some i → (price_row rows b).slot ≡ Some j
+    → weight network i j ≡ Some k
     → k ≤ (price_row rows a).leave + (price_row rows b).enter) → NoneBelow (low network rows) (length rows)
 low-none network rows reach a a_in = by (price_row rows a).slot refl
   where
     leave : ℕ
     leave = (price_row rows a).leave
 
-    at : (i : ℕ) → (price_row rows a).slot ≡ Some i → (b : ℕ) → b < length rows → (slot : Option ℕ) → (price_row rows b).slot ≡ slot → low_from network i leave (price_row rows b) ≡ None
+    at : (i : ℕ) → (price_row rows a).slot ≡ Some i → (b : ℕ) → b < length rows → (slot : Option ℕ) → (price_row rows b).slot ≡ slot
+        → low_from network i leave (price_row rows b) ≡ None
     at i is b b_in None e = ap (option_and_then (λ j. lower i j (leave + (price_row rows b).enter) (weight network i j))) e
     at i is b b_in (Some j) e =
         ap (option_and_then (λ j. lower i j (leave + (price_row rows b).enter) (weight network i j))) e
@@ -113,8 +125,10 @@ low-none network rows reach a a_in = by (price_row rows a).slot refl
         ∙ none-all (λ b. low_from network i leave (price_row rows b)) (length rows) (λ b b_in. at i e b b_in (price_row rows b).slot refl)
 
 -- the prices of two records reach the weight of a pair that fits
-reach-from : (network : Network) (n : ℕ) (claimed : ClaimedView) → IsCertificate network n claimed → ((s : ℕ) → network.live s ≡ true → s < n)
-    → (a b i j k : ℕ) → a < length claimed.prices → b < length claimed.prices → (price_row claimed.prices a).slot ≡ Some i → (price_row claimed.prices b).slot ≡ Some j
+reach-from : (network : Network) (n : ℕ) (claimed : ClaimedView) → IsCertificate network n claimed
+    → ((s : ℕ) → network.live s ≡ true → s < n)
+    → (a b i j k : ℕ) → a < length claimed.prices → b < length claimed.prices → (price_row claimed.prices a).slot ≡ Some i
+    → (price_row claimed.prices b).slot ≡ Some j
     → weight network i j ≡ Some k → k ≤ (price_row claimed.prices a).leave + (price_row claimed.prices b).enter
 reach-from network n claimed proved within a b i j k a_in b_in is_a is_b weighs =
     let rows = claimed.prices in
@@ -126,26 +140,36 @@ reach-from network n claimed proved within a b i j k a_in b_in is_a is_b weighs 
     omega (arith, proved.certified.covers i j k weighs, leave, enter)
 
 -- no reason holds against a certificate
-pub reason-none : (t : TimetableView) (m : MatrixView) (claimed : ClaimedView) → IsTimetable t → IsCertificate (network_of t m) (length t.slots) claimed → reason_of t m claimed ≡ None
+pub reason-none : (t : TimetableView) (m : MatrixView) (claimed : ClaimedView) → IsTimetable t
+    → IsCertificate (network_of t m) (length t.slots) claimed → reason_of t m claimed ≡ None
 reason-none t m claimed valid proved =
     let network = network_of t m in
     let block_size = length-map claimed.blocks (λ (r : BlockRow). r.slot) in
     let price_size = length-map claimed.prices (λ (r : PriceRow). r.slot) in
     let known = names-known claimed.blocks proved.blocks.known in
     let fits = fit-blocks network claimed.blocks known proved.blocking.each in
-    let chained = chained-from network None claimed.blocks (λ at lt. ap (λ b. fit network b (block_row claimed.blocks at).slot) (before_at-none claimed.blocks at) ∙ fits at lt) in
+    let chained = chained-from network None claimed.blocks
+    (λ at lt. ap (λ b. fit network b (block_row claimed.blocks at).slot) (before_at-none claimed.blocks at) ∙ fits at lt) in
     let sums : price_sum claimed.prices ≡ weight_sum network claimed.blocks
     = sym (plan-prices network.live (length t.slots) claimed (network-within t m) proved.prices) ∙ proved.certified.sums
-    ∙ plan-weights network (λ s. minute_left (move_at (trip_moves t.slots) s)) (length t.slots) claimed (network-departures t m valid) (network-within t m) proved.blocks chained in
+    ∙ plan-weights network (λ s. minute_left (move_at (trip_moves t.slots) s)) (length t.slots) claimed (network-departures t m valid)
+    (network-within t m) proved.blocks chained in
     none-or (misnamed t claimed) (unproved network claimed)
-    (none-or _ _ (none-all _ _ (λ at lt. unknown-all network.live Blocks (block_slots claimed.blocks) proved.blocks at (omega (arith, lt, block_size))))
-    (none-or _ _ (none-all _ _ (λ at lt. unknown-all network.live Prices (price_slots claimed.prices) proved.prices at (omega (arith, lt, price_size))))
-    (none-or _ _ (none-all _ _ (λ at lt. twice-all network.live Blocks (block_slots claimed.blocks) proved.blocks at (omega (arith, lt, block_size))))
-    (none-or _ _ (none-all _ _ (λ at lt. twice-all network.live Prices (price_slots claimed.prices) proved.prices at (omega (arith, lt, price_size))))
+    (none-or _ _ (none-all _ _ (λ at lt. unknown-all network.live Blocks (block_slots claimed.blocks) proved.blocks at
+    (omega (arith, lt, block_size))))
+    (none-or _ _ (none-all _ _ (λ at lt. unknown-all network.live Prices (price_slots claimed.prices) proved.prices at
+    (omega (arith, lt, price_size))))
+    (none-or _ _ (none-all _ _ (λ at lt. twice-all network.live Blocks (block_slots claimed.blocks) proved.blocks at
+    (omega (arith, lt, block_size))))
+    (none-or _ _ (none-all _ _ (λ at lt. twice-all network.live Prices (price_slots claimed.prices) proved.prices at
+    (omega (arith, lt, price_size))))
     (none-or _ _ (none-all _ _ (missing-none t m Blocks (block_slots claimed.blocks) proved.blocks))
     (none-or _ _ (none-all _ _ (missing-none t m Prices (price_slots claimed.prices) proved.prices)) refl))))))
-    (none-or _ _ (none-all _ _ (λ at lt. none-then (not (fit network (slot_before claimed.blocks at) (block_row claimed.blocks at).slot)) (NotFit (at + 1)) (ap not (fits at lt))))
+    (none-or _ _ (none-all _ _ (λ at lt. none-then (not (fit network (slot_before claimed.blocks at) (block_row claimed.blocks at).slot))
+    (NotFit (at + 1)) (ap not (fits at lt))))
     (none-or _ _ (none-all _ _ (differing-none network claimed.blocks proved.shown))
     (none-or _ _ (none-all _ _ (low-none network claimed.prices (reach-from network (length t.slots) claimed proved (network-within t m))))
-    (none-or _ _ (none-then (not (price_sum claimed.prices == weight_sum network claimed.blocks)) (SumsDiffer (price_sum claimed.prices) (weight_sum network claimed.blocks)) (ap not (eq-eqb (price_sum claimed.prices) (weight_sum network claimed.blocks) sums)))
+    (none-or _ _ (none-then (not (price_sum claimed.prices == weight_sum network claimed.blocks))
+    (SumsDiffer (price_sum claimed.prices) (weight_sum network claimed.blocks))
+    (ap not (eq-eqb (price_sum claimed.prices) (weight_sum network claimed.blocks) sums)))
     refl))))

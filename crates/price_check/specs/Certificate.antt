@@ -44,7 +44,8 @@ plan_of slots claimed = record {
 
 -- each record shows the empty minutes before its trip
 abbrev pub AreShown : Network → List BlockRow → Type 0
-AreShown network rows = (at s : ℕ) → at < length rows → (block_row rows at).slot ≡ Some s → (block_row rows at).deadhead ≡ minutes_before network (slot_before rows at) s
+AreShown network rows = (at s : ℕ) → at < length rows → (block_row rows at).slot ≡ Some s
+    → (block_row rows at).deadhead ≡ minutes_before network (slot_before rows at) s
 
 -- A certificate. The records of each file name each live slot once and nothing else. The blocks are a blocking, and the records
 -- show the empty minutes before their trips. The links of the blocks with the prices are certified.

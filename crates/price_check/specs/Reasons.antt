@@ -1,5 +1,6 @@
 -- Why a claim is no certificate: the seven reasons, each with the record or the slots at which it holds first.
-use Rattle.std.specs.Prelude.{ℕ, ◌+◌, ◌==◌, ◌&&◌, not, nat_eq, nat_lt, Bool, true, false, List, [], ◌∷◌, length, map, take, sum_by, Option, None, Some, is_none, is_some, unwrap_or, ⊤}
+use Rattle.std.specs.Prelude.{ℕ, ◌+◌, ◌==◌, ◌&&◌, not, nat_eq, nat_lt, Bool, true, false, List, [], ◌∷◌, length, map, take, sum_by, Option}
+use Rattle.std.specs.Prelude.{None, Some, is_none, is_some, unwrap_or, ⊤}
 use Rattle.std.specs.Bool.{then_some}
 use Rattle.std.specs.List.{list_any, range_with_len}
 use Rattle.std.specs.Option.{option_or, option_and_then, option_eq, option_map_or}
@@ -8,7 +9,8 @@ use Rattle.gtfs_tables.specs.declared.paper.Paper.TheVariants.{Blocks, Prices}
 use Rattle.price_check.specs.declared.claim.BlockRow.{BlockRow}
 use Rattle.price_check.specs.declared.claim.PriceRow.{PriceRow}
 use Rattle.price_check.specs.declared.verdict.Reason.{Reason}
-use Rattle.price_check.specs.declared.verdict.Reason.TheVariants.{UnknownTrip, TripTwice, TripMissing, NotFit, MinutesDiffer, PriceLow, SumsDiffer}
+use Rattle.price_check.specs.declared.verdict.Reason.TheVariants.{UnknownTrip, TripTwice, TripMissing, NotFit, MinutesDiffer, PriceLow}
+use Rattle.price_check.specs.declared.verdict.Reason.TheVariants.{SumsDiffer}
 use Rattle.price_check.specs.declared.verdict.Verdict.{Verdict}
 use Rattle.price_check.specs.declared.verdict.Verdict.TheVariants.{Yes, No}
 use Rattle.trip_model.specs.Blocking.{empty_minutes}
@@ -69,7 +71,8 @@ differs number shown minutes = then_some (not (shown == minutes)) (MinutesDiffer
 -- 5: the record does not show the empty minutes before its trip
 abbrev pub differing : Network → List BlockRow → ℕ → Option Reason
 differing network rows at =
-    option_and_then (λ j. differs (at + 1) (block_row rows at).deadhead (minutes_before network (slot_before rows at) j)) (block_row rows at).slot
+    option_and_then (λ j. differs (at + 1) (block_row rows at).deadhead (minutes_before network (slot_before rows at) j))
+    (block_row rows at).slot
 
 -- the prices do not reach the weight of the pair, where there is one
 abbrev pub lower : ℕ → ℕ → ℕ → Option ℕ → Option Reason

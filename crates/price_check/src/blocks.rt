@@ -164,7 +164,8 @@ pub fn accepted(timetable: &Timetable, matrix: &Matrix, rows: &[BlockRow]) -> Ve
     requires places { length timetable.now.places ≡ length matrix.now.walks }
     requires rows { AreBlockRows timetable.now rows.now }
     requires known { AreKnown (block_slots rows.now) }
-    ensures { result ≡ Verdict.Yes (length (blocks_in rows.now)) (empty_minutes (network_of timetable.now matrix.now) (blocks_in rows.now)) }
+    ensures { result ≡ Verdict.Yes (length (blocks_in rows.now))
+        (empty_minutes (network_of timetable.now matrix.now) (blocks_in rows.now)) }
 {
     let mut vehicles = 0;
     let mut minutes = 0;

@@ -1,8 +1,10 @@
 -- A trip is added to a certified plan: that is loose for the pairs with it, from its slot and to its slot.
-use Rattle.std.proofs.Common.{◌≡◌, ◌≢◌, ℕ, ◌-◌, ◌<◌, ◌≤◌, ◌==◌, Bool, true, false, cond, List, [], ◌∷◌, ◌++◌, length, get_or, take, replicate, Option, None, Some, refl, sym, ap, subst, ◌∙◌, ⊎_elim, arith}
+use Rattle.std.proofs.Common.{◌≡◌, ◌≢◌, ℕ, ◌-◌, ◌<◌, ◌≤◌, ◌==◌, Bool, true, false, cond, List, [], ◌∷◌, ◌++◌, length, get_or, take}
+use Rattle.std.proofs.Common.{replicate, Option, None, Some, refl, sym, ap, subst, ◌∙◌, ⊎_elim, arith}
 use Rattle.std.specs.Prelude.{IsSome, unwrap_or}
 use Rattle.std.proofs.lemmas.Bool.{both_ways, cases_lt, eqb-true}
-use Rattle.std.proofs.lemmas.List.{append-nil, get_or_append_left, get_or-append_right, get_or-replicate, get_or_past, length-append, length-replicate, take_all}
+use Rattle.std.proofs.lemmas.List.{append-nil, get_or_append_left, get_or-append_right, get_or-replicate, get_or_past, length-append}
+use Rattle.std.proofs.lemmas.List.{length-replicate, take_all}
 use Rattle.std.proofs.lemmas.Option.{none-some}
 use Rattle.trip_model.specs.Links.{next_of, before_of}
 use Rattle.trip_model.specs.Network.{Network, AreDepartures}
@@ -26,7 +28,8 @@ get_or-resized xs n i x h =
     ap (λ front. get_or (front ++ replicate (n - length xs) x) i x) (take_all n xs h)
     ∙ ⊎_elim
     (λ (l : i < length xs). get_or_append_left xs (replicate (n - length xs) x) x i l)
-    (λ (l : length xs ≤ i). get_or-append_right xs (replicate (n - length xs) x) (length xs) i x refl l ∙ filled (n - length xs) (i - length xs) ∙ sym (get_or_past xs i x l))
+    (λ (l : length xs ≤ i). get_or-append_right xs (replicate (n - length xs) x) (length xs) i x refl l
+    ∙ filled (n - length xs) (i - length xs) ∙ sym (get_or_past xs i x l))
     (cases_lt i (length xs))
   where
     filled : (k m : ℕ) → get_or (replicate k x) m x ≡ x
@@ -50,7 +53,8 @@ resized-with_slot links s n = by (length links == s)
         ap (λ front. front ++ replicate (n - length links) None) (take_all n links (omega arith)) ∙ ap (λ k. links ++ replicate k None) one
     by false e =
         let none : n - length links ≡ 0 = omega (arith, e) in
-        ap (λ front. front ++ replicate (n - length links) None) (take_all n links (omega arith)) ∙ ap (λ k. links ++ replicate k None) none ∙ append-nil links
+        ap (λ front. front ++ replicate (n - length links) None) (take_all n links (omega arith))
+        ∙ ap (λ k. links ++ replicate k None) none ∙ append-nil links
 
 -- a plan that says the same of each slot, and may have more of them
 pub record IsExtended (old new : Plan) (n : ℕ) : Type 0 where
@@ -61,7 +65,8 @@ pub record IsExtended (old new : Plan) (n : ℕ) : Type 0 where
   pub leave : (i : ℕ) → price new.leave i ≡ price old.leave i
   pub enter : (i : ℕ) → price new.enter i ≡ price old.enter i
 
-pub IsExtended-slots : (plan : Plan) (n : ℕ) → length plan.next ≤ n → length plan.leave ≡ length plan.next → length plan.enter ≡ length plan.next → IsExtended plan (with_slots plan n) n
+pub IsExtended-slots : (plan : Plan) (n : ℕ) → length plan.next ≤ n → length plan.leave ≡ length plan.next
+    → length plan.enter ≡ length plan.next → IsExtended plan (with_slots plan n) n
 IsExtended-slots plan n few leaves enters =
     let few_leave : length plan.leave ≤ n = omega (arith, few, leaves) in
     let few_enter : length plan.enter ≤ n = omega (arith, few, enters) in
@@ -74,7 +79,8 @@ IsExtended-slots plan n few leaves enters =
       enter = λ i. get_or-resized plan.enter n i 0 few_enter;
     }
 
-pub IsLoose-more : (whole rest : Network) (departs after : ℕ → ℕ) (old new : Plan) (s n : ℕ) → AreDepartures whole departs → AreDepartures rest after → LacksTrip whole rest s → whole.live s ≡ true
+pub IsLoose-more : (whole rest : Network) (departs after : ℕ → ℕ) (old new : Plan) (s n : ℕ) → AreDepartures whole departs
+    → AreDepartures rest after → LacksTrip whole rest s → whole.live s ≡ true
     → IsLoose rest old None None → IsExtended old new n → IsLoose whole new (Some s) (Some s)
 IsLoose-more whole rest departs after old new s n clock clock' lacks live loose same = record {
   leaves = same.leaves ∙ sym same.slots;
@@ -117,18 +123,21 @@ rest-clock pairs s valid live =
 -- a slot more is no slot less
 length-with_slot-le : (links : List (Option ℕ)) (s : ℕ) → length links ≤ length (with_slot links s)
 length-with_slot-le links s =
-    elim (length links == s) as (λ more. length links ≤ length (cond more (links ++ None ∷ []) links)) [ true ↦ omega (arith, length-append links (None ∷ [])) | false ↦ omega arith ]
+    elim (length links == s) as (λ more. length links ≤ length (cond more (links ++ None ∷ []) links))
+    [ true ↦ omega (arith, length-append links (None ∷ [])) | false ↦ omega arith ]
 
 -- each slot but that one was there
 slots-before : (links : List (Option ℕ)) (s t : ℕ) → t ≢ s → t < length (with_slot links s) → t < length links
 slots-before links s t other = by (length links == s) refl
   where
     by : (more : Bool) → (length links == s) ≡ more → t < length (cond more (links ++ None ∷ []) links) → t < length links
-    by true e h = let last : length links ≡ s = eqb-true (length links) s e in omega (arith, h, last, other, length-append links (None ∷ []))
+    by true e h = let last : length links ≡ s = eqb-true (length links) s e in
+        omega (arith, h, last, other, length-append links (None ∷ []))
     by false e h = h
 
 -- the plan without a trip is, once its slot is there, loose with it
-pub IsLoose-added : (pairs : PairsView) (departs : ℕ → ℕ) (s : ℕ) (old new : Plan) → AreDepartures (pairs_network pairs) departs → AreMoves (length pairs.matrix.walks) pairs.moves
+pub IsLoose-added : (pairs : PairsView) (departs : ℕ → ℕ) (s : ℕ) (old new : Plan) → AreDepartures (pairs_network pairs) departs
+    → AreMoves (length pairs.matrix.walks) pairs.moves
     → length (with_slot old.next s) ≡ length pairs.moves → IsCertifiedWithout pairs s old → new ≡ with_slots old (length pairs.moves)
     → IsLoose (pairs_network pairs) new (Some s) (Some s)
 IsLoose-added pairs departs s old new clock valid slots w is =
@@ -141,16 +150,20 @@ IsLoose-added pairs departs s old new clock valid slots w is =
     (let other : t ≢ s = λ here. both_ways (rest.live s) lacks.dead (sym (ap rest.live here) ∙ runs) in
     let inside = runs-within pairs.moves t (sym (lacks.live t other) ∙ runs) in
     slots-before old.next s t other (omega (arith, inside, slots))) in
-    let extended = IsExtended-slots old (length pairs.moves) (omega (arith, slots, length-with_slot-le old.next s)) w.certified.leaves w.certified.enters in
+    let extended = IsExtended-slots old (length pairs.moves) (omega (arith, slots, length-with_slot-le old.next s)) w.certified.leaves
+    w.certified.enters in
     subst (λ (p : Plan). IsLoose whole p (Some s) (Some s)) (sym is)
-    (IsLoose-more whole rest departs after old (with_slots old (length pairs.moves)) s (length pairs.moves) clock clock' lacks w.runs (IsLoose-certified rest after old clock' within w.certified) extended)
+    (IsLoose-more whole rest departs after old (with_slots old (length pairs.moves)) s (length pairs.moves) clock clock' lacks w.runs
+    (IsLoose-certified rest after old clock' within w.certified) extended)
 
 -- the links then are those with the slot
-pub next-added : (pairs : PairsView) (s : ℕ) (old new : Plan) → length (with_slot old.next s) ≡ length pairs.moves → new ≡ with_slots old (length pairs.moves) → new.next ≡ with_slot old.next s
+pub next-added : (pairs : PairsView) (s : ℕ) (old new : Plan) → length (with_slot old.next s) ≡ length pairs.moves
+    → new ≡ with_slots old (length pairs.moves) → new.next ≡ with_slot old.next s
 next-added pairs s old new slots is = ap (λ (p : Plan). p.next) is ∙ resized-with_slot old.next s (length pairs.moves) slots
 
 -- the two searches after that
-pub IsAdded-searched : (network : Network) (old first mid new : Plan) (s : ℕ) → IsLoose network first (Some s) (Some s) → first.next ≡ with_slot old.next s
+pub IsAdded-searched : (network : Network) (old first mid new : Plan) (s : ℕ) → IsLoose network first (Some s) (Some s)
+    → first.next ≡ with_slot old.next s
     → IsLeftPath first.next mid.next s → IsRightPath mid.next new.next s → IsAdded old.next new.next s
 IsAdded-searched network old first mid new s loose is left right = record {
   alone = subst (λ links. IsAlone links s) is (loose.before.1, by (before_of first.next s) refl);

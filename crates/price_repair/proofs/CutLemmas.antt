@@ -1,5 +1,6 @@
 -- A trip is cut out of a certified plan: it is loose for the pairs without it, from the trip before it and to its next one.
-use Rattle.std.proofs.Common.{◌≡◌, ◌≢◌, ℕ, ◌<◌, true, false, List, length, set, Option, None, Some, refl, sym, ap, subst, ◌∙◌, ⊎_elim, inl, inr, ◌⊎◌, arith}
+use Rattle.std.proofs.Common.{◌≡◌, ◌≢◌, ℕ, ◌<◌, true, false, List, length, set, Option, None, Some, refl, sym, ap, subst, ◌∙◌, ⊎_elim, inl}
+use Rattle.std.proofs.Common.{inr, ◌⊎◌, arith}
 use Rattle.std.specs.Prelude.{IsSome, IfSome, unwrap_or}
 use Rattle.std.proofs.lemmas.Bool.{cases_eq}
 use Rattle.std.proofs.lemmas.List.{get_or-set_other, length-set}
@@ -68,15 +69,18 @@ cut-left links s i j apart e =
 
 -- every other link is left
 cut-keeps : (links : List (Option ℕ)) (s i j : ℕ) → i ≢ s → j ≢ s → next_of links i ≡ Some j → next_of (cut_at links s) i ≡ Some j
-cut-keeps links s i j from to next = cut-other links s i from (λ before. to (same_Some j s (sym next ∙ next-before links i s before))) ∙ next
+cut-keeps links s i j from to next = cut-other links s i from (λ before. to (same_Some j s (sym next ∙ next-before links i s before)))
+    ∙ next
 
-pub IsLoose-cut : (whole rest : Network) (departs after : ℕ → ℕ) (plan : Plan) (s : ℕ) → AreDepartures whole departs → AreDepartures rest after → LacksTrip whole rest s → IsLoose whole plan None None
+pub IsLoose-cut : (whole rest : Network) (departs after : ℕ → ℕ) (plan : Plan) (s : ℕ) → AreDepartures whole departs
+    → AreDepartures rest after → LacksTrip whole rest s → IsLoose whole plan None None
     → IsLoose rest (plan_without plan s) (before_of plan.next s) (next_of plan.next s)
 IsLoose-cut whole rest departs after plan s clock clock' lacks loose = record {
   leaves = length-set plan.leave s 0 ∙ loose.leaves ∙ sym (length-cut_at plan.next s);
   enters = length-set plan.enter s 0 ∙ loose.enters ∙ sym (length-cut_at plan.next s);
   links = record {
-    fits = λ i j e. (let left = cut-left plan.next s i j once e in subst IsSome (sym (lacks.empty i j left.from left.to)) (loose.links.fits i j left.was));
+    fits = λ i j e. (let left = cut-left plan.next s i j once e in
+        subst IsSome (sym (lacks.empty i j left.from left.to)) (loose.links.fits i j left.was));
     once = λ h i j e f. once h i j (cut-left plan.next s h j once e).was (cut-left plan.next s i j once f).was;
   };
   dead = λ t dead. dead_at t dead (cases_eq t s);
@@ -93,7 +97,14 @@ IsLoose-cut whole rest departs after plan s clock clock' lacks loose = record {
   tight = λ i j e.
       (let left = cut-left plan.next s i j once e in
       let weighs : weight_to rest i (Some j) ≡ weight_to whole i (Some j) = ap (λ w. unwrap_or w 0) (lacks.weights i j left.from left.to) in
-      omega (arith, get_or-set_other plan.leave s i 0 0 left.from, get_or-set_other plan.enter s j 0 0 left.to, weighs, loose.tight i j left.was));
+      omega (
+        arith,
+        get_or-set_other plan.leave s i 0 0 left.from,
+        get_or-set_other plan.enter s j 0 0 left.to,
+        weighs,
+        loose.tight i j
+            left.was,
+      ));
   leave_zero = λ t away none. leave_zero t away none (cases_eq t s);
   enter_zero = λ t away first. enter_zero t away first (cases_eq t s);
 }
@@ -116,7 +127,8 @@ IsLoose-cut whole rest departs after plan s clock clock' lacks loose = record {
         )
 
     apart : (i j : ℕ) → next_of plan.next i ≡ Some j → i ≢ j
-    apart i j next same = let minutes : departs i ≡ departs j = ap departs same in let rises = clock.rises i j (loose.links.fits i j next) in omega (arith, minutes, rises)
+    apart i j next same = let minutes : departs i ≡ departs j = ap departs same in
+        let rises = clock.rises i j (loose.links.fits i j next) in omega (arith, minutes, rises)
 
     before_at : (a : Option ℕ) → before_of plan.next s ≡ a → IfSome a (λ i. (rest.live i ≡ true) × (next_of (cut_at plan.next s) i ≡ None))
     before_at None e = tt
@@ -124,19 +136,22 @@ IsLoose-cut whole rest departs after plan s clock clock' lacks loose = record {
         let next = next-before plan.next i s e in
         (lacks.live i (apart i s next) ∙ (clock.runs i s (loose.links.fits i s next)).0, cut-before plan.next s i e)
 
-    after_at : (b : Option ℕ) → next_of plan.next s ≡ b → IfSome b (λ t. (rest.live t ≡ true) × ((i : ℕ) → next_of (cut_at plan.next s) i ≢ Some t))
+    after_at : (b : Option ℕ) → next_of plan.next s ≡ b
+        → IfSome b (λ t. (rest.live t ≡ true) × ((i : ℕ) → next_of (cut_at plan.next s) i ≢ Some t))
     after_at None e = tt
     after_at (Some t) e = (
       lacks.live t (λ same. apart s t e (sym same)) ∙ (clock.runs s t (loose.links.fits s t e)).1,
       λ i f. (let left = cut-left plan.next s i t once f in left.from (once i s t left.was e)),
     )
 
-    leave_zero : (t : ℕ) → before_of plan.next s ≢ Some t → next_of (cut_at plan.next s) t ≡ None → (t ≡ s) ⊎ (t ≢ s) → price (set plan.leave s 0) t ≡ 0
+    leave_zero : (t : ℕ) → before_of plan.next s ≢ Some t → next_of (cut_at plan.next s) t ≡ None → (t ≡ s) ⊎ (t ≢ s)
+        → price (set plan.leave s 0) t ≡ 0
     leave_zero t away none (inl same) = ap (price (set plan.leave s 0)) same ∙ get_or-set_default plan.leave s 0
     leave_zero t away none (inr other) =
         get_or-set_other plan.leave s t 0 0 other ∙ loose.leave_zero t (none-some t) (sym (cut-other plan.next s t other away) ∙ none)
 
-    enter_zero : (t : ℕ) → next_of plan.next s ≢ Some t → ((i : ℕ) → next_of (cut_at plan.next s) i ≢ Some t) → (t ≡ s) ⊎ (t ≢ s) → price (set plan.enter s 0) t ≡ 0
+    enter_zero : (t : ℕ) → next_of plan.next s ≢ Some t → ((i : ℕ) → next_of (cut_at plan.next s) i ≢ Some t) → (t ≡ s) ⊎ (t ≢ s)
+        → price (set plan.enter s 0) t ≡ 0
     enter_zero t away first (inl same) = ap (price (set plan.enter s 0)) same ∙ get_or-set_default plan.enter s 0
     enter_zero t away first (inr other) =
         get_or-set_other plan.enter s t 0 0 other
@@ -153,7 +168,8 @@ within-whole pairs s plan w slots t live =
     omega (arith, runs-within w.whole.moves t live, size, length-set w.whole.moves s None, slots)
 
 -- the plan with a trip is, once that is cut, loose without it
-pub IsLoose-taken : (pairs : PairsView) (after : ℕ → ℕ) (s : ℕ) (plan cut : Plan) (a b : Option ℕ) → AreDepartures (pairs_network pairs) after → length plan.next ≡ length pairs.moves → IsCertifiedWith pairs s plan
+pub IsLoose-taken : (pairs : PairsView) (after : ℕ → ℕ) (s : ℕ) (plan cut : Plan) (a b : Option ℕ)
+    → AreDepartures (pairs_network pairs) after → length plan.next ≡ length pairs.moves → IsCertifiedWith pairs s plan
     → cut ≡ plan_without plan s → a ≡ before_of plan.next s → b ≡ next_of plan.next s → IsLoose (pairs_network pairs) cut a b
 IsLoose-taken pairs after s plan cut a b clock slots w is before next =
     let network = pairs_network w.whole in
@@ -164,22 +180,26 @@ IsLoose-taken pairs after s plan cut a b clock slots w is before next =
     let done = subst (λ p. IsLoose (pairs_network p) (plan_without plan s) (before_of plan.next s) (next_of plan.next s)) w.rest
     (IsLoose-cut network (pairs_network (pairs_without w.whole s)) departs after plan s whole rest (LacksTrip-without w.whole s) loose) in
     subst (λ p. IsLoose (pairs_network pairs) p a b) (sym is)
-    (subst (λ i. IsLoose (pairs_network pairs) (plan_without plan s) i b) (sym before) (subst (IsLoose (pairs_network pairs) (plan_without plan s) (before_of plan.next s)) (sym next) done))
+    (subst (λ i. IsLoose (pairs_network pairs) (plan_without plan s) i b) (sym before)
+    (subst (IsLoose (pairs_network pairs) (plan_without plan s) (before_of plan.next s)) (sym next) done))
 
 -- the links of the plan before, and after it
-pub AreAlike-taken : (pairs : PairsView) (after : ℕ → ℕ) (s : ℕ) (old new : Plan) → AreDepartures (pairs_network pairs) after → length old.next ≡ length pairs.moves → IsCertifiedWith pairs s old
+pub AreAlike-taken : (pairs : PairsView) (after : ℕ → ℕ) (s : ℕ) (old new : Plan) → AreDepartures (pairs_network pairs) after
+    → length old.next ≡ length pairs.moves → IsCertifiedWith pairs s old
     → length new.next ≡ length pairs.moves → IsCertified (pairs_network pairs) new → AreAlike old.next new.next
 AreAlike-taken pairs after s old new clock slots w same proved =
     let departs : ℕ → ℕ = λ t. minute_left (move_at w.whole.moves t) in
     let whole = AreDepartures-deadhead (length w.whole.matrix.walks) w.whole.moves w.whole.matrix w.valid in
     record {
       before = AreNextTrips-links (pairs_network w.whole) departs old.next whole (within-whole pairs s old w slots) w.certified.links;
-      after = AreNextTrips-links (pairs_network pairs) after new.next clock (λ t live. omega (arith, runs-within pairs.moves t live, same)) proved.links;
+      after = AreNextTrips-links (pairs_network pairs) after new.next clock (λ t live. omega (arith, runs-within pairs.moves t live, same))
+          proved.links;
       slots = same ∙ sym slots;
     }
 
 -- the two searches after the cut
-pub IsTaken-searched : (old cut mid new : Plan) (s : ℕ) (a b : Option ℕ) → AreAlike old.next new.next → cut ≡ plan_without old s → a ≡ before_of old.next s → b ≡ next_of old.next s
+pub IsTaken-searched : (old cut mid new : Plan) (s : ℕ) (a b : Option ℕ) → AreAlike old.next new.next → cut ≡ plan_without old s
+    → a ≡ before_of old.next s → b ≡ next_of old.next s
     → IsLeftFrom cut.next mid.next a → IsRightFrom mid.next new.next b → IsTaken old.next new.next s
 IsTaken-searched old cut mid new s a b alike is before next left right = record {
   lists = alike;

@@ -1,5 +1,6 @@
 -- Pairs without the trip of a slot, and what is known of their network.
-use Rattle.std.proofs.Common.{◌≡◌, ◌≢◌, ℕ, ◌+◌, ◌-◌, ◌<◌, ◌≤◌, true, false, List, length, get_or, set, Option, None, sym, ap, ◌∙◌, ⊎_elim, inl, inr, ◌⊎◌, arith}
+use Rattle.std.proofs.Common.{◌≡◌, ◌≢◌, ℕ, ◌+◌, ◌-◌, ◌<◌, ◌≤◌, true, false, List, length, get_or, set, Option, None, sym, ap, ◌∙◌, ⊎_elim}
+use Rattle.std.proofs.Common.{inl, inr, ◌⊎◌, arith}
 use Rattle.std.specs.Option.{is_some, option_map}
 use Rattle.std.proofs.lemmas.Bool.{both_ways, cases_eq, cases_lt}
 use Rattle.std.proofs.lemmas.List.{get_or-set_same, get_or-set_other, get_or_past, length-set}
@@ -36,7 +37,8 @@ between matrix a b = empty_between (walk matrix) a b
 
 -- and the weight of the one and the other
 weighed : MatrixView → Option Move → Option Move → Option ℕ
-weighed matrix a b = option_map (λ minutes. 67108864 + home_after matrix.pulls a + out_before matrix.pulls b - minutes) (empty_between (walk matrix) a b)
+weighed matrix a b = option_map (λ minutes. 67108864 + home_after matrix.pulls a + out_before matrix.pulls b - minutes)
+    (empty_between (walk matrix) a b)
 
 pub LacksTrip-without : (pairs : PairsView) (s : ℕ) → LacksTrip (pairs_network pairs) (pairs_network (pairs_without pairs s)) s
 unfolding between weighed
@@ -46,12 +48,15 @@ LacksTrip-without pairs s =
     record {
       dead = ap is_some (get_or-set_default pairs.moves s None);
       live = λ i ne. ap is_some (other i ne);
-      empty = λ i j p q. ap (λ a. between pairs.matrix a (move_at rest j)) (other i p) ∙ ap (between pairs.matrix (move_at pairs.moves i)) (other j q);
-      weights = λ i j p q. ap (λ a. weighed pairs.matrix a (move_at rest j)) (other i p) ∙ ap (weighed pairs.matrix (move_at pairs.moves i)) (other j q);
+      empty = λ i j p q. ap (λ a. between pairs.matrix a (move_at rest j)) (other i p)
+          ∙ ap (between pairs.matrix (move_at pairs.moves i)) (other j q);
+      weights = λ i j p q. ap (λ a. weighed pairs.matrix a (move_at rest j)) (other i p)
+          ∙ ap (weighed pairs.matrix (move_at pairs.moves i)) (other j q);
     }
 
 -- pairs that fit without the trip are not of its slot
-pub fits-other : (whole rest : Network) (departs : ℕ → ℕ) (s i j : ℕ) → LacksTrip whole rest s → AreDepartures rest departs → Fits rest i j → (i ≢ s) × (j ≢ s)
+pub fits-other : (whole rest : Network) (departs : ℕ → ℕ) (s i j : ℕ) → LacksTrip whole rest s → AreDepartures rest departs → Fits rest i j
+    → (i ≢ s) × (j ≢ s)
 fits-other whole rest departs s i j lacks clock fits =
     let runs = clock.runs i j fits in (
       λ same. both_ways (rest.live s) lacks.dead (sym (ap rest.live same) ∙ runs.0),
@@ -59,7 +64,8 @@ fits-other whole rest departs s i j lacks clock fits =
     )
 
 -- links of slots of the list are next trips
-pub AreNextTrips-links : (network : Network) (departs : ℕ → ℕ) (links : List (Option ℕ)) → AreDepartures network departs → ((s : ℕ) → network.live s ≡ true → s < length links) → AreLinks network links
+pub AreNextTrips-links : (network : Network) (departs : ℕ → ℕ) (links : List (Option ℕ)) → AreDepartures network departs
+    → ((s : ℕ) → network.live s ≡ true → s < length links) → AreLinks network links
     → AreNextTrips links
 AreNextTrips-links network departs links clock within are = record {
   within = λ i j e. within j (clock.runs i j (are.fits i j e)).1;
@@ -67,7 +73,8 @@ AreNextTrips-links network departs links clock within are = record {
 }
 
 -- a plan from which no side is left out is certified for the pairs
-pub IsCertified-pairs : (pairs : PairsView) (departs : ℕ → ℕ) (plan : Plan) → AreDepartures (pairs_network pairs) departs → length plan.next ≡ length pairs.moves → IsLoose (pairs_network pairs) plan None None
+pub IsCertified-pairs : (pairs : PairsView) (departs : ℕ → ℕ) (plan : Plan) → AreDepartures (pairs_network pairs) departs
+    → length plan.next ≡ length pairs.moves → IsLoose (pairs_network pairs) plan None None
     → IsCertified (pairs_network pairs) plan
 IsCertified-pairs pairs departs plan clock slots loose =
     IsCertified-loose (pairs_network pairs) departs plan clock (λ s live. omega (arith, runs-within pairs.moves s live, slots)) loose
@@ -82,7 +89,8 @@ network_by matrix move = record {
 }
 
 -- pairs that agree but in one slot, in which the others have no trip, make one network without it
-pub network-without : (pairs rest : PairsView) (s : ℕ) → rest.matrix ≡ pairs.matrix → move_at rest.moves s ≡ None → ((i : ℕ) → i ≢ s → move_at rest.moves i ≡ move_at pairs.moves i)
+pub network-without : (pairs rest : PairsView) (s : ℕ) → rest.matrix ≡ pairs.matrix → move_at rest.moves s ≡ None
+    → ((i : ℕ) → i ≢ s → move_at rest.moves i ≡ move_at pairs.moves i)
     → pairs_network (pairs_without pairs s) ≡ pairs_network rest
 unfolding network_by
 network-without pairs rest s matrix none others =
@@ -90,5 +98,6 @@ network-without pairs rest s matrix none others =
     ap (network_by pairs.matrix) moves ∙ ap (λ m. network_by m (move_at rest.moves)) (sym matrix)
   where
     each : (i : ℕ) → (i ≡ s) ⊎ (i ≢ s) → move_at (set pairs.moves s None) i ≡ move_at rest.moves i
-    each i (inl same) = ap (move_at (set pairs.moves s None)) same ∙ get_or-set_default pairs.moves s None ∙ sym none ∙ sym (ap (move_at rest.moves) same)
+    each i (inl same) = ap (move_at (set pairs.moves s None)) same ∙ get_or-set_default pairs.moves s None ∙ sym none
+        ∙ sym (ap (move_at rest.moves) same)
     each i (inr other) = get_or-set_other pairs.moves s i None None other ∙ sym (others i other)

@@ -20,7 +20,8 @@ right_added pairs (Some b) plan = found_right pairs b None plan
 -- the plan after the trip of a slot was taken: without it, then with the sides of the trip before it and of its next one
 unfoldable pub plan_taken : PairsView → ℕ → Plan → Plan
 plan_taken pairs slot plan =
-    right_added pairs (next_of plan.next slot) (left_added pairs (before_of plan.next slot) (next_of plan.next slot) (plan_without plan slot))
+    right_added pairs (next_of plan.next slot)
+    (left_added pairs (before_of plan.next slot) (next_of plan.next slot) (plan_without plan slot))
 
 -- the plan after a trip was added in a slot: with its leaving side, and then with its entering side
 unfoldable pub plan_added : PairsView → ℕ → Plan → Plan

@@ -23,7 +23,8 @@ pub fn edit_law()
         → IsCertifiedWithout (pairs_of (with_trip timetable s trip) matrix None) s plan }
     ensures appended { (timetable : TimetableView) (matrix : MatrixView) (plan : Plan) (slot : Slot) → slot.trip.live ≡ true
         → IsCertified (network_of timetable matrix) plan
-        → IsCertifiedWithout (pairs_of (record timetable { slots = timetable.slots ++ slot ∷ [] }) matrix None) (length timetable.slots) plan }
+        → IsCertifiedWithout (pairs_of (record timetable { slots = timetable.slots ++ slot ∷ [] }) matrix None) (length timetable.slots)
+        plan }
     ensures replaced { (timetable : TimetableView) (matrix : MatrixView) (plan : Plan) (s : ℕ) (trip : Trip) → s < length timetable.slots
         → trip.live ≡ true → IsCertified (pairs_network (pairs_of timetable matrix (Some s))) plan
         → IsCertifiedWithout (pairs_of (with_trip timetable s trip) matrix None) s plan }

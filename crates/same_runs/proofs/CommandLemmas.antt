@@ -1,5 +1,6 @@
 -- What was read determines the outcome of a command: one after the other.
-use Rattle.std.proofs.Common.{◌≡◌, ℕ, ◌+◌, ◌<◌, Bool, List, [], ◌∷◌, ◌++◌, length, None, Result, Ok, Err, sym, ap, subst, ◌∙◌, inl, inr, ⊎_elim, arith}
+use Rattle.std.proofs.Common.{◌≡◌, ℕ, ◌+◌, ◌<◌, Bool, List, [], ◌∷◌, ◌++◌, length, None, Result, Ok, Err, sym, ap, subst, ◌∙◌, inl, inr}
+use Rattle.std.proofs.Common.{⊎_elim, arith}
 use Rattle.std.proofs.lemmas.Bool.{cases_lt}
 use Rattle.std.proofs.lemmas.Int.{ints}
 use Rattle.gtfs_tables.specs.Table.{TableView}
@@ -24,7 +25,8 @@ use Rattle.desk_feed.specs.Numbers.{numbers_line}
 use Rattle.desk_feed.proofs.OneMatrix.{matrix-same}
 use Rattle.desk_program.specs.Commands.{asked_by}
 use Rattle.desk_program.specs.declared.command.CommandName.{CommandName}
-use Rattle.desk_program.specs.declared.command.CommandName.TheVariants.{Deficits, Fixed, Blocks, Check, Write, Chart, Chains, Shifts, Keep, Kept, Joined, Planners, Audit, Sample}
+use Rattle.desk_program.specs.declared.command.CommandName.TheVariants.{Deficits, Fixed, Blocks, Check, Write, Chart, Chains, Shifts, Keep}
+use Rattle.desk_program.specs.declared.command.CommandName.TheVariants.{Kept, Joined, Planners, Audit, Sample}
 use Rattle.desk_run.specs.Outcome.{OutcomeView}
 use Rattle.desk_run.specs.declared.status.Ending.{Ending}
 use Rattle.desk_settings.specs.Selected.{chosen_in}
@@ -45,7 +47,8 @@ use Rattle.planners_command.specs.Reading.{lines_in}
 use Rattle.audit_command.specs.Audit.{AuditsBy, IsFirstBad, IsJudged, audit_asked, audit_does, stated_of, trips_in}
 use Rattle.audit_command.specs.Lines.{costs_text}
 use Rattle.sample_command.specs.Sample.{HasSummary, sample_asked, sample_read, summary_does, summary_line}
-use Rattle.write_command.specs.Write.{IsWritten, WritesBy, feed_files, stop_times_in, trip_columns, trips_in as write_trips_in, write_asked, write_does, written_line}
+use Rattle.write_command.specs.Write.{IsWritten, WritesBy, feed_files, stop_times_in, trip_columns, trips_in as write_trips_in}
+use Rattle.write_command.specs.Write.{write_asked, write_does, written_line}
 use Rattle.same_runs.specs.Same.{IsDetermined}
 use Rattle.same_runs.proofs.ChainLemmas.{one-text}
 use Rattle.same_runs.proofs.FeedLemmas.{determined-feed, determined-text, one-given}
@@ -70,7 +73,8 @@ chains-determined =
     determined-text chains_shown (λ stands one other is is'.
     let same = matrix-same stands.entries stands.pulls (length stands.timetable.places) is.matrix is'.matrix is.matrix_is is'.matrix_is in
     let are = subst (λ matrix. AreChains matrix (live_moves stands.timetable.slots) is'.chains.chains) (sym same) is'.chains.are in
-    is.chains.printed ∙ one-text stands.timetable is.matrix (live_moves stands.timetable.slots) 0 is.chains.chains is'.chains.chains is.chains.are are ∙ sym is'.chains.printed)
+    is.chains.printed ∙ one-text stands.timetable is.matrix (live_moves stands.timetable.slots) 0 is.chains.chains is'.chains.chains
+    is.chains.are are ∙ sym is'.chains.printed)
 
 shifts-determined : IsDetermined shifts_asked
 unfolding shifts_asked
@@ -82,7 +86,8 @@ check-determined : IsDetermined check_asked
 unfolding check_asked
 check-determined =
     determined-feed check_does (λ read said one other is is'.
-    is.done ∙ ap (checked read said) (matrix-same said.entries said.pulls (length said.base.places) is.matrix is'.matrix is.matrix_is is'.matrix_is) ∙ sym is'.done)
+    is.done ∙ ap (checked read said)
+    (matrix-same said.entries said.pulls (length said.base.places) is.matrix is'.matrix is.matrix_is is'.matrix_is) ∙ sym is'.done)
 
 keep-determined : IsDetermined keep_asked
 unfolding keep_asked
@@ -92,7 +97,8 @@ kept-determined : IsDetermined kept_asked
 kept-determined = λ read one other is is'. is.gives ∙ sym is'.gives
 
 -- the numbers of a timetable, by whichever least plan
-one-numbers : (timetable : TimetableView) (matrix : MatrixView) (one other : List ℕ) → IsNumbered timetable matrix one → IsNumbered timetable matrix other → one ≡ other
+one-numbers : (timetable : TimetableView) (matrix : MatrixView) (one other : List ℕ) → IsNumbered timetable matrix one
+    → IsNumbered timetable matrix other → one ≡ other
 one-numbers timetable matrix one other is is' =
     let network = network_of timetable matrix in
     let without : length is.without ≡ length is'.without = omega (arith, ints, is.maxima, is'.maxima) in
@@ -100,13 +106,17 @@ one-numbers timetable matrix one other is is' =
     let sum = one-sum network is.blocks is'.blocks is.scheduled.least is'.scheduled.least in
     is.put ∙ (λ i. numbers_line (without i) (number i) (sum i)) ∙ sym is'.put
 
-one-planners : (said : FeedView) (lines : Result (List PlannerLine) FeedFault) (one other : OutcomeView) → GivesBy said lines one → GivesBy said lines other → one ≡ other
+one-planners : (said : FeedView) (lines : Result (List PlannerLine) FeedFault) (one other : OutcomeView) → GivesBy said lines one
+    → GivesBy said lines other → one ≡ other
 one-planners said (Ok lines) one other is is' =
     let same = matrix-same said.entries said.pulls (length said.base.places) is.matrix is'.matrix is.matrix_is is'.matrix_is in
-    let numbered = subst (λ matrix. IsNumbered (timetable_after (standing said) lines) matrix is'.planned.numbers) (sym same) is'.planned.numbered in
-    let numbers = one-numbers (timetable_after (standing said) lines) is.matrix is.planned.numbers is'.planned.numbers is.planned.numbered numbered in
+    let numbered = subst (λ matrix. IsNumbered (timetable_after (standing said) lines) matrix is'.planned.numbers) (sym same)
+    is'.planned.numbered in
+    let numbers = one-numbers (timetable_after (standing said) lines) is.matrix is.planned.numbers is'.planned.numbers is.planned.numbered
+    numbered in
     is.planned.done
-    ∙ ap (λ numbers. refusing_first (refused_of said) (planners_text (standing said) lines numbers) (ending_after (standing said) lines (ending_of said))) numbers
+    ∙ ap (λ numbers. refusing_first (refused_of said) (planners_text (standing said) lines numbers)
+    (ending_after (standing said) lines (ending_of said))) numbers
     ∙ sym is'.planned.done
 one-planners said (Err refused) one other is is' = is ∙ sym is'
 
@@ -115,7 +125,8 @@ unfolding planners_asked
 planners-determined = determined-feed planners_does (λ read said one other. one-planners said (lines_in read) one other)
 
 -- the cost of stated blocks beside whichever least ones
-one-cost : (refused : List ℕ) (end : Ending) (timetable : TimetableView) (matrix : MatrixView) (stated : List NamedBlock) (misfits : List Misfit) (one other : OutcomeView)
+one-cost : (refused : List ℕ) (end : Ending) (timetable : TimetableView) (matrix : MatrixView) (stated : List NamedBlock)
+    (misfits : List Misfit) (one other : OutcomeView)
     → IsJudged refused end timetable matrix stated misfits one → IsJudged refused end timetable matrix stated misfits other → one ≡ other
 one-cost refused end timetable matrix stated [] one other is is' =
     let network = network_of timetable matrix in
@@ -133,16 +144,20 @@ one-bad trips chosen r s is is' = ⊎_elim
     (λ more. ⊎_elim (λ (less : s < r). absurd (is'.bad (is.before s less is'.selected))) (λ rest. omega (arith, more, rest)) (cases_lt s r))
     (cases_lt r s)
 
-one-audit : (said : FeedView) (trips : Result TableView FeedFault) (one other : OutcomeView) → AuditsBy said trips one → AuditsBy said trips other → one ≡ other
+one-audit : (said : FeedView) (trips : Result TableView FeedFault) (one other : OutcomeView) → AuditsBy said trips one
+    → AuditsBy said trips other → one ≡ other
 one-audit said (Err refused) one other is is' = is ∙ sym is'
 one-audit said (Ok trips) one other (inl is) (inl is') =
-    is.done ∙ ap (λ r. refusing (fault.NotUtf8 paper.Trips (r + 1) column.BlockId)) (one-bad trips (chosen_in said.settings trips) is.record_before is'.record_before is.first is'.first) ∙ sym is'.done
+    is.done ∙ ap (λ r. refusing (fault.NotUtf8 paper.Trips (r + 1) column.BlockId))
+    (one-bad trips (chosen_in said.settings trips) is.record_before is'.record_before is.first is'.first) ∙ sym is'.done
 one-audit said (Ok trips) one other (inl is) (inr is') = absurd (is.first.bad (is'.0 is.record_before is.first.within is.first.selected))
 one-audit said (Ok trips) one other (inr is) (inl is') = absurd (is'.first.bad (is.0 is'.record_before is'.first.within is'.first.selected))
 one-audit said (Ok trips) one other (inr is) (inr is') =
     let same = matrix-same said.entries said.pulls (length said.base.places) is.1.matrix is'.1.matrix is.1.matrix_is is'.1.matrix_is in
-    let judged = subst (λ matrix. IsJudged (refused_of said) (ending_of said) (standing said) matrix (stated_of said trips) (misfits_in (standing said) matrix (stated_of said trips)) other) (sym same) is'.1.judged in
-    one-cost (refused_of said) (ending_of said) (standing said) is.1.matrix (stated_of said trips) (misfits_in (standing said) is.1.matrix (stated_of said trips)) one other is.1.judged judged
+    let judged = subst (λ matrix. IsJudged (refused_of said) (ending_of said) (standing said) matrix (stated_of said trips)
+    (misfits_in (standing said) matrix (stated_of said trips)) other) (sym same) is'.1.judged in
+    one-cost (refused_of said) (ending_of said) (standing said) is.1.matrix (stated_of said trips)
+    (misfits_in (standing said) is.1.matrix (stated_of said trips)) one other is.1.judged judged
 
 audit-determined : IsDetermined audit_asked
 unfolding audit_asked
@@ -152,19 +167,25 @@ sample-determined : (trips : ℕ) → IsDetermined (sample_asked trips)
 sample-determined trips = λ read one other given given'.
     one-given (summary_does trips) (λ read said one other is is'.
     let same = matrix-same said.entries said.pulls (length said.base.places) is.matrix is'.matrix is.matrix_is is'.matrix_is in
-    let summary = subst (λ matrix. HasSummary (standing said) matrix said.settings.prefix is'.fixed is'.vehicles is'.minutes) (sym same) is'.summary in
+    let summary = subst (λ matrix. HasSummary (standing said) matrix said.settings.prefix is'.fixed is'.vehicles is'.minutes) (sym same)
+    is'.summary in
     let network = network_of (standing said) is.matrix in
     let fixed : is.fixed ≡ is'.fixed = omega (arith, ints, is.summary.fixed_is, summary.fixed_is) in
-    let vehicles : is.vehicles ≡ is'.vehicles = is.summary.vehicles_is ∙ one-number network is.summary.blocks summary.blocks is.summary.scheduled.least summary.scheduled.least ∙ sym summary.vehicles_is in
-    let minutes : is.minutes ≡ is'.minutes = is.summary.minutes_is ∙ one-sum network is.summary.blocks summary.blocks is.summary.scheduled.least summary.scheduled.least ∙ sym summary.minutes_is in
-    is.done ∙ (λ i. refusing_first (refused_of said) (summary_line trips (fixed i) (vehicles i) (minutes i)) (ending_of said)) ∙ sym is'.done)
+    let vehicles : is.vehicles ≡ is'.vehicles = is.summary.vehicles_is
+    ∙ one-number network is.summary.blocks summary.blocks is.summary.scheduled.least summary.scheduled.least
+    ∙ sym summary.vehicles_is in
+    let minutes : is.minutes ≡ is'.minutes = is.summary.minutes_is
+    ∙ one-sum network is.summary.blocks summary.blocks is.summary.scheduled.least summary.scheduled.least ∙ sym summary.minutes_is in
+    is.done ∙ (λ i. refusing_first (refused_of said) (summary_line trips (fixed i) (vehicles i) (minutes i)) (ending_of said))
+    ∙ sym is'.done)
     (sample_read trips) one other given.gives given'.gives
 
 blocks-determined : IsDetermined blocks_asked
 unfolding blocks_asked
 blocks-determined =
     determined-feed blocks_does (λ read said one other is is'.
-    is.planned.done ∙ ap (λ matrix. plans_outcome said.base said.lines matrix said.settings.prefix) (one-matrix said is.matrix is'.matrix is.matrix_is is'.matrix_is) ∙ sym is'.planned.done)
+    is.planned.done ∙ ap (λ matrix. plans_outcome said.base said.lines matrix said.settings.prefix)
+    (one-matrix said is.matrix is'.matrix is.matrix_is is'.matrix_is) ∙ sym is'.planned.done)
 
 chart-determined : IsDetermined chart_asked
 unfolding chart_asked
@@ -172,7 +193,8 @@ chart-determined =
     determined-feed chart_does (λ read said one other is is'.
     let matrix = one-matrix said is.matrix is'.matrix is.matrix_is is'.matrix_is in
     let blocks = one-list said is.matrix is'.matrix is.plan is'.plan is.blocks is'.blocks is.matrix_is is'.matrix_is is.drawn is'.drawn in
-    is.done ∙ (λ i. refusing_first (refused_of said) (chart_text (standing said) (matrix i) said.settings.prefix (blocks i)) (ending_of said)) ∙ sym is'.done)
+    is.done ∙ (λ i. refusing_first (refused_of said) (chart_text (standing said) (matrix i) said.settings.prefix (blocks i))
+    (ending_of said)) ∙ sym is'.done)
 
 joined-determined : IsDetermined joined_asked
 unfolding joined_asked
@@ -180,32 +202,48 @@ joined-determined =
     determined-feed joined_does (λ read said one other is is'.
     let matrix = one-matrix said is.matrix is'.matrix is.matrix_is is'.matrix_is in
     let blocks = one-list said is.matrix is'.matrix is.plan is'.plan is.blocks is'.blocks is.matrix_is is'.matrix_is is.drawn is'.drawn in
-    is.done ∙ (λ i. boards_outcome (refused_of said) (ending_of said) said.settings.prefix (standing said) (matrix i) (blocks i)) ∙ sym is'.done)
+    is.done ∙ (λ i. boards_outcome (refused_of said) (ending_of said) said.settings.prefix (standing said) (matrix i) (blocks i))
+    ∙ sym is'.done)
 
 -- what is written of two papers that are tables of texts
-one-written : (said : FeedView) (trips stop_times : TableView) (one other : OutcomeView) → IsWritten said trips stop_times one → IsWritten said trips stop_times other → one ≡ other
+one-written : (said : FeedView) (trips stop_times : TableView) (one other : OutcomeView) → IsWritten said trips stop_times one
+    → IsWritten said trips stop_times other → one ≡ other
 one-written said trips stop_times one other is is' =
     let blocks = one-list said is.matrix is'.matrix is.plan is'.plan is.blocks is'.blocks is.matrix_is is'.matrix_is is.drawn is'.drawn in
     is.done
-    ∙ (λ i. record { writes = feed_files said trips stop_times (blocks i); lines = None; text = refused_of said ++ written_line; ending = ending_of said })
+    ∙ (λ i. record {
+      writes = feed_files said trips stop_times (blocks i);
+      lines = None;
+      text = refused_of said ++ written_line;
+      ending = ending_of said;
+    })
     ∙ sym is'.done
 
 -- and where one of them is refused
-one-write : (said : FeedView) (trips stop_times : Result TableView FeedFault) (one other : OutcomeView) → WritesBy said trips stop_times one → WritesBy said trips stop_times other → one ≡ other
+one-write : (said : FeedView) (trips stop_times : Result TableView FeedFault) (one other : OutcomeView)
+    → WritesBy said trips stop_times one → WritesBy said trips stop_times other → one ≡ other
 one-write said trips stop_times one other (inl is) (inl is') =
     is.done ∙ ap refusing (one-paper paper.Trips (trip_columns said.settings) trips is.refused is'.refused is.for is'.for) ∙ sym is'.done
-one-write said trips stop_times one other (inl is) (inr (inl is')) = absurd (no-refusal paper.Trips (trip_columns said.settings) trips is.refused _ is.for is')
-one-write said trips stop_times one other (inl is) (inr (inr is')) = absurd (no-refusal paper.Trips (trip_columns said.settings) trips is.refused _ is.for is')
-one-write said trips stop_times one other (inr (inl is)) (inl is') = absurd (no-refusal paper.Trips (trip_columns said.settings) trips is'.refused _ is'.for is)
-one-write said trips stop_times one other (inr (inr is)) (inl is') = absurd (no-refusal paper.Trips (trip_columns said.settings) trips is'.refused _ is'.for is)
+one-write said trips stop_times one other (inl is) (inr (inl is')) =
+    absurd (no-refusal paper.Trips (trip_columns said.settings) trips is.refused _ is.for is')
+one-write said trips stop_times one other (inl is) (inr (inr is')) =
+    absurd (no-refusal paper.Trips (trip_columns said.settings) trips is.refused _ is.for is')
+one-write said trips stop_times one other (inr (inl is)) (inl is') =
+    absurd (no-refusal paper.Trips (trip_columns said.settings) trips is'.refused _ is'.for is)
+one-write said trips stop_times one other (inr (inr is)) (inl is') =
+    absurd (no-refusal paper.Trips (trip_columns said.settings) trips is'.refused _ is'.for is)
 one-write said (Err refused) stop_times one other (inr (inl is)) (inr is') = absurd is
 one-write said (Err refused) stop_times one other (inr (inr is)) (inr is') = absurd is
 one-write said (Ok trips) stop_times one other (inr (inl is)) (inr (inl is')) =
-    is.1.done ∙ ap refusing (one-paper paper.StopTimes stop_time_columns stop_times is.1.refused is'.1.refused is.1.for is'.1.for) ∙ sym is'.1.done
-one-write said (Ok trips) stop_times one other (inr (inl is)) (inr (inr is')) = absurd (no-refusal paper.StopTimes stop_time_columns stop_times is.1.refused _ is.1.for is'.1)
-one-write said (Ok trips) stop_times one other (inr (inr is)) (inr (inl is')) = absurd (no-refusal paper.StopTimes stop_time_columns stop_times is'.1.refused _ is'.1.for is.1)
+    is.1.done ∙ ap refusing (one-paper paper.StopTimes stop_time_columns stop_times is.1.refused is'.1.refused is.1.for is'.1.for)
+    ∙ sym is'.1.done
+one-write said (Ok trips) stop_times one other (inr (inl is)) (inr (inr is')) =
+    absurd (no-refusal paper.StopTimes stop_time_columns stop_times is.1.refused _ is.1.for is'.1)
+one-write said (Ok trips) stop_times one other (inr (inr is)) (inr (inl is')) =
+    absurd (no-refusal paper.StopTimes stop_time_columns stop_times is'.1.refused _ is'.1.for is.1)
 one-write said (Ok trips) (Err refused) one other (inr (inr is)) (inr (inr is')) = absurd is.1
-one-write said (Ok trips) (Ok stop_times) one other (inr (inr is)) (inr (inr is')) = one-written said trips stop_times one other is.1.1 is'.1.1
+one-write said (Ok trips) (Ok stop_times) one other (inr (inr is)) (inr (inr is')) =
+    one-written said trips stop_times one other is.1.1 is'.1.1
 
 write-determined : IsDetermined write_asked
 unfolding write_asked

@@ -11,9 +11,11 @@ use Rattle.same_runs.specs.Same.{IsDetermined}
 
 -- an accepted feed by what it says, and a refused one by its first refusal
 abbrev pub IsOne : FeedAsked → Type 0
-IsOne asks = (read : ReadView) (said : FeedView) (one other : OutcomeView) → asks.Gives read said one → asks.Gives read said other → one ≡ other
+IsOne asks = (read : ReadView) (said : FeedView) (one other : OutcomeView) → asks.Gives read said one → asks.Gives read said other
+    → one ≡ other
 
-pub one-given : (asks : FeedAsked) → IsOne asks → (read : ReadView) (one other : OutcomeView) → Does (asks.Gives read) (said_in read) one → Does (asks.Gives read) (said_in read) other → one ≡ other
+pub one-given : (asks : FeedAsked) → IsOne asks → (read : ReadView) (one other : OutcomeView) → Does (asks.Gives read) (said_in read) one
+    → Does (asks.Gives read) (said_in read) other → one ≡ other
 one-given asks same read one other = by (said_in read)
   where
     by : (said : Result FeedView FeedFault) → Does (asks.Gives read) said one → Does (asks.Gives read) said other → one ≡ other
@@ -24,7 +26,10 @@ pub determined-feed : (asks : FeedAsked) → IsOne asks → IsDetermined (of_fee
 determined-feed asks same read one other given given' = one-given asks same read one other given.gives given'.gives
 
 -- a text of what stands after the script
-pub determined-text : (asks : TextAsked) → ((stands : EditedView) (one other : List ℕ) → asks.Shows stands one → asks.Shows stands other → one ≡ other) → IsDetermined (of_feed (showing asks))
+pub determined-text : (asks : TextAsked)
+    → ((stands : EditedView) (one other : List ℕ) → asks.Shows stands one → asks.Shows stands other → one ≡ other)
+    → IsDetermined (of_feed (showing asks))
 determined-text asks same =
     determined-feed (showing asks) (λ read said one other puts puts'.
-    puts.alone ∙ ap (λ text. refusing_first (refused_of said) text (ending_of said)) (same _ puts.text puts'.text puts.shown puts'.shown) ∙ sym puts'.alone)
+    puts.alone ∙ ap (λ text. refusing_first (refused_of said) text (ending_of said)) (same _ puts.text puts'.text puts.shown puts'.shown)
+    ∙ sym puts'.alone)

@@ -9,7 +9,8 @@ one-number network one other least least' =
     let above = least'.fewest.fewest one least.fewest.blocking in
     omega (arith, below, above)
 
-pub one-sum : (network : Network) (one other : List (List ℕ)) → IsLeast network one → IsLeast network other → empty_minutes network one ≡ empty_minutes network other
+pub one-sum : (network : Network) (one other : List (List ℕ)) → IsLeast network one → IsLeast network other
+    → empty_minutes network one ≡ empty_minutes network other
 one-sum network one other least least' =
     let number = one-number network one other least least' in
     let below = least.shortest other least'.fewest.blocking (sym number) in

@@ -34,9 +34,12 @@ pub fn same_run_law()
 /// `write` writes, where these commands read the same feed.
 pub fn same_blocks_law()
     ensures listed { (said : FeedView) (outcome : OutcomeView) (plan : IsPlan said outcome)
-        → outcome.writes ≡ plan_files (standing said) plan.matrix said.settings.prefix (plan_at said.base said.lines plan.matrix (length said.lines)) }
-    ensures joined { (said : FeedView) (outcome other : OutcomeView) (plan : IsPlan said outcome) (joined : IsJoined said other) → joined.blocks ≡ listed said outcome plan }
-    ensures drawn { (said : FeedView) (outcome other : OutcomeView) (plan : IsPlan said outcome) (chart : IsChart said other) → chart.blocks ≡ listed said outcome plan }
+        → outcome.writes ≡ plan_files (standing said) plan.matrix said.settings.prefix
+        (plan_at said.base said.lines plan.matrix (length said.lines)) }
+    ensures joined { (said : FeedView) (outcome other : OutcomeView) (plan : IsPlan said outcome) (joined : IsJoined said other)
+        → joined.blocks ≡ listed said outcome plan }
+    ensures drawn { (said : FeedView) (outcome other : OutcomeView) (plan : IsPlan said outcome) (chart : IsChart said other)
+        → chart.blocks ≡ listed said outcome plan }
     ensures written { (said : FeedView) (outcome other : OutcomeView) (trips stop_times : TableView) (plan : IsPlan said outcome)
         (written : IsWritten said trips stop_times other) → written.blocks ≡ listed said outcome plan }
 {}

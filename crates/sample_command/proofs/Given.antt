@@ -14,11 +14,14 @@ use Rattle.desk_feed.specs.Schedule.{IsMatrixFor}
 use Rattle.sample_command.specs.Sample.{HasSummary, sample_asked, sample_read, summary_does, summary_line}
 use Rattle.sample_command.specs.Summed.{IsSummedOf}
 
-pub summary-given : {E : Type 0} (trips : ℕ) (read : ReadView) (said : FeedView) (edited : Edited) (matrix : MatrixView) → IsEdited said.base said.lines edited → IsMatrixFor said matrix
-    → (result : Result OutcomeView E) (prefix : List ℕ) → prefix ≡ said.settings.prefix → IfOk result (IsSummedOf trips edited matrix prefix) → IfOk result (IsGivenOf (summary_does trips) read said)
+pub summary-given : {E : Type 0} (trips : ℕ) (read : ReadView) (said : FeedView) (edited : Edited) (matrix : MatrixView)
+    → IsEdited said.base said.lines edited → IsMatrixFor said matrix
+    → (result : Result OutcomeView E) (prefix : List ℕ) → prefix ≡ said.settings.prefix
+    → IfOk result (IsSummedOf trips edited matrix prefix) → IfOk result (IsGivenOf (summary_does trips) read said)
 summary-given trips read said edited matrix is matrix_is (Err e) prefix prefix_is summed = tt
 summary-given trips read said edited matrix is matrix_is (Ok outcome) prefix prefix_is summed =
-    let here : outcome ≡ refusing_first (refused_of said) (summary_line trips summed.fixed summed.vehicles summed.minutes) (ending_of said) =
+    let here : outcome ≡ refusing_first (refused_of said) (summary_line trips summed.fixed summed.vehicles summed.minutes)
+    (ending_of said) =
     summed.done ∙ (λ i. refusing_first (is.refused i) (summary_line trips summed.fixed summed.vehicles summed.minutes) (is.ending i)) in
     record {
       gives = record {
@@ -27,7 +30,8 @@ summary-given trips read said edited matrix is matrix_is (Ok outcome) prefix pre
         fixed = summed.fixed;
         vehicles = summed.vehicles;
         minutes = summed.minutes;
-        summary = subst (λ (t : TimetableView). HasSummary t matrix said.settings.prefix summed.fixed summed.vehicles summed.minutes) is.timetable
+        summary = subst (λ (t : TimetableView). HasSummary t matrix said.settings.prefix summed.fixed summed.vehicles summed.minutes)
+            is.timetable
             (subst (λ p. HasSummary edited.script.timetable matrix p summed.fixed summed.vehicles summed.minutes) prefix_is summed.summary);
         done = here;
       };

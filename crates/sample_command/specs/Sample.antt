@@ -22,7 +22,9 @@ use Rattle.feed_sample.specs.Sample.{sample_files}
 -- the summary of a sample of so many trips: the fewest vehicles without deadheads, and the vehicles and the empty minutes of a plan
 unfoldable pub summary_line : ℕ → ℕ → ℕ → ℕ → List ℕ
 summary_line trips fixed vehicles minutes =
-    codes "sample " ++ (decimal trips ++ (codes ": fixed " ++ (decimal fixed ++ (codes ", vehicles " ++ (decimal vehicles ++ (codes ", minutes " ++ (decimal minutes ++ (codes ", check yes" ++ 10 ∷ []))))))))
+    codes "sample " ++ (decimal trips
+    ++ (codes ": fixed " ++ (decimal fixed
+    ++ (codes ", vehicles " ++ (decimal vehicles ++ (codes ", minutes " ++ (decimal minutes ++ (codes ", check yes" ++ 10 ∷ []))))))))
 
 -- The three numbers of a timetable: the sum of the maxima of its deficits, and the vehicles and the empty minutes of a plan.
 -- The plan is certified, so its blocks are least over all blockings. `check` says yes to its two files.

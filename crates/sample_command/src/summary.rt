@@ -56,7 +56,8 @@ fn claim_of(
     requires slots { All (All (λ s. s < length timetable.now.slots)) blocks.now }
     requires prices { length plan.now.next ≡ length timetable.now.slots }
     requires accepted { IsAccepted timetable.now matrix.now prefix.now blocks.now plan.now.leave plan.now.enter }
-    ensures claim { IfOk result (λ claimed. written timetable.now matrix.now prefix.now blocks.now plan.now.leave plan.now.enter ≡ Ok claimed) }
+    ensures claim { IfOk result (λ claimed. written timetable.now matrix.now prefix.now blocks.now plan.now.leave
+        plan.now.enter ≡ Ok claimed) }
     ensures blocks { IfOk result (λ claimed. AreBlockRows timetable.now claimed.blocks) }
     ensures prices { IfOk result (λ claimed. ArePriceRows timetable.now claimed.prices) }
 {

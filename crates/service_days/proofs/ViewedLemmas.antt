@@ -1,5 +1,6 @@
 -- What a map holds in order, seen by what its keys are seen as.
-use Rattle.std.proofs.Common.{◌≡◌, ℕ, ◌+◌, zero, suc, add-one, Bool, true, false, cond, not, List, [], ◌∷◌, ◌++◌, map, take, fold, slice_get, Option, Some, None, is_some, option_map, refl, sym, ap, ◌∙◌}
+use Rattle.std.proofs.Common.{◌≡◌, ℕ, ◌+◌, zero, suc, add-one, Bool, true, false, cond, not, List, [], ◌∷◌, ◌++◌, map, take, fold}
+use Rattle.std.proofs.Common.{slice_get, Option, Some, None, is_some, option_map, refl, sym, ap, ◌∙◌}
 use Rattle.std.specs.Map.{lookup}
 use Rattle.std.proofs.lemmas.List.{map-append}
 use Rattle.indexmap.specs.IndexMap.{IndexMap, insert_entry}
@@ -10,7 +11,8 @@ abbrev pub viewed : {K N X : Type 0} → (K → N) → List (K × X) → List (N
 viewed view entries = map (λ e. (view e.0, e.1)) entries
 
 -- a key has the value that the map finds
-pub lookup-viewed : {K N X : Type 0} (view : K → N) (test : N → Bool) (es : List (K × X)) → lookup test (viewed view es) ≡ lookup (λ k. test (view k)) es
+pub lookup-viewed : {K N X : Type 0} (view : K → N) (test : N → Bool) (es : List (K × X))
+    → lookup test (viewed view es) ≡ lookup (λ k. test (view k)) es
 lookup-viewed view test [] = refl
 lookup-viewed view test (e ∷ es) = ap (λ found. cond (test (view e.0)) (Some e.1) found) (lookup-viewed view test es)
 
@@ -40,6 +42,7 @@ fold-more f a (e ∷ es) zero k at = ap (f a) (let same : e.0 ≡ k = cc in same
 fold-more f a (e ∷ es) (suc n) k at = fold-more f (f a e.0) es n k at
 
 -- what is made of the keys of the entries, with one more
-pub fold-next : {K X A : Type 0} (f : A → K → A) (a : A) (es : List (K × X)) (n : ℕ) (k : K) → option_map (λ e. e.0) (slice_get es n) ≡ Some k
+pub fold-next : {K X A : Type 0} (f : A → K → A) (a : A) (es : List (K × X)) (n : ℕ) (k : K)
+    → option_map (λ e. e.0) (slice_get es n) ≡ Some k
     → fold (λ a e. f a e.0) a (take (n + 1) es) ≡ f (fold (λ a e. f a e.0) a (take n es)) k
 fold-next f a es n k at = rw (add-one n) (fold-more f a es n k at)

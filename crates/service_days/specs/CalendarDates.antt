@@ -1,5 +1,6 @@
 -- The exceptions of dates that `calendar_dates.txt` gives services.
-use Rattle.std.specs.Prelude.{ℕ, ◌==◌, ◌&&◌, Bool, not, List, [], ◌∷◌, ◌++◌, map, Option, Result, Ok, is_some, String, string_bytes, if◌then◌else◌}
+use Rattle.std.specs.Prelude.{ℕ, ◌==◌, ◌&&◌, Bool, not, List, [], ◌∷◌, ◌++◌, map, Option, Result, Ok, is_some, String, string_bytes}
+use Rattle.std.specs.Prelude.{if◌then◌else◌}
 use Rattle.std.specs.Map.{lookup}
 use Rattle.std.specs.Str.{bytes_eq}
 use Rattle.desk_io.specs.declared.shelf.Found.{Found}
@@ -30,7 +31,8 @@ columns_in header = do
 -- what a field says of the service on the date: 1 that it is added and 2 that it is removed
 abbrev pub exception_in : ℕ → List ℕ → Result Exception FeedFault
 exception_in number text = number_in paper.CalendarDates number column.ExceptionType 1 2 text
-    >>= λ kind. provided (not (kind == 0)) (fault.BadNumber paper.CalendarDates number column.ExceptionType) (Ok (if kind == 1 then Added else Removed))
+    >>= λ kind. provided (not (kind == 0)) (fault.BadNumber paper.CalendarDates number column.ExceptionType)
+    (Ok (if kind == 1 then Added else Removed))
 
 -- the service and the date of one record, with its exception
 unfoldable pub exception_row_in : Columns → ℕ → List (List ℕ) → Result (Name × ℕ × Exception) FeedFault
@@ -56,7 +58,8 @@ exception_of exceptions key = lookup (is_same key) exceptions
 -- the exceptions with that of a record, whose service and date must be new together, at the end
 abbrev pub with_exception : ℕ → List (ServiceDate × Exception) → Name × ℕ × Exception → Result (List (ServiceDate × Exception)) FeedFault
 with_exception number before row =
-    provided (not (is_some (exception_of before (row.0, row.1)))) (fault.DuplicateRow paper.CalendarDates number) (Ok (before ++ ((row.0, row.1), row.2) ∷ []))
+    provided (not (is_some (exception_of before (row.0, row.1)))) (fault.DuplicateRow paper.CalendarDates number)
+    (Ok (before ++ ((row.0, row.1), row.2) ∷ []))
 
 -- the exceptions with that of one record
 abbrev pub with_record : Columns → ℕ → List (ServiceDate × Exception) → List (List ℕ) → Result (List (ServiceDate × Exception)) FeedFault

@@ -1,5 +1,6 @@
 -- Dates of the calendar, each as the number of its eight digits, YYYYMMDD.
-use Rattle.std.specs.Prelude.{ℕ, ◌<◌, ◌^◌, ◌/◌, ◌%◌, ◌==◌, ◌&&◌, pos, Bool, List, length, nat_lt, nat_le, Option, Some, None, Result, if◌then◌else◌}
+use Rattle.std.specs.Prelude.{ℕ, ◌<◌, ◌^◌, ◌/◌, ◌%◌, ◌==◌, ◌&&◌, pos, Bool, List, length, nat_lt, nat_le, Option, Some, None, Result}
+use Rattle.std.specs.Prelude.{if◌then◌else◌}
 use Rattle.std.specs.Option.{ok_or}
 use Rattle.jiff_core.specs.Calendar.{IsDate, days_in_month, days_from_civil, weekday_number}
 use Rattle.gtfs_tables.specs.declared.fault.FeedFault.{FeedFault}

@@ -1,5 +1,6 @@
 -- A shift by which no place loses its greatest value does not lower the sum of the maxima.
-use Rattle.std.proofs.Common.{◌≡◌, ℕ, zero, suc, ◌+◌, ◌<◌, ◌≤◌, ◌==◌, ◌&&◌, nat_le, Bool, true, false, cond, List, ◌∷◌, ◌++◌, length, count_by, ℤ, pos, neg_ℤ, ◌+ℤ◌, ◌≤ℤ◌, refl, sym, ap, ◌∙◌, subst, arith}
+use Rattle.std.proofs.Common.{◌≡◌, ℕ, zero, suc, ◌+◌, ◌<◌, ◌≤◌, ◌==◌, ◌&&◌, nat_le, Bool, true, false, cond, List, ◌∷◌, ◌++◌, length}
+use Rattle.std.proofs.Common.{count_by, ℤ, pos, neg_ℤ, ◌+ℤ◌, ◌≤ℤ◌, refl, sym, ap, ◌∙◌, subst, arith}
 use Rattle.std.specs.Prelude.{unsigned_abs, negsuc}
 use Rattle.std.proofs.lemmas.Bool.{eqb-true, leb-true, le-leb}
 use Rattle.std.proofs.lemmas.Int.{ints}
@@ -17,7 +18,8 @@ use Rattle.shift_moves.specs.Trial.{AreSwapped}
 use Rattle.shift_moves.proofs.Holding.{AreSwapped-shift}
 
 -- a count of moves, with that of one of them apart
-counted : (p : Move → Bool) (front back : List Move) (x : Move) → count_by p (front ++ x ∷ back) ≡ count_by p front + count_by p back + cond (p x) 1 0
+counted : (p : Move → Bool) (front back : List Move) (x : Move)
+    → count_by p (front ++ x ∷ back) ≡ count_by p front + count_by p back + cond (p x) 1 0
 counted p front back x =
     let c : Move → ℕ = λ m. cond (p m) 1 0 in
     omega (arith, sum_by-append c front (x ∷ back), sum_by-cons c x back)
@@ -32,24 +34,41 @@ both-le true b c h = one-le b c (h refl)
 
 -- A move is replaced by another between the same places. The deficit of a place at a minute is no less then, unless that of
 -- the first has left the place by then and the other has not, or the other has arrived and the first has not.
-deficit-kept : (front back : List Move) (m n : Move) (p t : ℕ) → n.from ≡ m.from → n.to ≡ m.to → (m.from ≡ p → m.leaves ≤ t → n.leaves ≤ t) → (m.to ≡ p → n.arrives ≤ t → m.arrives ≤ t)
+deficit-kept : (front back : List Move) (m n : Move) (p t : ℕ) → n.from ≡ m.from → n.to ≡ m.to → (m.from ≡ p → m.leaves ≤ t → n.leaves ≤ t)
+    → (m.to ≡ p → n.arrives ≤ t → m.arrives ≤ t)
     → deficit (front ++ m ∷ back) p t ≤ℤ deficit (front ++ n ∷ back) p t
 deficit-kept front back m n p t from to leaves arrives =
     let left : Move → Bool = λ x. (x.from == p) && nat_le x.leaves t in
     let came : Move → Bool = λ x. (x.to == p) && nat_le x.arrives t in
     let more : cond (left m) 1 0 ≤ cond ((m.from == p) && nat_le n.leaves t) 1 0 =
-    both-le (m.from == p) (nat_le m.leaves t) (nat_le n.leaves t) (λ e l. le-leb n.leaves t (leaves (eqb-true m.from p e) (leb-true m.leaves t l))) in
+    both-le (m.from == p) (nat_le m.leaves t) (nat_le n.leaves t)
+    (λ e l. le-leb n.leaves t (leaves (eqb-true m.from p e) (leb-true m.leaves t l))) in
     let less : cond ((m.to == p) && nat_le n.arrives t) 1 0 ≤ cond (came m) 1 0 =
-    both-le (m.to == p) (nat_le n.arrives t) (nat_le m.arrives t) (λ e l. le-leb m.arrives t (arrives (eqb-true m.to p e) (leb-true n.arrives t l))) in
-    let same : ◌≡◌ {A = ℕ} (cond (left n) 1 0) (cond ((m.from == p) && nat_le n.leaves t) 1 0) = ap (λ k. cond ((k == p) && nat_le n.leaves t) 1 0) from in
-    let same' : ◌≡◌ {A = ℕ} (cond (came n) 1 0) (cond ((m.to == p) && nat_le n.arrives t) 1 0) = ap (λ k. cond ((k == p) && nat_le n.arrives t) 1 0) to in
-    omega (arith, ints, counted left front back m, counted left front back n, counted came front back m, counted came front back n, more, less, same, same')
+    both-le (m.to == p) (nat_le n.arrives t) (nat_le m.arrives t)
+    (λ e l. le-leb m.arrives t (arrives (eqb-true m.to p e) (leb-true n.arrives t l))) in
+    let same : ◌≡◌ {A = ℕ} (cond (left n) 1 0) (cond ((m.from == p) && nat_le n.leaves t) 1 0) =
+    ap (λ k. cond ((k == p) && nat_le n.leaves t) 1 0) from in
+    let same' : ◌≡◌ {A = ℕ} (cond (came n) 1 0) (cond ((m.to == p) && nat_le n.arrives t) 1 0) =
+    ap (λ k. cond ((k == p) && nat_le n.arrives t) 1 0) to in
+    omega (
+      arith,
+      ints,
+      counted left front back m,
+      counted left front back n,
+      counted came front back m,
+      counted came front back n,
+      more,
+      less,
+      same,
+      same',
+    )
 
 -- a function that reaches the maximum of another one somewhere has no lesser maximum
 reaches : (d e : ℕ → ℤ) (t : ℕ) → t ≤ 8191 → (first_maximum d).0 ≤ℤ e t → (first_maximum d).0 ≤ℤ (first_maximum e).0
 reaches d e t within h = let greatest = (IsFirstMaximum-first_maximum e).greatest t within in omega (arith, ints, h, greatest)
 
-sum-kept : (d e : ℕ → ℕ → ℤ) (n : ℕ) → ((p : ℕ) → (first_maximum (d p)).0 ≤ℤ e p (first_maximum (d p)).1) → sum_of_maxima d n ≤ℤ sum_of_maxima e n
+sum-kept : (d e : ℕ → ℕ → ℤ) (n : ℕ) → ((p : ℕ) → (first_maximum (d p)).0 ≤ℤ e p (first_maximum (d p)).1)
+    → sum_of_maxima d n ≤ℤ sum_of_maxima e n
 sum-kept d e zero kept = omega (arith, ints)
 sum-kept d e (suc n) kept =
     let rest = sum-kept d e n kept in
@@ -62,8 +81,10 @@ high_at t p = (first_maximum (deficit (live_moves t.slots) p)).1
 
 -- a shift does not lower the sum where, at the first minute of the greatest deficit of the place that the trip leaves, it has
 -- left still, and at that of the place where it arrives it has not arrived sooner
-pub not-lowering : (t : TimetableView) (s : ℕ) (by : ℤ) (m n : Move) → AreSwapped m n t.slots (with_shift t s by).slots → n.from ≡ m.from → n.to ≡ m.to
-    → (m.leaves ≤ high_at t m.from → n.leaves ≤ high_at t m.from) → (n.arrives ≤ high_at t m.to → m.arrives ≤ high_at t m.to) → IsLowering t s by → ⊥
+pub not-lowering : (t : TimetableView) (s : ℕ) (by : ℤ) (m n : Move) → AreSwapped m n t.slots (with_shift t s by).slots → n.from ≡ m.from
+    → n.to ≡ m.to
+    → (m.leaves ≤ high_at t m.from → n.leaves ≤ high_at t m.from) → (n.arrives ≤ high_at t m.to → m.arrives ≤ high_at t m.to)
+    → IsLowering t s by → ⊥
 not-lowering t s by m n are from to leaves arrives lowering =
     let d : ℕ → ℕ → ℤ = deficit (live_moves t.slots) in
     let e : ℕ → ℕ → ℤ = deficit (live_moves (with_shift t s by).slots) in
@@ -86,7 +107,8 @@ abs-pos (pos n) h = refl
 abs-pos (negsuc n) h = absurd (omega (arith, ints, h))
 
 -- nor does one of so many minutes earlier, where at that minute the trip has not arrived sooner
-pub not-earlier : (t : TimetableView) (s size at : ℕ) (m : Move) → s < length t.slots → (slot_at t s).trip.live ≡ true → m ≡ move_of (slot_at t s).trip → m.leaves < m.arrives → high_at t m.to ≡ at
+pub not-earlier : (t : TimetableView) (s size at : ℕ) (m : Move) → s < length t.slots → (slot_at t s).trip.live ≡ true
+    → m ≡ move_of (slot_at t s).trip → m.leaves < m.arrives → high_at t m.to ≡ at
     → (m.arrives ≤ at + size → m.arrives ≤ at) → IsLowering t s (neg_ℤ (pos size)) → ⊥
 not-earlier t s size at m within live is forward high late lowering =
     let trip = (slot_at t s).trip in
@@ -97,11 +119,14 @@ not-earlier t s size at m within live is forward high late lowering =
     let may = lowering.within.departs in
     let leaves' = abs-pos (pos trip.departs +ℤ by) may in
     let arrives' = abs-pos (pos trip.ends +ℤ by) (omega (arith, ints, may, forward, leaves, arrives)) in
-    not-lowering t s by m n (AreSwapped-shift t s by m n within live is refl) (ap (λ (x : Move). x.from) (sym is)) (ap (λ (x : Move). x.to) (sym is))
-    (λ h. omega (arith, ints, h, leaves, leaves')) (λ h. let there = late (omega (arith, ints, h, high, arrives, arrives')) in omega (arith, there, high)) lowering
+    not-lowering t s by m n (AreSwapped-shift t s by m n within live is refl) (ap (λ (x : Move). x.from) (sym is))
+    (ap (λ (x : Move). x.to) (sym is))
+    (λ h. omega (arith, ints, h, leaves, leaves'))
+    (λ h. let there = late (omega (arith, ints, h, high, arrives, arrives')) in omega (arith, there, high)) lowering
 
 -- nor one of so many minutes later, where at that minute it has left still
-pub not-later : (t : TimetableView) (s size at : ℕ) (m : Move) → s < length t.slots → (slot_at t s).trip.live ≡ true → m ≡ move_of (slot_at t s).trip → high_at t m.from ≡ at
+pub not-later : (t : TimetableView) (s size at : ℕ) (m : Move) → s < length t.slots → (slot_at t s).trip.live ≡ true
+    → m ≡ move_of (slot_at t s).trip → high_at t m.from ≡ at
     → (m.leaves ≤ at → m.leaves + size ≤ at) → IsLowering t s (pos size) → ⊥
 not-later t s size at m within live is high still lowering =
     let trip = (slot_at t s).trip in
@@ -110,11 +135,15 @@ not-later t s size at m within live is high still lowering =
     let arrives : m.arrives ≡ trip.ends = ap (λ (x : Move). x.arrives) is in
     let leaves' = abs-pos (pos trip.departs +ℤ pos size) lowering.within.departs in
     let arrives' = abs-pos (pos trip.ends +ℤ pos size) (omega (arith, ints)) in
-    not-lowering t s (pos size) m n (AreSwapped-shift t s (pos size) m n within live is refl) (ap (λ (x : Move). x.from) (sym is)) (ap (λ (x : Move). x.to) (sym is))
-    (λ h. let there = still (omega (arith, h, high)) in omega (arith, ints, there, high, leaves, leaves')) (λ h. omega (arith, ints, h, arrives, arrives')) lowering
+    not-lowering t s (pos size) m n (AreSwapped-shift t s (pos size) m n within live is refl) (ap (λ (x : Move). x.from) (sym is))
+    (ap (λ (x : Move). x.to) (sym is))
+    (λ h. let there = still (omega (arith, h, high)) in omega (arith, ints, there, high, leaves, leaves'))
+    (λ h. omega (arith, ints, h, arrives, arrives')) lowering
 
 -- the first minute of the greatest value of a place, where the deficits hold the trips that run
-pub high-read : (t : TimetableView) (d : List (List ℤ)) (p high at : ℕ) → ((k minute : ℕ) → k < length d → minute ≤ 8191 → value d k minute ≡ deficit (live_moves t.slots) k minute) → p < length d
+pub high-read : (t : TimetableView) (d : List (List ℤ)) (p high at : ℕ)
+    → ((k minute : ℕ) → k < length d → minute ≤ 8191 → value d k minute ≡ deficit (live_moves t.slots) k minute) → p < length d
     → first_maximum (value d p) ≡ (pos high, at) → high_at t p ≡ at
 high-read t d p high at held within is =
-    ap (λ (x : ℤ × ℕ). x.1) (sym (first_maximum-agree (value d p) (deficit (live_moves t.slots) p) (λ minute h. held p minute within h)) ∙ is)
+    ap (λ (x : ℤ × ℕ). x.1) (sym (first_maximum-agree (value d p) (deficit (live_moves t.slots) p) (λ minute h. held p minute within h))
+    ∙ is)

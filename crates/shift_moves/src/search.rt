@@ -1,4 +1,5 @@
-ghost use Rattle.std.specs.Prelude.{◌≡◌, ℕ, ◌+◌, ◌-◌, ◌*◌, ◌<◌, ◌≤◌, ◌⊎◌, true, false, length, ℤ, pos, neg_ℤ, unsigned_abs, IfNone, IfSome, List};
+ghost use Rattle.std.specs.Prelude.{◌≡◌, ℕ, ◌+◌, ◌-◌, ◌*◌, ◌<◌, ◌≤◌, ◌⊎◌, true, false, length, ℤ, pos, neg_ℤ, unsigned_abs, IfNone, IfSome};
+ghost use Rattle.std.specs.Prelude.{List};
 ghost use Rattle.deficit_steps.specs.Changes.{IsDeficits};
 ghost use Rattle.deficit_steps.specs.Holds.{Holds};
 ghost use Rattle.shift_moves.specs.Lowering.{IsFirst, IsLowering};

@@ -96,7 +96,8 @@ impl<'a> SqliteKeeper<'a> {
         found: Result<Vec<Text>, Error>,
         limit: u32,
     ) -> Result<Lines, KeeperFault>
-        ensures found { IfOk found (λ lines. result ≡ (if nat_le (length lines.items) limit then Ok lines.items else Err KeeperFault.TooLong)) }
+        ensures found { IfOk found (λ lines. result ≡ (if nat_le (length lines.items) limit then Ok lines.items
+            else Err KeeperFault.TooLong)) }
         ensures refused { IfErr found (λ error. result ≡ Err (refusal_of error)) }
         ensures state { Loads result (keeper_state_of self.old) (keeper_state_of self.new) }
         ensures history { keeper_history_of self.new ≡ keeper_history_of self.old }

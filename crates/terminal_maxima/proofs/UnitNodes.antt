@@ -16,5 +16,6 @@ module _ {S : Type 0} {sums : S → ℕ → Type 0} {unit : S} {join : S → S �
         let here = each_is_unit i (omega arith) in
         let left = each_is_unit (2 * i) (omega arith) in
         let right = each_is_unit (2 * i + 1) (omega arith) in
-        here ∙ sym (laws.unit_left unit 1 laws.sums_one (omega arith)) ∙ ap (λ (x : S). join x unit) (sym left) ∙ ap (join (node_of unit (replicate (2 * leaves) unit) (2 * i))) (sym right);
+        here ∙ sym (laws.unit_left unit 1 laws.sums_one (omega arith)) ∙ ap (λ (x : S). join x unit) (sym left)
+        ∙ ap (join (node_of unit (replicate (2 * leaves) unit) (2 * i))) (sym right);
   }

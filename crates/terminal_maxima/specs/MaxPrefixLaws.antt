@@ -8,7 +8,8 @@ use Rattle.terminal_maxima.specs.Summary.{SummaryLaws}
 -- two summaries are equal where both numbers are
 pub same_prefix : (x y : MaxPrefix) → x.sum ≡ y.sum → x.high ≡ y.high → x ≡ y
 same_prefix x y sums highs =
-    ap (λ (s : _). let p : MaxPrefix = record { sum = s; high = x.high } in p) sums ∙ ap (λ (h : _). let p : MaxPrefix = record { sum = y.sum; high = h } in p) highs
+    ap (λ (s : _). let p : MaxPrefix = record { sum = s; high = x.high } in p) sums
+    ∙ ap (λ (h : _). let p : MaxPrefix = record { sum = y.sum; high = h } in p) highs
 
 sums_join : (x y : MaxPrefix) (m n : ℕ) → SumsLeaves x m → SumsLeaves y n → SumsLeaves (both x y) (m + n)
 sums_join x y m n left right = record {

@@ -1,5 +1,6 @@
 -- The trip before another.
-use Rattle.std.proofs.Common.{◌≡◌, ℕ, ◌<◌, ◌≤◌, Bool, true, false, cond, List, length, get_or, position, Option, None, Some, refl, sym, ap, ◌∙◌, ⊎_elim, arith}
+use Rattle.std.proofs.Common.{◌≡◌, ℕ, ◌<◌, ◌≤◌, Bool, true, false, cond, List, length, get_or, position, Option, None, Some, refl, sym, ap}
+use Rattle.std.proofs.Common.{◌∙◌, ⊎_elim, arith}
 use Rattle.std.specs.List.{position_or_len}
 use Rattle.std.proofs.lemmas.Bool.{cases_lt, lt-ltb, eq-eqb, eqb-true, false≢true}
 use Rattle.std.proofs.lemmas.List.{get_or_past}
@@ -9,9 +10,11 @@ use Rattle.std.proofs.lemmas.Option.{none-some}
 use Rattle.trip_model.specs.Links.{next_of, before_of, leads_to, AreApart}
 
 -- where no place is the first that passes, none passes
-pub position-None : {X : Type 0} (p : X → Bool) (xs : List X) (i : ℕ) (d : X) → position p xs ≡ None → i < length xs → p (get_or xs i d) ≡ false
+pub position-None : {X : Type 0} (p : X → Bool) (xs : List X) (i : ℕ) (d : X) → position p xs ≡ None → i < length xs
+    → p (get_or xs i d) ≡ false
 position-None p xs i d none lt = ⊎_elim
-    (λ (h : position_or_len p xs < length xs). absurd (none-some _ (sym none ∙ ap (λ b. cond b (Some (position_or_len p xs)) None) (lt-ltb _ _ h))))
+    (λ (h : position_or_len p xs < length xs). absurd
+    (none-some _ (sym none ∙ ap (λ b. cond b (Some (position_or_len p xs)) None) (lt-ltb _ _ h))))
     (λ (h : length xs ≤ position_or_len p xs). fails_before_first p xs i d (omega (arith, h, lt)))
     (cases_lt (position_or_len p xs) (length xs))
 
@@ -36,5 +39,6 @@ pub before-next : (links : List (Option ℕ)) (i j : ℕ) → AreApart links →
 before-next links i j apart next = by (before_of links j) refl
   where
     by : (before : Option ℕ) → before_of links j ≡ before → before_of links j ≡ Some i
-    by None none = absurd (false≢true (sym (position-None (leads_to j) links i None none (next-within links i j next)) ∙ ap (leads_to j) next ∙ eq-eqb j j refl))
+    by None none = absurd (false≢true
+        (sym (position-None (leads_to j) links i None none (next-within links i j next)) ∙ ap (leads_to j) next ∙ eq-eqb j j refl))
     by (Some h) found = found ∙ ap Some (apart h i j (next-before links h j found) next)

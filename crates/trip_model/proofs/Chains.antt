@@ -1,5 +1,6 @@
 -- Links along which departures rise make blocks in which each live slot stands once.
-use Rattle.std.proofs.Common.{◌≡◌, ◌≢◌, ℕ, zero, suc, ◌+◌, ◌<◌, ◌≤◌, ◌==◌, ◌||◌, Bool, true, false, not, cond, List, [], ◌∷◌, ◌++◌, length, map, filter, sum_by, Option, None, Some, refl, sym, ap, subst, ◌∙◌, ⊎_elim, arith}
+use Rattle.std.proofs.Common.{◌≡◌, ◌≢◌, ℕ, zero, suc, ◌+◌, ◌<◌, ◌≤◌, ◌==◌, ◌||◌, Bool, true, false, not, cond, List, [], ◌∷◌, ◌++◌, length}
+use Rattle.std.proofs.Common.{map, filter, sum_by, Option, None, Some, refl, sym, ap, subst, ◌∙◌, ⊎_elim, arith}
 use Rattle.std.specs.List.{list_any, AllByRecursion}
 use Rattle.std.specs.Option.{is_some}
 use Rattle.std.proofs.lemmas.Bool.{cases_Bool, cases_eq, eq-eqb, ne_eqb, eqb-true, false≢true, or_parts}
@@ -33,7 +34,8 @@ pub block_from-is : (links : List (Option ℕ)) (s : ℕ) → block_from links s
 unfolding block_from
 block_from-is links s = refl
 
-follow : (network : Network) (links : List (Option ℕ)) → AreLinks network links → (i : ℕ) (js : List ℕ) → GoesOn links i js → Follow network i js
+follow : (network : Network) (links : List (Option ℕ)) → AreLinks network links → (i : ℕ) (js : List ℕ) → GoesOn links i js
+    → Follow network i js
 follow network links are i [] goes = tt
 follow network links are i (j ∷ js) goes = (are.fits i j goes.0, follow network links are j js goes.1)
 
@@ -57,7 +59,8 @@ times-after links b s next once i (j ∷ js) goes =
     omega (arith, times-cons s j js, times-cons b i (j ∷ js), rest, here)
 
 -- and never where it is the next of none
-times-first : (links : List (Option ℕ)) (s : ℕ) → ((c : ℕ) → next_of links c ≡ Some s → ⊥) → (i : ℕ) (js : List ℕ) → GoesOn links i js → times s js ≡ 0
+times-first : (links : List (Option ℕ)) (s : ℕ) → ((c : ℕ) → next_of links c ≡ Some s → ⊥) → (i : ℕ) (js : List ℕ) → GoesOn links i js
+    → times s js ≡ 0
 times-first links s first i [] goes = refl
 times-first links s first i (j ∷ js) goes =
     let ne : j ≢ s = λ e. first i (goes.0 ∙ ap Some e) in
@@ -113,7 +116,8 @@ times-filter q s (x ∷ xs) =
     here = ⊎_elim
         (λ (e : x ≡ s). (λ i. cond (q (e i)) (cond (x == s) 1 0) 0))
         (λ (ne : x ≡ s → ⊥).
-        (λ i. cond (q x) (cond (ne_eqb x s ne i) 1 0) 0) ∙ cond-zero (q x) ∙ sym (cond-zero (q s)) ∙ (λ i. cond (q s) (cond (sym (ne_eqb x s ne) i) 1 0) 0))
+        (λ i. cond (q x) (cond (ne_eqb x s ne i) 1 0) 0) ∙ cond-zero (q x) ∙ sym (cond-zero (q s))
+        ∙ (λ i. cond (q s) (cond (sym (ne_eqb x s ne) i) 1 0) 0))
         (cases_eq x s)
 
 -- what a chain owes, of all blocks that begin with these slots
@@ -121,15 +125,26 @@ pub record AreChains (links : List (Option ℕ)) : Type 0 where
   pub goes_on : (s : ℕ) → GoesOn links s (along links 8191 (next_of links s))
 
 -- in the blocks from some slots, one that is the next of b stands as often as it is a first one and as b stands
-times-blocks : (links : List (Option ℕ)) (b s : ℕ) → AreChains links → next_of links b ≡ Some s → ((c : ℕ) → next_of links c ≡ Some s → c ≡ b)
-    → (firsts : List ℕ) → times s (slots_in (map (block_from links) firsts)) ≡ times s firsts + times b (slots_in (map (block_from links) firsts))
+times-blocks : (links : List (Option ℕ)) (b s : ℕ) → AreChains links → next_of links b ≡ Some s
+    → ((c : ℕ) → next_of links c ≡ Some s → c ≡ b)
+    → (firsts : List ℕ) → times s (slots_in (map (block_from links) firsts)) ≡ times s firsts + times b
+    (slots_in (map (block_from links) firsts))
 times-blocks links b s chains next once [] = refl
 times-blocks links b s chains next once (i ∷ firsts) =
     let js = along links 8191 (next_of links i) in
     let rest = slots_in (map (block_from links) firsts) in
     let of_s = ap (λ block. times s (block ++ rest)) (block_from-is links i) ∙ sum_by-append (λ x. cond (x == s) 1 0) (i ∷ js) rest in
     let of_b = ap (λ block. times b (block ++ rest)) (block_from-is links i) ∙ sum_by-append (λ x. cond (x == b) 1 0) (i ∷ js) rest in
-    omega (arith, of_s, of_b, times-cons s i js, times-after links b s next once i js (chains.goes_on i), times-blocks links b s chains next once firsts, times-cons s i firsts)
+    omega (
+      arith,
+      of_s,
+      of_b,
+      times-cons s i js,
+      times-after links b s next once i js (chains.goes_on i),
+      times-blocks links b s chains
+          next once firsts,
+      times-cons s i firsts,
+    )
 
 -- and one that is the next of none as often as it is a first one
 times-blocks_first : (links : List (Option ℕ)) (s : ℕ) → AreChains links → ((c : ℕ) → next_of links c ≡ Some s → ⊥)
@@ -139,11 +154,21 @@ times-blocks_first links s chains first (i ∷ firsts) =
     let js = along links 8191 (next_of links i) in
     let rest = slots_in (map (block_from links) firsts) in
     let of_s = ap (λ block. times s (block ++ rest)) (block_from-is links i) ∙ sum_by-append (λ x. cond (x == s) 1 0) (i ∷ js) rest in
-    omega (arith, of_s, times-cons s i js, times-first links s first i js (chains.goes_on i), times-blocks_first links s chains first firsts, times-cons s i firsts)
+    omega (
+      arith,
+      of_s,
+      times-cons s i js,
+      times-first links s first i js (chains.goes_on i),
+      times-blocks_first links s chains first
+          firsts,
+      times-cons s i firsts,
+    )
 
 -- each slot stands in the blocks as it is live: by its departure, from the earliest on
-times-all : (network : Network) (departs : ℕ → ℕ) (links : List (Option ℕ)) (order : List ℕ) → AreDepartures network departs → AreLinks network links → AreChains links
-    → StandsOnce network.live order → (bound s : ℕ) → departs s < bound → times s (slots_in (blocks_along links order)) ≡ cond (network.live s) 1 0
+times-all : (network : Network) (departs : ℕ → ℕ) (links : List (Option ℕ)) (order : List ℕ) → AreDepartures network departs
+    → AreLinks network links → AreChains links
+    → StandsOnce network.live order → (bound s : ℕ) → departs s < bound
+    → times s (slots_in (blocks_along links order)) ≡ cond (network.live s) 1 0
 times-all network departs links order clock are chains stands zero s h = absurd (omega arith)
 times-all network departs links order clock are chains stands (suc bound) s h = ⊎_elim
     (λ (any : list_any (leads_to s) links ≡ true).
@@ -152,7 +177,8 @@ times-all network departs links order clock are chains stands (suc bound) s h = 
     let runs = clock.runs before.0 s fits in
     let earlier : departs before.0 < bound = omega (arith, clock.rises before.0 s fits) in
     let blocks = times-blocks links before.0 s chains before.1 (λ c e. are.once c before.0 s e before.1) (filter (is_first links) order) in
-    let firsts : times s (filter (is_first links) order) ≡ 0 = times-filter (is_first links) s order ∙ ap (λ b. cond (not b) (times s order) 0) any in
+    let firsts : times s (filter (is_first links) order) ≡ 0 = times-filter (is_first links) s order
+    ∙ ap (λ b. cond (not b) (times s order) 0) any in
     let rest = times-all network departs links order clock are chains stands bound before.0 earlier in
     let one : ◌≡◌ {A = ℕ} (cond (network.live before.0) 1 0) 1 = ap (λ b. cond b 1 0) runs.0 in
     let live : ◌≡◌ {A = ℕ} (cond (network.live s) 1 0) 1 = ap (λ b. cond b 1 0) runs.1 in
@@ -164,20 +190,23 @@ times-all network departs links order clock are chains stands (suc bound) s h = 
     ∙ stands.once s)
     (cases_Bool (list_any (leads_to s) links))
 
-each-block : (network : Network) (links : List (Option ℕ)) → AreLinks network links → AreChains links → (firsts : List ℕ) → AllByRecursion (IsBlock network) (map (block_from links) firsts)
+each-block : (network : Network) (links : List (Option ℕ)) → AreLinks network links → AreChains links → (firsts : List ℕ)
+    → AllByRecursion (IsBlock network) (map (block_from links) firsts)
 each-block network links are chains [] = tt
 each-block network links are chains (i ∷ firsts) = (
   subst (IsBlock network) (sym (block_from-is links i)) (follow network links are i _ (chains.goes_on i)),
   each-block network links are chains firsts,
 )
 
-pub chains-of : (network : Network) (departs : ℕ → ℕ) (links : List (Option ℕ)) → AreDepartures network departs → AreLinks network links → AreChains links
+pub chains-of : (network : Network) (departs : ℕ → ℕ) (links : List (Option ℕ)) → AreDepartures network departs → AreLinks network links
+    → AreChains links
 chains-of network departs links clock are = record {
   goes_on = λ s. along-goes_on network departs links clock are 8191 s (next_of links s) refl (omega arith);
 }
 
 -- links along which departures rise make a blocking
-pub IsBlocking-blocks_along : (network : Network) (departs : ℕ → ℕ) (links : List (Option ℕ)) (order : List ℕ) → AreDepartures network departs → AreLinks network links
+pub IsBlocking-blocks_along : (network : Network) (departs : ℕ → ℕ) (links : List (Option ℕ)) (order : List ℕ)
+    → AreDepartures network departs → AreLinks network links
     → StandsOnce network.live order → IsBlocking network (blocks_along links order)
 IsBlocking-blocks_along network departs links order clock are stands =
     let chains = chains-of network departs links clock are in
@@ -187,7 +216,8 @@ IsBlocking-blocks_along network departs links order clock are stands =
     }
 
 -- the trips of a chain that have a next one are all but the last
-links-after : (links : List (Option ℕ)) (i : ℕ) (js : List ℕ) → GoesOn links i js → sum_by (λ s. cond (is_some (next_of links s)) 1 0) (i ∷ js) ≡ length js
+links-after : (links : List (Option ℕ)) (i : ℕ) (js : List ℕ) → GoesOn links i js
+    → sum_by (λ s. cond (is_some (next_of links s)) 1 0) (i ∷ js) ≡ length js
 links-after links i [] goes =
     let none : ◌≡◌ {A = ℕ} (cond (is_some (next_of links i)) 1 0) 0 = ap (λ n. cond (is_some n) 1 0) goes in
     omega (arith, sum_by-cons (λ s. cond (is_some (next_of links s)) 1 0) i [], none)
@@ -196,7 +226,8 @@ links-after links i (j ∷ js) goes =
     omega (arith, sum_by-cons (λ s. cond (is_some (next_of links s)) 1 0) i (j ∷ js), one, links-after links j js goes.1)
 
 links-blocks : (links : List (Option ℕ)) → AreChains links → (firsts : List ℕ)
-    → sum_by (λ s. cond (is_some (next_of links s)) 1 0) (slots_in (map (block_from links) firsts)) + length firsts ≡ length (slots_in (map (block_from links) firsts))
+    → sum_by (λ s. cond (is_some (next_of links s)) 1 0) (slots_in (map (block_from links) firsts)) + length firsts ≡ length
+    (slots_in (map (block_from links) firsts))
 links-blocks links chains [] = refl
 links-blocks links chains (i ∷ firsts) =
     let has : ℕ → ℕ = λ s. cond (is_some (next_of links s)) 1 0 in
@@ -207,7 +238,8 @@ links-blocks links chains (i ∷ firsts) =
     omega (arith, sums, lengths, links-after links i js (chains.goes_on i), links-blocks links chains firsts)
 
 -- there are as many trips as blocks and links
-pub blocks-and-links : (network : Network) (departs : ℕ → ℕ) (links : List (Option ℕ)) (order : List ℕ) → AreDepartures network departs → AreLinks network links
+pub blocks-and-links : (network : Network) (departs : ℕ → ℕ) (links : List (Option ℕ)) (order : List ℕ) → AreDepartures network departs
+    → AreLinks network links
     → StandsOnce network.live order → ((s : ℕ) → network.live s ≡ true → s < length links)
     → length (blocks_along links order) + link_count links ≡ length order
 blocks-and-links network departs links order clock are stands within =
@@ -216,10 +248,20 @@ blocks-and-links network departs links order clock are stands within =
     let has : ℕ → ℕ = λ s. cond (is_some (next_of links s)) 1 0 in
     let flat = slots_in (blocks_along links order) in
     let none : (s : ℕ) → network.live s ≡ false → has s ≡ 0 = λ s dead. unlinked s dead (next_of links s) refl in
-    let counted = sum_by-below network.live has (length links) flat within none blocking.stands ∙ sum_below-list (λ n. cond (is_some n) 1 0) links None in
+    let counted = sum_by-below network.live has (length links) flat within none blocking.stands
+    ∙ sum_below-list (λ n. cond (is_some n) 1 0) links None in
     let ones = sum_by-standing network.live (λ _. 1) flat order blocking.stands stands in
-    omega (arith, links-blocks links chains (filter (is_first links) order), length-map (filter (is_first links) order) (block_from links), counted, ones, length-ones flat, length-ones order)
+    omega (
+      arith,
+      links-blocks links chains (filter (is_first links) order),
+      length-map (filter (is_first links) order) (block_from links),
+      counted,
+      ones,
+      length-ones flat,
+      length-ones order,
+    )
   where
-    unlinked : (s : ℕ) → network.live s ≡ false → (next : Option ℕ) → next_of links s ≡ next → ◌≡◌ {A = ℕ} (cond (is_some (next_of links s)) 1 0) 0
+    unlinked : (s : ℕ) → network.live s ≡ false → (next : Option ℕ) → next_of links s ≡ next
+        → ◌≡◌ {A = ℕ} (cond (is_some (next_of links s)) 1 0) 0
     unlinked s dead None e = ap (λ n. cond (is_some n) 1 0) e
     unlinked s dead (Some j) e = absurd (false≢true (sym dead ∙ (clock.runs s j (are.fits s j e)).0))

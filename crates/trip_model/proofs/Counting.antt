@@ -1,5 +1,6 @@
 -- Sums over lists in which each live slot stands once, and over the numbers below a bound.
-use Rattle.std.proofs.Common.{◌≡◌, ◌≢◌, ℕ, zero, suc, ◌+◌, ◌<◌, ◌≤◌, ◌==◌, ◌&&◌, Bool, true, false, cond, nat_lt, List, [], ◌∷◌, ◌++◌, length, get_or, filter, sum_by, count_by, Option, None, Some, refl, sym, ap, subst, ◌∙◌, ⊎_elim, arith}
+use Rattle.std.proofs.Common.{◌≡◌, ◌≢◌, ℕ, zero, suc, ◌+◌, ◌<◌, ◌≤◌, ◌==◌, ◌&&◌, Bool, true, false, cond, nat_lt, List, [], ◌∷◌, ◌++◌}
+use Rattle.std.proofs.Common.{length, get_or, filter, sum_by, count_by, Option, None, Some, refl, sym, ap, subst, ◌∙◌, ⊎_elim, arith}
 use Rattle.std.specs.List.{range_with_len, remove}
 use Rattle.std.specs.Option.{is_some}
 use Rattle.std.proofs.lemmas.Bool.{cases_Bool, cases_eq, cases_lt, lt-ltb, and_right, false≢true, eq-eqb, ne_eqb, eqb-true}
@@ -69,11 +70,13 @@ sum_by-made g (Some m ∷ moves) =
     sum_by-cons g m (made moves) ∙ ap (λ n. g m + n) (sum_by-made g moves) ∙ sym (sum_by-cons (over g) (Some m) moves)
 
 -- a sum over the moves that are made, as a sum over the slots
-pub sum_below-made : (g : Move → ℕ) (moves : List (Option Move)) → sum_below (λ s. over g (move_at moves s)) (length moves) ≡ sum_by g (made moves)
+pub sum_below-made : (g : Move → ℕ) (moves : List (Option Move))
+    → sum_below (λ s. over g (move_at moves s)) (length moves) ≡ sum_by g (made moves)
 sum_below-made g moves = sum_below-list (over g) moves None ∙ sym (sum_by-made g moves)
 
 -- a sum over the numbers that pass a test
-pub sum_by-filter_range : (q : ℕ → Bool) (f : ℕ → ℕ) (n : ℕ) → sum_by f (filter q (range_with_len 0 n)) ≡ sum_below (λ s. cond (q s) (f s) 0) n
+pub sum_by-filter_range : (q : ℕ → Bool) (f : ℕ → ℕ) (n : ℕ)
+    → sum_by f (filter q (range_with_len 0 n)) ≡ sum_below (λ s. cond (q s) (f s) 0) n
 sum_by-filter_range q f zero = refl
 sum_by-filter_range q f (suc n) =
     ap (λ xs. sum_by f (filter q xs)) (range_with_len-more 0 n)
@@ -142,7 +145,8 @@ one_below q s (suc n) = ⊎_elim
     zero_both false = refl
 
 -- so do the live ones below a bound
-pub StandsOnce-filter_range : (live : ℕ → Bool) (n : ℕ) → ((s : ℕ) → live s ≡ true → s < n) → StandsOnce live (filter live (range_with_len 0 n))
+pub StandsOnce-filter_range : (live : ℕ → Bool) (n : ℕ) → ((s : ℕ) → live s ≡ true → s < n)
+    → StandsOnce live (filter live (range_with_len 0 n))
 StandsOnce-filter_range live n within = record {
   once = λ s. sum_by-filter_range live (λ x. cond (x == s) 1 0) n ∙ one_below live s n ∙ ap (λ b. cond b 1 0) (all s);
 }
@@ -154,7 +158,8 @@ StandsOnce-filter_range live n within = record {
         (cases_Bool (live s))
 
 -- a sum over a list in which each live slot stands once, as a sum over the numbers below a bound
-pub sum_by-below : (live : ℕ → Bool) (f : ℕ → ℕ) (n : ℕ) (slots : List ℕ) → ((s : ℕ) → live s ≡ true → s < n) → ((s : ℕ) → live s ≡ false → f s ≡ 0)
+pub sum_by-below : (live : ℕ → Bool) (f : ℕ → ℕ) (n : ℕ) (slots : List ℕ) → ((s : ℕ) → live s ≡ true → s < n)
+    → ((s : ℕ) → live s ≡ false → f s ≡ 0)
     → StandsOnce live slots → sum_by f slots ≡ sum_below f n
 sum_by-below live f n slots within none stands =
     sum_by-standing live f slots (filter live (range_with_len 0 n)) stands (StandsOnce-filter_range live n within)
@@ -179,7 +184,8 @@ StandsOnce-live_slots moves = StandsOnce-filter_range (λ s. is_some (move_at mo
 pub sum_by-made_standing : (g : Move → ℕ) (moves : List (Option Move)) (slots : List ℕ) → StandsOnce (λ s. is_some (move_at moves s)) slots
     → sum_by (λ s. over g (move_at moves s)) slots ≡ sum_by g (made moves)
 sum_by-made_standing g moves slots stands =
-    sum_by-below (λ s. is_some (move_at moves s)) (λ s. over g (move_at moves s)) (length moves) slots (runs-within moves) (λ s. none (move_at moves s)) stands
+    sum_by-below (λ s. is_some (move_at moves s)) (λ s. over g (move_at moves s)) (length moves) slots (runs-within moves)
+    (λ s. none (move_at moves s)) stands
     ∙ sum_below-made g moves
   where
     none : (m : Option Move) → is_some m ≡ false → over g m ≡ 0

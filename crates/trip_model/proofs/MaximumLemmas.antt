@@ -1,5 +1,6 @@
 -- The first maximum of a function of the minute, and that there is only one.
-use Rattle.std.proofs.Common.{◌≡◌, ℕ, zero, suc, ◌+◌, ◌<◌, ◌≤◌, Bool, true, false, List, [], ◌∷◌, All, cond, ◌==◌, ◌&&◌, nat_le, ℤ, pos, ◌≤ℤ◌, ◌<ℤ◌, if◌then◌else◌, refl, ap, subst, ◌∙◌, ⊎_elim, arith}
+use Rattle.std.proofs.Common.{◌≡◌, ℕ, zero, suc, ◌+◌, ◌<◌, ◌≤◌, Bool, true, false, List, [], ◌∷◌, All, cond, ◌==◌, ◌&&◌, nat_le, ℤ, pos}
+use Rattle.std.proofs.Common.{◌≤ℤ◌, ◌<ℤ◌, if◌then◌else◌, refl, ap, subst, ◌∙◌, ⊎_elim, arith}
 use Rattle.std.specs.Prelude.{int_lt}
 use Rattle.std.proofs.lemmas.Bool.{cases_lt, lt-leb, and_right}
 use Rattle.std.proofs.lemmas.Int.{ints}
@@ -61,15 +62,18 @@ IsFirstMaximum-from_best d last b e best = record {
 -- the first maximum over all minutes
 IsFirstMaximum-at : (d : ℕ → ℤ) (last : ℕ) → last ≡ 8191 → IsFirstMaximum d (first_maximum d).0 (first_maximum d).1
 IsFirstMaximum-at d last e =
-    subst (λ b. IsFirstMaximum d b.0 b.1) (first_maximum_is d last e) (IsFirstMaximum-from_best d last (first_maximum_up_to d last) e (IsBest-up_to d last))
+    subst (λ b. IsFirstMaximum d b.0 b.1) (first_maximum_is d last e)
+    (IsFirstMaximum-from_best d last (first_maximum_up_to d last) e (IsBest-up_to d last))
 
 pub IsFirstMaximum-first_maximum : (d : ℕ → ℤ) → IsFirstMaximum d (first_maximum d).0 (first_maximum d).1
 IsFirstMaximum-first_maximum d = IsFirstMaximum-at d 8191 refl
 
 -- two first maxima are one
-pub IsFirstMaximum-unique : (d : ℕ → ℤ) (high : ℤ) (at : ℕ) (high' : ℤ) (at' : ℕ) → IsFirstMaximum d high at → IsFirstMaximum d high' at' → (high ≡ high') × (at ≡ at')
+pub IsFirstMaximum-unique : (d : ℕ → ℤ) (high : ℤ) (at : ℕ) (high' : ℤ) (at' : ℕ) → IsFirstMaximum d high at → IsFirstMaximum d high' at'
+    → (high ≡ high') × (at ≡ at')
 IsFirstMaximum-unique d high at high' at' f g =
-    let same : high ≡ high' = (let a = g.greatest at f.within in let b = f.greatest at' g.within in let p = f.reached in let q = g.reached in grind (arith, ints)) in (
+    let same : high ≡ high' = (let a = g.greatest at f.within in let b = f.greatest at' g.within in let p = f.reached in
+    let q = g.reached in grind (arith, ints)) in (
       same,
       ⊎_elim
           (λ (h : at < at'). let lt = g.first at h in let p = f.reached in absurd (grind (arith, ints)))
@@ -111,6 +115,7 @@ arrivals-start (m ∷ moves) place forward =
     λ i. cond (and_right (m.to == place) (nat_le m.arrives 0) late i) 1 0 + rest i)
 
 -- where every move arrives after it leaves, no maximum of a deficit is below 0
-pub deficit-maximum : (moves : List Move) (place : ℕ) → All (λ m. m.leaves < m.arrives) moves → pos 0 ≤ℤ (first_maximum (deficit moves place)).0
+pub deficit-maximum : (moves : List Move) (place : ℕ) → All (λ m. m.leaves < m.arrives) moves
+    → pos 0 ≤ℤ (first_maximum (deficit moves place)).0
 deficit-maximum moves place forward =
     first_maximum-le (deficit moves place) (rw (arrivals-start moves place forward) (omega (arith, ints)))

@@ -1,5 +1,7 @@
 -- Slots in order of departure, and of end: each stands once, keys rise, and a stable sort gives the order.
-use Rattle.std.proofs.Common.{◌≡◌, ◌≢◌, ℕ, zero, suc, ◌+◌, ◌<◌, ◌≤◌, ◌==◌, ◌&&◌, not, nat_le, nat_lt, Bool, true, false, cond, List, [], ◌∷◌, ◌++◌, length, get_or, drop, filter, fold, sum_by, All, Option, None, Some, if◌then◌else◌, refl, sym, ap, subst, ◌∙◌, append_assoc, ⊎_elim, Less, Equal, Greater, nat_cmp, arith}
+use Rattle.std.proofs.Common.{◌≡◌, ◌≢◌, ℕ, zero, suc, ◌+◌, ◌<◌, ◌≤◌, ◌==◌, ◌&&◌, not, nat_le, nat_lt, Bool, true, false, cond, List, []}
+use Rattle.std.proofs.Common.{◌∷◌, ◌++◌, length, get_or, drop, filter, fold, sum_by, All, Option, None, Some, if◌then◌else◌, refl, sym, ap}
+use Rattle.std.proofs.Common.{subst, ◌∙◌, append_assoc, ⊎_elim, Less, Equal, Greater, nat_cmp, arith}
 use Rattle.std.specs.List.{range_with_len, AllByRecursion}
 use Rattle.std.specs.List.Sorted.{IsNonDecreasingBy, IsStableByKey}
 use Rattle.std.specs.Option.{is_some}
@@ -23,7 +25,8 @@ sum_by-placed : (f key : ℕ → ℕ) (xs : List ℕ) (s : ℕ) → sum_by f (pl
 sum_by-placed f key [] s = omega (arith, sum_by-cons f s [])
 sum_by-placed f key (x ∷ xs) s = by (nat_le (key x) (key s)) (sum_by-placed f key xs s)
   where
-    by : (b : Bool) → sum_by f (placed_by key xs s) ≡ sum_by f xs + f s → sum_by f (if b then x ∷ placed_by key xs s else s ∷ x ∷ xs) ≡ sum_by f (x ∷ xs) + f s
+    by : (b : Bool) → sum_by f (placed_by key xs s) ≡ sum_by f xs + f s
+        → sum_by f (if b then x ∷ placed_by key xs s else s ∷ x ∷ xs) ≡ sum_by f (x ∷ xs) + f s
     by true e = omega (arith, e, sum_by-cons f x xs, sum_by-cons f x (placed_by key xs s))
     by false e = omega (arith, sum_by-cons f s (x ∷ xs))
 
@@ -65,11 +68,16 @@ rise-placed : (key : ℕ → ℕ) (xs : List ℕ) (s : ℕ) → RiseBy key xs �
 rise-placed key [] s rise = (tt, tt)
 rise-placed key (x ∷ xs) s rise = by (nat_le (key x) (key s)) refl (rise-placed key xs s rise.1)
   where
-    by : (b : Bool) → nat_le (key x) (key s) ≡ b → RiseBy key (placed_by key xs s) → RiseBy key (if b then x ∷ placed_by key xs s else s ∷ x ∷ xs)
+    by : (b : Bool) → nat_le (key x) (key s) ≡ b → RiseBy key (placed_by key xs s)
+        → RiseBy key (if b then x ∷ placed_by key xs s else s ∷ x ∷ xs)
     by true e rest = (all-placed (λ y. key x ≤ key y) key xs s rise.0 (leb-true (key x) (key s) e), rest)
     by false e rest =
         let above : key s < key x = leb-false (key x) (key s) e in (
-          ((let le : key s ≤ key x = omega arith in le), all-weaker (λ y. key x ≤ key y) (λ y. key s ≤ key y) (λ y h. omega arith) xs rise.0),
+          (
+            (let le : key s ≤ key x = omega arith in le),
+            all-weaker (λ y. key x ≤ key y) (λ y. key s ≤ key y) (λ y h. omega arith) xs
+                rise.0,
+          ),
           rise,
         )
 
@@ -88,24 +96,32 @@ unfolding by_end
 RiseBy-by_end moves = rise-by_key (λ s. minute_arrived (move_at moves s)) [] (live_slots moves) tt
 
 -- a slot that is greater than all of a list is put behind those of its key
-ties-placed : (key : ℕ → ℕ) (xs : List ℕ) (s : ℕ) → AllByRecursion (λ x. x < s) xs → RiseBy key xs → TiesRise key xs → TiesRise key (placed_by key xs s)
+ties-placed : (key : ℕ → ℕ) (xs : List ℕ) (s : ℕ) → AllByRecursion (λ x. x < s) xs → RiseBy key xs → TiesRise key xs
+    → TiesRise key (placed_by key xs s)
 ties-placed key [] s below rise ties = (tt, tt)
 ties-placed key (x ∷ xs) s below rise ties = by (nat_le (key x) (key s)) refl (ties-placed key xs s below.1 rise.1 ties.1)
   where
-    by : (b : Bool) → nat_le (key x) (key s) ≡ b → TiesRise key (placed_by key xs s) → TiesRise key (if b then x ∷ placed_by key xs s else s ∷ x ∷ xs)
+    by : (b : Bool) → nat_le (key x) (key s) ≡ b → TiesRise key (placed_by key xs s)
+        → TiesRise key (if b then x ∷ placed_by key xs s else s ∷ x ∷ xs)
     by true e rest = (all-placed (λ y. key x ≡ key y → x < y) key xs s ties.0 (λ _. below.0), rest)
     by false e rest =
         let above : key s < key x = leb-false (key x) (key s) e in (
-          ((λ same. absurd (omega arith)), all-weaker (λ y. key x ≤ key y) (λ y. key s ≡ key y → s < y) (λ y h same. absurd (omega arith)) xs rise.0),
+          (
+            (λ same. absurd (omega arith)),
+            all-weaker (λ y. key x ≤ key y) (λ y. key s ≡ key y → s < y) (λ y h same. absurd (omega arith))
+                xs rise.0,
+          ),
           ties,
         )
 
 -- slots that are put in by their numbers
-ties-by_key : (key : ℕ → ℕ) (q : ℕ → Bool) (n a : ℕ) (front : List ℕ) → AllByRecursion (λ x. x < a) front → RiseBy key front → TiesRise key front
+ties-by_key : (key : ℕ → ℕ) (q : ℕ → Bool) (n a : ℕ) (front : List ℕ) → AllByRecursion (λ x. x < a) front → RiseBy key front
+    → TiesRise key front
     → TiesRise key (fold (placed_by key) front (filter q (range_with_len a n)))
 ties-by_key key q zero a front below rise ties = ties
 ties-by_key key q (suc n) a front below rise ties =
-    by (q a) (ties-by_key key q n (a + 1) (placed_by key front a) (all-placed (λ x. x < a + 1) key front a further here) (rise-placed key front a rise) (ties-placed key front a below rise ties))
+    by (q a) (ties-by_key key q n (a + 1) (placed_by key front a) (all-placed (λ x. x < a + 1) key front a further here)
+    (rise-placed key front a rise) (ties-placed key front a below rise ties))
     (ties-by_key key q n (a + 1) front further rise ties)
   where
     further : AllByRecursion (λ x. x < a + 1) front
@@ -114,7 +130,8 @@ ties-by_key key q (suc n) a front below rise ties =
     here : a < a + 1
     here = omega arith
 
-    by : (b : Bool) → TiesRise key (fold (placed_by key) (placed_by key front a) (filter q (range_with_len (a + 1) n))) → TiesRise key (fold (placed_by key) front (filter q (range_with_len (a + 1) n)))
+    by : (b : Bool) → TiesRise key (fold (placed_by key) (placed_by key front a) (filter q (range_with_len (a + 1) n)))
+        → TiesRise key (fold (placed_by key) front (filter q (range_with_len (a + 1) n)))
         → TiesRise key (fold (placed_by key) front (cond b (a ∷ filter q (range_with_len (a + 1) n)) (filter q (range_with_len (a + 1) n))))
     by true put passed = put
     by false put passed = passed
@@ -143,10 +160,13 @@ slot-live t s = ap is_some (slot-move t s) ∙ by (slot_at t s) ((slot_at t s).t
     by slot true = refl
     by slot false = refl
 
-pub slot-ends : (t : TimetableView) (s : ℕ) → (slot_at t s).trip.live ≡ true → minute_arrived (move_at (trip_moves t.slots) s) ≡ (slot_at t s).trip.ends
-slot-ends t s live = ap minute_arrived (slot-move t s) ∙ ap (λ b. minute_arrived (if b then Some (move_of (slot_at t s).trip) else None)) live
+pub slot-ends : (t : TimetableView) (s : ℕ) → (slot_at t s).trip.live ≡ true
+    → minute_arrived (move_at (trip_moves t.slots) s) ≡ (slot_at t s).trip.ends
+slot-ends t s live = ap minute_arrived (slot-move t s)
+    ∙ ap (λ b. minute_arrived (if b then Some (move_of (slot_at t s).trip) else None)) live
 
-pub slot-departs : (t : TimetableView) (s : ℕ) → (slot_at t s).trip.live ≡ true → minute_left (move_at (trip_moves t.slots) s) ≡ (slot_at t s).trip.departs
+pub slot-departs : (t : TimetableView) (s : ℕ) → (slot_at t s).trip.live ≡ true
+    → minute_left (move_at (trip_moves t.slots) s) ≡ (slot_at t s).trip.departs
 slot-departs t s live = ap minute_left (slot-move t s) ∙ ap (λ b. minute_left (if b then Some (move_of (slot_at t s).trip) else None)) live
 
 filter_range-more : (q : ℕ → Bool) (n : ℕ) → filter q (range_with_len 0 (n + 1)) ≡ filter q (range_with_len 0 n) ++ cond (q n) (n ∷ []) []
@@ -160,7 +180,8 @@ filter_range-more q n =
 none-with_key : (key : ℕ → ℕ) (k : ℕ) (xs : List ℕ) → AllByRecursion (λ y. k < key y) xs → filter (λ s. key s == k) xs ≡ []
 none-with_key key k [] above = refl
 none-with_key key k (x ∷ xs) above =
-    ap (λ b. cond b (x ∷ filter (λ s. key s == k) xs) (filter (λ s. key s == k) xs)) (ne_eqb (key x) k (let h = above.0 in let ne : key x ≢ k = omega arith in ne))
+    ap (λ b. cond b (x ∷ filter (λ s. key s == k) xs) (filter (λ s. key s == k) xs))
+    (ne_eqb (key x) k (let h = above.0 in let ne : key x ≢ k = omega arith in ne))
     ∙ none-with_key key k xs above.1
 
 -- a slot that is put in comes behind those of its key
@@ -173,15 +194,20 @@ filter-placed key k (x ∷ xs) s rise = by (nat_le (key x) (key s)) refl (filter
     behind true ys zs ends e = ap (λ ys. x ∷ ys) e
     behind false ys zs ends e = e
 
-    before : (b : Bool) → (key s == k) ≡ b → key s < key x → cond b (s ∷ filter (λ s. key s == k) (x ∷ xs)) (filter (λ s. key s == k) (x ∷ xs)) ≡ filter (λ s. key s == k) (x ∷ xs) ++ cond b (s ∷ []) []
+    before : (b : Bool) → (key s == k) ≡ b → key s < key x
+        → cond b (s ∷ filter (λ s. key s == k) (x ∷ xs)) (filter (λ s. key s == k) (x ∷ xs)) ≡ filter (λ s. key s == k) (x ∷ xs)
+        ++ cond b (s ∷ []) []
     before true e lt =
         let is : key s ≡ k = eqb-true (key s) k e in
-        let none = none-with_key key k (x ∷ xs) ((let h : k < key x = omega arith in h), all-weaker (λ y. key x ≤ key y) (λ y. k < key y) (λ y h. omega arith) xs rise.0) in
+        let none = none-with_key key k (x ∷ xs)
+        ((let h : k < key x = omega arith in h), all-weaker (λ y. key x ≤ key y) (λ y. k < key y) (λ y h. omega arith) xs rise.0) in
         ap (λ ys. s ∷ ys) none ∙ ap (λ ys. ys ++ s ∷ []) (sym none)
     before false e lt = sym (append-nil (filter (λ s. key s == k) (x ∷ xs)))
 
-    by : (b : Bool) → nat_le (key x) (key s) ≡ b → filter (λ s. key s == k) (placed_by key xs s) ≡ filter (λ s. key s == k) xs ++ filter (λ s. key s == k) (s ∷ [])
-        → filter (λ s. key s == k) (if b then x ∷ placed_by key xs s else s ∷ x ∷ xs) ≡ filter (λ s. key s == k) (x ∷ xs) ++ filter (λ s. key s == k) (s ∷ [])
+    by : (b : Bool) → nat_le (key x) (key s) ≡ b
+        → filter (λ s. key s == k) (placed_by key xs s) ≡ filter (λ s. key s == k) xs ++ filter (λ s. key s == k) (s ∷ [])
+        → filter (λ s. key s == k) (if b then x ∷ placed_by key xs s else s ∷ x ∷ xs) ≡ filter (λ s. key s == k) (x ∷ xs)
+        ++ filter (λ s. key s == k) (s ∷ [])
     by true e rest = behind (key x == k) _ _ _ rest
     by false e rest = before (key s == k) refl (leb-false (key x) (key s) e)
 
@@ -206,7 +232,8 @@ not-empty : (x : ℕ) (xs : List ℕ) → x ∷ xs ≡ [] → ⊥
 not-empty x xs e = let n : suc (length xs) ≡ 0 = ap length e in omega arith
 
 first-above : (key : ℕ → ℕ) (x y : ℕ) (ys : List ℕ) → key x < key y → RiseBy key (y ∷ ys) → filter (λ s. key s == key x) (y ∷ ys) ≡ []
-first-above key x y ys lt rise = none-with_key key (key x) (y ∷ ys) (lt, all-weaker (λ z. key y ≤ key z) (λ z. key x < key z) (λ z h. omega arith) ys rise.0)
+first-above key x y ys lt rise =
+    none-with_key key (key x) (y ∷ ys) (lt, all-weaker (λ z. key y ≤ key z) (λ z. key x < key z) (λ z h. omega arith) ys rise.0)
 
 -- lists whose keys rise, with the same slots of each key in the same order, are one
 rise-once : (key : ℕ → ℕ) (xs ys : List ℕ) → RiseBy key xs → RiseBy key ys
@@ -217,25 +244,31 @@ rise-once key (x ∷ xs) [] rise_x rise_y same = absurd (not-empty x _ (sym (fil
 rise-once key (x ∷ xs) (y ∷ ys) rise_x rise_y same = ⊎_elim
     (λ (lt : key x < key y). absurd (not-empty x _ (sym (filter-first key (key x) x xs refl) ∙ same x ∙ first-above key x y ys lt rise_y)))
     (λ (le : key y ≤ key x). ⊎_elim
-    (λ (lt : key y < key x). absurd (not-empty y _ (sym (filter-first key (key y) y ys refl) ∙ sym (same y) ∙ first-above key y x xs lt rise_x)))
+    (λ (lt : key y < key x). absurd
+    (not-empty y _ (sym (filter-first key (key y) y ys refl) ∙ sym (same y) ∙ first-above key y x xs lt rise_x)))
     (λ (ge : key x ≤ key y).
     let one : key y ≡ key x = omega arith in
-    let both : x ∷ filter (λ s. key s == key x) xs ≡ y ∷ filter (λ s. key s == key x) ys = sym (filter-first key (key x) x xs refl) ∙ same x ∙ filter-first key (key x) y ys one in
+    let both : x ∷ filter (λ s. key s == key x) xs ≡ y ∷ filter (λ s. key s == key x) ys = sym (filter-first key (key x) x xs refl)
+    ∙ same x ∙ filter-first key (key x) y ys one in
     let rest = rise-once key xs ys rise_x.1 rise_y.1 (λ z. ⊎_elim
     (λ (is : key x ≡ key z). subst (λ k. filter (λ s. key s == k) xs ≡ filter (λ s. key s == k) ys) is (ap (drop 1) both))
     (λ (other : key x ≡ key z → ⊥).
-    sym (filter-passed key (key z) x xs other) ∙ same z ∙ filter-passed key (key z) y ys (let ne : key x ≢ key z = other in let ne_y : key y ≢ key z = omega arith in ne_y))
+    sym (filter-passed key (key z) x xs other) ∙ same z
+    ∙ filter-passed key (key z) y ys (let ne : key x ≢ key z = other in let ne_y : key y ≢ key z = omega arith in ne_y))
     (cases_eq (key x) (key z))) in
     λ i. ap (λ zs. get_or zs 0 0) both i ∷ rest i)
     (cases_lt (key y) (key x)))
     (cases_lt (key x) (key y))
 
 -- keys that agree give one order
-placed-agree : (key other : ℕ → ℕ) (xs : List ℕ) (s : ℕ) → AllByRecursion (λ x. key x ≡ other x) xs → key s ≡ other s → placed_by key xs s ≡ placed_by other xs s
+placed-agree : (key other : ℕ → ℕ) (xs : List ℕ) (s : ℕ) → AllByRecursion (λ x. key x ≡ other x) xs → key s ≡ other s
+    → placed_by key xs s ≡ placed_by other xs s
 placed-agree key other [] s all here = refl
-placed-agree key other (x ∷ xs) s all here = λ i. if nat_le (all.0 i) (here i) then x ∷ placed-agree key other xs s all.1 here i else s ∷ x ∷ xs
+placed-agree key other (x ∷ xs) s all here = λ i. if nat_le (all.0 i) (here i) then x ∷ placed-agree key other xs s all.1 here i
+    else s ∷ x ∷ xs
 
-by_key-agree : (key other : ℕ → ℕ) (front xs : List ℕ) → AllByRecursion (λ x. key x ≡ other x) front → AllByRecursion (λ x. key x ≡ other x) xs
+by_key-agree : (key other : ℕ → ℕ) (front xs : List ℕ) → AllByRecursion (λ x. key x ≡ other x) front
+    → AllByRecursion (λ x. key x ≡ other x) xs
     → fold (placed_by key) front xs ≡ fold (placed_by other) front xs
 by_key-agree key other front [] so_far all = refl
 by_key-agree key other front (x ∷ xs) so_far all =
@@ -254,7 +287,8 @@ rise-from_order key (x ∷ xs) up = (
 ties-key : (a b : ℕ) → (not (is_lt (nat_cmp a b)) && not (is_lt (nat_cmp b a))) ≡ (b == a)
 ties-key a b = by (nat_lt a b) (nat_lt b a) (a == b) (b == a) ∙ grind (arith, nat_tests)
   where
-    by : (t u v w : Bool) → (not (is_lt (cond t Less (cond v Equal Greater))) && not (is_lt (cond u Less (cond w Equal Greater)))) ≡ (not t && not u)
+    by : (t u v w : Bool) → (not (is_lt (cond t Less (cond v Equal Greater))) && not (is_lt (cond u Less (cond w Equal Greater)))) ≡ (not
+        t && not u)
     by true u v w = refl
     by false true true w = refl
     by false true false w = refl
@@ -264,34 +298,45 @@ ties-key a b = by (nat_lt a b) (nat_lt b a) (a == b) (b == a) ∙ grind (arith, 
     by false false false false = refl
 
 -- what a stable sort by keys makes of slots
-pub sorted-by_key : (key other : ℕ → ℕ) (xs ys : List ℕ) → IsNonDecreasingBy other ys → IsStableByKey other nat_cmp xs ys → All (λ s. key s ≡ other s) xs → ys ≡ by_key key xs
+pub sorted-by_key : (key other : ℕ → ℕ) (xs ys : List ℕ) → IsNonDecreasingBy other ys → IsStableByKey other nat_cmp xs ys
+    → All (λ s. key s ≡ other s) xs → ys ≡ by_key key xs
 sorted-by_key key other xs ys up stable agree =
     rise-once other ys (by_key other xs) (rise-from_order other ys up) (rise-by_key other [] xs tt) (λ z.
-    let tie : (s : ℕ) → (other s == other z) ≡ (not (is_lt (nat_cmp (other z) (other s))) && not (is_lt (nat_cmp (other s) (other z)))) = λ s. sym (ties-key (other z) (other s)) in
+    let tie : (s : ℕ) → (other s == other z) ≡ (not (is_lt (nat_cmp (other z) (other s))) && not (is_lt (nat_cmp (other s) (other z)))) =
+    λ s. sym (ties-key (other z) (other s)) in
     (λ i. filter (λ s. tie s i) ys) ∙ stable z ∙ (λ i. filter (λ s. sym (tie s) i) xs) ∙ sym (filter-by_key other (other z) [] xs tt))
     ∙ sym (by_key-agree key other [] xs tt (recursion_from_All (λ s. key s ≡ other s) xs agree))
 
 -- the slots that run, up to the one after s
-pub slots-more : (t : TimetableView) (slots : List ℕ) (s : ℕ) → slots ≡ filter (λ s. is_some (move_at (trip_moves t.slots) s)) (range_with_len 0 s)
-    → (live : Bool) → (slot_at t s).trip.live ≡ live → slots ++ cond live (s ∷ []) [] ≡ filter (λ s. is_some (move_at (trip_moves t.slots) s)) (range_with_len 0 (s + 1))
+pub slots-more : (t : TimetableView) (slots : List ℕ) (s : ℕ)
+    → slots ≡ filter (λ s. is_some (move_at (trip_moves t.slots) s)) (range_with_len 0 s)
+    → (live : Bool) → (slot_at t s).trip.live ≡ live
+    → slots ++ cond live (s ∷ []) [] ≡ filter (λ s. is_some (move_at (trip_moves t.slots) s)) (range_with_len 0 (s + 1))
 slots-more t slots s so_far live is =
-    (λ i. so_far i ++ cond (sym (slot-live t s ∙ is) i) (s ∷ []) []) ∙ sym (filter_range-more (λ s. is_some (move_at (trip_moves t.slots) s)) s)
+    (λ i. so_far i ++ cond (sym (slot-live t s ∙ is) i) (s ∷ []) [])
+    ∙ sym (filter_range-more (λ s. is_some (move_at (trip_moves t.slots) s)) s)
 
-pub slots-all : (t : TimetableView) (slots : List ℕ) (s : ℕ) → s ≡ length t.slots → slots ≡ filter (λ s. is_some (move_at (trip_moves t.slots) s)) (range_with_len 0 s) → slots ≡ live_slots (trip_moves t.slots)
+pub slots-all : (t : TimetableView) (slots : List ℕ) (s : ℕ) → s ≡ length t.slots
+    → slots ≡ filter (λ s. is_some (move_at (trip_moves t.slots) s)) (range_with_len 0 s) → slots ≡ live_slots (trip_moves t.slots)
 slots-all t slots s end so_far =
-    so_far ∙ ap (λ n. filter (λ s. is_some (move_at (trip_moves t.slots) s)) (range_with_len 0 n)) (end ∙ sym (length-map t.slots move_of_slot))
+    so_far ∙ ap (λ n. filter (λ s. is_some (move_at (trip_moves t.slots) s)) (range_with_len 0 n))
+    (end ∙ sym (length-map t.slots move_of_slot))
 
 -- the slots that run, sorted by departure, and by end
-pub by_departure-sorted : (t : TimetableView) (slots order : List ℕ) → IsNonDecreasingBy (λ s. (slot_at t s).trip.departs) order → IsStableByKey (λ s. (slot_at t s).trip.departs) nat_cmp slots order
+pub by_departure-sorted : (t : TimetableView) (slots order : List ℕ) → IsNonDecreasingBy (λ s. (slot_at t s).trip.departs) order
+    → IsStableByKey (λ s. (slot_at t s).trip.departs) nat_cmp slots order
     → slots ≡ live_slots (trip_moves t.slots) → All (λ s. (slot_at t s).trip.live ≡ true) slots → order ≡ by_departure (trip_moves t.slots)
 unfolding by_departure
 by_departure-sorted t slots order up stable are live =
     let key = λ (s : ℕ). minute_left (move_at (trip_moves t.slots) s) in
-    sorted-by_key key (λ s. (slot_at t s).trip.departs) slots order up stable (λ k d h. slot-departs t (get_or slots k d) (live k d h)) ∙ ap (by_key key) are
+    sorted-by_key key (λ s. (slot_at t s).trip.departs) slots order up stable (λ k d h. slot-departs t (get_or slots k d) (live k d h))
+    ∙ ap (by_key key) are
 
-pub by_end-sorted : (t : TimetableView) (slots order : List ℕ) → IsNonDecreasingBy (λ s. (slot_at t s).trip.ends) order → IsStableByKey (λ s. (slot_at t s).trip.ends) nat_cmp slots order
+pub by_end-sorted : (t : TimetableView) (slots order : List ℕ) → IsNonDecreasingBy (λ s. (slot_at t s).trip.ends) order
+    → IsStableByKey (λ s. (slot_at t s).trip.ends) nat_cmp slots order
     → slots ≡ live_slots (trip_moves t.slots) → All (λ s. (slot_at t s).trip.live ≡ true) slots → order ≡ by_end (trip_moves t.slots)
 unfolding by_end
 by_end-sorted t slots order up stable are live =
     let key = λ (s : ℕ). minute_arrived (move_at (trip_moves t.slots) s) in
-    sorted-by_key key (λ s. (slot_at t s).trip.ends) slots order up stable (λ k d h. slot-ends t (get_or slots k d) (live k d h)) ∙ ap (by_key key) are
+    sorted-by_key key (λ s. (slot_at t s).trip.ends) slots order up stable (λ k d h. slot-ends t (get_or slots k d) (live k d h))
+    ∙ ap (by_key key) are

@@ -1,5 +1,6 @@
 -- Networks of moves: trips that fit run, and the one departs before the other.
-use Rattle.std.proofs.Common.{◌≡◌, ℕ, ◌<◌, ◌≤◌, ◌==◌, nat_le, Bool, true, false, List, [], ◌∷◌, length, map, filter, cond, Option, None, Some, if◌then◌else◌, refl, sym, ap, subst, ◌∙◌, ⊎_elim, arith}
+use Rattle.std.proofs.Common.{◌≡◌, ℕ, ◌<◌, ◌≤◌, ◌==◌, nat_le, Bool, true, false, List, [], ◌∷◌, length, map, filter, cond, Option, None}
+use Rattle.std.proofs.Common.{Some, if◌then◌else◌, refl, sym, ap, subst, ◌∙◌, ⊎_elim, arith}
 use Rattle.std.specs.Option.{is_some}
 use Rattle.std.proofs.lemmas.Bool.{and_parts, leb-true, false≢true, cases_lt}
 use Rattle.std.proofs.lemmas.Int.{ints}
@@ -14,7 +15,8 @@ use Rattle.trip_model.specs.Deficit.{live_moves}
 use Rattle.trip_model.specs.Links.{AreLinks}
 use Rattle.trip_model.specs.Network.{Fits, AreDepartures}
 use Rattle.trip_model.specs.Order.{minute_left}
-use Rattle.trip_model.specs.Plain.{move_at, made, meets, plain_network, is_in_time, timely_network, move_of_slot, trip_moves, IsMove, AreMoves}
+use Rattle.trip_model.specs.Plain.{move_at, made, meets, plain_network, is_in_time, timely_network, move_of_slot, trip_moves, IsMove}
+use Rattle.trip_model.specs.Plain.{AreMoves}
 use Rattle.trip_model.specs.Place.{Place}
 use Rattle.trip_model.specs.Timetable.{TimetableView, Slot, IsTimetable, slot_at}
 use Rattle.trip_model.specs.Trip.{IsValidTrip, move_of}
@@ -43,16 +45,19 @@ timely-meets (Some a) None e = e
 timely-meets None (Some b) e = e
 timely-meets None None e = e
 
-pub fits-timely : (moves : List (Option Move)) (i j : ℕ) → Fits (timely_network moves) i j → is_in_time (move_at moves i) (move_at moves j) ≡ true
+pub fits-timely : (moves : List (Option Move)) (i j : ℕ) → Fits (timely_network moves) i j
+    → is_in_time (move_at moves i) (move_at moves j) ≡ true
 fits-timely moves i j fits = fits-test (is_in_time (move_at moves i) (move_at moves j)) fits
 
 pub fits-plain : (moves : List (Option Move)) (i j : ℕ) → Fits (plain_network moves) i j → meets (move_at moves i) (move_at moves j) ≡ true
 fits-plain moves i j fits = fits-test (meets (move_at moves i) (move_at moves j)) fits
 
 -- trips that fit in time run both, and departures rise
-pub AreDepartures-timely : (places : ℕ) (moves : List (Option Move)) → AreMoves places moves → AreDepartures (timely_network moves) (λ s. minute_left (move_at moves s))
+pub AreDepartures-timely : (places : ℕ) (moves : List (Option Move)) → AreMoves places moves
+    → AreDepartures (timely_network moves) (λ s. minute_left (move_at moves s))
 AreDepartures-timely places moves are = record {
-  runs = λ i j fits. let p = in_time (move_at moves i) (move_at moves j) (fits-timely moves i j fits) in (ap is_some p.2.first, ap is_some p.2.second);
+  runs = λ i j fits. let p = in_time (move_at moves i) (move_at moves j) (fits-timely moves i j fits) in
+      (ap is_some p.2.first, ap is_some p.2.second);
   rises = λ i j fits.
       let p = in_time (move_at moves i) (move_at moves j) (fits-timely moves i j fits) in
       let m = are.each i p.0 p.2.first in
@@ -71,7 +76,8 @@ fits-in_time : (moves : List (Option Move)) (i j : ℕ) → Fits (plain_network 
 fits-in_time moves i j fits =
     ap (λ b. is_some {T = ℕ} (if b then Some 0 else None)) (timely-meets (move_at moves i) (move_at moves j) (fits-plain moves i j fits))
 
-pub AreDepartures-plain : (places : ℕ) (moves : List (Option Move)) → AreMoves places moves → AreDepartures (plain_network moves) (λ s. minute_left (move_at moves s))
+pub AreDepartures-plain : (places : ℕ) (moves : List (Option Move)) → AreMoves places moves
+    → AreDepartures (plain_network moves) (λ s. minute_left (move_at moves s))
 AreDepartures-plain places moves are =
     let timely = AreDepartures-timely places moves are in
     record {
@@ -80,11 +86,14 @@ AreDepartures-plain places moves are =
       within = λ i j fits. timely.within i j (fits-in_time moves i j fits);
     }
 
-pub AreLinks-timely : (moves : List (Option Move)) (links : List (Option ℕ)) → AreLinks (plain_network moves) links → AreLinks (timely_network moves) links
+pub AreLinks-timely : (moves : List (Option Move)) (links : List (Option ℕ)) → AreLinks (plain_network moves) links
+    → AreLinks (timely_network moves) links
 AreLinks-timely moves links are = record { fits = λ i j e. fits-in_time moves i j (are.fits i j e); once = are.once }
 
-slot-made : (slot : Slot) (m : Move) (live : Bool) → slot.trip.live ≡ live → move_of_slot slot ≡ Some m → (live ≡ true) × (move_of slot.trip ≡ m)
-slot-made slot m true live e = (refl, same_Some (move_of slot.trip) m (sym (ap (λ b. if b then Some (move_of slot.trip) else None) live) ∙ e))
+slot-made : (slot : Slot) (m : Move) (live : Bool) → slot.trip.live ≡ live → move_of_slot slot ≡ Some m
+    → (live ≡ true) × (move_of slot.trip ≡ m)
+slot-made slot m true live e =
+    (refl, same_Some (move_of slot.trip) m (sym (ap (λ b. if b then Some (move_of slot.trip) else None) live) ∙ e))
 slot-made slot m false dead e = absurd (none-some m (sym (ap (λ b. if b then Some (move_of slot.trip) else None) dead) ∙ e))
 
 pub IsMove-trip : (places : List Place) (trip : Trip) → IsValidTrip places trip → IsMove (length places) (move_of trip)
@@ -108,7 +117,8 @@ made-trips [] = refl
 made-trips (slot ∷ slots) = by (slot.trip.live) (made-trips slots)
   where
     by : (live : Bool) → made (trip_moves slots) ≡ live_moves slots
-        → made ((if live then Some (move_of slot.trip) else None) ∷ trip_moves slots) ≡ map (λ s. move_of s.trip) (cond live (slot ∷ filter (λ s. s.trip.live) slots) (filter (λ s. s.trip.live) slots))
+        → made ((if live then Some (move_of slot.trip) else None) ∷ trip_moves slots) ≡ map (λ s. move_of s.trip)
+        (cond live (slot ∷ filter (λ s. s.trip.live) slots) (filter (λ s. s.trip.live) slots))
     by true rest = ap (λ ms. move_of slot.trip ∷ ms) rest
     by false rest = rest
 
@@ -139,7 +149,8 @@ plain-minutes moves (block ∷ blocks) =
     omega (arith, sum_by-cons (block_minutes (plain_network moves)) block blocks, plain-block moves block, plain-minutes moves blocks)
 
 -- a blocking without deadheads that has the fewest vehicles is least
-pub IsLeast-plain : (moves : List (Option Move)) (blocks : List (List ℕ)) → IsFewest (plain_network moves) blocks → IsLeast (plain_network moves) blocks
+pub IsLeast-plain : (moves : List (Option Move)) (blocks : List (List ℕ)) → IsFewest (plain_network moves) blocks
+    → IsLeast (plain_network moves) blocks
 IsLeast-plain moves blocks fewest = record {
   fewest = fewest;
   shortest = λ others _ _. omega (arith, plain-minutes moves blocks);

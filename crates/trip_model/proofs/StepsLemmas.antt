@@ -1,5 +1,6 @@
 -- The steps of a function of the minute, one minute after another, and what they give back.
-use Rattle.std.proofs.Common.{◌≡◌, ℕ, zero, suc, ◌+◌, ◌<◌, ◌≤◌, Bool, true, false, not, cond, List, [], ◌∷◌, ◌++◌, map, filter, fold, ℤ, pos, nat_le, if◌then◌else◌, refl, sym, ap, ◌∙◌, ⊎_elim, arith}
+use Rattle.std.proofs.Common.{◌≡◌, ℕ, zero, suc, ◌+◌, ◌<◌, ◌≤◌, Bool, true, false, not, cond, List, [], ◌∷◌, ◌++◌, map, filter, fold, ℤ}
+use Rattle.std.proofs.Common.{pos, nat_le, if◌then◌else◌, refl, sym, ap, ◌∙◌, ⊎_elim, arith}
 use Rattle.std.specs.List.{range_with_len}
 use Rattle.std.specs.Ordering.{int_eq}
 use Rattle.std.proofs.lemmas.Bool.{cases_lt, le-leb, lt-leb, not-false}
@@ -13,7 +14,8 @@ use Rattle.trip_model.specs.Steps.{value_before, is_step, steps_before, steps, v
 pub range_with_len-more : (a n : ℕ) → range_with_len a (suc n) ≡ range_with_len a n ++ (a + n) ∷ []
 range_with_len-more a zero = let e : a ≡ a + 0 = omega arith in ap (λ x. x ∷ []) e
 range_with_len-more a (suc n) =
-    ap (λ xs. a ∷ xs) (range_with_len-more (a + 1) n ∙ (let e : a + 1 + n ≡ a + suc n = omega arith in ap (λ x. range_with_len (a + 1) n ++ x ∷ []) e))
+    ap (λ xs. a ∷ xs) (range_with_len-more (a + 1) n
+    ∙ (let e : a + 1 + n ≡ a + suc n = omega arith in ap (λ x. range_with_len (a + 1) n ++ x ∷ []) e))
 
 -- the steps of one minute: none, or one
 abbrev pub steps_at : (ℕ → ℤ) → ℕ → List (ℕ × ℤ)
@@ -37,7 +39,8 @@ steps_before-zero d = refl
 pub steps_before-suc : (d : ℕ → ℤ) (t : ℕ) → steps_before d (suc t) ≡ steps_before d t ++ steps_at d t
 unfolding steps_before paired
 steps_before-suc d t =
-    ap (λ ts. paired d (filter (is_step d) ts)) (range_with_len-more 0 t ∙ (let e : 0 + t ≡ t = omega arith in ap (λ x. range_with_len 0 t ++ x ∷ []) e))
+    ap (λ ts. paired d (filter (is_step d) ts))
+    (range_with_len-more 0 t ∙ (let e : 0 + t ≡ t = omega arith in ap (λ x. range_with_len 0 t ++ x ∷ []) e))
     ∙ ap (paired d) (filter-append (is_step d) (range_with_len 0 t) (t ∷ []))
     ∙ map-append (λ t. (t, d t)) (filter (is_step d) (range_with_len 0 t)) (filter (is_step d) (t ∷ []))
     ∙ ap (λ xs. paired d (filter (is_step d) (range_with_len 0 t)) ++ xs) (steps_at-filter d t)
@@ -51,7 +54,8 @@ abbrev read_step : ℕ → ℤ → ℕ × ℤ → ℤ
 read_step t v s = if nat_le s.0 t then s.1 else v
 
 -- reading one minute more
-value_of_steps-suc : (d : ℕ → ℤ) (n t : ℕ) → value_of_steps (steps_before d (suc n)) t ≡ fold (read_step t) (value_of_steps (steps_before d n) t) (steps_at d n)
+value_of_steps-suc : (d : ℕ → ℤ) (n t : ℕ)
+    → value_of_steps (steps_before d (suc n)) t ≡ fold (read_step t) (value_of_steps (steps_before d n) t) (steps_at d n)
 value_of_steps-suc d n t =
     ap (λ list. value_of_steps list t) (steps_before-suc d n) ∙ fold-append (read_step t) (pos 0) (steps_before d n) (steps_at d n)
 

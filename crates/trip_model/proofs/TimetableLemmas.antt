@@ -1,5 +1,6 @@
 -- Names and their numbers, and what a push keeps of a timetable.
-use Rattle.std.proofs.Common.{◌≡◌, ◌≢◌, ℕ, ◌+◌, ◌<◌, Bool, true, false, cond, not, List, [], ◌∷◌, ◌++◌, map, length, get_or, take, slice_get, position, Some, None, Contains, All, if◌then◌else◌, refl, sym, ap, subst, ◌∙◌, nat_lt, arith}
+use Rattle.std.proofs.Common.{◌≡◌, ◌≢◌, ℕ, ◌+◌, ◌<◌, Bool, true, false, cond, not, List, [], ◌∷◌, ◌++◌, map, length, get_or, take}
+use Rattle.std.proofs.Common.{slice_get, position, Some, None, Contains, All, if◌then◌else◌, refl, sym, ap, subst, ◌∙◌, nat_lt, arith}
 use Rattle.std.specs.Prelude.{String, string_bytes, string_eq}
 use Rattle.std.specs.List.{prefix_len}
 use Rattle.std.specs.Str.{bytes_eq}
@@ -18,7 +19,8 @@ use Rattle.trip_model.specs.Trip.{IsValidTrip}
 use Rattle.trip_model.proofs.BeforeLemmas.{position-None}
 use Rattle.trip_model.specs.declared.timetable.Post.{Post}
 use Rattle.trip_model.specs.Place.{Place, IsPlace, class_of, terminal_place}
-use Rattle.trip_model.specs.Timetable.{TimetableView, Slot, IsTimetable, AreDistinct, place_names, slot_names, number_of, place_from, places_of, slots_of, timetable_of}
+use Rattle.trip_model.specs.Timetable.{TimetableView, Slot, IsTimetable, AreDistinct, place_names, slot_names, number_of, place_from}
+use Rattle.trip_model.specs.Timetable.{places_of, slots_of, timetable_of}
 
 prefix_len-map : {A B : Type 0} (p : B → Bool) (f : A → B) (xs : List A) → prefix_len p (map f xs) ≡ prefix_len (λ x. p (f x)) xs
 prefix_len-map p f [] = refl
@@ -53,16 +55,21 @@ number_of-Some names name p e =
 -- a name without a number stands nowhere
 pub number_of-None : (names : List (List ℕ)) (name : List ℕ) → number_of names name ≡ None → ¬ Contains names name
 number_of-None names name none there =
-    false≢true (sym (position-None (bytes_eq name) names there.0 name none there.1) ∙ (bytes_eq-Decides name (get_or names there.0 name)).1 (sym there.2))
+    false≢true (sym (position-None (bytes_eq name) names there.0 name none there.1)
+    ∙ (bytes_eq-Decides name (get_or names there.0 name)).1 (sym there.2))
 
 -- a key with a new name goes last
-pub insert_entry-new_name : {Y X : Type 0} (es : List (String Y × X)) (k : String Y) (v : X) → ¬ Contains (map string_bytes (keys_of es)) (string_bytes k)
+pub insert_entry-new_name : {Y X : Type 0} (es : List (String Y × X)) (k : String Y) (v : X)
+    → ¬ Contains (map string_bytes (keys_of es)) (string_bytes k)
     → insert_entry string_eq es k v ≡ es ++ (k, v) ∷ []
 insert_entry-new_name [] k v new = refl
 insert_entry-new_name (e ∷ es) k v new =
-    by (insert_entry-new_name es k v (λ there. new (Contains-append_right (string_bytes e.0 ∷ []) (map string_bytes (keys_of es)) (string_bytes k) there))) (bytes_eq (string_bytes k) (string_bytes e.0)) refl
+    by (insert_entry-new_name es k v
+    (λ there. new (Contains-append_right (string_bytes e.0 ∷ []) (map string_bytes (keys_of es)) (string_bytes k) there)))
+    (bytes_eq (string_bytes k) (string_bytes e.0)) refl
   where
-    by : insert_entry string_eq es k v ≡ es ++ (k, v) ∷ [] → (b : Bool) → bytes_eq (string_bytes k) (string_bytes e.0) ≡ b → insert_entry string_eq (e ∷ es) k v ≡ (e ∷ es) ++ (k, v) ∷ []
+    by : insert_entry string_eq es k v ≡ es ++ (k, v) ∷ [] → (b : Bool) → bytes_eq (string_bytes k) (string_bytes e.0) ≡ b
+        → insert_entry string_eq (e ∷ es) k v ≡ (e ∷ es) ++ (k, v) ∷ []
     by rest true same = absurd (new (0, omega arith, sym ((bytes_eq-Decides (string_bytes k) (string_bytes e.0)).0 same)))
     by rest false other = ap (λ b. if b then (e.0, v) ∷ es else e ∷ insert_entry string_eq es k v) other ∙ ap (λ r. e ∷ r) rest
 
@@ -72,7 +79,8 @@ AreDistinct-push names name distinct new =
     all_pairs_push (λ x y. x ≢ y) names name distinct (λ k d h e. new (k, h, get_or_default names k name d h ∙ e))
 
 -- of distinct names that of an item is none of those before it
-pub new_after_front : {X : Type 0} (name_of : X → List ℕ) (xs : List X) (i : ℕ) (d : X) (known : List (List ℕ)) (name : List ℕ) → AreDistinct (map name_of xs) → i < length xs
+pub new_after_front : {X : Type 0} (name_of : X → List ℕ) (xs : List X) (i : ℕ) (d : X) (known : List (List ℕ)) (name : List ℕ)
+    → AreDistinct (map name_of xs) → i < length xs
     → known ≡ map name_of (take i xs) → name ≡ name_of (get_or xs i d) → ¬ Contains known name
 new_after_front name_of xs i d known name distinct lt known_is name_is there =
     let names = map name_of xs in
@@ -81,7 +89,8 @@ new_after_front name_of xs i d known name distinct lt known_is name_is there =
     let before : k < i = omega (arith, simp length-take at in_front.1) in
     let lt_names : i < length names = omega (arith, length-map xs name_of) in
     distinct k i name before lt_names
-    (sym (get_or-take i names k name before) ∙ in_front.2 ∙ name_is ∙ sym (get_or-map name_of xs i d) ∙ get_or_default names i (name_of d) name lt_names)
+    (sym (get_or-take i names k name before) ∙ in_front.2 ∙ name_is ∙ sym (get_or-map name_of xs i d)
+    ∙ get_or_default names i (name_of d) name lt_names)
 
 -- a place keeps its class as one more is pushed
 class_of-push : (places : List Place) (p : Place) (i : ℕ) → i < length places → class_of (places ++ p ∷ []) i ≡ class_of places i
@@ -107,15 +116,18 @@ IsValidTrip-push places p trip valid =
     }
 
 -- a timetable stays one as a place is pushed
-pub IsTimetable-push_place : (t : TimetableView) (p : Place) → IsTimetable t → ¬ Contains (place_names t) p.name → length t.places < 512 → IsPlace t.classed p
+pub IsTimetable-push_place : (t : TimetableView) (p : Place) → IsTimetable t → ¬ Contains (place_names t) p.name → length t.places < 512
+    → IsPlace t.classed p
     → IsTimetable (record t { places = t.places ++ p ∷ [] })
 IsTimetable-push_place t p valid new room is =
     let longer = length-append t.places (p ∷ []) in
     record {
-      place_names = subst AreDistinct (sym (map-append (λ q. q.name) t.places (p ∷ []))) (AreDistinct-push (place_names t) p.name valid.place_names new);
+      place_names = subst AreDistinct (sym (map-append (λ q. q.name) t.places (p ∷ [])))
+          (AreDistinct-push (place_names t) p.name valid.place_names new);
       slot_names = valid.slot_names;
       each = All-push (IsPlace t.classed) t.places p valid.each is;
-      trips = All-weaker (λ s. IsValidTrip t.places s.trip) (λ s. IsValidTrip (t.places ++ p ∷ []) s.trip) (λ s. IsValidTrip-push t.places p s.trip) t.slots valid.trips;
+      trips = All-weaker (λ s. IsValidTrip t.places s.trip) (λ s. IsValidTrip (t.places ++ p ∷ []) s.trip)
+          (λ s. IsValidTrip-push t.places p s.trip) t.slots valid.trips;
       places = omega (arith, longer);
       slots = valid.slots;
       early = valid.early;
@@ -123,13 +135,15 @@ IsTimetable-push_place t p valid new room is =
     }
 
 -- and as a trip is pushed
-pub IsTimetable-push_slot : (t : TimetableView) (s : Slot) → IsTimetable t → ¬ Contains (slot_names t) s.name → length t.slots < 4096 → IsValidTrip t.places s.trip
+pub IsTimetable-push_slot : (t : TimetableView) (s : Slot) → IsTimetable t → ¬ Contains (slot_names t) s.name → length t.slots < 4096
+    → IsValidTrip t.places s.trip
     → IsTimetable (record t { slots = t.slots ++ s ∷ [] })
 IsTimetable-push_slot t s valid new room trip =
     let longer = length-append t.slots (s ∷ []) in
     record {
       place_names = valid.place_names;
-      slot_names = subst AreDistinct (sym (map-append (λ q. q.name) t.slots (s ∷ []))) (AreDistinct-push (slot_names t) s.name valid.slot_names new);
+      slot_names = subst AreDistinct (sym (map-append (λ q. q.name) t.slots (s ∷ [])))
+          (AreDistinct-push (slot_names t) s.name valid.slot_names new);
       each = valid.each;
       trips = All-push (λ q. IsValidTrip t.places q.trip) t.slots s valid.trips trip;
       places = valid.places;
@@ -143,36 +157,50 @@ All-slice_get : {X : Type 0} (P : X → Type 0) (xs : List X) (i : ℕ) (x : X) 
 All-slice_get P xs i x all e = subst P (get_or_from_slice_get xs i x x e) (all i x (slice_get_within xs i x e))
 
 -- the place and the trip that a map has at an index
-pub place-valid : {Y : Type 0} (classed : Bool) (es : List (String Y × Post)) (i : ℕ) (e : String Y × Post) → All (IsPlace classed) (places_of es) → slice_get es i ≡ Some e → IsPlace classed (place_from e)
-place-valid classed es i e all h = All-slice_get (IsPlace classed) (places_of es) i (place_from e) all (slice_get-map place_from es i ∙ ap (option_map place_from) h)
+pub place-valid : {Y : Type 0} (classed : Bool) (es : List (String Y × Post)) (i : ℕ) (e : String Y × Post)
+    → All (IsPlace classed) (places_of es) → slice_get es i ≡ Some e → IsPlace classed (place_from e)
+place-valid classed es i e all h =
+    All-slice_get (IsPlace classed) (places_of es) i (place_from e) all (slice_get-map place_from es i ∙ ap (option_map place_from) h)
 
-pub trip-valid : {Y : Type 0} (places : List Place) (es : List (String Y × Trip)) (i : ℕ) (e : String Y × Trip) → All (λ s. IsValidTrip places s.trip) (slots_of es) → slice_get es i ≡ Some e → IsValidTrip places e.1
+pub trip-valid : {Y : Type 0} (places : List Place) (es : List (String Y × Trip)) (i : ℕ) (e : String Y × Trip)
+    → All (λ s. IsValidTrip places s.trip) (slots_of es) → slice_get es i ≡ Some e → IsValidTrip places e.1
 trip-valid {Y} places es i e all h =
     let slot : (String Y × Trip) → Slot = λ e. record { name = string_bytes e.0; trip = e.1 } in
     All-slice_get (λ s. IsValidTrip places s.trip) (slots_of es) i (slot e) all (slice_get-map slot es i ∙ ap (option_map slot) h)
 
 -- a new name is none of the keys
-new_key : {Y : Type 0} (names : List (List ℕ)) (ks : List (String Y)) (k : String Y) → names ≡ map string_bytes ks → ¬ Contains names (string_bytes k) → ¬ Contains (map string_bytes ks) (string_bytes k)
+new_key : {Y : Type 0} (names : List (List ℕ)) (ks : List (String Y)) (k : String Y) → names ≡ map string_bytes ks
+    → ¬ Contains names (string_bytes k) → ¬ Contains (map string_bytes ks) (string_bytes k)
 new_key names ks k same new there = new (subst (λ ns. Contains ns (string_bytes k)) (sym same) there)
 
 -- the timetable after a place was put into its map
-pub pushed_place : {Y : Type 0} (classed : Bool) (es fs : List (String Y × Post)) (ts : List (String Y × Trip)) (early late : ℕ) (k : String Y) (v : Post) (t : TimetableView) (terminal class : List ℕ)
-    → timetable_of classed es ts early late ≡ t → v.terminal ≡ terminal → v.class ≡ class → ¬ Contains (place_names t) (string_bytes k) → fs ≡ insert_entry string_eq es k v
-    → timetable_of classed fs ts early late ≡ record t { places = t.places ++ record { name = string_bytes k; terminal = terminal; class = class; layover = v.layover } ∷ [] }
+pub pushed_place : {Y : Type 0} (classed : Bool) (es fs : List (String Y × Post)) (ts : List (String Y × Trip)) (early late : ℕ)
+    (k : String Y) (v : Post) (t : TimetableView) (terminal class : List ℕ)
+    → timetable_of classed es ts early late ≡ t → v.terminal ≡ terminal → v.class ≡ class → ¬ Contains (place_names t) (string_bytes k)
+    → fs ≡ insert_entry string_eq es k v
+    → timetable_of classed fs ts early late ≡ record t
+    { places = t.places ++ record { name = string_bytes k; terminal = terminal; class = class; layover = v.layover } ∷ [] }
 pushed_place classed es fs ts early late k v t terminal class view terminal_is class_is new put =
-    let added : fs ≡ es ++ (k, v) ∷ [] = put ∙ insert_entry-new_name es k v (new_key (place_names t) (keys_of es) k (ap place_names (sym view) ∙ names-places_of es) new) in
+    let added : fs ≡ es ++ (k, v) ∷ [] = put
+    ∙ insert_entry-new_name es k v (new_key (place_names t) (keys_of es) k (ap place_names (sym view) ∙ names-places_of es) new) in
     let now : places_of fs ≡ places_of es ++ places_of ((k, v) ∷ []) = ap places_of added ∙ map-append _ es ((k, v) ∷ []) in
     let all : places_of fs ≡ t.places ++ record { name = string_bytes k; terminal = terminal; class = class; layover = v.layover } ∷ [] =
-    now ∙ (λ i. (view i).places ++ record { name = string_bytes k; terminal = terminal_is i; class = class_is i; layover = v.layover } ∷ []) in
+    now ∙ (λ i. (view i).places ++ record { name = string_bytes k; terminal = terminal_is i; class = class_is i; layover = v.layover }
+    ∷ []) in
     λ i. record { classed = (view i).classed; places = all i; slots = (view i).slots; early = (view i).early; late = (view i).late }
 
 -- the timetable after a trip was put into its map
-pub pushed_slot : {Y : Type 0} (classed : Bool) (es : List (String Y × Post)) (ts us : List (String Y × Trip)) (early late : ℕ) (k : String Y) (v : Trip) (t : TimetableView) (name : List ℕ)
-    → timetable_of classed es ts early late ≡ t → string_bytes k ≡ name → ¬ Contains (slot_names t) name → us ≡ insert_entry string_eq ts k v
+pub pushed_slot : {Y : Type 0} (classed : Bool) (es : List (String Y × Post)) (ts us : List (String Y × Trip)) (early late : ℕ)
+    (k : String Y) (v : Trip) (t : TimetableView) (name : List ℕ)
+    → timetable_of classed es ts early late ≡ t → string_bytes k ≡ name → ¬ Contains (slot_names t) name
+    → us ≡ insert_entry string_eq ts k v
     → timetable_of classed es us early late ≡ record t { slots = t.slots ++ record { name = name; trip = v } ∷ [] }
 pushed_slot classed es ts us early late k v t name view e new put =
     let slots : List Slot → List ℕ → List Slot = λ ss n. ss ++ record { name = n; trip = v } ∷ [] in
-    let added : us ≡ ts ++ (k, v) ∷ [] = put ∙ insert_entry-new_name ts k v (new_key (slot_names t) (keys_of ts) k (ap slot_names (sym view) ∙ names-slots_of ts) (subst (λ n. ¬ Contains (slot_names t) n) (sym e) new)) in
+    let added : us ≡ ts ++ (k, v) ∷ [] = put
+    ∙ insert_entry-new_name ts k v
+    (new_key (slot_names t) (keys_of ts) k (ap slot_names (sym view) ∙ names-slots_of ts)
+    (subst (λ n. ¬ Contains (slot_names t) n) (sym e) new)) in
     let now : slots_of us ≡ slots (slots_of ts) (string_bytes k) = ap slots_of added ∙ map-append _ ts ((k, v) ∷ []) in
     let all : slots_of us ≡ slots t.slots name = now ∙ (λ i. slots (view i).slots (e i)) in
     λ i. record { classed = (view i).classed; places = (view i).places; slots = all i; early = (view i).early; late = (view i).late }

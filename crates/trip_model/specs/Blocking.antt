@@ -52,4 +52,5 @@ pub record IsFewest (network : Network) (blocks : List (List ℕ)) : Type 0 wher
 -- no blocking has fewer vehicles, and none with as few has fewer empty minutes
 pub record IsLeast (network : Network) (blocks : List (List ℕ)) : Type 0 where
   pub fewest : IsFewest network blocks
-  pub shortest : (others : List (List ℕ)) → IsBlocking network others → length others ≡ length blocks → empty_minutes network blocks ≤ empty_minutes network others
+  pub shortest : (others : List (List ℕ)) → IsBlocking network others → length others ≡ length blocks
+      → empty_minutes network blocks ≤ empty_minutes network others

@@ -1,5 +1,6 @@
 -- Links: for each slot the trip that its vehicle makes next; and the blocks that they make.
-use Rattle.std.specs.Prelude.{◌≡◌, ℕ, zero, suc, ◌==◌, Bool, false, not, List, [], ◌∷◌, map, filter, count_by, position, slice_index_or, Option, None, Some, is_some}
+use Rattle.std.specs.Prelude.{◌≡◌, ℕ, zero, suc, ◌==◌, Bool, false, not, List, [], ◌∷◌, map, filter, count_by, position, slice_index_or}
+use Rattle.std.specs.Prelude.{Option, None, Some, is_some}
 use Rattle.std.specs.List.{list_any}
 use Rattle.trip_model.specs.declared.limits.TheConstants.{MINUTES}
 use Rattle.trip_model.specs.Network.{Network, Fits}

@@ -1,6 +1,7 @@
 -- Vehicles that never run empty, and vehicles that need no minute to get anywhere. A list says of each slot which move
 -- its trip makes, and None where it does not run.
-use Rattle.std.specs.Prelude.{◌≡◌, ℕ, ◌<◌, ◌≤◌, ◌==◌, ◌&&◌, nat_le, Bool, false, List, length, map, filter, slice_index_or, Option, None, Some, is_some, if◌then◌else◌}
+use Rattle.std.specs.Prelude.{◌≡◌, ℕ, ◌<◌, ◌≤◌, ◌==◌, ◌&&◌, nat_le, Bool, false, List, length, map, filter, slice_index_or, Option, None}
+use Rattle.std.specs.Prelude.{Some, is_some, if◌then◌else◌}
 use Rattle.std.specs.List.{filter_map, range_with_len}
 use Rattle.trip_model.specs.declared.limits.TheConstants.{LAST_MINUTE}
 use Rattle.trip_model.specs.Network.{Network}

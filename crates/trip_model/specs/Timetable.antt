@@ -1,5 +1,6 @@
 -- What a timetable is seen as, and what holds of each one.
-use Rattle.std.specs.Prelude.{◌≢◌, ℕ, Bool, ◌≤◌, List, [], map, length, slice_index_or, slice_set, Option, position, All, AllPairs, false, pos, String, string_bytes}
+use Rattle.std.specs.Prelude.{◌≢◌, ℕ, Bool, ◌≤◌, List, [], map, length, slice_index_or, slice_set, Option, position, All, AllPairs, false}
+use Rattle.std.specs.Prelude.{pos, String, string_bytes}
 use Rattle.std.specs.Str.{bytes_eq}
 use Rattle.trip_model.specs.declared.limits.TheConstants.{MOST_PLACES, MOST_SLOTS, MOST_TOLERANCE}
 use Rattle.trip_model.specs.declared.trip.Trip.{Trip}
@@ -39,7 +40,8 @@ place_at timetable p = place_in timetable.places p
 
 -- the slot of that number, and past the last one a slot with no name and a trip that does not run
 abbrev pub slot_at : TimetableView → ℕ → Slot
-slot_at timetable s = slice_index_or timetable.slots s (record { name = []; trip = record { from = 0; to = 0; departs = 0; ends = 0; offset = pos 0; early = 0; late = 0; live = false } })
+slot_at timetable s = slice_index_or timetable.slots s
+    (record { name = []; trip = record { from = 0; to = 0; departs = 0; ends = 0; offset = pos 0; early = 0; late = 0; live = false } })
 
 -- the timetable with another trip in a slot, under the name that the slot has
 abbrev pub with_trip : TimetableView → ℕ → Trip → TimetableView
@@ -75,4 +77,5 @@ slots_of entries = map (λ e. record { name = string_bytes e.0; trip = e.1 }) en
 
 -- the timetable whose places and slots two maps hold
 abbrev pub timetable_of : {Y : Type 0} → Bool → List (String Y × Post) → List (String Y × Trip) → ℕ → ℕ → TimetableView
-timetable_of classed places trips early late = record { classed = classed; places = places_of places; slots = slots_of trips; early = early; late = late }
+timetable_of classed places trips early late =
+    record { classed = classed; places = places_of places; slots = slots_of trips; early = early; late = late }

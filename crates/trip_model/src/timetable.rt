@@ -1,4 +1,5 @@
-ghost use Rattle.std.specs.Prelude.{◌≡◌, ◌+◌, ◌<◌, ◌≤◌, [], ◌∷◌, ◌++◌, true, false, length, slice_get, Some, Contains, IfOk, IfSome, IfNone, OnErr, string_bytes};
+ghost use Rattle.std.specs.Prelude.{◌≡◌, ◌+◌, ◌<◌, ◌≤◌, [], ◌∷◌, ◌++◌, true, false, length, slice_get, Some, Contains, IfOk, IfSome};
+ghost use Rattle.std.specs.Prelude.{IfNone, OnErr, string_bytes};
 
 use crate::Trip;
 use desk_io::{Memory, Text};
@@ -49,7 +50,8 @@ impl Timetable {
     ghost use Rattle.trip_model.specs.declared.limits.TheConstants.{MOST_LAYOVER, MOST_PLACES, MOST_SLOTS, MOST_TOLERANCE};
     ghost use Rattle.trip_model.specs.Place.{Place, IsPlace, class_of, has_slash, terminal_place, post_place};
     ghost use Rattle.trip_model.specs.Trip.{IsValidTrip, MayShift, shifted};
-    ghost use Rattle.trip_model.specs.Timetable.{Slot, TimetableView, IsTimetable, place_names, slot_names, number_of, place_at, slot_at, with_trip};
+    ghost use Rattle.trip_model.specs.Timetable.{Slot, TimetableView, IsTimetable, place_names, slot_names, number_of, place_at, slot_at};
+    ghost use Rattle.trip_model.specs.Timetable.{with_trip};
 
     fn empty(alloc: Global, classed: bool, early: u8, late: u8) -> Timetable
         requires early { early ≤ MOST_TOLERANCE }
@@ -174,10 +176,12 @@ impl Timetable {
     ) -> Result<u16, Memory>
         requires new { ¬ Contains (place_names self.old) (string_bytes name) }
         requires room { length self.old.places < MOST_PLACES }
-        requires place { IsPlace self.old.classed (record { name = string_bytes name; terminal = terminal.now; class = class.now; layover = layover }) }
+        requires place { IsPlace self.old.classed
+            (record { name = string_bytes name; terminal = terminal.now; class = class.now; layover = layover }) }
         ensures number { IfOk result (λ p. p ≡ length self.old.places) }
         ensures pushed { IfOk result (λ _. self.new ≡ record self.old {
-          places = self.old.places ++ record { name = string_bytes name; terminal = terminal.now; class = class.now; layover = layover } ∷ [];
+          places = self.old.places ++ record { name = string_bytes name; terminal = terminal.now; class = class.now; layover = layover }
+              ∷ [];
         }) }
         ensures err { OnErr result (self.new ≡ self.old) }
     {

@@ -55,7 +55,8 @@ use Rattle.two_runs.specs.Audited.{IsWholeAfter, least_text}
 use Rattle.two_runs.proofs.DeadheadsOver.{with_slots}
 
 -- the text of the cost of blocks that are least, beside that of least ones
-least-costs : (vehicles minutes other_vehicles other_minutes : ℕ) → other_vehicles ≡ vehicles → other_minutes ≡ minutes → above_by vehicles minutes other_vehicles other_minutes ≡ Nothing
+least-costs : (vehicles minutes other_vehicles other_minutes : ℕ) → other_vehicles ≡ vehicles → other_minutes ≡ minutes
+    → above_by vehicles minutes other_vehicles other_minutes ≡ Nothing
     → costs_text vehicles minutes other_vehicles other_minutes ≡ least_text vehicles minutes
 unfolding costs_text
 least-costs vehicles minutes other_vehicles other_minutes as_many as_long none =
@@ -68,7 +69,9 @@ pub record TellsLeast (outcome : OutcomeView) : Type 0 where
   pub done : outcome ≡ putting (least_text vehicles minutes) ending.Done
 
 -- the plan is stated, whichever blocks it is said to have
-stated-plan : WrittenFeedStatesPlan → (settings : SettingsView) (trips_bytes stop_times_bytes : List ℕ) (trips stop_times : TableView) (read now : TimetableView) (matrix : MatrixView) (next : List (Option ℕ)) (blocks : List (List ℕ))
+stated-plan : WrittenFeedStatesPlan
+    → (settings : SettingsView) (trips_bytes stop_times_bytes : List ℕ) (trips stop_times : TableView) (read now : TimetableView)
+    (matrix : MatrixView) (next : List (Option ℕ)) (blocks : List (List ℕ))
     → blocks ≡ blocks_along next (by_departure (trip_moves now.slots))
     → IsFeed settings trips_bytes stop_times_bytes trips stop_times read
     → IsTimetable now
@@ -77,7 +80,8 @@ stated-plan : WrittenFeedStatesPlan → (settings : SettingsView) (trips_bytes s
     → IsLeast (network_of now matrix) blocks
     → (table : TableView) (again : TimetableView)
     → table_of (trips_written trips now (chosen_in settings trips) blocks settings.prefix) ≡ Ok table
-    → base_of settings (File (trips_written trips now (chosen_in settings trips) blocks settings.prefix)) (File (stop_times_written stop_times now (length read.slots))) ≡ Ok again
+    → base_of settings (File (trips_written trips now (chosen_in settings trips) blocks settings.prefix))
+    (File (stop_times_written stop_times now (length read.slots))) ≡ Ok again
     → StatesPlan table again (chosen_in settings table) matrix settings.prefix blocks
 stated-plan states settings trips_bytes stop_times_bytes trips stop_times read now matrix next blocks along feed valid whole =
     subst
@@ -85,14 +89,17 @@ stated-plan states settings trips_bytes stop_times_bytes trips stop_times read n
     → IsLeast (network_of now matrix) blocks
     → (table : TableView) (again : TimetableView)
     → table_of (trips_written trips now (chosen_in settings trips) blocks settings.prefix) ≡ Ok table
-    → base_of settings (File (trips_written trips now (chosen_in settings trips) blocks settings.prefix)) (File (stop_times_written stop_times now (length read.slots))) ≡ Ok again
+    → base_of settings (File (trips_written trips now (chosen_in settings trips) blocks settings.prefix))
+    (File (stop_times_written stop_times now (length read.slots))) ≡ Ok again
     → StatesPlan table again (chosen_in settings table) matrix settings.prefix blocks)
     (sym along)
     (λ readable least table again table_read base_read.
-    states settings trips_bytes stop_times_bytes trips stop_times read now matrix next settings.prefix feed valid whole readable least table again table_read base_read)
+    states settings trips_bytes stop_times_bytes trips stop_times read now matrix next settings.prefix feed valid whole readable least
+    table again table_read base_read)
 
 -- A feed whose timetable was read, between the places of another that knows more, and what was written of it after its script.
-module _ (states : WrittenFeedStatesPlan) (settings : SettingsView) (read more : TimetableView) (entries : List Entry) (pulls : List Pull) (lines : List Line) (trips_bytes stop_times_bytes : List ℕ) (trips stop_times : TableView) (outcome : OutcomeView)
+module _ (states : WrittenFeedStatesPlan) (settings : SettingsView) (read more : TimetableView) (entries : List Entry) (pulls : List Pull)
+    (lines : List Line) (trips_bytes stop_times_bytes : List ℕ) (trips stop_times : TableView) (outcome : OutcomeView)
     (feed : IsFeed settings trips_bytes stop_times_bytes trips stop_times read)
     (written : IsWritten (said_with settings (with_slots read.slots more) entries pulls lines) trips stop_times outcome)
     (whole : IsWholeAfter (said_with settings (with_slots read.slots more) entries pulls lines) stop_times) where
@@ -129,7 +136,8 @@ module _ (states : WrittenFeedStatesPlan) (settings : SettingsView) (read more :
 
   follows : IsEditedFrom read now
   follows =
-      let on = standing-follows said.base (first_records lines (length lines)) (base-forward settings (File trips_bytes) (File stop_times_bytes) read feed.read) in
+      let on = standing-follows said.base (first_records lines (length lines))
+      (base-forward settings (File trips_bytes) (File stop_times_bytes) read feed.read) in
       record { names = on.names; trips = on.trips }
 
   is_whole : IsWhole read now
@@ -143,19 +151,24 @@ module _ (states : WrittenFeedStatesPlan) (settings : SettingsView) (read more :
   standing_again = ap (λ records. timetable_at base_again (machine base_again records)) (first-none [])
 
   -- an audit of stated blocks that are least
-  costed-least : (matrix : MatrixView) → IsLeast (network_of base_again matrix) (slots_by (stated_in table base_again (chosen_in settings table)))
-      → (audit : OutcomeView) → IsCosted [] ending.Done base_again matrix (stated_in table base_again (chosen_in settings table)) audit → TellsLeast audit
+  costed-least : (matrix : MatrixView)
+      → IsLeast (network_of base_again matrix) (slots_by (stated_in table base_again (chosen_in settings table)))
+      → (audit : OutcomeView) → IsCosted [] ending.Done base_again matrix (stated_in table base_again (chosen_in settings table)) audit
+      → TellsLeast audit
   costed-least matrix least audit costed =
       let network = network_of base_again matrix in
       let stated = slots_by (stated_in table base_again (chosen_in settings table)) in
       let other = costed.scheduled.least in
-      let as_many : length costed.least ≡ length stated = omega (arith, least.fewest.fewest costed.least other.fewest.blocking, other.fewest.fewest stated least.fewest.blocking) in
+      let as_many : length costed.least ≡ length stated =
+      omega (arith, least.fewest.fewest costed.least other.fewest.blocking, other.fewest.fewest stated least.fewest.blocking) in
       let as_long : empty_minutes network costed.least ≡ empty_minutes network stated =
       omega (arith, least.shortest costed.least other.fewest.blocking as_many, other.shortest stated least.fewest.blocking (sym as_many)) in
       record {
         vehicles = length stated;
         minutes = empty_minutes network stated;
-        done = costed.done ∙ ap (λ text. putting text ending.Done) (least-costs (length stated) (empty_minutes network stated) (length costed.least) (empty_minutes network costed.least) as_many as_long (costed.nothing least));
+        done = costed.done ∙ ap (λ text. putting text ending.Done)
+            (least-costs (length stated) (empty_minutes network stated) (length costed.least) (empty_minutes network costed.least) as_many
+            as_long (costed.nothing least));
       }
 
   module _ (trips_unmarked : strip_bom trips_text ≡ trips_text) (stop_times_unmarked : strip_bom stop_times_text ≡ stop_times_text) where
@@ -164,12 +177,14 @@ module _ (states : WrittenFeedStatesPlan) (settings : SettingsView) (read more :
 
     pub read_again : base_of settings (File trips_text) (File stop_times_text) ≡ Ok again
     read_again =
-        written-back settings trips_bytes stop_times_bytes trips stop_times read now (chosen_in settings trips) written.blocks settings.prefix feed.trips_are feed.stop_times_are feed.trips_table feed.stop_times_table feed.read
+        written-back settings trips_bytes stop_times_bytes trips stop_times read now (chosen_in settings trips) written.blocks
+        settings.prefix feed.trips_are feed.stop_times_are feed.trips_table feed.stop_times_table feed.read
         follows whole.times trips_unmarked stop_times_unmarked
 
     plan : StatesPlan table again (chosen_in settings table) written.matrix settings.prefix written.blocks
     plan =
-        stated-plan states settings trips_bytes stop_times_bytes trips stop_times read now written.matrix written.plan.next written.blocks scheduled.along feed valid is_whole
+        stated-plan states settings trips_bytes stop_times_bytes trips stop_times read now written.matrix written.plan.next written.blocks
+        scheduled.along feed valid is_whole
         (record { times = whole.times; trips_unmarked = trips_unmarked; stop_times_unmarked = stop_times_unmarked })
         scheduled.least table again table_again read_again
 
@@ -178,23 +193,31 @@ module _ (states : WrittenFeedStatesPlan) (settings : SettingsView) (read more :
         let chosen = chosen_in settings table in
         let stated = stated_in table base_again chosen in
         let network : network_of base_again written.matrix ≡ network_of base_again audited.matrix =
-        ap (network_of base_again) (matrix-same entries pulls (length more.places) written.matrix audited.matrix written.matrix_is audited.matrix_is) in
+        ap (network_of base_again) (matrix-same entries pulls (length more.places) written.matrix audited.matrix written.matrix_is
+        audited.matrix_is) in
         let least = subst (λ network. IsLeast network (slots_by stated)) network plan.stated.least in
         let quiet =
-        subst (λ (t : TimetableView). IsJudged (refused_of said_again) (ending_of said_again) t audited.matrix (stated_in table t chosen) (misfits_in t audited.matrix (stated_in table t chosen)) audit) standing_again audited.judged in
+        subst (λ (t : TimetableView). IsJudged (refused_of said_again) (ending_of said_again) t audited.matrix (stated_in table t chosen)
+        (misfits_in t audited.matrix (stated_in table t chosen)) audit) standing_again audited.judged in
         let judged =
-        subst (λ misfits. IsJudged [] ending.Done base_again audited.matrix stated misfits audit) (have-no-misfit base_again audited.matrix stated least.fewest.blocking)
-        (subst (λ end. IsJudged [] end base_again audited.matrix stated (misfits_in base_again audited.matrix stated) audit) (ap ending_by (some-none base_again []))
-        (subst (λ refused. IsJudged refused (ending_of said_again) base_again audited.matrix stated (misfits_in base_again audited.matrix stated) audit) (refused-none base_again []) quiet)) in
+        subst (λ misfits. IsJudged [] ending.Done base_again audited.matrix stated misfits audit)
+        (have-no-misfit base_again audited.matrix stated least.fewest.blocking)
+        (subst (λ end. IsJudged [] end base_again audited.matrix stated (misfits_in base_again audited.matrix stated) audit)
+        (ap ending_by (some-none base_again []))
+        (subst (λ refused. IsJudged refused (ending_of said_again) base_again audited.matrix stated
+        (misfits_in base_again audited.matrix stated) audit) (refused-none base_again []) quiet)) in
         costed-least audited.matrix least audit judged
 
     pub tells-least : (audit : OutcomeView) → AuditsOf said_again table audit → TellsLeast audit
-    tells-least audit (inl refused) = absurd (refused.first.bad (plan.text written.text refused.record_before refused.first.within refused.first.selected))
+    tells-least audit (inl refused) =
+        absurd (refused.first.bad (plan.text written.text refused.record_before refused.first.within refused.first.selected))
     tells-least audit (inr audits) = audited-least audit audits.1
 
     -- so it is over papers that say this
-    pub finds-least : (found : Paper → Found) → said_by found ≡ Ok said_again → table_in paper.Trips (found paper.Trips) ≡ Ok table → (audit : OutcomeView)
+    pub finds-least : (found : Paper → Found) → said_by found ≡ Ok said_again → table_in paper.Trips (found paper.Trips) ≡ Ok table
+        → (audit : OutcomeView)
         → Does (λ said. AuditsBy said (table_in paper.Trips (found paper.Trips))) (said_by found) audit → TellsLeast audit
     finds-least found says trips audit does =
         tells-least audit
-        (subst (λ read. AuditsBy said_again read audit) trips (subst (λ result. Does (λ said. AuditsBy said (table_in paper.Trips (found paper.Trips))) result audit) says does))
+        (subst (λ read. AuditsBy said_again read audit) trips
+        (subst (λ result. Does (λ said. AuditsBy said (table_in paper.Trips (found paper.Trips))) result audit) says does))

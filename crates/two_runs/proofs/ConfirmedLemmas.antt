@@ -46,12 +46,16 @@ abbrev written : Files → List ℕ → List ℕ → Files
 written files blocks prices = with_two (file_name_of paper.Blocks) blocks (file_name_of paper.Prices) prices files
 
 -- papers that are found as before say what they said
-said_same : (one other : Paper → Found) → one paper.Settings ≡ other paper.Settings → one paper.Terminals ≡ other paper.Terminals → one paper.Tolerances ≡ other paper.Tolerances
-    → one paper.Calendar ≡ other paper.Calendar → one paper.CalendarDates ≡ other paper.CalendarDates → one paper.Trips ≡ other paper.Trips → one paper.StopTimes ≡ other paper.StopTimes → one paper.Deadheads ≡ other paper.Deadheads → one paper.Depot ≡ other paper.Depot → one paper.Edits ≡ other paper.Edits
+said_same : (one other : Paper → Found) → one paper.Settings ≡ other paper.Settings → one paper.Terminals ≡ other paper.Terminals
+    → one paper.Tolerances ≡ other paper.Tolerances
+    → one paper.Calendar ≡ other paper.Calendar → one paper.CalendarDates ≡ other paper.CalendarDates → one paper.Trips ≡ other paper.Trips
+    → one paper.StopTimes ≡ other paper.StopTimes → one paper.Deadheads ≡ other paper.Deadheads → one paper.Depot ≡ other paper.Depot
+    → one paper.Edits ≡ other paper.Edits
     → said_by one ≡ said_by other
 unfolding said_by
 said_same one other settings terminals tolerances calendar dates trips stop_times deadheads depot edits = λ i.
-    (settings_of (settings i) (terminals i) (tolerances i) >>= λ s. kept_on (calendar i) (dates i) s s.date) >>= λ s. base_of s (trips i) (stop_times i) >>= λ t. deadheads_of (deadheads i) t >>= λ d. pulls_of (depot i) d.0
+    (settings_of (settings i) (terminals i) (tolerances i) >>= λ s. kept_on (calendar i) (dates i) s s.date) >>= λ s. base_of s (trips i)
+    (stop_times i) >>= λ t. deadheads_of (deadheads i) t >>= λ d. pulls_of (depot i) d.0
     >>= λ p. lines_by (edits i) >>= λ lines. Ok (said_with s d.0 d.1 p lines)
 
 -- what is found in them
@@ -59,7 +63,8 @@ module _ (files : Files) (blocks prices : List ℕ) where
   kept : (name : List ℕ) → is_name name (file_name_of paper.Prices) ≡ false → is_name name (file_name_of paper.Blocks) ≡ false
       → found_in (written files blocks prices) name MOST_BYTES ≡ found_in files name MOST_BYTES
   kept name not_prices not_blocks =
-      ap (found_as MOST_BYTES) (others-stand (file_name_of paper.Blocks) blocks (file_name_of paper.Prices) prices files name not_prices not_blocks)
+      ap (found_as MOST_BYTES) (others-stand (file_name_of paper.Blocks) blocks (file_name_of paper.Prices) prices files name not_prices
+      not_blocks)
 
   blocks_found : get (written files blocks prices) (file_name_of paper.Blocks) ≡ Some blocks
   blocks_found = first-stands (file_name_of paper.Blocks) blocks (file_name_of paper.Prices) prices files refl refl
@@ -70,23 +75,31 @@ module _ (files : Files) (blocks prices : List ℕ) where
   -- the papers of a feed say what they said
   pub said_kept : said_by (found_of (pages_in claim_papers (written files blocks prices))) ≡ said_by (found_of (pages_in feed_papers files))
   said_kept = said_same (found_of (pages_in claim_papers (written files blocks prices))) (found_of (pages_in feed_papers files))
-      (kept (file_name_of paper.Settings) refl refl) (kept (file_name_of paper.Terminals) refl refl) (kept (file_name_of paper.Tolerances) refl refl) (kept (file_name_of paper.Calendar) refl refl)
+      (kept (file_name_of paper.Settings) refl refl) (kept (file_name_of paper.Terminals) refl refl)
+      (kept (file_name_of paper.Tolerances) refl refl) (kept (file_name_of paper.Calendar) refl refl)
       (kept (file_name_of paper.CalendarDates) refl refl) (kept (file_name_of paper.Trips) refl refl)
-      (kept (file_name_of paper.StopTimes) refl refl) (kept (file_name_of paper.Deadheads) refl refl) (kept (file_name_of paper.Depot) refl refl) (kept (file_name_of paper.Edits) refl refl)
+      (kept (file_name_of paper.StopTimes) refl refl) (kept (file_name_of paper.Deadheads) refl refl)
+      (kept (file_name_of paper.Depot) refl refl) (kept (file_name_of paper.Edits) refl refl)
 
   -- the two files are found as they were written, where they are not too long
-  pub blocks_read : IsShort (written files blocks prices) paper.Blocks → found_of (pages_in claim_papers (written files blocks prices)) paper.Blocks ≡ File blocks
-  blocks_read short = ap (found_as MOST_BYTES) blocks_found ∙ found-short blocks (λ long. short (ap (found_as MOST_BYTES) blocks_found ∙ long))
+  pub blocks_read : IsShort (written files blocks prices) paper.Blocks
+      → found_of (pages_in claim_papers (written files blocks prices)) paper.Blocks ≡ File blocks
+  blocks_read short = ap (found_as MOST_BYTES) blocks_found
+      ∙ found-short blocks (λ long. short (ap (found_as MOST_BYTES) blocks_found ∙ long))
 
-  pub prices_read : IsShort (written files blocks prices) paper.Prices → found_of (pages_in claim_papers (written files blocks prices)) paper.Prices ≡ File prices
-  prices_read short = ap (found_as MOST_BYTES) prices_found ∙ found-short prices (λ long. short (ap (found_as MOST_BYTES) prices_found ∙ long))
+  pub prices_read : IsShort (written files blocks prices) paper.Prices
+      → found_of (pages_in claim_papers (written files blocks prices)) paper.Prices ≡ File prices
+  prices_read short = ap (found_as MOST_BYTES) prices_found
+      ∙ found-short prices (λ long. short (ap (found_as MOST_BYTES) prices_found ∙ long))
 
 -- a run of `blocks` that has done all has done so with an accepted feed
-planned_said : (read : ReadView) (outcome : OutcomeView) → IsGiven blocks_asked read outcome → status_of outcome.ending ≤ EDITS_REFUSED → (said : FeedView) × (said_in read ≡ Ok said) × IsPlan said outcome
+planned_said : (read : ReadView) (outcome : OutcomeView) → IsGiven blocks_asked read outcome → status_of outcome.ending ≤ EDITS_REFUSED
+    → (said : FeedView) × (said_in read ≡ Ok said) × IsPlan said outcome
 unfolding blocks_asked
 planned_said read outcome given low = by (said_in read) refl given.gives
   where
-    by : (result : Result FeedView FeedFault) → said_in read ≡ result → Does IsPlan result outcome → (said : FeedView) × (said_in read ≡ Ok said) × IsPlan said outcome
+    by : (result : Result FeedView FeedFault) → said_in read ≡ result → Does IsPlan result outcome
+        → (said : FeedView) × (said_in read ≡ Ok said) × IsPlan said outcome
     by (Ok said) is does = (said, is, does)
     by (Err refused) is does = absurd (omega (arith, low, ap (λ (o : OutcomeView). status_of o.ending) does))
 
@@ -94,7 +107,9 @@ planned_said read outcome given low = by (said_in read) refl given.gives
 abbrev with_texts : List ℕ → List ℕ → Option Files → Option Files
 with_texts blocks prices = with_two_told (file_name_of paper.Blocks) blocks (file_name_of paper.Prices) prices
 
-module _ (seen again : Option ReadView) (before left later after : World) (first second : ℕ) (one : HasEnded blocks_asked seen before left first) (two : HasEnded check_asked again later after second) (all : first ≤ EDITS_REFUSED) where
+module _ (seen again : Option ReadView) (before left later after : World) (first second : ℕ)
+    (one : HasEnded blocks_asked seen before left first) (two : HasEnded check_asked again later after second)
+    (all : first ≤ EDITS_REFUSED) where
   abbrev planned : (said : FeedView) × (said_in one.chosen.read ≡ Ok said) × IsPlan said one.chosen.outcome
   planned = planned_said one.chosen.read one.chosen.outcome one.chosen.given (omega (arith, all, one.answered))
 
@@ -122,23 +137,30 @@ module _ (seen again : Option ReadView) (before left later after : World) (first
 
   -- the files after the first run, where the shelf tells them
   files_left : left.shelf.files ≡ with_texts text_of_blocks text_of_prices before.shelf.files
-  files_left = ap (λ (w : World). w.shelf.files) one.carried ∙ ap (λ (o : OutcomeView). (with_writings o.writes before.shelf).files) plan.planned.done
+  files_left = ap (λ (w : World). w.shelf.files) one.carried
+      ∙ ap (λ (o : OutcomeView). (with_writings o.writes before.shelf).files) plan.planned.done
 
   -- the blocks and the prices are accepted
   accepted : IsAccepted (standing said) plan.matrix said.settings.prefix blocks last_plan.leave last_plan.enter
   accepted = plan.accepted
 
-  module _ (files : Files) (told : before.shelf.files ≡ Some files) (found : Files) (told_later : later.shelf.files ≡ Some found) (stands : StandAgain (written files text_of_blocks text_of_prices) found) (blocks_short : IsShort (written files text_of_blocks text_of_prices) paper.Blocks) (prices_short : IsShort (written files text_of_blocks text_of_prices) paper.Prices) where
+  module _ (files : Files) (told : before.shelf.files ≡ Some files) (found : Files) (told_later : later.shelf.files ≡ Some found)
+      (stands : StandAgain (written files text_of_blocks text_of_prices) found)
+      (blocks_short : IsShort (written files text_of_blocks text_of_prices) paper.Blocks)
+      (prices_short : IsShort (written files text_of_blocks text_of_prices) paper.Prices) where
     read_first : one.chosen.read.pages ≡ pages_in feed_papers files
     unfolding blocks_asked
-    read_first = pages_told files feed_papers one.chosen.read.pages (subst (λ fs. AreRead fs feed_papers one.chosen.read.pages) told one.chosen.told.pages)
+    read_first = pages_told files feed_papers one.chosen.read.pages
+        (subst (λ fs. AreRead fs feed_papers one.chosen.read.pages) told one.chosen.told.pages)
 
     read_second : two.chosen.read.pages ≡ pages_in claim_papers (written files text_of_blocks text_of_prices)
     unfolding check_asked
-    read_second = pages_told found claim_papers two.chosen.read.pages (subst (λ fs. AreRead fs claim_papers two.chosen.read.pages) told_later two.chosen.told.pages) ∙ stands
+    read_second = pages_told found claim_papers two.chosen.read.pages
+        (subst (λ fs. AreRead fs claim_papers two.chosen.read.pages) told_later two.chosen.told.pages) ∙ stands
 
     says : said_in two.chosen.read ≡ Ok said
-    says = ap (λ pages. said_by (found_of pages)) read_second ∙ said_kept files text_of_blocks text_of_prices ∙ sym (ap (λ pages. said_by (found_of pages)) read_first) ∙ planned.1
+    says = ap (λ pages. said_by (found_of pages)) read_second ∙ said_kept files text_of_blocks text_of_prices
+        ∙ sym (ap (λ pages. said_by (found_of pages)) read_first) ∙ planned.1
 
     claim : claim_in two.chosen.read said ≡ Ok accepted.0
     claim =
@@ -160,13 +182,15 @@ module _ (seen again : Option ReadView) (before left later after : World) (first
     yes : two.chosen.outcome ≡ putting (refused_of said ++ yes_line vehicles minutes) ending.Done
     yes =
         judged.done
-        ∙ ap (checked two.chosen.read said) (matrix-same said.entries said.pulls (length said.base.places) judged.matrix plan.matrix judged.matrix_is plan.matrix_is)
+        ∙ ap (checked two.chosen.read said)
+        (matrix-same said.entries said.pulls (length said.base.places) judged.matrix plan.matrix judged.matrix_is plan.matrix_is)
         ∙ ap (claim_outcome (refused_of said) (standing said) plan.matrix) claim
         ∙ ap (verdict_outcome (refused_of said) (standing said) accepted.0) accepted.2
 
     confirmed : IsConfirmed before left later after second
     confirmed = record {
-      answers = answers_by (answer_text plan.matrix said.settings.prefix) said.base said.lines (plan_at said.base said.lines plan.matrix) (length said.lines);
+      answers = answers_by (answer_text plan.matrix said.settings.prefix) said.base said.lines (plan_at said.base said.lines plan.matrix)
+          (length said.lines);
       refused = refused_of said;
       fixed = fixed_number (standing said);
       vehicles = vehicles;
@@ -176,13 +200,17 @@ module _ (seen again : Option ReadView) (before left later after : World) (first
       checked = ap (λ (w : World). w.sink) two.carried ∙ ap (λ (o : OutcomeView). put_bytes o.text later.sink) yes;
     }
 
-  pub confirms : (files found : Files) → left.shelf.files ≡ Some files → later.shelf.files ≡ Some found → StandAgain files found → IsShort files paper.Blocks → IsShort files paper.Prices
+  pub confirms : (files found : Files) → left.shelf.files ≡ Some files → later.shelf.files ≡ Some found → StandAgain files found
+      → IsShort files paper.Blocks → IsShort files paper.Prices
       → IsConfirmed before left later after second
   confirms files found told_left told_later stands blocks_short prices_short = by before.shelf.files refl
     where
       by : (o : Option Files) → before.shelf.files ≡ o → IsConfirmed before left later after second
       by None told = absurd (none-some files (sym (ap (with_texts text_of_blocks text_of_prices) told) ∙ sym files_left ∙ told_left))
       by (Some base) told =
-          let same : files ≡ written base text_of_blocks text_of_prices = same_Some files (written base text_of_blocks text_of_prices) (sym told_left ∙ files_left ∙ ap (with_texts text_of_blocks text_of_prices) told) in
-          confirmed base told found told_later (subst (λ fs. StandAgain fs found) same stands) (subst (λ fs. IsShort fs paper.Blocks) same blocks_short)
+          let same : files ≡ written base text_of_blocks text_of_prices =
+          same_Some files (written base text_of_blocks text_of_prices)
+          (sym told_left ∙ files_left ∙ ap (with_texts text_of_blocks text_of_prices) told) in
+          confirmed base told found told_later (subst (λ fs. StandAgain fs found) same stands)
+          (subst (λ fs. IsShort fs paper.Blocks) same blocks_short)
           (subst (λ fs. IsShort fs paper.Prices) same prices_short)

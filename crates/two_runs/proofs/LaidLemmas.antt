@@ -1,5 +1,6 @@
 -- What is written of a feed, and what the files say when it is laid.
-use Rattle.std.proofs.Common.{◌≡◌, inl, inr, ℕ, ◌≤◌, Bool, true, false, nat_le, List, [], ◌∷◌, length, Option, Some, None, Result, Ok, Err, refl, sym, ap, subst, ◌∙◌, arith}
+use Rattle.std.proofs.Common.{◌≡◌, inl, inr, ℕ, ◌≤◌, Bool, true, false, nat_le, List, [], ◌∷◌, length, Option, Some, None, Result, Ok, Err}
+use Rattle.std.proofs.Common.{refl, sym, ap, subst, ◌∙◌, arith}
 use Rattle.std.specs.Prelude.{if◌then◌else◌}
 use Rattle.std.proofs.lemmas.Bool.{leb-true}
 use Rattle.std.specs.FinMap.{get}
@@ -31,16 +32,20 @@ use Rattle.desk_run.specs.Commands.{IsGiven}
 use Rattle.desk_run.specs.Outcome.{OutcomeView, status_of}
 use Rattle.desk_run.specs.Reading.{ReadView, found_of, pages_in}
 use Rattle.desk_run.specs.declared.status.TheConstants.{EDITS_REFUSED}
-use Rattle.desk_feed.specs.Feed.{FeedView, deadheads_in, feed_papers, kept_on, lines_by, lines_in, pulls_in, said_by, said_with, settings_in, timetable_in}
+use Rattle.desk_feed.specs.Feed.{FeedView, deadheads_in, feed_papers, kept_on, lines_by, lines_in, pulls_in, said_by, said_with}
+use Rattle.desk_feed.specs.Feed.{settings_in, timetable_in}
 use Rattle.desk_feed.specs.Judging.{Does, refusing, said_in}
-use Rattle.write_command.specs.Write.{IsWritten, Writes, WritesBy, feed_files, files_of, stop_times_in, stop_times_name, stop_times_of, trips_in, trips_name, trips_of, write_asked}
+use Rattle.write_command.specs.Write.{IsWritten, Writes, WritesBy, feed_files, files_of, stop_times_in, stop_times_name, stop_times_of}
+use Rattle.write_command.specs.Write.{trips_in, trips_name, trips_of, write_asked}
 use Rattle.two_runs.specs.Audited.{IsLaid}
 use Rattle.two_runs.proofs.DeadheadsOver.{deadheads-over, slots-kept, with_slots}
 use Rattle.two_runs.proofs.TwoFiles.{first-stands, is_name, others-stand, second-stands, with_two, with_two_told}
 
 -- what is read of bytes that are not too many is a table
-headed : (bytes : List ℕ) (header : List (List ℕ)) (rows : List (List (List ℕ))) (table : TableView) → records bytes ≡ header ∷ rows → length bytes ≤ MOST_BYTES
-    → (body : Result (List (List (List ℕ))) TableFault) → body_of (length header) rows ≡ body → with_header header body ≡ Ok table → IsTable table
+headed : (bytes : List ℕ) (header : List (List ℕ)) (rows : List (List (List ℕ))) (table : TableView) → records bytes ≡ header ∷ rows
+    → length bytes ≤ MOST_BYTES
+    → (body : Result (List (List (List ℕ))) TableFault) → body_of (length header) rows ≡ body → with_header header body ≡ Ok table
+    → IsTable table
 headed bytes header rows table split short (Ok body) is e =
     let same : record { header = header; rows = body } ≡ table = cc in
     let all = body-rows (length header) rows body is in
@@ -73,7 +78,8 @@ pub found-fits : (stands : Option (List ℕ)) (bytes : List ℕ) → found_as MO
 found-fits None bytes e = absurd (cc)
 found-fits (Some stands) bytes e = by (nat_le (length stands) MOST_BYTES) refl e
   where
-    by : (fits : Bool) → nat_le (length stands) MOST_BYTES ≡ fits → (if fits then File stands else TooLong) ≡ File bytes → length bytes ≤ MOST_BYTES
+    by : (fits : Bool) → nat_le (length stands) MOST_BYTES ≡ fits → (if fits then File stands else TooLong) ≡ File bytes
+        → length bytes ≤ MOST_BYTES
     by true fits e = let same : stands ≡ bytes = cc in omega (arith, leb-true (length stands) MOST_BYTES fits, ap length same)
     by false fits e = absurd (cc)
 
@@ -125,17 +131,22 @@ pub record AreFoundAlike (one other : Paper → Found) : Type 0 where
   pub depot : one paper.Depot ≡ other paper.Depot
 
 -- papers found so, with a timetable of other trips and without a script, say this
-pub says-again : (one other : Paper → Found) (said : FeedView) → AreFoundAlike one other → (parts : HasParts other said) (again : TimetableView) → timetable_in one parts.settings ≡ Ok again
+pub says-again : (one other : Paper → Found) (said : FeedView) → AreFoundAlike one other
+    → (parts : HasParts other said) (again : TimetableView) → timetable_in one parts.settings ≡ Ok again
     → again ≡ with_slots again.slots parts.read → one paper.Edits ≡ Missing
     → said_by one ≡ Ok (said_with parts.settings (with_slots again.slots parts.more) parts.entries parts.pulls [])
 unfolding said_by
 says-again one other said alike parts again read is no_script =
     and_then (settings_in one) parts.settings _ _
-    ((λ i. settings_of (alike.settings i) (alike.terminals i) (alike.tolerances i) >>= λ s. kept_on (alike.calendar i) (alike.dates i) s s.date) ∙ parts.settings_are)
+    ((λ i. settings_of (alike.settings i) (alike.terminals i) (alike.tolerances i) >>= λ s. kept_on (alike.calendar i) (alike.dates i) s
+    s.date) ∙ parts.settings_are)
     (and_then (timetable_in one parts.settings) again _ _ read
     (and_then (deadheads_in one again) (with_slots again.slots parts.more, parts.entries) _ _
-    ((λ i. deadheads_of (alike.deadheads i) (is i)) ∙ deadheads-over again.slots (other paper.Deadheads) parts.read (with_slots parts.read.slots parts.more, parts.entries) parts.deadheads_are)
-    (and_then (pulls_in one (with_slots again.slots parts.more)) parts.pulls _ _ (ap (λ depot. pulls_of depot parts.more) alike.depot ∙ parts.pulls_are)
+    ((λ i. deadheads_of (alike.deadheads i) (is i))
+    ∙ deadheads-over again.slots (other paper.Deadheads) parts.read (with_slots parts.read.slots parts.more, parts.entries)
+    parts.deadheads_are)
+    (and_then (pulls_in one (with_slots again.slots parts.more)) parts.pulls _ _
+    (ap (λ depot. pulls_of depot parts.more) alike.depot ∙ parts.pulls_are)
     (and_then (lines_in one) [] _ _ (ap lines_by no_script) refl))))
 
 -- what a run of `write` has written that has done all
@@ -149,21 +160,24 @@ pub record HasWritten (said : FeedView) (trips stop_times : Result TableView Fee
 refused-high : (outcome : OutcomeView) (refused : FeedFault) → status_of outcome.ending ≤ EDITS_REFUSED → outcome ≡ refusing refused → ⊥
 refused-high outcome refused low done = omega (arith, low, ap (λ (o : OutcomeView). status_of o.ending) done)
 
-has-written : (said : FeedView) (trips stop_times : Result TableView FeedFault) (outcome : OutcomeView) → status_of outcome.ending ≤ EDITS_REFUSED → WritesBy said trips stop_times outcome
+has-written : (said : FeedView) (trips stop_times : Result TableView FeedFault) (outcome : OutcomeView)
+    → status_of outcome.ending ≤ EDITS_REFUSED → WritesBy said trips stop_times outcome
     → HasWritten said trips stop_times outcome
 has-written said trips stop_times outcome low (inl bad) = absurd (refused-high outcome bad.refused low bad.done)
 has-written said (Err due) stop_times outcome low (inr (inl none)) = absurd none
 has-written said (Err due) stop_times outcome low (inr (inr none)) = absurd none
 has-written said (Ok first) stop_times outcome low (inr (inl bad)) = absurd (refused-high outcome bad.1.refused low bad.1.done)
 has-written said (Ok first) (Err due) outcome low (inr (inr does)) = absurd does.1
-has-written said (Ok first) (Ok second) outcome low (inr (inr does)) = record { first = first; second = second; first_is = refl; second_is = refl; written = does.1.1 }
+has-written said (Ok first) (Ok second) outcome low (inr (inr does)) =
+    record { first = first; second = second; first_is = refl; second_is = refl; written = does.1.1 }
 
 pub written-said : (read : ReadView) (outcome : OutcomeView) → IsGiven write_asked read outcome → status_of outcome.ending ≤ EDITS_REFUSED
     → (said : FeedView) × (said_in read ≡ Ok said) × HasWritten said (trips_in read) (stop_times_in read) outcome
 unfolding write_asked
 written-said read outcome given low = by (said_in read) refl given.gives
   where
-    by : (result : Result FeedView FeedFault) → said_in read ≡ result → Does (Writes read) result outcome → (said : FeedView) × (said_in read ≡ Ok said) × HasWritten said (trips_in read) (stop_times_in read) outcome
+    by : (result : Result FeedView FeedFault) → said_in read ≡ result → Does (Writes read) result outcome
+        → (said : FeedView) × (said_in read ≡ Ok said) × HasWritten said (trips_in read) (stop_times_in read) outcome
     by (Ok said) is does = (said, is, has-written said (trips_in read) (stop_times_in read) outcome low does)
     by (Err refused) is does = absurd (refused-high outcome refused low does)
 
@@ -175,12 +189,14 @@ abbrev pub with_texts : List ℕ → List ℕ → Option Files → Option Files
 with_texts trips stop_times = with_two_told trips_name trips stop_times_name stop_times
 
 pub written-files : (said : FeedView) (first second : TableView) (blocks : List (List ℕ)) (shelf : ShelfState)
-    → (with_writings (feed_files said first second blocks) shelf).files ≡ with_texts (trips_of said first blocks) (stop_times_of said second) shelf.files
+    → (with_writings (feed_files said first second blocks) shelf).files ≡ with_texts (trips_of said first blocks)
+    (stop_times_of said second) shelf.files
 unfolding files_of
 written-files said first second blocks shelf = refl
 
 module _ (files : Files) (trips stop_times : List ℕ) where
-  kept : (name : List ℕ) → is_name name stop_times_name ≡ false → is_name name trips_name ≡ false → get (with_both files trips stop_times) name ≡ get files name
+  kept : (name : List ℕ) → is_name name stop_times_name ≡ false → is_name name trips_name ≡ false
+      → get (with_both files trips stop_times) name ≡ get files name
   kept = others-stand trips_name trips stop_times_name stop_times files
 
   pub trips-stand : get (with_both files trips stop_times) trips_name ≡ Some trips
@@ -189,7 +205,8 @@ module _ (files : Files) (trips stop_times : List ℕ) where
   pub stop_times-stand : get (with_both files trips stop_times) stop_times_name ≡ Some stop_times
   stop_times-stand = second-stands trips_name trips stop_times_name stop_times files refl
 
-  pub laid-alike : (laid : Files) → IsLaid (with_both files trips stop_times) laid → AreFoundAlike (found_of (pages_in feed_papers laid)) (found_of (pages_in feed_papers files))
+  pub laid-alike : (laid : Files) → IsLaid (with_both files trips stop_times) laid
+      → AreFoundAlike (found_of (pages_in feed_papers laid)) (found_of (pages_in feed_papers files))
   laid-alike laid is = record {
     settings = ap (found_as MOST_BYTES) (is.others.0 ∙ kept (file_name_of paper.Settings) refl refl);
     terminals = ap (found_as MOST_BYTES) (is.others.1.0 ∙ kept (file_name_of paper.Terminals) refl refl);

@@ -30,7 +30,8 @@ found-short bytes short = by (nat_le (length bytes) MOST_BYTES) short
 
 module _ (one first other second : List ℕ) (files : Files) where
   -- each other file stands as before
-  pub others-stand : (name : List ℕ) → is_name name other ≡ false → is_name name one ≡ false → get (with_two one first other second files) name ≡ get files name
+  pub others-stand : (name : List ℕ) → is_name name other ≡ false → is_name name one ≡ false
+      → get (with_two one first other second files) name ≡ get files name
   others-stand name not_other not_one =
       get-insert nat_list_cmp_total (insert files one first) other second name
       ∙ ap (λ b. cond b (Some second) (get (insert files one first) name)) not_other
@@ -46,4 +47,5 @@ module _ (one first other second : List ℕ) (files : Files) where
       ∙ ap (λ b. cond b (Some first) (get files one)) same
 
   pub second-stands : is_name other other ≡ true → get (with_two one first other second files) other ≡ Some second
-  second-stands same = get-insert nat_list_cmp_total (insert files one first) other second other ∙ ap (λ b. cond b (Some second) (get (insert files one first) other)) same
+  second-stands same = get-insert nat_list_cmp_total (insert files one first) other second other
+      ∙ ap (λ b. cond b (Some second) (get (insert files one first) other)) same

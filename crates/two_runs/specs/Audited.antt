@@ -27,7 +27,8 @@ use Rattle.audit_command.specs.Lines.{cost_line}
 
 -- the papers of a feed beside its trips, its stop times and its script
 abbrev pub other_papers : List Paper
-other_papers = paper.Settings ∷ paper.Terminals ∷ paper.Tolerances ∷ paper.Calendar ∷ paper.CalendarDates ∷ paper.Deadheads ∷ paper.Depot ∷ []
+other_papers = paper.Settings ∷ paper.Terminals ∷ paper.Tolerances ∷ paper.Calendar ∷ paper.CalendarDates ∷ paper.Deadheads ∷ paper.Depot
+    ∷ []
 
 -- The written feed is laid. What was written has the names of the trips and of the stop times. There is no script, and every
 -- other paper is as it was.
@@ -71,17 +72,27 @@ pub record FindsLeast (before after : SinkState) (status : ℕ) : Type 0 where
 abbrev pub FindsWrittenLeast : Option Files → Option Files → Option Files → SinkState → SinkState → ℕ → ℕ → Type 0
 FindsWrittenLeast files written laid before after first second =
     first ≤ EDITS_REFUSED → second ≤ NO
-    → IfSome files (λ files. IfSome written (λ written. IfSome laid (λ laid. IsLaid written laid → CanBeAudited files written → FindsLeast before after second)))
+    → IfSome files (λ files. IfSome written
+    (λ written. IfSome laid (λ laid. IsLaid written laid → CanBeAudited files written → FindsLeast before after second)))
 
 -- The first run is one of `write`, which leaves this shelf, and the second one of `audit` over another. The second begins with
 -- sink and keeper as the first has left them, and with the calls that came to each. Each of the two is all that the command
 -- promises when it runs alone. And the second finds least what the first has written.
-pub record WritesAndAudits (before : Outside) (written : ShelfState) (written_calls : List Call) (laid : ShelfState) (laid_calls : List Call) (after : Outside) (first second old new : ℕ) : Type 0 where
+pub record WritesAndAudits (before : Outside) (written : ShelfState) (written_calls : List Call) (laid : ShelfState)
+    (laid_calls : List Call) (after : Outside) (first second old new : ℕ) : Type 0 where
   pub sink : SinkState
   pub sink_calls : List Call
   pub keeper : KeeperState
   pub keeper_calls : List Call
   pub steps : ℕ
-  pub write : Performs write_asked before (record { world = record { shelf = written; sink = sink; keeper = keeper }; calls = record { shelf = written_calls; sink = sink_calls; keeper = keeper_calls } }) first old steps
-  pub audit : Performs audit_asked (record { world = record { shelf = laid; sink = sink; keeper = keeper }; calls = record { shelf = laid_calls; sink = sink_calls; keeper = keeper_calls } }) after second steps new
+  pub write : Performs write_asked before
+      (record {
+        world = record { shelf = written; sink = sink; keeper = keeper };
+        calls = record { shelf = written_calls; sink = sink_calls; keeper = keeper_calls };
+      }) first old steps
+  pub audit : Performs audit_asked
+      (record {
+        world = record { shelf = laid; sink = sink; keeper = keeper };
+        calls = record { shelf = laid_calls; sink = sink_calls; keeper = keeper_calls };
+      }) after second steps new
   pub least : FindsWrittenLeast before.world.shelf.files written.files laid.files sink after.world.sink first second

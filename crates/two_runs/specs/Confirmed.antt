@@ -40,7 +40,8 @@ pub record IsConfirmed (before left later after : World) (second : ℕ) : Type 0
 -- tell their files. Neither of the two files is too long.
 abbrev pub Confirms : World → World → World → World → ℕ → ℕ → Type 0
 Confirms before left later after first second =
-    first ≤ EDITS_REFUSED → second ≤ NO → (files found : Files) → left.shelf.files ≡ Some files → later.shelf.files ≡ Some found → StandAgain files found
+    first ≤ EDITS_REFUSED → second ≤ NO → (files found : Files) → left.shelf.files ≡ Some files → later.shelf.files ≡ Some found
+    → StandAgain files found
     → IsShort files paper.Blocks → IsShort files paper.Prices → IsConfirmed before left later after second
 
 -- A run of `blocks`, and one of `check` that begins in the world which the first left. Each is all that its command promises when

@@ -21,8 +21,10 @@ pub fn run_write_and_audit<S: Shelf, A: Shelf, O: Sink, K: Keeper, L: Ledger>(
     keeper: &mut K,
     steps: &mut Steps<L>,
 ) -> (u8, u8)
-    ensures { let before = outside S.state S.history O.state O.history K.state K.history in let after = outside A.state A.history O.state O.history K.state K.history in
-        WritesAndAudits (before shelf.old out.old keeper.old) (S.state shelf.new) (S.history shelf.new) (A.state laid.old) (A.history laid.old) (after laid.new out.new keeper.new)
+    ensures { let before = outside S.state S.history O.state O.history K.state K.history in
+        let after = outside A.state A.history O.state O.history K.state K.history in
+        WritesAndAudits (before shelf.old out.old keeper.old) (S.state shelf.new) (S.history shelf.new) (A.state laid.old)
+        (A.history laid.old) (after laid.new out.new keeper.new)
         result.0 result.1 steps.old steps.new }
 {
     plan_law();

@@ -12,7 +12,8 @@ module _ {X : Type 0} where
   -- a log is stored as the pair of its lists
   abbrev pub log_code : Coded X → Coded (LogView X)
   log_code item_code =
-      code_by (List X × List X) (coded× (coded_list item_code) (coded_list item_code)) (λ log. (log.kept, log.undone)) (λ pair. record { kept = pair.0; undone = pair.1 }) (λ _. refl)
+      code_by (List X × List X) (coded× (coded_list item_code) (coded_list item_code)) (λ log. (log.kept, log.undone))
+      (λ pair. record { kept = pair.0; undone = pair.1 }) (λ _. refl)
 
   -- both lists together are at most 256
   abbrev pub IsWithinDepth : LogView X → Type 0

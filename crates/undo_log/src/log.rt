@@ -1,4 +1,5 @@
-ghost use Rattle.std.specs.Prelude.{◌≡◌, ◌↔◌, [], ◌∷◌, ◌++◌, length, slice_get, option_copied, IsSome, IsNone, IfOk, IfSome, IfNone, OnSome};
+ghost use Rattle.std.specs.Prelude.{◌≡◌, ◌↔◌, [], ◌∷◌, ◌++◌, length, slice_get, option_copied, IsSome, IsNone, IfOk, IfSome, IfNone};
+ghost use Rattle.std.specs.Prelude.{OnSome};
 
 use circular_buffer::HeapCircularBuffer;
 use desk_io::Memory;
@@ -32,7 +33,8 @@ impl<T> Model for Log<T> {
 
     ghost view = { λ a. record { kept = a.kept.items; undone = a.undone.items } };
 
-    ghost invariant = { λ a. (a.kept.capacity ≡ UNDO_DEPTH) × (a.undone.capacity ≡ UNDO_DEPTH) × IsWithinDepth (record { kept = a.kept.items; undone = a.undone.items }) };
+    ghost invariant = { λ a. (a.kept.capacity ≡ UNDO_DEPTH) × (a.undone.capacity ≡ UNDO_DEPTH)
+        × IsWithinDepth (record { kept = a.kept.items; undone = a.undone.items }) };
 }
 
 impl<T: Drop> Log<T> {

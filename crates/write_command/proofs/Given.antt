@@ -22,21 +22,25 @@ use Rattle.feed_desk.specs.declared.draw.Drawn.{Drawn}
 use Rattle.write_command.specs.declared.write.Writable.TheVariants.{Texts, Refused}
 use Rattle.write_command.specs.Writable.{IsWritable, IsWrittenOf}
 use Rattle.write_command.proofs.ReadAgain.{read-again}
-use Rattle.write_command.specs.Write.{EndsBy, IsRefusal, IsWritten, Writes, WritesBy, files_of, stop_times_in, trips_in, write_does, written_line}
+use Rattle.write_command.specs.Write.{EndsBy, IsRefusal, IsWritten, Writes, WritesBy, files_of, stop_times_in, trips_in, write_does}
+use Rattle.write_command.specs.Write.{written_line}
 
 -- a table with a field that is not UTF-8 is not one of texts
 bad-table : (table : TableView) (number place : ℕ) → IsFirstBad table number place → ¬ AreTexts table
-bad-table table number place bad texts = bad.field.bad (All-get_or IsUtf8 (record_at table number) place [] bad.field.within (row number bad.within))
+bad-table table number place bad texts =
+    bad.field.bad (All-get_or IsUtf8 (record_at table number) place [] bad.field.within (row number bad.within))
   where
     row : (k : ℕ) → k ≤ length table.rows → All IsUtf8 (record_at table k)
     row zero le = texts.header
     row (suc k) le = All-get_or (All IsUtf8) table.rows k [] (omega (arith, le)) texts.rows
 
-refused-ends : (paper : Paper) (columns : List Column) (table : TableView) (outcome : OutcomeView) → IsRefusal paper columns (Ok table) outcome → ¬ AreTexts table
+refused-ends : (paper : Paper) (columns : List Column) (table : TableView) (outcome : OutcomeView)
+    → IsRefusal paper columns (Ok table) outcome → ¬ AreTexts table
 refused-ends paper columns table outcome is = bad-table table is.for.number is.for.place is.for.first
 
 -- how a run ends that does this
-ends-by : (said : FeedView) (trips stop_times : Result TableView FeedFault) (outcome : OutcomeView) → WritesBy said trips stop_times outcome → EndsBy said trips stop_times outcome.ending
+ends-by : (said : FeedView) (trips stop_times : Result TableView FeedFault) (outcome : OutcomeView)
+    → WritesBy said trips stop_times outcome → EndsBy said trips stop_times outcome.ending
 ends-by said (Err due) stop_times outcome (inl bad) = ap (λ (o : OutcomeView). o.ending) bad.done
 ends-by said (Err due) stop_times outcome (inr (inl none)) = absurd none
 ends-by said (Err due) stop_times outcome (inr (inr none)) = absurd none
@@ -45,15 +49,28 @@ ends-by said (Ok trips) (Err due) outcome (inr (inl bad)) = ap (λ (o : OutcomeV
 ends-by said (Ok trips) (Err due) outcome (inr (inr (texts, none))) = absurd none
 ends-by said (Ok trips) (Ok stop_times) outcome (inl bad) =
     let end = ap (λ (o : OutcomeView). o.ending) bad.done in
-    record { texts = λ one other. absurd (refused-ends _ _ trips outcome bad one); trips_refused = λ no. end; stop_times_refused = λ no. end }
+    record {
+      texts = λ one other. absurd (refused-ends _ _ trips outcome bad one);
+      trips_refused = λ no. end;
+      stop_times_refused = λ no. end;
+    }
 ends-by said (Ok trips) (Ok stop_times) outcome (inr (inl bad)) =
     let end = ap (λ (o : OutcomeView). o.ending) bad.1.done in
-    record { texts = λ one other. absurd (refused-ends _ _ stop_times outcome bad.1 other); trips_refused = λ no. end; stop_times_refused = λ no. end }
+    record {
+      texts = λ one other. absurd (refused-ends _ _ stop_times outcome bad.1 other);
+      trips_refused = λ no. end;
+      stop_times_refused = λ no. end;
+    }
 ends-by said (Ok trips) (Ok stop_times) outcome (inr (inr does)) =
-    record { texts = λ one other. ap (λ (o : OutcomeView). o.ending) does.1.1.done; trips_refused = λ no. absurd (no does.0); stop_times_refused = λ no. absurd (no does.1.0) }
+    record {
+      texts = λ one other. ap (λ (o : OutcomeView). o.ending) does.1.1.done;
+      trips_refused = λ no. absurd (no does.0);
+      stop_times_refused = λ no. absurd (no does.1.0);
+    }
 
 -- and no line is kept
-unkept-by : (said : FeedView) (trips stop_times : Result TableView FeedFault) (outcome : OutcomeView) → WritesBy said trips stop_times outcome → outcome.lines ≡ None
+unkept-by : (said : FeedView) (trips stop_times : Result TableView FeedFault) (outcome : OutcomeView)
+    → WritesBy said trips stop_times outcome → outcome.lines ≡ None
 unkept-by said trips stop_times outcome (inl bad) = ap (λ (o : OutcomeView). o.lines) bad.done
 unkept-by said (Err due) stop_times outcome (inr (inl none)) = absurd none
 unkept-by said (Err due) stop_times outcome (inr (inr none)) = absurd none
@@ -61,7 +78,8 @@ unkept-by said (Ok trips) stop_times outcome (inr (inl bad)) = ap (λ (o : Outco
 unkept-by said (Ok trips) (Err due) outcome (inr (inr (texts, none))) = absurd none
 unkept-by said (Ok trips) (Ok stop_times) outcome (inr (inr does)) = ap (λ (o : OutcomeView). o.lines) does.1.1.done
 
-pub write-given : {E : Type 0} (read : ReadView) (said : FeedView) (result : Result OutcomeView E) → IfOk result (Writes read said) → IfOk result (IsGivenOf write_does read said)
+pub write-given : {E : Type 0} (read : ReadView) (said : FeedView) (result : Result OutcomeView E) → IfOk result (Writes read said)
+    → IfOk result (IsGivenOf write_does read said)
 write-given read said (Err e) does = tt
 write-given read said (Ok outcome) does = record {
   gives = does;
@@ -70,36 +88,44 @@ write-given read said (Ok outcome) does = record {
 }
 
 -- a refusal of what was found of a paper is told
-pub told-refusal : (paper : Paper) (columns known : List Column) (found there : Found) (refused : FeedFault) (outcome : OutcomeView) → columns ≡ known → found ≡ there
-    → IsRefusedPaper paper columns (table_in paper found) refused → outcome ≡ refusing refused → IsRefusal paper known (table_in paper there) outcome
+pub told-refusal : (paper : Paper) (columns known : List Column) (found there : Found) (refused : FeedFault) (outcome : OutcomeView)
+    → columns ≡ known → found ≡ there
+    → IsRefusedPaper paper columns (table_in paper found) refused → outcome ≡ refusing refused
+    → IsRefusal paper known (table_in paper there) outcome
 told-refusal paper columns known found there refused outcome same at is told = record {
   refused = refused;
-  for = subst (λ columns. IsRefusedPaper paper columns (table_in paper there) refused) same (subst (λ found. IsRefusedPaper paper columns (table_in paper found) refused) at is);
+  for = subst (λ columns. IsRefusedPaper paper columns (table_in paper there) refused) same
+      (subst (λ found. IsRefusedPaper paper columns (table_in paper found) refused) at is);
   done = told;
 }
 
 -- what is said beside a paper of texts
-pub beside-texts : {Beside : Type 0} (paper_table there : Result TableView FeedFault) (table : TableView) → paper_table ≡ there → IsTextPaper (λ read. read ≡ table) paper_table → Beside
+pub beside-texts : {Beside : Type 0} (paper_table there : Result TableView FeedFault) (table : TableView) → paper_table ≡ there
+    → IsTextPaper (λ read. read ≡ table) paper_table → Beside
     → IsTextPaper (λ read. Beside) there
 beside-texts {Beside} paper_table there table same is beside = subst (IsTextPaper (λ read. Beside)) same (by paper_table is)
   where
-    by : (paper_table : Result TableView FeedFault) → IsTextPaper (λ read. read ≡ table) paper_table → IsTextPaper (λ read. Beside) paper_table
+    by : (paper_table : Result TableView FeedFault) → IsTextPaper (λ read. read ≡ table) paper_table
+        → IsTextPaper (λ read. Beside) paper_table
     by (Ok read) is = (is.0, beside)
     by (Err due) is = absurd is
 
 -- the table of a paper of texts has texts
-pub texts-of : (paper_table : Result TableView FeedFault) (table : TableView) → IsTextPaper (λ read. read ≡ table) paper_table → AreTexts table
+pub texts-of : (paper_table : Result TableView FeedFault) (table : TableView) → IsTextPaper (λ read. read ≡ table) paper_table
+    → AreTexts table
 texts-of (Ok read) table is = subst AreTexts is.1 is.0
 texts-of (Err due) table is = absurd is
 
 -- the refusal of one of two papers is what is done
-pub refused-by : (said : FeedView) (timetable : TimetableView) (base : ℕ) (trips stop_times : Result TableView FeedFault) (outcome : OutcomeView)
+pub refused-by : (said : FeedView) (timetable : TimetableView) (base : ℕ) (trips stop_times : Result TableView FeedFault)
+    (outcome : OutcomeView)
     → IsWritable said.settings timetable base trips stop_times (Refused outcome) → WritesBy said trips stop_times outcome
 refused-by said timetable base trips stop_times outcome (inl bad) = inl bad
 refused-by said timetable base trips stop_times outcome (inr bad) = inr (inl bad)
 
 -- else both files are written
-both-by : (said : FeedView) (timetable : TimetableView) (base : ℕ) (trips stop_times : Result TableView FeedFault) (table : TableView) (text : List ℕ) (outcome : OutcomeView)
+both-by : (said : FeedView) (timetable : TimetableView) (base : ℕ) (trips stop_times : Result TableView FeedFault) (table : TableView)
+    (text : List ℕ) (outcome : OutcomeView)
     → IsTextPaper (λ first. first ≡ table) trips → IsTextPaper (λ second. text ≡ stop_times_written second timetable base) stop_times
     → ((second : TableView) → text ≡ stop_times_written second timetable base → IsWritten said table second outcome)
     → WritesBy said trips stop_times outcome
@@ -109,8 +135,10 @@ both-by said timetable base (Ok first) (Err due) table text outcome one other do
 both-by said timetable base (Err due) stop_times table text outcome one other does = absurd one
 
 -- of the plan after the script
-pub written-given : {E : Type 0} (read : ReadView) (said : FeedView) (matrix : MatrixView) (drawn : Drawn) (timetable : TimetableView) (base : ℕ) (table : TableView) (text : List ℕ)
-    → IsMatrixFor said matrix → HasDrawn said.base said.lines matrix drawn → timetable ≡ drawn.desk.script.timetable → base ≡ length said.base.slots
+pub written-given : {E : Type 0} (read : ReadView) (said : FeedView) (matrix : MatrixView) (drawn : Drawn) (timetable : TimetableView)
+    (base : ℕ) (table : TableView) (text : List ℕ)
+    → IsMatrixFor said matrix → HasDrawn said.base said.lines matrix drawn → timetable ≡ drawn.desk.script.timetable
+    → base ≡ length said.base.slots
     → IsWritable said.settings timetable base (trips_in read) (stop_times_in read) (Texts table text)
     → (result : Result OutcomeView E) → IfOk result (IsWrittenOf said.settings drawn table text) → IfOk result (Writes read said)
 written-given read said matrix drawn timetable base table text is has same count writable (Err e) written = tt
@@ -125,7 +153,8 @@ written-given read said matrix drawn timetable base table text is has same count
       text = written.text;
       again = read-again said table second drawn.blocks;
       done = written.done ∙ (λ i. record {
-        writes = files_of said.settings (has.timetable i) drawn.blocks table ((made ∙ (λ j. stop_times_written second ((same ∙ has.timetable) j) (count j))) i);
+        writes = files_of said.settings (has.timetable i) drawn.blocks table
+            ((made ∙ (λ j. stop_times_written second ((same ∙ has.timetable) j) (count j))) i);
         lines = None;
         text = has.refused i ++ written_line;
         ending = has.ending i;

@@ -20,7 +20,8 @@ pub read-again : (said : FeedView) (trips stop_times : TableView) (blocks : List
 read-again said trips stop_times blocks trips_bytes stop_times_bytes base are writable trips_unmarked stop_times_unmarked =
     subst Back (ap length are.slots)
     (λ writable stop_times_unmarked.
-    written-back said.settings trips_bytes stop_times_bytes trips stop_times base (standing said) (chosen_in said.settings trips) blocks said.settings.prefix
+    written-back said.settings trips_bytes stop_times_bytes trips stop_times base (standing said) (chosen_in said.settings trips) blocks
+    said.settings.prefix
     are.trips_are are.stop_times_are are.trips_table are.stop_times_table are.read follows writable trips_unmarked stop_times_unmarked)
     writable stop_times_unmarked
   where
@@ -29,10 +30,13 @@ read-again said trips stop_times blocks trips_bytes stop_times_bytes base are wr
     Back n =
         AreWritable stop_times (standing said) n
         → strip_bom (stop_times_written stop_times (standing said) n) ≡ stop_times_written stop_times (standing said) n
-        → base_of said.settings (File (trips_of said trips blocks)) (File (stop_times_written stop_times (standing said) n)) ≡ Ok (as_written base (standing said))
+        → base_of said.settings (File (trips_of said trips blocks))
+        (File (stop_times_written stop_times (standing said) n)) ≡ Ok (as_written base (standing said))
 
     follows : IsEditedFrom base (standing said)
     follows =
         let forward = base-forward said.settings (File trips_bytes) (File stop_times_bytes) base are.read in
-        let on = standing-follows said.base (first_records said.lines (length said.lines)) (subst (All (λ (slot : Slot). slot.trip.departs < slot.trip.ends)) are.slots forward) in
-        subst (λ slots. IsEditedFrom (record base { slots = slots }) (standing said)) (sym are.slots) (record { names = on.names; trips = on.trips })
+        let on = standing-follows said.base (first_records said.lines (length said.lines))
+        (subst (All (λ (slot : Slot). slot.trip.departs < slot.trip.ends)) are.slots forward) in
+        subst (λ slots. IsEditedFrom (record base { slots = slots }) (standing said)) (sym are.slots)
+        (record { names = on.names; trips = on.trips })

@@ -20,10 +20,12 @@ abbrev pub IsWritable : SettingsView → TimetableView → ℕ → Result TableV
 IsWritable settings timetable base trips stop_times (Texts table text) =
     IsTextPaper (λ first. first ≡ table) trips × IsTextPaper (λ second. text ≡ stop_times_written second timetable base) stop_times
 IsWritable settings timetable base trips stop_times (Refused outcome) =
-    IsRefusal paper.Trips (trip_columns settings) trips outcome ⊎ IsTextPaper (λ first. IsRefusal paper.StopTimes stop_time_columns stop_times outcome) trips
+    IsRefusal paper.Trips (trip_columns settings) trips outcome
+    ⊎ IsTextPaper (λ first. IsRefusal paper.StopTimes stop_time_columns stop_times outcome) trips
 
 -- the outcome of the plan after a script, with a prefix that is text
-pub record IsWrittenOf (settings : SettingsView) (drawn : Drawn) (trips : TableView) (stop_times : List ℕ) (outcome : OutcomeView) : Type 0 where
+pub record IsWrittenOf (settings : SettingsView) (drawn : Drawn) (trips : TableView) (stop_times : List ℕ)
+    (outcome : OutcomeView) : Type 0 where
   pub text : IsUtf8 settings.prefix
   pub done : outcome ≡ record {
     writes = files_of settings drawn.desk.script.timetable drawn.blocks trips stop_times;

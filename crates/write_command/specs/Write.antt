@@ -64,7 +64,8 @@ files_of settings timetable blocks trips stop_times =
 
 -- those of a feed and of blocks for its timetable after the script, of whose slots those before the script have records
 abbrev pub feed_files : FeedView → TableView → TableView → List (List ℕ) → List Writing
-feed_files said trips stop_times blocks = files_of said.settings (standing said) blocks trips (stop_times_written stop_times (standing said) (length said.base.slots))
+feed_files said trips stop_times blocks =
+    files_of said.settings (standing said) blocks trips (stop_times_written stop_times (standing said) (length said.base.slots))
 
 -- the texts of the two files of a feed and of blocks
 abbrev pub trips_of : FeedView → TableView → List (List ℕ) → List ℕ
@@ -74,7 +75,8 @@ abbrev pub stop_times_of : FeedView → TableView → List ℕ
 stop_times_of said stop_times = stop_times_written stop_times (standing said) (length said.base.slots)
 
 -- two files are read as these tables, and as a timetable with the trips of a feed
-pub record AreReadAs (said : FeedView) (trips_bytes stop_times_bytes : List ℕ) (trips stop_times : TableView) (base : TimetableView) : Type 0 where
+pub record AreReadAs (said : FeedView) (trips_bytes stop_times_bytes : List ℕ) (trips stop_times : TableView)
+    (base : TimetableView) : Type 0 where
   pub trips_are : table_of trips_bytes ≡ Ok trips
   pub stop_times_are : table_of stop_times_bytes ≡ Ok stop_times
   pub trips_table : IsTable trips
@@ -90,7 +92,8 @@ AreReadAgain said trips stop_times blocks =
     → AreWritable stop_times (standing said) (length said.base.slots)
     → strip_bom (trips_of said trips blocks) ≡ trips_of said trips blocks
     → strip_bom (stop_times_of said stop_times) ≡ stop_times_of said stop_times
-    → base_of said.settings (File (trips_of said trips blocks)) (File (stop_times_of said stop_times)) ≡ Ok (as_written base (standing said))
+    → base_of said.settings (File (trips_of said trips blocks))
+    (File (stop_times_of said stop_times)) ≡ Ok (as_written base (standing said))
 
 -- The files are those of the blocks of the plan after the script, and their names begin with a text. They are read again as the
 -- feed. The lines of refused records are put, and then that the files were written.
@@ -102,7 +105,12 @@ pub record IsWritten (said : FeedView) (trips stop_times : TableView) (outcome :
   pub drawn : IsDrawn said.base said.lines matrix plan blocks
   pub text : IsUtf8 said.settings.prefix
   pub again : AreReadAgain said trips stop_times blocks
-  pub done : outcome ≡ record { writes = feed_files said trips stop_times blocks; lines = None; text = refused_of said ++ written_line; ending = ending_of said }
+  pub done : outcome ≡ record {
+    writes = feed_files said trips stop_times blocks;
+    lines = None;
+    text = refused_of said ++ written_line;
+    ending = ending_of said;
+  }
 
 -- the refusal of a paper is put
 pub record IsRefusal (paper : Paper) (columns : List Column) (read : Result TableView FeedFault) (outcome : OutcomeView) : Type 0 where

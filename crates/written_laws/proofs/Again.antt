@@ -35,54 +35,78 @@ use Rattle.written_laws.proofs.Stated.{Clock, least-are-stated}
 
 module _ (trips : TableView) (standing : TimetableView) (chosen : List Bool) (blocks : List (List ℕ)) (prefix : List ℕ) where
   -- the service of each record is that of before
-  service-kept : IsTable trips → HasServices trips → (r : ℕ) → r < length trips.rows → service_field (with_blocks trips standing chosen blocks prefix) r ≡ service_field trips r
+  service-kept : IsTable trips → HasServices trips → (r : ℕ) → r < length trips.rows
+      → service_field (with_blocks trips standing chosen blocks prefix) r ≡ service_field trips r
   unfolding with_blocks
   service-kept is has r within =
       let row = get_or trips.rows r [] in
       let there = asked-kept column.ServiceId (place_of column.BlockId trips.header) trips.header has.place has.asked in
-      ap (field_at (get_or (trips_rows trips standing chosen blocks prefix) r [])) (sym (place-asked column.ServiceId (header_written (place_of column.BlockId trips.header) trips.header) has.place there))
-      ∙ ap (λ row. field_at row has.place) (get_or-map-range_with_len (row_written trips standing chosen blocks prefix) 0 (length trips.rows) r r [] within (omega arith))
+      ap (field_at (get_or (trips_rows trips standing chosen blocks prefix) r []))
+      (sym (place-asked column.ServiceId (header_written (place_of column.BlockId trips.header) trips.header) has.place there))
+      ∙ ap (λ row. field_at row has.place)
+      (get_or-map-range_with_len (row_written trips standing chosen blocks prefix) 0 (length trips.rows) r r [] within (omega arith))
       ∙ asked-field trips.header row _ (is.width r within) column.ServiceId has.place refl has.asked
       ∙ ap (field_at row) has.at
 
   -- so the selected records are those that were selected
   chosen-again : (settings : SettingsView) → IsTable trips → HasServices trips
-      → (r : ℕ) → r < length trips.rows → get_or (chosen_in settings (with_blocks trips standing chosen blocks prefix)) r false ≡ get_or (chosen_in settings trips) r false
+      → (r : ℕ) → r < length trips.rows
+      → get_or (chosen_in settings (with_blocks trips standing chosen blocks prefix)) r false ≡ get_or (chosen_in settings trips) r
+      false
   chosen-again settings is has r within =
       let written = with_blocks trips standing chosen blocks prefix in
-      get_or-map (is_selected settings (place_of column.ServiceId written.header)) written.rows r [] false (omega (arith, within, count-rows trips standing chosen blocks prefix))
+      get_or-map (is_selected settings (place_of column.ServiceId written.header)) written.rows r [] false
+      (omega (arith, within, count-rows trips standing chosen blocks prefix))
       ∙ ap (is_text_chosen settings) (service-kept is has r within)
       ∙ sym (get_or-map (is_selected settings (place_of column.ServiceId trips.header)) trips.rows r [] false within)
 
   selected-again : (again : List Bool) → ((r : ℕ) → r < length trips.rows → get_or again r false ≡ get_or chosen r false)
       → selected (with_blocks trips standing chosen blocks prefix) again ≡ selected (with_blocks trips standing chosen blocks prefix) chosen
   selected-again again same =
-      filter-same (λ r. get_or again r false) (λ r. get_or chosen r false) (range_with_len 0 (length (with_blocks trips standing chosen blocks prefix).rows))
-      (All-from_get_or (λ r. get_or again r false ≡ get_or chosen r false) (range_with_len 0 (length (with_blocks trips standing chosen blocks prefix).rows)) 0 each)
+      filter-same (λ r. get_or again r false) (λ r. get_or chosen r false)
+      (range_with_len 0 (length (with_blocks trips standing chosen blocks prefix).rows))
+      (All-from_get_or (λ r. get_or again r false ≡ get_or chosen r false)
+      (range_with_len 0 (length (with_blocks trips standing chosen blocks prefix).rows)) 0 each)
     where
       each : (i : ℕ) → i < length (range_with_len 0 (length (with_blocks trips standing chosen blocks prefix).rows))
-          → get_or again (get_or (range_with_len 0 (length (with_blocks trips standing chosen blocks prefix).rows)) i 0) false ≡ get_or chosen (get_or (range_with_len 0 (length (with_blocks trips standing chosen blocks prefix).rows)) i 0) false
+          → get_or again (get_or (range_with_len 0 (length (with_blocks trips standing chosen blocks prefix).rows)) i 0) false ≡ get_or
+          chosen (get_or (range_with_len 0 (length (with_blocks trips standing chosen blocks prefix).rows)) i 0) false
       each i within =
           let rows = length (with_blocks trips standing chosen blocks prefix).rows in
-          let inside : i < length (with_blocks trips standing chosen blocks prefix).rows = omega (arith, within, length-range_with_len 0 (length (with_blocks trips standing chosen blocks prefix).rows)) in
-          same (get_or (range_with_len 0 (length (with_blocks trips standing chosen blocks prefix).rows)) i 0) (omega (arith, inside, count-rows trips standing chosen blocks prefix, get_or-range_with_len 0 (length (with_blocks trips standing chosen blocks prefix).rows) i 0 inside))
+          let inside : i < length (with_blocks trips standing chosen blocks prefix).rows =
+          omega (arith, within, length-range_with_len 0 (length (with_blocks trips standing chosen blocks prefix).rows)) in
+          same (get_or (range_with_len 0 (length (with_blocks trips standing chosen blocks prefix).rows)) i 0)
+          (omega (
+            arith,
+            inside,
+            count-rows trips standing chosen blocks prefix,
+            get_or-range_with_len 0
+                (length (with_blocks trips standing chosen blocks prefix).rows) i 0 inside,
+          ))
 
-  stated-again : (timetable : TimetableView) (again : List Bool) → ((r : ℕ) → r < length trips.rows → get_or again r false ≡ get_or chosen r false)
-      → stated_in (with_blocks trips standing chosen blocks prefix) timetable again ≡ stated_in (with_blocks trips standing chosen blocks prefix) timetable chosen
+  stated-again : (timetable : TimetableView) (again : List Bool)
+      → ((r : ℕ) → r < length trips.rows → get_or again r false ≡ get_or chosen r false)
+      → stated_in (with_blocks trips standing chosen blocks prefix) timetable again ≡ stated_in
+      (with_blocks trips standing chosen blocks prefix) timetable chosen
   stated-again timetable again same =
-      ap (λ rs. blocks_by (map (block_field (with_blocks trips standing chosen blocks prefix)) rs) (by_departure (trip_moves timetable.slots))) (selected-again again same)
+      ap (λ rs. blocks_by (map (block_field (with_blocks trips standing chosen blocks prefix)) rs)
+      (by_departure (trip_moves timetable.slots))) (selected-again again same)
 
 same-table : (x y : TableView) → ◌≡◌ {A = Result TableView TableFault} (Ok x) (Ok y) → x ≡ y
 same-table x y e = cc
 
 -- a timetable without extras has the names of the one that it follows
-names-kept : (base standing : TimetableView) → IsEditedFrom base standing → length standing.slots ≡ length base.slots → slot_names base ≡ slot_names standing
+names-kept : (base standing : TimetableView) → IsEditedFrom base standing → length standing.slots ≡ length base.slots
+    → slot_names base ≡ slot_names standing
 names-kept base standing follows count =
-    sym follows.names ∙ take_all (length base.slots) (slot_names standing) (omega (arith, count, length-map standing.slots (λ (s : Slot). s.name)))
+    sym follows.names ∙ take_all (length base.slots) (slot_names standing)
+    (omega (arith, count, length-map standing.slots (λ (s : Slot). s.name)))
 
 -- a plan that a table states is stated also where the same records are selected
-said-again : (trips : TableView) (timetable : TimetableView) (chosen again : List Bool) (matrix : MatrixView) (prefix : List ℕ) (blocks : List (List ℕ))
-    → ((r : ℕ) → r < length trips.rows → get_or again r false ≡ get_or chosen r false) → stated_in trips timetable again ≡ stated_in trips timetable chosen
+said-again : (trips : TableView) (timetable : TimetableView) (chosen again : List Bool) (matrix : MatrixView) (prefix : List ℕ)
+    (blocks : List (List ℕ))
+    → ((r : ℕ) → r < length trips.rows → get_or again r false ≡ get_or chosen r false)
+    → stated_in trips timetable again ≡ stated_in trips timetable chosen
     → StatesPlan trips timetable chosen matrix prefix blocks → StatesPlan trips timetable again matrix prefix blocks
 said-again trips timetable chosen again matrix prefix blocks same stated states = record {
   text = λ text r within is. states.text text r within (sym (same r within) ∙ is);
@@ -90,25 +114,33 @@ said-again trips timetable chosen again matrix prefix blocks same stated states 
 }
 
 pub written-states-plan : Clock → spec.WrittenFeedStatesPlan
-written-states-plan clock settings trips_bytes stop_times_bytes trips stop_times base standing matrix next prefix feed valid whole readable least trips_again base_again trips_read base_read =
+written-states-plan clock settings trips_bytes stop_times_bytes trips stop_times base standing matrix next prefix feed valid whole readable
+    least trips_again base_again trips_read base_read =
     let chosen = chosen_in settings trips in
     let blocks = blocks_along next (by_departure (trip_moves standing.slots)) in
     let written = with_blocks trips standing chosen blocks prefix in
     let timetable = as_written base standing in
-    let table : written ≡ trips_again = same-table _ trips_again (sym (writer.trips-back trips standing chosen blocks prefix feed.trips_table readable.trips_unmarked) ∙ trips_read) in
+    let table : written ≡ trips_again =
+    same-table _ trips_again (sym (writer.trips-back trips standing chosen blocks prefix feed.trips_table readable.trips_unmarked)
+    ∙ trips_read) in
     let same : timetable ≡ base_again = same_Ok _ base_again (sym
-    (written-back settings trips_bytes stop_times_bytes trips stop_times base standing chosen blocks prefix feed.trips_are feed.stop_times_are feed.trips_table feed.stop_times_table feed.read whole.follows readable.times
+    (written-back settings trips_bytes stop_times_bytes trips stop_times base standing chosen blocks prefix feed.trips_are
+    feed.stop_times_are feed.trips_table feed.stop_times_table feed.read whole.follows readable.times
     readable.trips_unmarked readable.stop_times_unmarked)
     ∙ base_read) in
     let has = feed-services settings trips_bytes (File stop_times_bytes) trips base feed.trips_are feed.read in
     let published = (of-feed settings (File trips_bytes) (File stop_times_bytes) base feed.read).runs in
-    let name : NameSlots trips chosen standing = feed-names-slots settings trips_bytes (File stop_times_bytes) trips base feed.trips_are feed.read ∙ names-kept base standing whole.follows whole.no_extras in
+    let name : NameSlots trips chosen standing =
+    feed-names-slots settings trips_bytes (File stop_times_bytes) trips base feed.trips_are feed.read
+    ∙ names-kept base standing whole.follows whole.no_extras in
     let again = chosen_in settings written in
     let agree = chosen-again trips standing chosen blocks prefix settings feed.trips_table has in
-    let states = said-again written timetable chosen again matrix prefix blocks (λ r within. agree r (omega (arith, within, count-rows trips standing chosen blocks prefix)))
+    let states = said-again written timetable chosen again matrix prefix blocks
+    (λ r within. agree r (omega (arith, within, count-rows trips standing chosen blocks prefix)))
     (stated-again trips standing chosen blocks prefix timetable again agree)
     (least-are-stated clock trips base standing chosen matrix next prefix feed.trips_table valid published whole name least) in
-    subst (λ t. StatesPlan trips_again t (chosen_in settings trips_again) matrix prefix blocks) same (subst (λ w. StatesPlan w timetable (chosen_in settings w) matrix prefix blocks) table states)
+    subst (λ t. StatesPlan trips_again t (chosen_in settings trips_again) matrix prefix blocks) same
+    (subst (λ w. StatesPlan w timetable (chosen_in settings w) matrix prefix blocks) table states)
 
 pub script-leaves-whole : spec.ScriptLeavesWhole
 script-leaves-whole settings trips_found stop_times_found base records said count runs = record {

@@ -1,5 +1,6 @@
 -- The records of an accepted feed whose services are chosen name the trips of its slots.
-use Rattle.std.proofs.Common.{◌≡◌, ℕ, suc, ◌+◌, ◌<◌, ◌≤◌, ◌&&◌, Bool, true, false, cond, List, [], ◌∷◌, ◌++◌, length, filter, get_or, map, append_assoc, Option, None, Some, Result, Ok, not, unwrap_or, refl, sym, ap, subst, ◌∙◌, arith}
+use Rattle.std.proofs.Common.{◌≡◌, ℕ, suc, ◌+◌, ◌<◌, ◌≤◌, ◌&&◌, Bool, true, false, cond, List, [], ◌∷◌, ◌++◌, length, filter, get_or, map}
+use Rattle.std.proofs.Common.{append_assoc, Option, None, Some, Result, Ok, not, unwrap_or, refl, sym, ap, subst, ◌∙◌, arith}
 use Rattle.std.specs.Prelude.{All}
 use Rattle.std.specs.List.{range_with_len}
 use Rattle.std.specs.Str.{is_utf8}
@@ -22,7 +23,8 @@ use Rattle.desk_settings.specs.Settings.{SettingsView, class_of, is_chosen, is_c
 use Rattle.trip_model.specs.Timetable.{TimetableView, Slot, slot_names}
 use Rattle.feed_read.specs.Base.{base_of, ends_of, places_met, slot_of}
 use Rattle.feed_read.specs.FeedTrips.{feed_trips_in, feed_trips_of}
-use Rattle.feed_read.specs.Trips.{Selected, chosen_in, classed_columns_in, columns_in, nothing_selected, trips_in, with_chosen, with_classed_trip, with_selected, with_trip}
+use Rattle.feed_read.specs.Trips.{Selected, chosen_in, classed_columns_in, columns_in, nothing_selected, trips_in, with_chosen}
+use Rattle.feed_read.specs.Trips.{with_classed_trip, with_selected, with_trip}
 use Rattle.feed_read.specs.StopTimes.{stop_times_for}
 use Rattle.block_audit.specs.Stated.{selected}
 use Rattle.claim_files.proofs.EachRecord.{provided-parts, read-parts, same_Ok}
@@ -47,9 +49,11 @@ place-asked asked header k at = sym (ap (λ found. unwrap_or found (length heade
 -- the name of a record that was read, if its service is chosen; this is text
 record IsNamed (settings : SettingsView) (header row : List (List ℕ)) (found : Option Name) : Type 0 where
   text : is_utf8 (get_or row (place_of column.ServiceId header) []) ≡ true
-  name : found ≡ cond (is_chosen settings (get_or row (place_of column.ServiceId header) [])) (Some (get_or row (place_of column.TripId header) [])) None
+  name : found ≡ cond (is_chosen settings (get_or row (place_of column.ServiceId header) []))
+      (Some (get_or row (place_of column.TripId header) [])) None
 
-chosen-named : (settings : SettingsView) (header row : List (List ℕ)) (columns : Columns) (number : ℕ) (found : Option Name) → columns_in header ≡ Ok columns
+chosen-named : (settings : SettingsView) (header row : List (List ℕ)) (columns : Columns) (number : ℕ) (found : Option Name)
+    → columns_in header ≡ Ok columns
     → chosen_in settings columns number row ≡ Ok found → IsNamed settings header row found
 unfolding columns_in chosen_in
 chosen-named settings header row columns number found e said =
@@ -72,7 +76,8 @@ chosen-named settings header row columns number found e said =
     }
 
 -- a selected trip is put behind those before it
-selected-more : (number : ℕ) (before more : Selected) (name class : Name) → with_selected number before name class ≡ Ok more → more.names ≡ before.names ++ name ∷ []
+selected-more : (number : ℕ) (before more : Selected) (name class : Name) → with_selected number before name class ≡ Ok more
+    → more.names ≡ before.names ++ name ∷ []
 unfolding with_selected
 selected-more number before more name class e =
     let filled = read-parts (filled_in paper.Trips number column.TripId name) _ more e in
@@ -83,31 +88,41 @@ selected-more number before more name class e =
 -- what a record adds to the names, if its service is chosen
 record AddsName (settings : SettingsView) (header row : List (List ℕ)) (before more : Selected) : Type 0 where
   text : is_utf8 (get_or row (place_of column.ServiceId header) []) ≡ true
-  names : more.names ≡ before.names ++ cond (is_chosen settings (get_or row (place_of column.ServiceId header) [])) (get_or row (place_of column.TripId header) [] ∷ []) []
+  names : more.names ≡ before.names
+      ++ cond (is_chosen settings (get_or row (place_of column.ServiceId header) [])) (get_or row (place_of column.TripId header) [] ∷ [])
+      []
 
 -- a reading of records of which each adds its name
 abbrev AddsNames : SettingsView → List (List ℕ) → Step Selected → Type 0
-AddsNames settings header read = (number : ℕ) (before more : Selected) (row : List (List ℕ)) → read number before row ≡ Ok more → AddsName settings header row before more
+AddsNames settings header read = (number : ℕ) (before more : Selected) (row : List (List ℕ)) → read number before row ≡ Ok more
+    → AddsName settings header row before more
 
-adds-name : (settings : SettingsView) (header row : List (List ℕ)) (before more : Selected) (found : Option Name) (next : Option Name → Result Selected FeedFault)
-    → IsNamed settings header row found → next None ≡ Ok before → ((name : Name) → next (Some name) ≡ Ok more → more.names ≡ before.names ++ name ∷ []) → next found ≡ Ok more → AddsName settings header row before more
+adds-name : (settings : SettingsView) (header row : List (List ℕ)) (before more : Selected) (found : Option Name)
+    (next : Option Name → Result Selected FeedFault)
+    → IsNamed settings header row found → next None ≡ Ok before
+    → ((name : Name) → next (Some name) ≡ Ok more → more.names ≡ before.names ++ name ∷ []) → next found ≡ Ok more
+    → AddsName settings header row before more
 adds-name settings header row before more found next is none some e = record {
   text = is.text;
   names = by (is_chosen settings (get_or row (place_of column.ServiceId header) [])) (ap next (sym is.name) ∙ e);
 }
   where
-    by : (b : Bool) → next (cond b (Some (get_or row (place_of column.TripId header) [])) None) ≡ Ok more → more.names ≡ before.names ++ cond b (get_or row (place_of column.TripId header) [] ∷ []) []
+    by : (b : Bool) → next (cond b (Some (get_or row (place_of column.TripId header) [])) None) ≡ Ok more
+        → more.names ≡ before.names ++ cond b (get_or row (place_of column.TripId header) [] ∷ []) []
     by true e = some (get_or row (place_of column.TripId header) []) e
     by false e = sym (ap (λ (s : Selected). s.names) (same_Ok before more (sym none ∙ e))) ∙ sym (append-nil before.names)
 
-trip-adds : (settings : SettingsView) (header : List (List ℕ)) (columns : Columns) → columns_in header ≡ Ok columns → AddsNames settings header (with_trip settings columns)
+trip-adds : (settings : SettingsView) (header : List (List ℕ)) (columns : Columns) → columns_in header ≡ Ok columns
+    → AddsNames settings header (with_trip settings columns)
 unfolding with_trip
 trip-adds settings header columns at number before more row e =
     let parts = read-parts (chosen_in settings columns number row) (with_chosen number before) more e in
-    adds-name settings header row before more parts.0 (with_chosen number before) (chosen-named settings header row columns number parts.0 at parts.1) refl
+    adds-name settings header row before more parts.0 (with_chosen number before)
+    (chosen-named settings header row columns number parts.0 at parts.1) refl
     (λ name said. selected-more number before more name [] said) parts.2
 
-classed-adds : (settings : SettingsView) (header : List (List ℕ)) (columns : ClassedColumns) → classed_columns_in header ≡ Ok columns → AddsNames settings header (with_classed_trip settings columns)
+classed-adds : (settings : SettingsView) (header : List (List ℕ)) (columns : ClassedColumns) → classed_columns_in header ≡ Ok columns
+    → AddsNames settings header (with_classed_trip settings columns)
 unfolding classed_columns_in with_classed_trip
 classed-adds settings header columns at number before more row e =
     let plain = read-parts (columns_in header) _ columns at in
@@ -115,12 +130,16 @@ classed-adds settings header columns at number before more row e =
     let same = same_Ok _ columns route.2 in
     let read = ap (λ c. with_classed_trip settings c number before row) same ∙ e in
     let parts = read-parts (chosen_in settings plain.0 number row) by_class more read in
-    adds-name settings header row before more parts.0 by_class (chosen-named settings header row plain.0 number parts.0 plain.1 parts.1) refl
-    (λ name said. let text = read-parts (text_in paper.Trips number column.RouteId (get_or row route.0 [])) _ more said in selected-more number before more name (class_of settings text.0) text.2) parts.2
+    adds-name settings header row before more parts.0 by_class (chosen-named settings header row plain.0 number parts.0 plain.1 parts.1)
+    refl
+    (λ name said. let text = read-parts (text_in paper.Trips number column.RouteId (get_or row route.0 [])) _ more said in
+    selected-more number before more name (class_of settings text.0) text.2) parts.2
   where
     by_class : Option Name → Result Selected FeedFault
     by_class None = Ok before
-    by_class (Some name) = text_in paper.Trips number column.RouteId (get_or row (read-parts (column_in paper.Trips column.RouteId header) _ columns (read-parts (columns_in header) _ columns at).2).0 []) >>= λ route. with_selected number before name (class_of settings route)
+    by_class (Some name) = text_in paper.Trips number column.RouteId
+        (get_or row (read-parts (column_in paper.Trips column.RouteId header) _ columns (read-parts (columns_in header) _ columns at).2).0
+        []) >>= λ route. with_selected number before name (class_of settings route)
 
 -- the `service_id` of a record
 abbrev pub service_field : TableView → ℕ → List ℕ
@@ -136,38 +155,50 @@ looked-up settings trips r within text =
 -- the records of a table whose services are chosen add their names
 module _ (settings : SettingsView) (trips : TableView) (read : Step Selected) (adds : AddsNames settings trips.header read) where
   each-named : (number s : ℕ) (before after : Selected) (rest : List (List (List ℕ)))
-      → ((i : ℕ) → i < length rest → get_or rest i [] ≡ get_or trips.rows (s + i) []) → s + length rest ≤ length trips.rows → each_record read number before rest ≡ Ok after
-      → after.names ≡ before.names ++ map (trip_field trips) (filter (λ r. get_or (chosen_of settings trips) r false) (range_with_len s (length rest)))
-  each-named number s before after [] each few e = sym (ap (λ (s : Selected). s.names) (same_Ok before after e)) ∙ sym (append-nil before.names)
+      → ((i : ℕ) → i < length rest → get_or rest i [] ≡ get_or trips.rows (s + i) []) → s + length rest ≤ length trips.rows
+      → each_record read number before rest ≡ Ok after
+      → after.names ≡ before.names ++ map (trip_field trips)
+      (filter (λ r. get_or (chosen_of settings trips) r false) (range_with_len s (length rest)))
+  each-named number s before after [] each few e = sym (ap (λ (s : Selected). s.names) (same_Ok before after e))
+      ∙ sym (append-nil before.names)
   each-named number s before after (row ∷ rest) each few e =
       let parts = read-parts (read number before row) (λ more. each_record read (number + 1) more rest) after e in
       let here = adds number before parts.0 row parts.1 in
       let zero_more : s + 0 ≡ s = omega arith in
       let row_is : row ≡ get_or trips.rows s [] = each 0 (omega arith) ∙ ap (λ n. get_or trips.rows n []) zero_more in
-      let chosen_is : get_or (chosen_of settings trips) s false ≡ is_chosen settings (get_or row (place_of column.ServiceId trips.header) []) =
-      looked-up settings trips s (omega (arith, few)) (ap (λ row. is_utf8 (get_or row (place_of column.ServiceId trips.header) [])) (sym row_is) ∙ here.text)
+      let chosen_is : get_or (chosen_of settings trips) s false ≡ is_chosen settings
+      (get_or row (place_of column.ServiceId trips.header) []) =
+      looked-up settings trips s (omega (arith, few))
+      (ap (λ row. is_utf8 (get_or row (place_of column.ServiceId trips.header) [])) (sym row_is) ∙ here.text)
       ∙ ap (λ row. is_chosen settings (get_or row (place_of column.ServiceId trips.header) [])) (sym row_is) in
       let later = each-named (number + 1) (s + 1) parts.0 after rest
-      (λ i within. each (suc i) (omega (arith, within)) ∙ ap (λ n. get_or trips.rows n []) (let next : s + suc i ≡ s + 1 + i = omega arith in next))
+      (λ i within. each (suc i) (omega (arith, within))
+      ∙ ap (λ n. get_or trips.rows n []) (let next : s + suc i ≡ s + 1 + i = omega arith in next))
       (omega (arith, few)) parts.2 in
       let kept = filter (λ r. get_or (chosen_of settings trips) r false) (range_with_len (s + 1) (length rest)) in
       later
       ∙ ap (λ names. names ++ map (trip_field trips) kept) here.names
-      ∙ ap (λ b. before.names ++ cond b (get_or row (place_of column.TripId trips.header) [] ∷ []) [] ++ map (trip_field trips) kept) (sym chosen_is)
+      ∙ ap (λ b. before.names ++ cond b (get_or row (place_of column.TripId trips.header) [] ∷ []) [] ++ map (trip_field trips) kept)
+      (sym chosen_is)
       ∙ by (get_or (chosen_of settings trips) s false) kept
-      ∙ ap (λ row. before.names ++ put (get_or (chosen_of settings trips) s false) (get_or row (place_of column.TripId trips.header) []) kept) row_is
+      ∙ ap (λ row. before.names ++ put (get_or (chosen_of settings trips) s false) (get_or row (place_of column.TripId trips.header) [])
+      kept) row_is
       ∙ ap (λ names. before.names ++ names) (again (get_or (chosen_of settings trips) s false) kept)
     where
       -- the names of records, and one before them
       put : Bool → List ℕ → List ℕ → List (List ℕ)
       put b name kept = cond b (name ∷ map (trip_field trips) kept) (map (trip_field trips) kept)
 
-      by : (b : Bool) (kept : List ℕ) → before.names ++ cond b (get_or row (place_of column.TripId trips.header) [] ∷ []) [] ++ map (trip_field trips) kept
-          ≡ before.names ++ cond b (get_or row (place_of column.TripId trips.header) [] ∷ map (trip_field trips) kept) (map (trip_field trips) kept)
+      by : (b : Bool) (kept : List ℕ)
+          → before.names ++ cond b (get_or row (place_of column.TripId trips.header) [] ∷ []) [] ++ map (trip_field trips) kept
+          ≡ before.names ++ cond b (get_or row (place_of column.TripId trips.header) [] ∷ map (trip_field trips) kept)
+          (map (trip_field trips) kept)
       by true kept = append_assoc before.names (get_or row (place_of column.TripId trips.header) [] ∷ []) (map (trip_field trips) kept)
       by false kept = ap (λ names. names ++ map (trip_field trips) kept) (append-nil before.names)
 
-      again : (b : Bool) (kept : List ℕ) → cond b (trip_field trips s ∷ map (trip_field trips) kept) (map (trip_field trips) kept) ≡ map (trip_field trips) (cond b (s ∷ kept) kept)
+      again : (b : Bool) (kept : List ℕ)
+          → cond b (trip_field trips s ∷ map (trip_field trips) kept) (map (trip_field trips) kept) ≡ map (trip_field trips)
+          (cond b (s ∷ kept) kept)
       again true kept = refl
       again false kept = refl
 
@@ -180,38 +211,57 @@ record IsRead (settings : SettingsView) (trips : TableView) (found : Selected) :
   service_at : column_in paper.Trips column.ServiceId trips.header ≡ Ok service
 
 -- the header names a column of services
-service-of : (header : List (List ℕ)) (columns : Columns) → columns_in header ≡ Ok columns → (k : ℕ) × (column_in paper.Trips column.ServiceId header ≡ Ok k)
+service-of : (header : List (List ℕ)) (columns : Columns) → columns_in header ≡ Ok columns
+    → (k : ℕ) × (column_in paper.Trips column.ServiceId header ≡ Ok k)
 unfolding columns_in
-service-of header columns at = let service = read-parts (column_in paper.Trips column.ServiceId header) _ columns at in (service.0, service.1)
+service-of header columns at = let service = read-parts (column_in paper.Trips column.ServiceId header) _ columns at in
+    (service.0, service.1)
 
-plain-of : (header : List (List ℕ)) (columns : ClassedColumns) → classed_columns_in header ≡ Ok columns → (plain : Columns) × (columns_in header ≡ Ok plain)
+plain-of : (header : List (List ℕ)) (columns : ClassedColumns) → classed_columns_in header ≡ Ok columns
+    → (plain : Columns) × (columns_in header ≡ Ok plain)
 unfolding classed_columns_in
 plain-of header columns at = let plain = read-parts (columns_in header) _ columns at in (plain.0, plain.1)
 
-is-read : (settings : SettingsView) (bytes : List ℕ) (trips : TableView) (found : Selected) → table_of bytes ≡ Ok trips → trips_in settings (File bytes) ≡ Ok found → IsRead settings trips found
+is-read : (settings : SettingsView) (bytes : List ℕ) (trips : TableView) (found : Selected) → table_of bytes ≡ Ok trips
+    → trips_in settings (File bytes) ≡ Ok found → IsRead settings trips found
 is-read settings bytes trips found from e = by (is_classed settings) e
   where
     by : (classed : Bool)
-        → cond classed (paper_read paper.Trips classed_columns_in (with_classed_trip settings) nothing_selected (File bytes)) (paper_read paper.Trips columns_in (with_trip settings) nothing_selected (File bytes)) ≡ Ok found
+        → cond classed (paper_read paper.Trips classed_columns_in (with_classed_trip settings) nothing_selected (File bytes))
+        (paper_read paper.Trips columns_in (with_trip settings) nothing_selected (File bytes)) ≡ Ok found
         → IsRead settings trips found
     by true e =
         let all = sym (of-table paper.Trips classed_columns_in (with_classed_trip settings) nothing_selected bytes trips from) ∙ e in
         let columns = read-parts (classed_columns_in trips.header) _ found all in
         let plain = plain-of trips.header columns.0 columns.1 in
         let service = service-of trips.header plain.0 plain.1 in
-        record { read = with_classed_trip settings columns.0; adds = classed-adds settings trips.header columns.0 columns.1; all = columns.2; service = service.0; service_at = service.1 }
+        record {
+          read = with_classed_trip settings columns.0;
+          adds = classed-adds settings trips.header columns.0 columns.1;
+          all = columns.2;
+          service = service.0;
+          service_at = service.1;
+        }
     by false e =
         let all = sym (of-table paper.Trips columns_in (with_trip settings) nothing_selected bytes trips from) ∙ e in
         let columns = read-parts (columns_in trips.header) _ found all in
         let service = service-of trips.header columns.0 columns.1 in
-        record { read = with_trip settings columns.0; adds = trip-adds settings trips.header columns.0 columns.1; all = columns.2; service = service.0; service_at = service.1 }
+        record {
+          read = with_trip settings columns.0;
+          adds = trip-adds settings trips.header columns.0 columns.1;
+          all = columns.2;
+          service = service.0;
+          service_at = service.1;
+        }
 
 -- the trips that were selected have the names of the chosen records
-selected-named : (settings : SettingsView) (bytes : List ℕ) (trips : TableView) (found : Selected) → table_of bytes ≡ Ok trips → trips_in settings (File bytes) ≡ Ok found
+selected-named : (settings : SettingsView) (bytes : List ℕ) (trips : TableView) (found : Selected) → table_of bytes ≡ Ok trips
+    → trips_in settings (File bytes) ≡ Ok found
     → map (trip_field trips) (selected trips (chosen_of settings trips)) ≡ found.names
 selected-named settings bytes trips found from e =
     let is = is-read settings bytes trips found from e in
-    sym (each-named settings trips is.read is.adds 1 0 nothing_selected found trips.rows (λ i within. ap (λ n. get_or trips.rows n []) (let same : i ≡ 0 + i = omega arith in same)) (omega arith) is.all)
+    sym (each-named settings trips is.read is.adds 1 0 nothing_selected found trips.rows
+    (λ i within. ap (λ n. get_or trips.rows n []) (let same : i ≡ 0 + i = omega arith in same)) (omega arith) is.all)
 
 -- the header of an accepted feed names the column of services
 pub record HasServices (trips : TableView) : Type 0 where
@@ -219,7 +269,8 @@ pub record HasServices (trips : TableView) : Type 0 where
   pub asked : column_in paper.Trips column.ServiceId trips.header ≡ Ok place
   pub at : place ≡ place_of column.ServiceId trips.header
 
-services-in : (settings : SettingsView) (bytes : List ℕ) (trips : TableView) (found : Selected) → table_of bytes ≡ Ok trips → trips_in settings (File bytes) ≡ Ok found → HasServices trips
+services-in : (settings : SettingsView) (bytes : List ℕ) (trips : TableView) (found : Selected) → table_of bytes ≡ Ok trips
+    → trips_in settings (File bytes) ≡ Ok found → HasServices trips
 services-in settings bytes trips found from e =
     let is = is-read settings bytes trips found from e in
     record { place = is.service; asked = is.service_at; at = place-asked column.ServiceId trips.header is.service is.service_at }
@@ -231,7 +282,8 @@ pub record IsOfFeed (settings : SettingsView) (trips_found : Found) (base : Time
   pub names : slot_names base ≡ chosen.names
   pub runs : AllRun base
 
-pub of-feed : (settings : SettingsView) (trips_found stop_times_found : Found) (base : TimetableView) → base_of settings trips_found stop_times_found ≡ Ok base → IsOfFeed settings trips_found base
+pub of-feed : (settings : SettingsView) (trips_found stop_times_found : Found) (base : TimetableView)
+    → base_of settings trips_found stop_times_found ≡ Ok base → IsOfFeed settings trips_found base
 unfolding base_of
 of-feed settings trips_found stop_times_found base said =
     let found = read-parts (trips_in settings trips_found) _ base said in
@@ -242,7 +294,8 @@ of-feed settings trips_found stop_times_found base said =
       chosen = found.0;
       read = found.1;
       names = slots.0 ∙ feed_trips-named settings found.0.classes timed.0 found.0.names feed_trips.0 timed.2;
-      runs = subst (All Runs) (sym slots.2) (All-map Runs (slot_of settings (places_met (ends_of settings feed_trips.0))) feed_trips.0 (λ k d within. refl));
+      runs = subst (All Runs) (sym slots.2)
+          (All-map Runs (slot_of settings (places_met (ends_of settings feed_trips.0))) feed_trips.0 (λ k d within. refl));
     }
   where
     Runs : Slot → Type 0
@@ -253,7 +306,8 @@ feed-names-slots settings trips_bytes stop_times trips base from said =
     let is = of-feed settings (File trips_bytes) stop_times base said in
     selected-named settings trips_bytes trips is.chosen from is.read ∙ sym is.names
 
-pub feed-services : (settings : SettingsView) (trips_bytes : List ℕ) (stop_times : Found) (trips : TableView) (base : TimetableView) → table_of trips_bytes ≡ Ok trips
+pub feed-services : (settings : SettingsView) (trips_bytes : List ℕ) (stop_times : Found) (trips : TableView) (base : TimetableView)
+    → table_of trips_bytes ≡ Ok trips
     → base_of settings (File trips_bytes) stop_times ≡ Ok base → HasServices trips
 feed-services settings trips_bytes stop_times trips base from said =
     let is = of-feed settings (File trips_bytes) stop_times base said in

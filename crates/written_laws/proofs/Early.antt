@@ -1,5 +1,6 @@
 -- No trip is moved by more than an hour, so a time before 99:00:00 is moved to one before 100:00:00.
-use Rattle.std.proofs.Common.{ℕ, ◌<◌, ◌≤◌, ◌&&◌, Bool, true, false, cond, List, get_or, length, Option, Some, None, ℤ, pos, negsuc, ◌≤ℤ◌, nat_lt, sym, subst, arith, inl, inr}
+use Rattle.std.proofs.Common.{ℕ, ◌<◌, ◌≤◌, ◌&&◌, Bool, true, false, cond, List, get_or, length, Option, Some, None, ℤ, pos, negsuc, ◌≤ℤ◌}
+use Rattle.std.proofs.Common.{nat_lt, sym, subst, arith, inl, inr}
 use Rattle.std.specs.Option.{IfSome}
 use Rattle.std.proofs.lemmas.Bool.{cases_lt}
 use Rattle.std.proofs.lemmas.Int.{ints}
@@ -46,12 +47,18 @@ stays-writable offset field hour early = by (seconds_of field) early
     by None early = tt
     by (Some seconds) early = moved-before offset seconds hour early
 
-row-writable : (standing : TimetableView) (base : ℕ) (slot : Option ℕ) (arrives departs : List ℕ) → IsTimetable standing → IsEarly arrives × IsEarly departs → IsRowWritable (offset_of standing base slot) arrives departs
+row-writable : (standing : TimetableView) (base : ℕ) (slot : Option ℕ) (arrives departs : List ℕ) → IsTimetable standing
+    → IsEarly arrives × IsEarly departs → IsRowWritable (offset_of standing base slot) arrives departs
 row-writable standing base slot arrives departs is early =
     let hour = offset-hour standing base slot is in
-    record { arrival = stays-writable (offset_of standing base slot) arrives hour early.0; departure = stays-writable (offset_of standing base slot) departs hour early.1 }
+    record {
+      arrival = stays-writable (offset_of standing base slot) arrives hour early.0;
+      departure = stays-writable (offset_of standing base slot) departs hour early.1;
+    }
 
 pub early-writable : spec.EarlyTimesAreWritable
 early-writable table standing base is early = λ i d within.
     let row : List (List ℕ) = get_or table.rows i d in
-    row-writable standing base (slot_in standing (place_of column.TripId table.header) row) (field_at row (place_of column.ArrivalTime table.header)) (field_at row (place_of column.DepartureTime table.header)) is (early i d within)
+    row-writable standing base (slot_in standing (place_of column.TripId table.header) row)
+    (field_at row (place_of column.ArrivalTime table.header)) (field_at row (place_of column.DepartureTime table.header)) is
+    (early i d within)

@@ -1,5 +1,6 @@
 -- The trips of the timetable that is written make the moves of those that stand.
-use Rattle.std.proofs.Common.{◌≡◌, ℕ, zero, suc, ◌+◌, ◌<◌, true, List, [], ◌∷◌, length, get_or, cond, None, refl, sym, ap, subst, ◌∙◌, arith}
+use Rattle.std.proofs.Common.{◌≡◌, ℕ, zero, suc, ◌+◌, ◌<◌, true, List, [], ◌∷◌, length, get_or, cond, None, refl, sym, ap, subst, ◌∙◌}
+use Rattle.std.proofs.Common.{arith}
 use Rattle.std.proofs.lemmas.List.{ext_get_or, length-map}
 use Rattle.trip_model.specs.Blocking.{IsLeast}
 use Rattle.trip_model.specs.Plain.{move_of_slot, trip_moves}
@@ -17,7 +18,8 @@ count-written standing s (slot ∷ slots) = ap suc (count-written standing (s + 
 
 -- and each has the trip of its number
 slot-written : (standing : TimetableView) (d : Slot) (s i : ℕ) (slots : List Slot) → i < length slots
-    → get_or (slots_written standing s slots) i d ≡ record (get_or slots i d) { trip = trip_written (get_or slots i d).trip (slot_at standing (s + i)).trip }
+    → get_or (slots_written standing s slots) i d ≡ record (get_or slots i d)
+    { trip = trip_written (get_or slots i d).trip (slot_at standing (s + i)).trip }
 slot-written standing d s i [] within = absurd (omega (arith, within))
 slot-written standing d s zero (slot ∷ slots) within =
     let here : s ≡ s + 0 = omega arith in
@@ -31,8 +33,17 @@ slot-written standing d s (suc i) (slot ∷ slots) within =
 move-written : (slot stands : Slot) → slot.trip.live ≡ true → stands.trip.live ≡ true → IsSameTrip slot.trip stands.trip
     → move_of_slot (record slot { trip = trip_written slot.trip stands.trip }) ≡ move_of_slot stands
 move-written slot stands live runs same =
-    ap (λ trip. move_of_slot (record slot { trip = trip })) (ap (λ b. cond b (record slot.trip { departs = stands.trip.departs; ends = stands.trip.ends }) slot.trip) runs)
-    ∙ (λ i. move_of_slot (record slot { trip = record slot.trip { from = sym same.from i; to = sym same.to i; departs = stands.trip.departs; ends = stands.trip.ends; live = (live ∙ sym runs) i } }))
+    ap (λ trip. move_of_slot (record slot { trip = trip }))
+    (ap (λ b. cond b (record slot.trip { departs = stands.trip.departs; ends = stands.trip.ends }) slot.trip) runs)
+    ∙ (λ i. move_of_slot (record slot {
+      trip = record slot.trip {
+        from = sym same.from i;
+        to = sym same.to i;
+        departs = stands.trip.departs;
+        ends = stands.trip.ends;
+        live = (live ∙ sym runs) i;
+      };
+    }))
 
 pub same-moves : spec.SameMoves
 same-moves base standing published whole =
@@ -42,16 +53,19 @@ same-moves base standing published whole =
     written = as_written base standing
 
     count : length (trip_moves (as_written base standing).slots) ≡ length (trip_moves standing.slots)
-    count = length-map (slots_written standing 0 base.slots) move_of_slot ∙ count-written standing 0 base.slots ∙ sym whole.no_extras ∙ sym (length-map standing.slots move_of_slot)
+    count = length-map (slots_written standing 0 base.slots) move_of_slot ∙ count-written standing 0 base.slots ∙ sym whole.no_extras
+        ∙ sym (length-map standing.slots move_of_slot)
 
-    each : (s : ℕ) → s < length (trip_moves (as_written base standing).slots) → get_or (trip_moves (as_written base standing).slots) s None ≡ get_or (trip_moves standing.slots) s None
+    each : (s : ℕ) → s < length (trip_moves (as_written base standing).slots)
+        → get_or (trip_moves (as_written base standing).slots) s None ≡ get_or (trip_moves standing.slots) s None
     each s within =
         let inside : s < length base.slots = omega (arith, within, count, length-map standing.slots move_of_slot, whole.no_extras) in
         let here : 0 + s ≡ s = omega arith in
         slot-move (as_written base standing) s
         ∙ ap move_of_slot (slot-written standing _ 0 s base.slots inside)
         ∙ ap (λ n. move_of_slot (record (slot_at base s) { trip = trip_written (slot_at base s).trip (slot_at standing n).trip })) here
-        ∙ move-written (slot_at base s) (slot_at standing s) (published s _ inside) (whole.runs s _ (omega (arith, inside, whole.no_extras))) (whole.follows.trips s inside)
+        ∙ move-written (slot_at base s) (slot_at standing s) (published s _ inside)
+        (whole.runs s _ (omega (arith, inside, whole.no_extras))) (whole.follows.trips s inside)
         ∙ sym (slot-move standing s)
 
 pub least-again : spec.LeastAgain

@@ -21,7 +21,8 @@ abbrev pub TakenBy : {A B C : Type 0} → (A → B → C) → Type 0
 TakenBy {A} {B} {C} f = B
 
 -- what is read of the bytes of a table
-pub of-table : {C A : Type 0} (paper : Paper) (columns_in : ColumnsIn C) (step : C → Step A) (start : A) (bytes : List ℕ) (table : TableView)
+pub of-table : {C A : Type 0} (paper : Paper) (columns_in : ColumnsIn C) (step : C → Step A) (start : A) (bytes : List ℕ)
+    (table : TableView)
     → table_of bytes ≡ Ok table → paper_read paper columns_in step start (File bytes) ≡ table_read columns_in step start table
 of-table paper columns_in step start bytes table e = ap (λ found. or_refused paper found >>= table_read columns_in step start) e
 
@@ -52,11 +53,13 @@ each-changed read f g P changes n a b (row ∷ rows) all e =
     ∙ each-changed read f g P changes (n + 1) parts.0 b rows (All-tail P row rows all) parts.2
 
 -- a text that was read is text, and is the field
-pub text-parts : (paper : Paper) (number : ℕ) (asked : Column) (bytes text : List ℕ) → text_in paper number asked bytes ≡ Ok text → (is_utf8 bytes ≡ true) × (bytes ≡ text)
+pub text-parts : (paper : Paper) (number : ℕ) (asked : Column) (bytes text : List ℕ) → text_in paper number asked bytes ≡ Ok text
+    → (is_utf8 bytes ≡ true) × (bytes ≡ text)
 text-parts paper number asked bytes text e =
     let parts = provided-parts (is_utf8 bytes) (fault.NotUtf8 paper number asked) (Ok bytes) text e in
     (parts.0, same_Ok bytes text parts.1)
 
 -- a text is read
-pub text-reads : (paper : Paper) (number : ℕ) (asked : Column) (bytes : List ℕ) → is_utf8 bytes ≡ true → text_in paper number asked bytes ≡ Ok bytes
+pub text-reads : (paper : Paper) (number : ℕ) (asked : Column) (bytes : List ℕ) → is_utf8 bytes ≡ true
+    → text_in paper number asked bytes ≡ Ok bytes
 text-reads paper number asked bytes text = ap (λ b. provided b (fault.NotUtf8 paper number asked) (Ok bytes)) text

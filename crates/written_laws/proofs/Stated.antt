@@ -33,21 +33,26 @@ use Rattle.written_laws.proofs.Named.{count-rows, names-are-stated, slot-block, 
 
 -- the departures of a timetable rise along trips that fit
 abbrev pub Clock : Type 0
-Clock = (timetable : TimetableView) (matrix : MatrixView) → IsTimetable timetable → AreDepartures (network_of timetable matrix) (λ s. minute_left (move_at (trip_moves timetable.slots) s))
+Clock = (timetable : TimetableView) (matrix : MatrixView) → IsTimetable timetable
+    → AreDepartures (network_of timetable matrix) (λ s. minute_left (move_at (trip_moves timetable.slots) s))
 
 -- the stated blocks are those of the slots in order of departure, by the names of their blocks
 stated-is : (trips : TableView) (base standing : TimetableView) (chosen : List Bool) (blocks : List (List ℕ)) (prefix : List ℕ)
     → IsTable trips → IsTimetable standing → AllRun base → IsWhole base standing → NameSlots trips chosen standing
-    → stated_in (with_blocks trips standing chosen blocks prefix) (as_written base standing) chosen ≡ blocks_by (names_by_slot prefix blocks (length standing.slots)) (by_departure (trip_moves standing.slots))
+    → stated_in (with_blocks trips standing chosen blocks prefix) (as_written base standing) chosen ≡ blocks_by
+    (names_by_slot prefix blocks (length standing.slots)) (by_departure (trip_moves standing.slots))
 stated-is trips base standing chosen blocks prefix is valid published whole name =
-    ap (λ names. blocks_by names (by_departure (trip_moves (as_written base standing).slots))) (names-are-stated trips standing chosen blocks prefix is valid.slot_names whole.runs name)
-    ∙ ap (λ moves. blocks_by (names_by_slot prefix blocks (length standing.slots)) (by_departure moves)) (same-moves base standing published whole)
+    ap (λ names. blocks_by names (by_departure (trip_moves (as_written base standing).slots)))
+    (names-are-stated trips standing chosen blocks prefix is valid.slot_names whole.runs name)
+    ∙ ap (λ moves. blocks_by (names_by_slot prefix blocks (length standing.slots)) (by_departure moves))
+    (same-moves base standing published whole)
 
 -- the slots of a plan's blocks have the names of these
 are-named : Clock → (timetable : TimetableView) (matrix : MatrixView) (next : List (Option ℕ)) (prefix : List ℕ) → IsTimetable timetable
     → let moves = trip_moves timetable.slots in let blocks = blocks_along next (by_departure (trip_moves timetable.slots)) in
     IsBlocking (network_of timetable matrix) blocks
-    → AreNamed (network_of timetable matrix) (λ s. minute_left (move_at moves s)) next (by_departure moves) (names_by_slot prefix blocks (length timetable.slots)) prefix
+    → AreNamed (network_of timetable matrix) (λ s. minute_left (move_at moves s)) next (by_departure moves)
+    (names_by_slot prefix blocks (length timetable.slots)) prefix
 are-named clock timetable matrix next prefix valid are =
     let moves = trip_moves timetable.slots in
     let blocks = blocks_along next (by_departure moves) in
@@ -67,26 +72,32 @@ blocks-are-stated clock trips base standing chosen matrix next prefix is valid p
     let moves = trip_moves standing.slots in
     let blocks = blocks_along next (by_departure moves) in
     ap slots_by (stated-is trips base standing chosen blocks prefix is valid published whole name)
-    ∙ blocks-back (network_of standing matrix) (λ s. minute_left (move_at moves s)) next (by_departure moves) (names_by_slot prefix blocks (length standing.slots)) prefix
+    ∙ blocks-back (network_of standing matrix) (λ s. minute_left (move_at moves s)) next (by_departure moves)
+    (names_by_slot prefix blocks (length standing.slots)) prefix
     (are-named clock standing matrix next prefix valid are)
 
 -- each stands under its name
-names-are-theirs : Clock → (trips : TableView) (base standing : TimetableView) (chosen : List Bool) (matrix : MatrixView) (next : List (Option ℕ)) (prefix : List ℕ)
+names-are-theirs : Clock → (trips : TableView) (base standing : TimetableView) (chosen : List Bool) (matrix : MatrixView)
+    (next : List (Option ℕ)) (prefix : List ℕ)
     → IsTable trips → IsTimetable standing → AllRun base → IsWhole base standing → NameSlots trips chosen standing
     → let blocks = blocks_along next (by_departure (trip_moves standing.slots)) in
     IsBlocking (network_of standing matrix) blocks
-    → map (λ (b : NamedBlock). b.name) (stated_in (with_blocks trips standing chosen blocks prefix) (as_written base standing) chosen) ≡ block_names prefix (length blocks)
+    → map (λ (b : NamedBlock). b.name)
+    (stated_in (with_blocks trips standing chosen blocks prefix) (as_written base standing) chosen) ≡ block_names prefix (length blocks)
 names-are-theirs clock trips base standing chosen matrix next prefix is valid published whole name are =
     let moves = trip_moves standing.slots in
     let blocks = blocks_along next (by_departure moves) in
     ap (map (λ (b : NamedBlock). b.name)) (stated-is trips base standing chosen blocks prefix is valid published whole name)
-    ∙ names-back (network_of standing matrix) (λ s. minute_left (move_at moves s)) next (by_departure moves) (names_by_slot prefix blocks (length standing.slots)) prefix
+    ∙ names-back (network_of standing matrix) (λ s. minute_left (move_at moves s)) next (by_departure moves)
+    (names_by_slot prefix blocks (length standing.slots)) prefix
     (are-named clock standing matrix next prefix valid are)
 
 -- the name of the block of a slot whose trip runs is text
-slot-text : Clock → (timetable : TimetableView) (matrix : MatrixView) (next : List (Option ℕ)) (prefix : List ℕ) → IsTimetable timetable → IsUtf8 prefix
+slot-text : Clock → (timetable : TimetableView) (matrix : MatrixView) (next : List (Option ℕ)) (prefix : List ℕ) → IsTimetable timetable
+    → IsUtf8 prefix
     → let blocks = blocks_along next (by_departure (trip_moves timetable.slots)) in
-    IsBlocking (network_of timetable matrix) blocks → (s : ℕ) → (slot_at timetable s).trip.live ≡ true → IsUtf8 (name_of prefix (number_in blocks s))
+    IsBlocking (network_of timetable matrix) blocks → (s : ℕ) → (slot_at timetable s).trip.live ≡ true
+    → IsUtf8 (name_of prefix (number_in blocks s))
 slot-text clock timetable matrix next prefix valid text are s live =
     let moves = trip_moves timetable.slots in
     let order = by_departure moves in
@@ -96,25 +107,30 @@ slot-text clock timetable matrix next prefix valid text are s live =
     let runs = slot-live timetable s ∙ live in
     let at = in-block (network_of timetable matrix) key next order names prefix named s runs in
     let few = few-blocks (network_of timetable matrix) key next order names prefix named in
-    subst IsUtf8 (sym at.2 ∙ named.named s runs) (IsUtf8-append prefix (decimal (at.0 + 1)) text (decimal-text (at.0 + 1) (omega (arith, at.1.within, few))))
+    subst IsUtf8 (sym at.2 ∙ named.named s runs)
+    (IsUtf8-append prefix (decimal (at.0 + 1)) text (decimal-text (at.0 + 1) (omega (arith, at.1.within, few))))
 
 -- so is each `block_id` of a selected record
-names-are-text : Clock → (trips : TableView) (standing : TimetableView) (chosen : List Bool) (matrix : MatrixView) (next : List (Option ℕ)) (prefix : List ℕ)
+names-are-text : Clock → (trips : TableView) (standing : TimetableView) (chosen : List Bool) (matrix : MatrixView) (next : List (Option ℕ))
+    (prefix : List ℕ)
     → IsTable trips → IsTimetable standing → AllRun standing → IsUtf8 prefix
     → let blocks = blocks_along next (by_departure (trip_moves standing.slots)) in
     IsBlocking (network_of standing matrix) blocks → AreNames (with_blocks trips standing chosen blocks prefix) chosen
 names-are-text clock trips standing chosen matrix next prefix is valid runs text are r within chosen_is =
     let blocks = blocks_along next (by_departure (trip_moves standing.slots)) in
     let inside : r < length trips.rows = omega (arith, within, count-rows trips standing chosen blocks prefix) in
-    subst IsUtf8 (sym (written-field trips standing chosen blocks prefix is r inside chosen_is)) (by (number_of (slot_names standing) (trip_field trips r)) refl)
+    subst IsUtf8 (sym (written-field trips standing chosen blocks prefix is r inside chosen_is))
+    (by (number_of (slot_names standing) (trip_field trips r)) refl)
   where
     by : (found : Option ℕ) → number_of (slot_names standing) (trip_field trips r) ≡ found
-        → IsUtf8 (block_of standing (block_numbers (length standing.slots) (blocks_along next (by_departure (trip_moves standing.slots)))) prefix found)
+        → IsUtf8 (block_of standing (block_numbers (length standing.slots) (blocks_along next (by_departure (trip_moves standing.slots))))
+        prefix found)
     by None e = IsUtf8-nil
     by (Some s) e =
         let stands = slice_get_within (slot_names standing) s _ (number_of-Some (slot_names standing) (trip_field trips r) s e) in
         let slot : s < length standing.slots = omega (arith, stands, length-map standing.slots (λ (s : Slot). s.name)) in
-        subst IsUtf8 (sym (slot-block trips standing chosen (blocks_along next (by_departure (trip_moves standing.slots))) prefix runs s slot))
+        subst IsUtf8 (sym (slot-block trips standing chosen (blocks_along next (by_departure (trip_moves standing.slots))) prefix runs s
+        slot))
         (slot-text clock standing matrix next prefix valid text are s (runs s _ slot))
 
 pub least-are-stated : Clock → spec.LeastAreStated
@@ -123,8 +139,10 @@ least-are-stated clock trips base standing chosen matrix next prefix is valid pu
     let network = network_of timetable matrix in
     let blocks = blocks_along next (by_departure (trip_moves standing.slots)) in
     let stated = stated_in (with_blocks trips standing chosen blocks prefix) timetable chosen in
-    let same : slots_by stated ≡ blocks = blocks-are-stated clock trips base standing chosen matrix next prefix is valid published whole name least.fewest.blocking in
-    let again : IsLeast network (slots_by stated) = subst (IsLeast network) (sym same) (least-again base standing matrix blocks published whole least) in
+    let same : slots_by stated ≡ blocks =
+    blocks-are-stated clock trips base standing chosen matrix next prefix is valid published whole name least.fewest.blocking in
+    let again : IsLeast network (slots_by stated) =
+    subst (IsLeast network) (sym same) (least-again base standing matrix blocks published whole least) in
     record {
       text = λ text. names-are-text clock trips standing chosen matrix next prefix is valid whole.runs text least.fewest.blocking;
       stated = record {

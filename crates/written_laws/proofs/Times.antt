@@ -1,5 +1,6 @@
 -- A moved time that is written reads as the moved time, and how moved seconds round to minutes.
-use Rattle.std.proofs.Common.{◌≡◌, ℕ, ◌+◌, ◌-◌, ◌*◌, ◌/◌, ◌%◌, ◌<◌, ◌≤◌, ◌==◌, ◌^◌, Bool, true, false, cond, List, [], ◌∷◌, length, Option, Some, None, Ok, ℤ, pos, negsuc, ◌+ℤ◌, ◌≤ℤ◌, refl, sym, ap, ◌∙◌, arith, inl, inr}
+use Rattle.std.proofs.Common.{◌≡◌, ℕ, ◌+◌, ◌-◌, ◌*◌, ◌/◌, ◌%◌, ◌<◌, ◌≤◌, ◌==◌, ◌^◌, Bool, true, false, cond, List, [], ◌∷◌, length, Option}
+use Rattle.std.proofs.Common.{Some, None, Ok, ℤ, pos, negsuc, ◌+ℤ◌, ◌≤ℤ◌, refl, sym, ap, ◌∙◌, arith, inl, inr}
 use Rattle.std.specs.Prelude.{unsigned_abs}
 use Rattle.std.specs.Option.{IfSome, ok_or, option_map}
 use Rattle.std.specs.Str.{IsAscii, is_utf8}
@@ -34,7 +35,13 @@ two-digits n small = elim (cases_lt n 10) [
 
 pair-true : (most a b : ℕ) → a ≤ most → b ≤ 9 → is_pair (48 + most) (48 + a) (48 + b) ≡ true
 pair-true most a b few small =
-    rw (le-leb 48 (48 + a) (omega arith), le-leb (48 + a) (48 + most) (omega arith), le-leb 48 (48 + b) (omega arith), le-leb (48 + b) 57 (omega arith)) refl
+    rw (
+      le-leb 48 (48 + a) (omega arith),
+      le-leb (48 + a) (48 + most) (omega arith),
+      le-leb 48 (48 + b) (omega arith),
+      le-leb (48 + b) 57
+          (omega arith),
+    ) refl
 
 -- the bytes of a time by its hour, minute and second
 abbrev bytes_of : ℕ → ℕ → ℕ → List ℕ
@@ -49,8 +56,14 @@ module _ (h m s : ℕ) (hours : h < 100) (minutes : m < 60) (seconds : s < 60) w
 
   full : full_time (bytes_of h m s) ≡ Some (3600 * h + 60 * m + s)
   full =
-      let value : 3600 * (10 * (48 + h / 10 - 48) + (48 + h % 10 - 48)) + 60 * (10 * (48 + m / 10 - 48) + (48 + m % 10 - 48)) + (10 * (48 + s / 10 - 48) + (48 + s % 10 - 48)) ≡ 3600 * h + 60 * m + s = omega arith in
-      rw (pair-true 9 (h / 10) (h % 10) (omega arith) (omega arith), pair-true 5 (m / 10) (m % 10) (omega arith) (omega arith), pair-true 5 (s / 10) (s % 10) (omega arith) (omega arith))
+      let value : 3600 * (10 * (48 + h / 10 - 48) + (48 + h % 10 - 48)) + 60 * (10 * (48 + m / 10 - 48) + (48 + m %
+      10 - 48)) + (10 * (48 + s / 10 - 48) + (48 + s % 10 - 48)) ≡ 3600 * h + 60 * m + s = omega arith in
+      rw (
+        pair-true 9 (h / 10) (h % 10) (omega arith) (omega arith),
+        pair-true 5 (m / 10) (m % 10) (omega arith) (omega arith),
+        pair-true 5
+            (s / 10) (s % 10) (omega arith) (omega arith),
+      )
       (ap Some value)
 
   read : seconds_of (bytes_of h m s) ≡ Some (3600 * h + 60 * m + s)
@@ -65,7 +78,8 @@ module _ (h m s : ℕ) (hours : h < 100) (minutes : m < 60) (seconds : s < 60) w
       let ones : List ℕ = (48 + h % 10) ∷ 58 ∷ minute in
       IsAscii-cons (48 + h / 10) ones (omega arith)
       (IsAscii-cons (48 + h % 10) (58 ∷ minute) (omega arith) (IsAscii-cons 58 minute (omega arith)
-      (IsAscii-cons (48 + m / 10) low (omega arith) (IsAscii-cons (48 + m % 10) (58 ∷ second) (omega arith) (IsAscii-cons 58 second (omega arith)
+      (IsAscii-cons (48 + m / 10) low (omega arith)
+      (IsAscii-cons (48 + m % 10) (58 ∷ second) (omega arith) (IsAscii-cons 58 second (omega arith)
       (IsAscii-cons (48 + s / 10) last (omega arith) (IsAscii-cons (48 + s % 10) [] (omega arith) (λ i. omega arith))))))))
 
 -- a second before 100:00:00 that is written
@@ -81,19 +95,22 @@ seconds-back n small =
 
 digits-text : (n : ℕ) → n ≤ 359999 → is_utf8 (time_digits n) ≡ true
 digits-text n small =
-    ap is_utf8 (digits-are n small) ∙ is_utf8-from_IsUtf8 _ (IsUtf8-from_ascii _ (ascii (n / 3600) (n / 60 % 60) (n % 60) (omega arith) (omega arith) (omega arith)))
+    ap is_utf8 (digits-are n small)
+    ∙ is_utf8-from_IsUtf8 _ (IsUtf8-from_ascii _ (ascii (n / 3600) (n / 60 % 60) (n % 60) (omega arith) (omega arith) (omega arith)))
 
 -- a field of spaces alone has no seconds
 seconds-none : (field : List ℕ) → (length (without_spaces field) == 0) ≡ true → seconds_of field ≡ None
 seconds-none field empty =
-    ap (λ form. cond (length form == 7) (full_time (48 ∷ form)) (full_time form)) (nil_from_length (without_spaces field) (eqb-true (length (without_spaces field)) 0 empty))
+    ap (λ form. cond (length form == 7) (full_time (48 ∷ form)) (full_time form))
+    (nil_from_length (without_spaces field) (eqb-true (length (without_spaces field)) 0 empty))
 
 -- what the time of a field is by its seconds
 module _ (paper : Paper) (number : ℕ) (asked : Column) (field : List ℕ) where
   time-empty : (time : Option ℕ) → seconds_of field ≡ None → time_in paper number asked field ≡ Ok time → time ≡ None
   time-empty time none e = by (length (without_spaces field) == 0) (seconds_of field) none e
     where
-      by : (empty : Bool) (found : Option ℕ) → found ≡ None → cond empty (Ok None) (ok_or (option_map Some found) (fault.BadTime paper number asked)) ≡ Ok time → time ≡ None
+      by : (empty : Bool) (found : Option ℕ) → found ≡ None
+          → cond empty (Ok None) (ok_or (option_map Some found) (fault.BadTime paper number asked)) ≡ Ok time → time ≡ None
       by true found none e = sym (same_Ok None time e)
       by false None none e = absurd (cc)
       by false (Some n) none e = absurd (cc)
@@ -101,29 +118,34 @@ module _ (paper : Paper) (number : ℕ) (asked : Column) (field : List ℕ) wher
   time-some : (n : ℕ) → seconds_of field ≡ Some n → time_in paper number asked field ≡ Ok (Some n)
   time-some n some = by (length (without_spaces field) == 0) refl
     where
-      by : (empty : Bool) → (length (without_spaces field) == 0) ≡ empty → cond empty (Ok None) (ok_or (option_map Some (seconds_of field)) (fault.BadTime paper number asked)) ≡ Ok (Some n)
+      by : (empty : Bool) → (length (without_spaces field) == 0) ≡ empty
+          → cond empty (Ok None) (ok_or (option_map Some (seconds_of field)) (fault.BadTime paper number asked)) ≡ Ok (Some n)
       by true empty = let none = seconds-none field empty in absurd (cc)
       by false filled = ap (λ found. ok_or (option_map Some found) (fault.BadTime paper number asked)) some
 
 -- a field that says what another says, moved by so many minutes
 pub record IsMovedField (offset : ℤ) (field other : List ℕ) : Type 0 where
   pub text : is_utf8 field ≡ true → is_utf8 other ≡ true
-  pub time : (paper : Paper) (number : ℕ) (asked : Column) (time : Option ℕ) → time_in paper number asked field ≡ Ok time → time_in paper number asked other ≡ Ok (option_map (moved offset) time)
+  pub time : (paper : Paper) (number : ℕ) (asked : Column) (time : Option ℕ) → time_in paper number asked field ≡ Ok time
+      → time_in paper number asked other ≡ Ok (option_map (moved offset) time)
 
 -- the moved field does
 pub moved-field : (offset : ℤ) (field : List ℕ) → StaysWritable offset field → IsMovedField offset field (moved_field offset field)
 moved-field offset field stays = by (seconds_of field) refl stays
   where
-    by : (found : Option ℕ) → seconds_of field ≡ found → IfSome found (λ seconds. moved offset seconds ≤ 359999) → IsMovedField offset field (moved_time offset field found)
+    by : (found : Option ℕ) → seconds_of field ≡ found → IfSome found (λ seconds. moved offset seconds ≤ 359999)
+        → IsMovedField offset field (moved_time offset field found)
     by None none stays = record {
       text = λ text. text;
-      time = λ paper number asked time e. e ∙ ap Ok (let empty = time-empty paper number asked field time none e in empty ∙ sym (ap (option_map (moved offset)) empty));
+      time = λ paper number asked time e. e
+          ∙ ap Ok (let empty = time-empty paper number asked field time none e in empty ∙ sym (ap (option_map (moved offset)) empty));
     }
     by (Some n) some stays = record {
       text = λ text. digits-text (moved offset n) stays;
       time = λ paper number asked time e.
           let is : Some n ≡ time = same_Ok (Some n) time (sym (time-some paper number asked field n some) ∙ e) in
-          time-some paper number asked (time_digits (moved offset n)) (moved offset n) (seconds-back (moved offset n) stays) ∙ ap (λ time. Ok (option_map (moved offset) time)) is;
+          time-some paper number asked (time_digits (moved offset n)) (moved offset n) (seconds-back (moved offset n) stays)
+          ∙ ap (λ time. Ok (option_map (moved offset) time)) is;
     }
 
 -- moved by no minute
@@ -143,7 +165,8 @@ same-field offset field none = record { text = λ text. text; time = λ paper nu
 pub moved-later : (n s : ℕ) → moved (pos n) s ≡ s + 60 * n
 moved-later n s = ap (λ b. cond b (s - 60 * n) (s + 60 * n)) (le-ltb n 0 (omega arith))
 
-pub moved-down : (by : ℤ) (departure : ℕ) → pos 0 ≤ℤ (pos (rounded_down departure) +ℤ by) → rounded_down (moved by departure) ≡ unsigned_abs (pos (rounded_down departure) +ℤ by)
+pub moved-down : (by : ℤ) (departure : ℕ) → pos 0 ≤ℤ (pos (rounded_down departure) +ℤ by)
+    → rounded_down (moved by departure) ≡ unsigned_abs (pos (rounded_down departure) +ℤ by)
 moved-down (pos n) departure from = ap rounded_down (moved-later n departure) ∙ omega arith
 moved-down (negsuc n) departure from = omega (arith, ints, from)
 
@@ -152,6 +175,7 @@ pub moved-up : (by : ℤ) (departure arrival layover : ℕ) → departure < arri
 moved-up (pos n) departure arrival layover forward from = ap (λ s. rounded_up s + layover) (moved-later n arrival) ∙ omega arith
 moved-up (negsuc n) departure arrival layover forward from = omega (arith, ints, forward, from)
 
-pub moved-forward : (by : ℤ) (departure arrival : ℕ) → departure < arrival → pos 0 ≤ℤ (pos (rounded_down departure) +ℤ by) → moved by departure < moved by arrival
+pub moved-forward : (by : ℤ) (departure arrival : ℕ) → departure < arrival → pos 0 ≤ℤ (pos (rounded_down departure) +ℤ by)
+    → moved by departure < moved by arrival
 moved-forward (pos n) departure arrival forward from = rw (moved-later n departure, moved-later n arrival) (omega arith)
 moved-forward (negsuc n) departure arrival forward from = omega (arith, ints, forward, from)

@@ -17,7 +17,8 @@ use Rattle.written_laws.specs.Written.{AreEarly, AreWritable, as_written}
 -- to 100:00:00 or later. So it is whichever records are selected, and whatever the blocks and their names are.
 abbrev pub WrittenFeedReadsBack : Type 0
 WrittenFeedReadsBack =
-    (settings : SettingsView) (trips_bytes stop_times_bytes : List ℕ) (trips stop_times : TableView) (base standing : TimetableView) (chosen : List Bool) (blocks : List (List ℕ)) (prefix : List ℕ)
+    (settings : SettingsView) (trips_bytes stop_times_bytes : List ℕ) (trips stop_times : TableView) (base standing : TimetableView)
+    (chosen : List Bool) (blocks : List (List ℕ)) (prefix : List ℕ)
     → table_of trips_bytes ≡ Ok trips
     → table_of stop_times_bytes ≡ Ok stop_times
     → IsTable trips
@@ -27,12 +28,15 @@ WrittenFeedReadsBack =
     → AreWritable stop_times standing (length base.slots)
     → strip_bom (trips_written trips standing chosen blocks prefix) ≡ trips_written trips standing chosen blocks prefix
     → strip_bom (stop_times_written stop_times standing (length base.slots)) ≡ stop_times_written stop_times standing (length base.slots)
-    → base_of settings (File (trips_written trips standing chosen blocks prefix)) (File (stop_times_written stop_times standing (length base.slots))) ≡ Ok (as_written base standing)
+    → base_of settings (File (trips_written trips standing chosen blocks prefix))
+    (File (stop_times_written stop_times standing (length base.slots))) ≡ Ok (as_written base standing)
 
 -- what stands after a script over a timetable whose trips end after they depart follows it
 abbrev pub StandingFollows : Type 0
-StandingFollows = (base : TimetableView) (records : List Numbered) → AreForward base → IsEditedFrom base (timetable_at base (machine base records))
+StandingFollows = (base : TimetableView) (records : List Numbered) → AreForward base
+    → IsEditedFrom base (timetable_at base (machine base records))
 
 -- times before 99:00:00 can be written wherever their trips stand, since no trip is moved by more than an hour
 abbrev pub EarlyTimesAreWritable : Type 0
-EarlyTimesAreWritable = (table : TableView) (standing : TimetableView) (base : ℕ) → IsTimetable standing → AreEarly table → AreWritable table standing base
+EarlyTimesAreWritable = (table : TableView) (standing : TimetableView) (base : ℕ) → IsTimetable standing → AreEarly table
+    → AreWritable table standing base

@@ -23,7 +23,8 @@ use Rattle.written_laws.specs.Planned.{AllRun, AreReadable, IsFeed, IsWhole, Nam
 
 -- the trips of the timetable that is written make the moves of those that stand
 abbrev pub SameMoves : Type 0
-SameMoves = (base standing : TimetableView) → AllRun base → IsWhole base standing → trip_moves (as_written base standing).slots ≡ trip_moves standing.slots
+SameMoves = (base standing : TimetableView) → AllRun base → IsWhole base standing
+    → trip_moves (as_written base standing).slots ≡ trip_moves standing.slots
 
 -- so blocks that are least over a matrix and the timetable that stands are least over it and the timetable that is written
 abbrev pub LeastAgain : Type 0
@@ -48,7 +49,8 @@ NamesAreStated =
 -- states these blocks, in their order and each with its trips in their order.
 abbrev pub BlocksAreStated : Type 0
 BlocksAreStated =
-    (trips : TableView) (base standing : TimetableView) (chosen : List Bool) (matrix : MatrixView) (next : List (Option ℕ)) (prefix : List ℕ)
+    (trips : TableView) (base standing : TimetableView) (chosen : List Bool) (matrix : MatrixView) (next : List (Option ℕ))
+    (prefix : List ℕ)
     → IsTable trips
     → IsTimetable standing
     → AllRun base
@@ -61,7 +63,8 @@ BlocksAreStated =
 -- so where the plan's blocks are least, the written table states the plan
 abbrev pub LeastAreStated : Type 0
 LeastAreStated =
-    (trips : TableView) (base standing : TimetableView) (chosen : List Bool) (matrix : MatrixView) (next : List (Option ℕ)) (prefix : List ℕ)
+    (trips : TableView) (base standing : TimetableView) (chosen : List Bool) (matrix : MatrixView) (next : List (Option ℕ))
+    (prefix : List ℕ)
     → IsTable trips
     → IsTimetable standing
     → AllRun base
@@ -83,7 +86,8 @@ FeedNamesSlots =
 -- it, read again with the same settings, state this plan.
 abbrev pub WrittenFeedStatesPlan : Type 0
 WrittenFeedStatesPlan =
-    (settings : SettingsView) (trips_bytes stop_times_bytes : List ℕ) (trips stop_times : TableView) (base standing : TimetableView) (matrix : MatrixView) (next : List (Option ℕ)) (prefix : List ℕ)
+    (settings : SettingsView) (trips_bytes stop_times_bytes : List ℕ) (trips stop_times : TableView) (base standing : TimetableView)
+    (matrix : MatrixView) (next : List (Option ℕ)) (prefix : List ℕ)
     → IsFeed settings trips_bytes stop_times_bytes trips stop_times base
     → IsTimetable standing
     → IsWhole base standing

@@ -18,7 +18,8 @@ trip_written trip now = if now.live then record trip { departs = now.departs; en
 -- slots from this number on, each with its trip at the minutes at which the trip of that number stands
 abbrev pub slots_written : TimetableView → ℕ → List Slot → List Slot
 slots_written standing s [] = []
-slots_written standing s (slot ∷ slots) = record slot { trip = trip_written slot.trip (slot_at standing s).trip } ∷ slots_written standing (s + 1) slots
+slots_written standing s (slot ∷ slots) = record slot { trip = trip_written slot.trip (slot_at standing s).trip }
+    ∷ slots_written standing (s + 1) slots
 
 -- a timetable with its trips at the minutes at which they stand in one that follows it
 abbrev pub as_written : TimetableView → TimetableView → TimetableView
@@ -37,7 +38,8 @@ pub record IsRowWritable (offset : ℤ) (arrives departs : List ℕ) : Type 0 wh
 abbrev pub AreWritable : TableView → TimetableView → ℕ → Type 0
 AreWritable table standing base =
     All
-    (λ row. IsRowWritable (offset_of standing base (slot_in standing (place_of column.TripId table.header) row)) (field_at row (place_of column.ArrivalTime table.header)) (field_at row (place_of column.DepartureTime table.header)))
+    (λ row. IsRowWritable (offset_of standing base (slot_in standing (place_of column.TripId table.header) row))
+    (field_at row (place_of column.ArrivalTime table.header)) (field_at row (place_of column.DepartureTime table.header)))
     table.rows
 
 -- the time of a field, if it has one, is before 99:00:00
@@ -46,4 +48,5 @@ IsEarly field = IfSome (seconds_of field) (λ seconds. seconds < 356400)
 
 -- so are both times of each record of stop times
 abbrev pub AreEarly : TableView → Type 0
-AreEarly table = All (λ row. IsEarly (field_at row (place_of column.ArrivalTime table.header)) × IsEarly (field_at row (place_of column.DepartureTime table.header))) table.rows
+AreEarly table = All (λ row. IsEarly (field_at row (place_of column.ArrivalTime table.header))
+    × IsEarly (field_at row (place_of column.DepartureTime table.header))) table.rows

@@ -14,12 +14,15 @@ judged-requires-clause-blocking g c = λ none.
     let m = c.args.matrix.now in
     let same = c.in_ok-stated.ensures.stated in
     subst (λ (s : List NamedBlock). IsBlocking (network_of t m) (slots_by s)) (sym same)
-    (c.blocking_law.ensures.blocking c.args.trips.now t c.args.chosen.now m (subst (λ (s : List NamedBlock). misfits_in t m s ≡ []) same none))
+    (c.blocking_law.ensures.blocking c.args.trips.now t c.args.chosen.now m
+    (subst (λ (s : List NamedBlock). misfits_in t m s ≡ []) same none))
 
 pub returns-clause-judged : goal.returns-clause-judged
 returns-clause-judged g c =
     let edited = c.args.edited.now in
     let m = c.args.matrix.now in
-    let does : TimetableView → List NamedBlock → Type 0 = λ t s. IfOk c.judged.result (IsJudged edited.refused edited.ending t m s (misfits_in t m s)) in
-    let stated = subst (λ (s : List NamedBlock). does c.timetable-timetable.result.now s) c.in_ok-stated.ensures.stated c.judged.ensures.judged in
+    let does : TimetableView → List NamedBlock
+    → Type 0 = λ t s. IfOk c.judged.result (IsJudged edited.refused edited.ending t m s (misfits_in t m s)) in
+    let stated = subst (λ (s : List NamedBlock). does c.timetable-timetable.result.now s) c.in_ok-stated.ensures.stated
+    c.judged.ensures.judged in
     subst (λ (t : TimetableView). does t (stated_in c.args.trips.now t c.args.chosen.now)) c.timetable-timetable.ensures stated

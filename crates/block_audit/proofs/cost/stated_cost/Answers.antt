@@ -16,7 +16,8 @@ block_minutes-minutes-requires-clause-block c =
     let stated = c.args.stated.now in
     let count = length-map stated (λ (b : NamedBlock). b.slots) in
     subst (IsBlock network) (sym (c.block.ensures ∙ slots-at stated c.loop-b.b))
-    (block-made network (slots_by stated) c.requires.blocking.each c.loop-b.b (omega (arith, count, c.loop-b-test.true, c.len-b-end.ensures.count)))
+    (block-made network (slots_by stated) c.requires.blocking.each c.loop-b.b
+    (omega (arith, count, c.loop-b-test.true, c.len-b-end.ensures.count)))
 
 pub block_minutes-minutes-requires-clause-live : goal.block_minutes-minutes-requires-clause-live
 block_minutes-minutes-requires-clause-live c = λ k d h.
@@ -37,7 +38,8 @@ block_minutes-minutes-requires-clause-few c =
     let network = network_of t c.args.matrix.now in
     let blocks = slots_by c.args.stated.now in
     let count = length-map c.args.stated.now (λ (b : NamedBlock). b.slots) in
-    let day = c.deadhead_law.ensures.day (length t.places) moves c.args.matrix.now (c.plain_law.ensures.moves t c.slots-slots.ensures.valid) c.places-places.ensures.valid
+    let day = c.deadhead_law.ensures.day (length t.places) moves c.args.matrix.now
+    (c.plain_law.ensures.moves t c.slots-slots.ensures.valid) c.places-places.ensures.valid
     (omega (arith, length-map t.slots move_of_slot, c.slots-slots.ensures.valid.slots)) in
     omega (
       arith,
@@ -54,7 +56,8 @@ overflow_add-minutes c =
     let network = network_of t c.args.matrix.now in
     let blocks = slots_by c.args.stated.now in
     let count = length-map c.args.stated.now (λ (b : NamedBlock). b.slots) in
-    let day = c.deadhead_law.ensures.day (length t.places) moves c.args.matrix.now (c.plain_law.ensures.moves t c.slots-slots.ensures.valid) c.places-places.ensures.valid
+    let day = c.deadhead_law.ensures.day (length t.places) moves c.args.matrix.now
+    (c.plain_law.ensures.moves t c.slots-slots.ensures.valid) c.places-places.ensures.valid
     (omega (arith, length-map t.slots move_of_slot, c.slots-slots.ensures.valid.slots)) in
     omega (
       arith,

@@ -5,4 +5,5 @@ use Rattle.block_audit.proofs.laws.order_law.Goals as goal
 
 pub returns : goal.returns
 returns c = stand-in-order (λ timetable matrix valid.
-    c.deadhead_law.ensures.departures (length timetable.places) (trip_moves timetable.slots) matrix (c.plain_law.ensures.moves timetable valid))
+    c.deadhead_law.ensures.departures (length timetable.places) (trip_moves timetable.slots) matrix
+    (c.plain_law.ensures.moves timetable valid))

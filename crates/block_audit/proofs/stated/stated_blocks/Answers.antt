@@ -16,5 +16,7 @@ grouped-requires c =
 pub returns-clause-runs : goal.returns-clause-runs
 returns-clause-runs c =
     let t = c.args.timetable.now in
-    let all : All (Runs t) c.in_ok-order.order.items = λ k d h. record { within = c.in_ok-order.ensures.within k d h; live = c.in_ok-order.ensures.live k d h } in
-    made-all (Runs t) c.in_ok-names.names c.deref.result.now c.grouped.result (subst (All (Runs t)) (sym c.deref.ensures.value) all) c.grouped.ensures
+    let all : All (Runs t) c.in_ok-order.order.items =
+    λ k d h. record { within = c.in_ok-order.ensures.within k d h; live = c.in_ok-order.ensures.live k d h } in
+    made-all (Runs t) c.in_ok-names.names c.deref.result.now c.grouped.result (subst (All (Runs t)) (sym c.deref.ensures.value) all)
+    c.grouped.ensures

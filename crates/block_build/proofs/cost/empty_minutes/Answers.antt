@@ -24,9 +24,17 @@ block_minutes-minutes-requires-clause-few c =
     let moves = trip_moves t.slots in
     let network = deadhead_network moves c.args.matrix.now in
     let n = c.loop-number.number in
-    let day = c.deadhead_law.ensures.day (length t.places) moves c.args.matrix.now (c.plain_law.ensures.moves t c.slots-slots.ensures.valid) c.places-places.ensures.valid
+    let day = c.deadhead_law.ensures.day (length t.places) moves c.args.matrix.now
+    (c.plain_law.ensures.moves t c.slots-slots.ensures.valid) c.places-places.ensures.valid
     (omega (arith, length-map t.slots move_of_slot, c.slots-slots.ensures.valid.slots)) in
-    omega (arith, minutes-few network (length moves) day c.args.blocks.now c.requires.blocking, minutes-from network c.args.blocks.now n (omega (arith, c.len-number-end.ensures.count)), c.loop-number.invariant, ap (block_minutes network) c.block.ensures)
+    omega (
+      arith,
+      minutes-few network (length moves) day c.args.blocks.now c.requires.blocking,
+      minutes-from network c.args.blocks.now n
+          (omega (arith, c.len-number-end.ensures.count)),
+      c.loop-number.invariant,
+      ap (block_minutes network) c.block.ensures,
+    )
 
 pub overflow_add-minutes : goal.overflow_add-minutes
 overflow_add-minutes c =
@@ -34,7 +42,8 @@ overflow_add-minutes c =
     let moves = trip_moves t.slots in
     let network = deadhead_network moves c.args.matrix.now in
     let n = c.loop-number.number in
-    let day = c.deadhead_law.ensures.day (length t.places) moves c.args.matrix.now (c.plain_law.ensures.moves t c.slots-slots.ensures.valid) c.places-places.ensures.valid
+    let day = c.deadhead_law.ensures.day (length t.places) moves c.args.matrix.now
+    (c.plain_law.ensures.moves t c.slots-slots.ensures.valid) c.places-places.ensures.valid
     (omega (arith, length-map t.slots move_of_slot, c.slots-slots.ensures.valid.slots)) in
     omega (
       arith,

@@ -14,4 +14,5 @@ loop-slot-preserved c = record {
 pub returns : goal.returns
 returns c =
     if-text c.into_text.result c.loop-slot.records _ c.into_text.ensures
-    (prices-written c.args.timetable.now c.args.leave.now c.args.enter.now c.loop-slot.records c.loop-slot.slot (omega (arith, c.slots-slot-end.ensures.count)) c.loop-slot.invariant.written)
+    (prices-written c.args.timetable.now c.args.leave.now c.args.enter.now c.loop-slot.records c.loop-slot.slot
+    (omega (arith, c.slots-slot-end.ensures.count)) c.loop-slot.invariant.written)

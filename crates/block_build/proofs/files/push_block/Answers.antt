@@ -10,7 +10,8 @@ loop-n-preserved c =
     let name = c.deref.ensures ∙ c.in_ok-name.ensures.ok in
     let minutes = c.deref-in-loop-n.ensures ∙ c.in_ok-minutes.ensures.ok ∙ ap decimal c.minutes_before.ensures in
     record {
-      written = record-more (block_record c.args.timetable.now c.args.matrix.now c.args.prefix.now c.args.number c.args.block.now) c.args.records.now c.loop-n.records c.push_record.new.records c.loop-n.n
+      written = record-more (block_record c.args.timetable.now c.args.matrix.now c.args.prefix.now c.args.number c.args.block.now)
+          c.args.records.now c.loop-n.records c.push_record.new.records c.loop-n.n
           c.loop-n.invariant.written
           (c.in_ok-push_record.ensures.written ∙ (λ i. c.loop-n.records ++ record_text (name i ∷ c.name.ensures i ∷ minutes i ∷ [])));
       text = λ text. c.in_ok-push_record.ensures.text (c.loop-n.invariant.text text);

@@ -13,7 +13,11 @@ returns c =
     c.pull_out.ensures.value ∙ ap (λ (trip : Trip). (pull_at pulls trip.from).pull_out) c.trip-first.ensures.value in
     let home : c.pull_in.result ≡ pull_in c.args.timetable.now pulls c.args.block.now =
     c.pull_in.ensures.value ∙ ap (λ (trip : Trip). (pull_at pulls trip.to).pull_in) c.trip-last.ensures.value in
-    line-written c.args.timetable.now c.args.matrix.now c.args.prefix.now c.args.block.now (string_bytes c.args.text.now) (string_bytes c.write.new.self)
-    (string_bytes c.push_pull_out.new.text) (string_bytes c.push_trips.new.text) (string_bytes c.push_pull_in.new.text) (string_bytes c.push_str.new.self) c.args.number
-    c.in_ok-write.ensures.bytes (c.in_ok-push_pull_out.ensures ∙ ap (λ minutes. string_bytes c.write.new.self ++ pull_out_text minutes) out) c.in_ok-push_trips.ensures
-    (c.in_ok-push_pull_in.ensures ∙ ap (λ minutes. string_bytes c.push_trips.new.text ++ pull_in_text minutes) home) c.in_ok-push_str.ensures.bytes
+    line-written c.args.timetable.now c.args.matrix.now c.args.prefix.now c.args.block.now (string_bytes c.args.text.now)
+    (string_bytes c.write.new.self)
+    (string_bytes c.push_pull_out.new.text) (string_bytes c.push_trips.new.text) (string_bytes c.push_pull_in.new.text)
+    (string_bytes c.push_str.new.self) c.args.number
+    c.in_ok-write.ensures.bytes (c.in_ok-push_pull_out.ensures
+    ∙ ap (λ minutes. string_bytes c.write.new.self ++ pull_out_text minutes) out) c.in_ok-push_trips.ensures
+    (c.in_ok-push_pull_in.ensures ∙ ap (λ minutes. string_bytes c.push_trips.new.text ++ pull_in_text minutes) home)
+    c.in_ok-push_str.ensures.bytes

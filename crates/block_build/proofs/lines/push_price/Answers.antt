@@ -10,7 +10,9 @@ use Rattle.block_build.proofs.lines.push_price.Goals as goal
 pub returns-then-not-trip : goal.returns-then-not-trip
 returns-then-not-trip c =
     sym (append-nil (string_bytes c.args.text.now))
-    ∙ ap (λ xs. string_bytes c.args.text.now ++ xs) (sym (price-none c.args.timetable.now c.args.leave.now c.args.enter.now c.args.slot (ap (λ (trip : Trip). trip.live) (sym c.trip.ensures.value) ∙ not-true c.trip.result.live c.if-not-trip.true)))
+    ∙ ap (λ xs. string_bytes c.args.text.now ++ xs)
+    (sym (price-none c.args.timetable.now c.args.leave.now c.args.enter.now c.args.slot
+    (ap (λ (trip : Trip). trip.live) (sym c.trip.ensures.value) ∙ not-true c.trip.result.live c.if-not-trip.true)))
 
 pub returns : goal.returns
 returns c =
@@ -18,5 +20,8 @@ returns c =
     let enter = c.args.enter.now in
     let live = ap (λ (trip : Trip). trip.live) (sym c.trip.ensures.value) ∙ not-false c.trip.result.live c.if-not-trip.false in
     c.in_ok-writeln.ensures.bytes
-    ∙ (λ i. string_bytes c.args.text.now ++ (codes " price " ++ (c.name-name.ensures i ++ (codes " " ++ (decimal (get_or leave (c.from.ensures i) 0) ++ (codes " " ++ (decimal (get_or enter (c.from-2.ensures i) 0) ++ 10 ∷ [])))))))
+    ∙ (λ i. string_bytes c.args.text.now
+    ++ (codes " price " ++ (c.name-name.ensures i
+    ++ (codes " " ++ (decimal (get_or leave (c.from.ensures i) 0)
+    ++ (codes " " ++ (decimal (get_or enter (c.from-2.ensures i) 0) ++ 10 ∷ [])))))))
     ∙ ap (λ xs. string_bytes c.args.text.now ++ xs) (sym (price-one c.args.timetable.now leave enter c.args.slot live))

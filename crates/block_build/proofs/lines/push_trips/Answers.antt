@@ -15,13 +15,18 @@ loop-n-preserved c =
     let block = c.args.block.now in
     let joined : string_bytes c.if-n-gt0.text ≡ string_bytes c.loop-n.text ++ joint t walks block c.loop-n.n = elim c.if-n-gt0.branch [
       | then-n-gt0+in_ok-push_joint w ↦
-          ap string_bytes w.text-is ∙ w.in_ok-push_joint.ensures ∙ ap (λ xs. string_bytes c.loop-n.text ++ xs) (sym (joint-after t walks block c.loop-n.n w.if-n-gt0.true))
+          ap string_bytes w.text-is ∙ w.in_ok-push_joint.ensures
+          ∙ ap (λ xs. string_bytes c.loop-n.text ++ xs) (sym (joint-after t walks block c.loop-n.n w.if-n-gt0.true))
       | else-n-gt0 w ↦
-          ap string_bytes w.text-is ∙ sym (append-nil (string_bytes c.loop-n.text)) ∙ ap (λ xs. string_bytes c.loop-n.text ++ xs) (sym (joint-first t walks block c.loop-n.n w.if-n-gt0.false))
+          ap string_bytes w.text-is ∙ sym (append-nil (string_bytes c.loop-n.text))
+          ∙ ap (λ xs. string_bytes c.loop-n.text ++ xs) (sym (joint-first t walks block c.loop-n.n w.if-n-gt0.false))
     ] in
-    trips-more t walks block (string_bytes c.args.text.now) (string_bytes c.loop-n.text) (string_bytes c.push_trip.new.text) c.loop-n.n c.loop-n.invariant
-    (c.in_ok-push_trip.ensures ∙ ap (λ xs. xs ++ trip_text (slot_at t (get_or block c.loop-n.n 0))) joined ∙ append_assoc (string_bytes c.loop-n.text) (joint t walks block c.loop-n.n) (trip_text (slot_at t (get_or block c.loop-n.n 0))))
+    trips-more t walks block (string_bytes c.args.text.now) (string_bytes c.loop-n.text) (string_bytes c.push_trip.new.text) c.loop-n.n
+    c.loop-n.invariant
+    (c.in_ok-push_trip.ensures ∙ ap (λ xs. xs ++ trip_text (slot_at t (get_or block c.loop-n.n 0))) joined
+    ∙ append_assoc (string_bytes c.loop-n.text) (joint t walks block c.loop-n.n) (trip_text (slot_at t (get_or block c.loop-n.n 0))))
 
 pub returns : goal.returns
 returns c =
-    trips-written c.args.timetable.now (walk c.args.matrix.now) c.args.block.now (string_bytes c.args.text.now) (string_bytes c.loop-n.text) c.loop-n.n (omega arith) c.loop-n.invariant
+    trips-written c.args.timetable.now (walk c.args.matrix.now) c.args.block.now (string_bytes c.args.text.now)
+    (string_bytes c.loop-n.text) c.loop-n.n (omega arith) c.loop-n.invariant

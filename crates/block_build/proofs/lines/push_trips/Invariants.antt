@@ -9,4 +9,5 @@ use Rattle.block_build.proofs.lines.push_trips.Given as goal
 abbrev pub invariant-loop-n : goal.invariant-loop-n
 invariant-loop-n l =
     string_bytes l.text ≡ string_bytes l.initial.text
-    ++ flat_map (λ n. joint l.timetable (walk l.matrix) l.block n ++ trip_text (slot_at l.timetable (slice_index l.block n))) (range_with_len 0 l.n)
+    ++ flat_map (λ n. joint l.timetable (walk l.matrix) l.block n ++ trip_text (slot_at l.timetable (slice_index l.block n)))
+    (range_with_len 0 l.n)

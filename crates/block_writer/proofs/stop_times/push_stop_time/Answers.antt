@@ -20,4 +20,5 @@ returns c =
     (ap (λ offset. moved_by offset columns.arrival columns.departure row)
     (to_z-of_z w8 c.offset_of-offset.result fits
     ∙ c.offset_of-offset.ensures
-    ∙ ap (λ name. offset_of c.args.timetable.now c.args.base (number_of (slot_names c.args.timetable.now) name)) (c.text_of.ensures ∙ c.field.ensures))) c.push_by.ensures
+    ∙ ap (λ name. offset_of c.args.timetable.now c.args.base (number_of (slot_names c.args.timetable.now) name))
+    (c.text_of.ensures ∙ c.field.ensures))) c.push_by.ensures

@@ -7,4 +7,13 @@ returns c =
     let hours : c.args.seconds / 3600 < 2 ^ 64 = omega arith in
     let minutes : c.args.seconds / 60 % 60 < 2 ^ 64 = omega arith in
     let rest : c.args.seconds % 60 < 2 ^ 64 = omega arith in
-    rw (c.wrap.ensures, c.in_ok-format.ensures.ok, c.laid_out.ensures, c.laid_out-2.ensures, c.laid_out-3.ensures, styled-decimal _ hours, styled-decimal _ minutes, styled-decimal _ rest)
+    rw (
+      c.wrap.ensures,
+      c.in_ok-format.ensures.ok,
+      c.laid_out.ensures,
+      c.laid_out-2.ensures,
+      c.laid_out-3.ensures,
+      styled-decimal _ hours,
+      styled-decimal _ minutes,
+      styled-decimal _ rest,
+    )

@@ -5,10 +5,12 @@ use Rattle.std.proofs.lemmas.Str.{IsUtf8-from_ascii, IsUtf8-from_is_utf8, is_utf
 use Rattle.block_writer.proofs.texts.is_utf8.Goals as goal
 
 pub returns-then-is_ascii : goal.returns-then-is_ascii
-returns-then-is_ascii c = sym (is_utf8-from_IsUtf8 c.args.field.now (IsUtf8-from_ascii c.args.field.now (c.is_ascii.ensures c.if-is_ascii.true)))
+returns-then-is_ascii c = sym (is_utf8-from_IsUtf8 c.args.field.now
+    (IsUtf8-from_ascii c.args.field.now (c.is_ascii.ensures c.if-is_ascii.true)))
 
 pub returns-in-Ok : goal.returns-in-Ok
 returns-in-Ok c = sym (is_utf8-from_IsUtf8 c.args.field.now c.in-Ok.ensures.cases.1)
 
 pub returns-in-Err : goal.returns-in-Err
-returns-in-Err c = sym (false_from_ne_true (is_utf8 c.args.field.now) (λ is. c.in-Err.ensures.cases.0 (IsUtf8-from_is_utf8 c.args.field.now is)))
+returns-in-Err c = sym (false_from_ne_true (is_utf8 c.args.field.now)
+    (λ is. c.in-Err.ensures.cases.0 (IsUtf8-from_is_utf8 c.args.field.now is)))

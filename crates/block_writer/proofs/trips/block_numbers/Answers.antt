@@ -17,4 +17,5 @@ loop-before-preserved c =
 
 pub returns : goal.returns
 returns c =
-    numbers-made c.loop-before.numbers.items c.args.slots c.loop-before.before c.args.blocks.now c.loop-before.invariant.count (omega (arith, c.len-before-end.ensures.count)) c.loop-before.invariant.numbers
+    numbers-made c.loop-before.numbers.items c.args.slots c.loop-before.before c.args.blocks.now c.loop-before.invariant.count
+    (omega (arith, c.len-before-end.ensures.count)) c.loop-before.invariant.numbers

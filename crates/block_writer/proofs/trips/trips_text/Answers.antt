@@ -11,20 +11,28 @@ use Rattle.block_writer.proofs.trips.trips_text.Goals as goal
 
 pub push_trip-requires-clause-numbers : goal.push_trip-requires-clause-numbers
 push_trip-requires-clause-numbers c =
-    numbers-count c.deref.result.now c.in_ok-numbers.numbers.items (length c.args.timetable.now.slots) c.slots.result c.args.blocks.now c.deref.ensures.value c.in_ok-numbers.ensures c.slots.ensures.count
+    numbers-count c.deref.result.now c.in_ok-numbers.numbers.items (length c.args.timetable.now.slots) c.slots.result c.args.blocks.now
+    c.deref.ensures.value c.in_ok-numbers.ensures c.slots.ensures.count
 
 pub push_trip-requires-clause-text : goal.push_trip-requires-clause-text
 push_trip-requires-clause-text c =
-    row-text c.args.trips.now.rows c.row-row.result.now c.loop-before.before c.requires.texts.rows (omega (arith, c.records-before-end.ensures)) c.row-row.ensures.value
+    row-text c.args.trips.now.rows c.row-row.result.now c.loop-before.before c.requires.texts.rows
+    (omega (arith, c.records-before-end.ensures)) c.row-row.ensures.value
 
 pub loop-before-preserved : goal.loop-before-preserved
 loop-before-preserved c =
-    trip-more c.args.timetable.now c.deref.result.now c.in_ok-numbers.numbers.items c.args.prefix.now c.place_of-trip.result c.place_of-block.result c.args.chosen.now c.args.trips.now.rows
-    (record_text (header_written c.place_of-block.result c.args.trips.now.header)) c.loop-before.records c.push_trip.new.records c.loop-before.before c.row-row.result.now
+    trip-more c.args.timetable.now c.deref.result.now c.in_ok-numbers.numbers.items c.args.prefix.now c.place_of-trip.result
+    c.place_of-block.result c.args.chosen.now c.args.trips.now.rows
+    (record_text (header_written c.place_of-block.result c.args.trips.now.header)) c.loop-before.records c.push_trip.new.records
+    c.loop-before.before c.row-row.result.now
     c.deref.ensures.value c.loop-before.invariant c.row-row.ensures.value c.in_ok-push_trip.ensures
 
 pub returns : goal.returns
 returns c =
     if-text c.into_bytes.result c.loop-before.records _ c.into_bytes.ensures
-    (trips-made c.args.trips.now c.args.timetable.now c.args.chosen.now c.args.blocks.now c.args.prefix.now c.in_ok-numbers.numbers.items c.slots.result c.place_of-trip.result c.place_of-block.result
-    c.loop-before.before c.loop-before.records c.in_ok-numbers.ensures c.slots.ensures.count (c.place_of-trip.ensures ∙ ap (place_of column.TripId) c.header-header.ensures) (c.place_of-block.ensures ∙ ap (place_of column.BlockId) c.header-header.ensures) (omega (arith, c.records-before-end.ensures)) c.loop-before.invariant)
+    (trips-made c.args.trips.now c.args.timetable.now c.args.chosen.now c.args.blocks.now c.args.prefix.now c.in_ok-numbers.numbers.items
+    c.slots.result c.place_of-trip.result c.place_of-block.result
+    c.loop-before.before c.loop-before.records c.in_ok-numbers.ensures c.slots.ensures.count
+    (c.place_of-trip.ensures ∙ ap (place_of column.TripId) c.header-header.ensures)
+    (c.place_of-block.ensures ∙ ap (place_of column.BlockId) c.header-header.ensures) (omega (arith, c.records-before-end.ensures))
+    c.loop-before.invariant)

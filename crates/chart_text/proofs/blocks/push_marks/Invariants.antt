@@ -6,4 +6,5 @@ use Rattle.chart_text.proofs.blocks.push_marks.Given as goal
 
 abbrev pub invariant-loop-column : goal.invariant-loop-column
 invariant-loop-column l =
-    string_bytes l.text ≡ string_bytes l.initial.text ++ map (block_mark l.timetable (walk l.matrix) l.block) (take l.column-index l.columns)
+    string_bytes l.text ≡ string_bytes l.initial.text
+    ++ map (block_mark l.timetable (walk l.matrix) l.block) (take l.column-index l.columns)

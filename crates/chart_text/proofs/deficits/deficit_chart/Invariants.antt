@@ -8,4 +8,6 @@ use Rattle.chart_text.proofs.deficits.deficit_chart.Given as goal
 
 abbrev pub invariant-loop-place : goal.invariant-loop-place
 invariant-loop-place l =
-    string_bytes l.text ≡ string_bytes l.initial.text ++ flat_map (λ place. place_line l.columns.items place.1 (value l.deficits place.0)) (enumerate_from 0 (take l.place (place_names l.timetable)))
+    string_bytes l.text ≡ string_bytes l.initial.text
+    ++ flat_map (λ place. place_line l.columns.items place.1 (value l.deficits place.0))
+    (enumerate_from 0 (take l.place (place_names l.timetable)))

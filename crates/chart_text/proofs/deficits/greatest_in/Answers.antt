@@ -14,7 +14,8 @@ loop-minute-preserved c =
     let high_fits : SFits w32 c.max-high.result = search rules in
     let value_fits : SFits w32 (get_or c.args.values.now (c.from-first.result + c.loop-minute.minute) (pos 0)) = search rules in
     to_z-of_z w32 c.max-high.result high_fits ∙ c.max-high.ensures.value
-    ∙ (λ i. int_max (c.loop-minute.invariant i) (to_z-of_z w32 (get_or c.args.values.now (c.from-first.result + c.loop-minute.minute) (pos 0)) value_fits i))
+    ∙ (λ i. int_max (c.loop-minute.invariant i)
+    (to_z-of_z w32 (get_or c.args.values.now (c.from-first.result + c.loop-minute.minute) (pos 0)) value_fits i))
     ∙ greatest_so_far-more d c.args.column c.loop-minute.minute (c.from-first.result + c.loop-minute.minute) at
 
 pub returns : goal.returns

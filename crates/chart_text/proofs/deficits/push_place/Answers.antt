@@ -9,6 +9,7 @@ pub returns : goal.returns
 returns c =
     let d = value c.args.deficits.now c.args.place in
     let read = c.deref.ensures.value in
-    place-written (string_bytes c.args.text.now) c.args.name.now c.args.columns.now d (value_in c.deref.result.now) (string_bytes c.push_marks.new.text) (string_bytes c.writeln.new.self)
+    place-written (string_bytes c.args.text.now) c.args.name.now c.args.columns.now d (value_in c.deref.result.now)
+    (string_bytes c.push_marks.new.text) (string_bytes c.writeln.new.self)
     c.requires.columns (λ t h. ap (λ vs. value_in vs t) read ∙ c.in_ok-values.ensures.values t h)
     c.in_ok-push_marks.ensures c.in_ok-writeln.ensures.bytes

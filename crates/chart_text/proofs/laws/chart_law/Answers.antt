@@ -11,5 +11,6 @@ use Rattle.chart_text.proofs.laws.chart_law.Goals as goal
 pub returns : goal.returns
 returns c = λ timetable deficits moves valid rows held len.
     let names = length-map timetable.places (λ p. p.name) in
-    chart_of-agree (columns_of (live_moves timetable.slots)) (place_names timetable) (value deficits) (deficit moves) (columns_of-in_day timetable valid)
+    chart_of-agree (columns_of (live_moves timetable.slots)) (place_names timetable) (value deficits) (deficit moves)
+    (columns_of-in_day timetable valid)
     (λ place minute there h. c.held_law.ensures.deficit deficits moves place minute rows held (omega arith) h)

@@ -7,7 +7,8 @@ use Rattle.deadhead_matrix.proofs.posts.places_of.Given as goal
 
 abbrev pub invariant-loop-class : goal.invariant-loop-class
 invariant-loop-class l = record {
-  gives : with_places l.terminal l.timetable l.places.items (drop l.class-index l.classes) ≡ with_places l.terminal l.initial.timetable [] l.classes;
+  gives : with_places l.terminal l.timetable l.places.items (drop l.class-index l.classes) ≡ with_places l.terminal l.initial.timetable []
+      l.classes;
   left : left_places l.terminal l.timetable (drop l.class-index l.classes) ≡ left_places l.terminal l.initial.timetable l.classes;
   gained : HasGained (IsPlaceOf l.initial.timetable.classed l.classes l.terminal) l.initial.timetable l.timetable;
   count : length l.places.items ≡ l.class-index;

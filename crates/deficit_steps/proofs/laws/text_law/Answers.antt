@@ -5,4 +5,5 @@ use Rattle.deficit_steps.proofs.laws.text_law.Goals as goal
 
 pub returns : goal.returns
 returns c = λ names deficits moves valid held len.
-    deficit_text-agree names _ _ (λ place minute there h. value-held deficits moves place (valid.changes place [] (omega arith)) held (omega arith) minute h)
+    deficit_text-agree names _ _ (λ place minute there h. value-held deficits moves place (valid.changes place [] (omega arith)) held
+    (omega arith) minute h)

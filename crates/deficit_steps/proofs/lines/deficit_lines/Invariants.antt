@@ -8,4 +8,5 @@ use Rattle.deficit_steps.proofs.lines.deficit_lines.Given as goal
 
 abbrev pub invariant-loop-place : goal.invariant-loop-place
 invariant-loop-place l =
-    string_bytes l.text ≡ flat_map (λ place. place_lines place.1 (value l.deficits place.0)) (enumerate_from 0 (take l.place (place_names l.timetable)))
+    string_bytes l.text ≡ flat_map (λ place. place_lines place.1 (value l.deficits place.0))
+    (enumerate_from 0 (take l.place (place_names l.timetable)))

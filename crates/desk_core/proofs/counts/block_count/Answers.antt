@@ -9,4 +9,5 @@ returns c =
     let n = c.slots-slot-end.result in
     let all : c.loop-slot.slot ≡ n = omega (arith, c.loop-slot-test.false, c.loop-slot.auto.slot-end) in
     c.loop-slot.invariant.counted ∙ ap (sum_below (one_last (pairs_network c.args.pairs.now) c.args.links.now)) all
-    ∙ sym (blocks-counted c.args.pairs.now n _ c.args.links.now c.slots-slot-end.ensures.day c.slots-slot-end.ensures.departures c.requires.links (c.requires.slots ∙ sym c.slots-slot-end.ensures.count))
+    ∙ sym (blocks-counted c.args.pairs.now n _ c.args.links.now c.slots-slot-end.ensures.day c.slots-slot-end.ensures.departures
+    c.requires.links (c.requires.slots ∙ sym c.slots-slot-end.ensures.count))

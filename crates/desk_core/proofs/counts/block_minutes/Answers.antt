@@ -10,7 +10,8 @@ overflow_sub-result c =
     let all : c.loop-slot.slot ≡ n = omega (arith, c.loop-slot-test.false, c.loop-slot.auto.slot-end) in
     let rounds = c.loop-slot.invariant.rounds ∙ ap (sum_below (round_of (pairs_network c.args.pairs.now) c.args.links.now)) all in
     let aheads = c.loop-slot.invariant.aheads ∙ ap (sum_below (ahead_of (pairs_network c.args.pairs.now) c.args.links.now)) all in
-    let sums = minutes-counted c.args.pairs.now n _ c.args.links.now c.slots-slot-end.ensures.day c.slots-slot-end.ensures.departures c.requires.links (c.requires.slots ∙ sym c.slots-slot-end.ensures.count) in
+    let sums = minutes-counted c.args.pairs.now n _ c.args.links.now c.slots-slot-end.ensures.day c.slots-slot-end.ensures.departures
+    c.requires.links (c.requires.slots ∙ sym c.slots-slot-end.ensures.count) in
     omega (arith, rounds, aheads, sums)
 
 pub returns : goal.returns
@@ -19,5 +20,6 @@ returns c =
     let all : c.loop-slot.slot ≡ n = omega (arith, c.loop-slot-test.false, c.loop-slot.auto.slot-end) in
     let rounds = c.loop-slot.invariant.rounds ∙ ap (sum_below (round_of (pairs_network c.args.pairs.now) c.args.links.now)) all in
     let aheads = c.loop-slot.invariant.aheads ∙ ap (sum_below (ahead_of (pairs_network c.args.pairs.now) c.args.links.now)) all in
-    let sums = minutes-counted c.args.pairs.now n _ c.args.links.now c.slots-slot-end.ensures.day c.slots-slot-end.ensures.departures c.requires.links (c.requires.slots ∙ sym c.slots-slot-end.ensures.count) in
+    let sums = minutes-counted c.args.pairs.now n _ c.args.links.now c.slots-slot-end.ensures.day c.slots-slot-end.ensures.departures
+    c.requires.links (c.requires.slots ∙ sym c.slots-slot-end.ensures.count) in
     omega (arith, rounds, aheads, sums)

@@ -6,5 +6,6 @@ use Rattle.desk_core.proofs.counts.out_ahead.Goals as goal
 pub out_of-requires-clause-slot : goal.out_of-requires-clause-slot
 out_of-requires-clause-slot c =
     let within : c.in-Some.next < c.slots-slots.result =
-    next-within (pairs_network c.args.pairs.now) c.slots-slots.result _ c.args.links.now c.slots-slots.ensures.day c.slots-slots.ensures.departures c.requires.links c.args.slot c.in-Some.next (sym c.in-Some.ensures) in
+    next-within (pairs_network c.args.pairs.now) c.slots-slots.result _ c.args.links.now c.slots-slots.ensures.day
+    c.slots-slots.ensures.departures c.requires.links c.args.slot c.in-Some.next (sym c.in-Some.ensures) in
     omega (arith, within, c.slots-slots.ensures.count)

@@ -5,7 +5,9 @@ use Rattle.desk_core.proofs.FollowLemmas.{HasRoomFor-read, Holds-placed, moves_o
 use Rattle.desk_core.proofs.follow.put_in.Goals as goal
 
 pub add-requires-clause-raised : goal.add-requires-clause-raised
-add-requires-clause-raised g c = (HasRoomFor-read c.args.deficits.now c.args.trip c.in-Some.trip c.as_move.result [] c.requires.valid c.in-Some.is c.as_move.ensures c.requires.held).from_raised
+add-requires-clause-raised g c =
+    (HasRoomFor-read c.args.deficits.now c.args.trip c.in-Some.trip c.as_move.result [] c.requires.valid c.in-Some.is c.as_move.ensures
+    c.requires.held).from_raised
 
 pub returns-clause-held : goal.returns-clause-held
 returns-clause-held g c = λ front back held.

@@ -15,7 +15,8 @@ follow_records-requires-clause-stands c =
     let script = c.in_ok-script.script in
     subst (λ text. AreRefusals script.timetable lines 0 script text false) (sym c.new.ensures.bytes)
     (refusals-none script.timetable lines script
-    (subst (λ (s : ScriptView). IsAt s.timetable (machine s.timetable []) s) (sym c.in_ok-script.ensures) (c.machine_law.ensures.start c.args.timetable)))
+    (subst (λ (s : ScriptView). IsAt s.timetable (machine s.timetable []) s) (sym c.in_ok-script.ensures)
+    (c.machine_law.ensures.start c.args.timetable)))
 
 pub returns-clause-edited : goal.returns-clause-edited
 returns-clause-edited c =
@@ -32,4 +33,5 @@ pub returns-clause-places : goal.returns-clause-places
 returns-clause-places c =
     let base = ap (λ (s : ScriptView). s.timetable) c.in_ok-script.ensures in
     let lines = c.args.lines.now in
-    ap (λ t. t.places) (c.in_ok-follow_records.ensures.stands.at.timetable ∙ ap (λ base. spec.standing_at base lines (length lines)) base) ∙ standing-places c.args.timetable lines (length lines)
+    ap (λ t. t.places) (c.in_ok-follow_records.ensures.stands.at.timetable ∙ ap (λ base. spec.standing_at base lines (length lines)) base)
+    ∙ standing-places c.args.timetable lines (length lines)

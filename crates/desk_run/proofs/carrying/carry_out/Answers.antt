@@ -12,8 +12,19 @@ returns-in_err-write_all-clause-calls g c =
     let h = histories g.S.Shelf.history g.O.Sink.history g.K.Keeper.history c.args.shelf.now c.args.out.now c.args.keeper.now in
     let now = histories g.S.Shelf.history g.O.Sink.history g.K.Keeper.history c.write_all.new.shelf c.args.out.now c.args.keeper.now in
     let fault = err_from_is_err_and c.from_residual.result c.from_residual.ensures.1 in
-    let outcome : OutcomeView = record { writes = c.deref.result.now; lines = c.outcome.inside.lines; text = c.outcome.inside.text; ending = c.outcome.inside.ending } in
-    subst (λ (outcome : OutcomeView). CallsToCarry outcome c.from_residual.result h now) ((λ i. record { writes = c.deref.ensures.value i; lines = c.outcome.inside.lines; text = c.outcome.inside.text; ending = c.outcome.inside.ending }) ∙ c.outcome.view_is)
+    let outcome : OutcomeView = record {
+      writes = c.deref.result.now;
+      lines = c.outcome.inside.lines;
+      text = c.outcome.inside.text;
+      ending = c.outcome.inside.ending;
+    } in
+    subst (λ (outcome : OutcomeView). CallsToCarry outcome c.from_residual.result h now)
+    ((λ i. record {
+      writes = c.deref.ensures.value i;
+      lines = c.outcome.inside.lines;
+      text = c.outcome.inside.text;
+      ending = c.outcome.inside.ending;
+    }) ∙ c.outcome.view_is)
     (subst (λ result. CallsToCarry outcome result h now) (sym fault.1) (ends_at_file outcome h fault.0 _ c.in_err-write_all.ensures.come))
 
 pub returns-in_err-append-clause-calls : goal.returns-in_err-append-clause-calls
@@ -21,22 +32,58 @@ returns-in_err-append-clause-calls g c =
     let h = histories g.S.Shelf.history g.O.Sink.history g.K.Keeper.history c.args.shelf.now c.args.out.now c.args.keeper.now in
     let now = histories g.S.Shelf.history g.O.Sink.history g.K.Keeper.history c.write_all.new.shelf c.args.out.now c.append.new.keeper in
     let fault = err_from_is_err_and c.from_residual-in_err-append.result c.from_residual-in_err-append.ensures.1 in
-    let outcome : OutcomeView = record { writes = c.deref.result.now; lines = c.outcome.inside.lines; text = c.outcome.inside.text; ending = c.outcome.inside.ending } in
-    subst (λ (outcome : OutcomeView). CallsToCarry outcome c.from_residual-in_err-append.result h now) ((λ i. record { writes = c.deref.ensures.value i; lines = c.outcome.inside.lines; text = c.outcome.inside.text; ending = c.outcome.inside.ending }) ∙ c.outcome.view_is)
-    (subst (λ result. CallsToCarry outcome result h now) (sym fault.1) (ends_at_lines outcome h _ c.in_ok-write_all.ensures.come fault.0 _ c.in_err-append.ensures.come))
+    let outcome : OutcomeView = record {
+      writes = c.deref.result.now;
+      lines = c.outcome.inside.lines;
+      text = c.outcome.inside.text;
+      ending = c.outcome.inside.ending;
+    } in
+    subst (λ (outcome : OutcomeView). CallsToCarry outcome c.from_residual-in_err-append.result h now)
+    ((λ i. record {
+      writes = c.deref.ensures.value i;
+      lines = c.outcome.inside.lines;
+      text = c.outcome.inside.text;
+      ending = c.outcome.inside.ending;
+    }) ∙ c.outcome.view_is)
+    (subst (λ result. CallsToCarry outcome result h now) (sym fault.1)
+    (ends_at_lines outcome h _ c.in_ok-write_all.ensures.come fault.0 _ c.in_err-append.ensures.come))
 
 pub returns-in-Ok-clause-calls : goal.returns-in-Ok-clause-calls
 returns-in-Ok-clause-calls g c =
     let h = histories g.S.Shelf.history g.O.Sink.history g.K.Keeper.history c.args.shelf.now c.args.out.now c.args.keeper.now in
     let now = histories g.S.Shelf.history g.O.Sink.history g.K.Keeper.history c.write_all.new.shelf c.put_all.new.out c.append.new.keeper in
-    let outcome : OutcomeView = record { writes = c.deref.result.now; lines = c.outcome.inside.lines; text = c.as_bytes.result.now; ending = c.outcome.inside.ending } in
-    subst (λ (outcome : OutcomeView). CallsToCarry outcome (Ok c.status.result) h now) ((λ i. record { writes = c.deref.ensures.value i; lines = c.outcome.inside.lines; text = (c.as_bytes.ensures.value ∙ c.as_str.ensures) i; ending = c.outcome.inside.ending }) ∙ c.outcome.view_is)
-    (ends_whole outcome h _ c.in_ok-write_all.ensures.come _ _ c.in_ok-append.ensures.come c.status.result c.in-Ok.field-0 c.in-Ok.ensures.come)
+    let outcome : OutcomeView = record {
+      writes = c.deref.result.now;
+      lines = c.outcome.inside.lines;
+      text = c.as_bytes.result.now;
+      ending = c.outcome.inside.ending;
+    } in
+    subst (λ (outcome : OutcomeView). CallsToCarry outcome (Ok c.status.result) h now)
+    ((λ i. record {
+      writes = c.deref.ensures.value i;
+      lines = c.outcome.inside.lines;
+      text = (c.as_bytes.ensures.value ∙ c.as_str.ensures) i;
+      ending = c.outcome.inside.ending;
+    }) ∙ c.outcome.view_is)
+    (ends_whole outcome h _ c.in_ok-write_all.ensures.come _ _ c.in_ok-append.ensures.come c.status.result c.in-Ok.field-0
+    c.in-Ok.ensures.come)
 
 pub returns-in-Err-clause-calls : goal.returns-in-Err-clause-calls
 returns-in-Err-clause-calls g c =
     let h = histories g.S.Shelf.history g.O.Sink.history g.K.Keeper.history c.args.shelf.now c.args.out.now c.args.keeper.now in
     let now = histories g.S.Shelf.history g.O.Sink.history g.K.Keeper.history c.write_all.new.shelf c.put_all.new.out c.append.new.keeper in
-    let outcome : OutcomeView = record { writes = c.deref.result.now; lines = c.outcome.inside.lines; text = c.as_bytes.result.now; ending = c.outcome.inside.ending } in
-    subst (λ (outcome : OutcomeView). CallsToCarry outcome (Err run_fault.Write) h now) ((λ i. record { writes = c.deref.ensures.value i; lines = c.outcome.inside.lines; text = (c.as_bytes.ensures.value ∙ c.as_str.ensures) i; ending = c.outcome.inside.ending }) ∙ c.outcome.view_is)
-    (ends_at_text outcome h _ c.in_ok-write_all.ensures.come _ _ c.in_ok-append.ensures.come run_fault.Write c.in-Err.field-0 c.in-Err.ensures.come)
+    let outcome : OutcomeView = record {
+      writes = c.deref.result.now;
+      lines = c.outcome.inside.lines;
+      text = c.as_bytes.result.now;
+      ending = c.outcome.inside.ending;
+    } in
+    subst (λ (outcome : OutcomeView). CallsToCarry outcome (Err run_fault.Write) h now)
+    ((λ i. record {
+      writes = c.deref.ensures.value i;
+      lines = c.outcome.inside.lines;
+      text = (c.as_bytes.ensures.value ∙ c.as_str.ensures) i;
+      ending = c.outcome.inside.ending;
+    }) ∙ c.outcome.view_is)
+    (ends_at_text outcome h _ c.in_ok-write_all.ensures.come _ _ c.in_ok-append.ensures.come run_fault.Write c.in-Err.field-0
+    c.in-Err.ensures.come)

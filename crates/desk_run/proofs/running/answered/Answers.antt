@@ -12,7 +12,9 @@ returns-in-Err-Write g c =
     let after = at c.attempt.new.shelf c.attempt.new.out c.attempt.new.keeper in
     let follows =
     subst
-    (λ fault. Follows asked before.world (λ found. Attempts asked found (Err fault) before.world after.world × IsInOrder asked found before after (status_by (Err fault))) c.args.steps.now c.attempt.new.steps)
+    (λ fault. Follows asked before.world
+    (λ found. Attempts asked found (Err fault) before.world after.world × IsInOrder asked found before after (status_by (Err fault)))
+    c.args.steps.now c.attempt.new.steps)
     c.in-Err-Write.field-0-is c.in-Err-Write.ensures in
     record {
       found = follows.found;

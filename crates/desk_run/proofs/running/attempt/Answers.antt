@@ -27,7 +27,11 @@ returns-in_err-pages g c =
       does = subst (λ result. Attempts asked None result before.world after.world × IsInOrder asked None before after (status_by result))
           (sym (fault.1 ∙ ap Err fault.2)) (
             unread (Unit {0}) asked before.world after.world.shelf c.in_err-pages.field-0.0 c.in_err-pages.ensures.state,
-            inl (fails_above c.in_err-pages.field-0.0, ends_at_paper asked before.calls _ asked.keeps c.papers.ensures refl _ c.in_err-pages.ensures.come),
+            inl (
+              fails_above c.in_err-pages.field-0.0,
+              ends_at_paper asked before.calls _ asked.keeps c.papers.ensures refl _
+                  c.in_err-pages.ensures.come,
+            ),
           );
       counted = refl;
     }
@@ -45,8 +49,13 @@ returns-in_err-journal g c =
       told = tt;
       does = subst (λ result. Attempts asked None result before.world after.world × IsInOrder asked None before after (status_by result))
           (sym (fault.1 ∙ ap Err fault.2)) (
-            unloaded (Unit {0}) asked before.world after.world.shelf after.world.keeper _ c.in_err-journal.field-0.0 c.in_ok-pages.ensures.state c.keeps.ensures c.in_err-journal.ensures.state,
-            inl (fails_above c.in_err-journal.field-0.0, ends_at_load asked before.calls _ _ c.papers.ensures c.keeps.ensures _ c.in_ok-pages.ensures.come _ c.in_err-journal.ensures.come),
+            unloaded (Unit {0}) asked before.world after.world.shelf after.world.keeper _ c.in_err-journal.field-0.0
+                c.in_ok-pages.ensures.state c.keeps.ensures c.in_err-journal.ensures.state,
+            inl (
+              fails_above c.in_err-journal.field-0.0,
+              ends_at_load asked before.calls _ _ c.papers.ensures c.keeps.ensures _
+                  c.in_ok-pages.ensures.come _ c.in_err-journal.ensures.come,
+            ),
           );
       counted = refl;
     }
@@ -58,17 +67,22 @@ returns g c =
     let before = at c.args.shelf.now c.args.out.now c.args.keeper.now in
     let after = at c.carry_out.new.shelf c.carry_out.new.out c.carry_out.new.keeper in
     let read : ReadView = record { pages = c.in_ok-pages.pages.items; journal = c.in_ok-journal.journal } in
-    let told = read_in asked before.world _ _ read c.papers.ensures c.keeps.ensures c.in_ok-pages.ensures.read c.in_ok-journal.ensures.loaded in
-    let chosen : Chosen asked (Some read) before.world = record { read = read; is = refl; told = told; outcome = c.in_ok-outcome.outcome; given = c.in_ok-outcome.ensures.given } in
+    let told = read_in asked before.world _ _ read c.papers.ensures c.keeps.ensures c.in_ok-pages.ensures.read
+    c.in_ok-journal.ensures.loaded in
+    let chosen : Chosen asked (Some read) before.world =
+    record { read = read; is = refl; told = told; outcome = c.in_ok-outcome.outcome; given = c.in_ok-outcome.ensures.given } in
     let becomes =
-    subst (λ (now : World). Becomes c.in_ok-outcome.outcome c.carry_out.result now after.world) (λ i. record { shelf = c.in_ok-pages.ensures.state i; sink = before.world.sink; keeper = c.in_ok-journal.ensures.state i }) c.carry_out.ensures.becomes in
+    subst (λ (now : World). Becomes c.in_ok-outcome.outcome c.carry_out.result now after.world)
+    (λ i. record { shelf = c.in_ok-pages.ensures.state i; sink = before.world.sink; keeper = c.in_ok-journal.ensures.state i })
+    c.carry_out.ensures.becomes in
     record {
       found = Some read;
       told = told;
       does = (
         carried asked (Some read) before.world after.world chosen c.carry_out.result becomes,
         carried_in_order asked (Some read) before after c.carry_out.result chosen _
-            (all_read asked before.calls _ _ c.papers.ensures c.keeps.ensures _ c.in_ok-pages.ensures.come _ c.in_ok-journal.ensures.come) c.carry_out.ensures.calls becomes,
+            (all_read asked before.calls _ _ c.papers.ensures c.keeps.ensures _ c.in_ok-pages.ensures.come _ c.in_ok-journal.ensures.come)
+            c.carry_out.ensures.calls becomes,
       );
       counted = c.in_ok-outcome.ensures.counted;
     }
@@ -85,10 +99,15 @@ returns-in_err-outcome g c =
     record {
       found = Some read;
       told = read_in asked before.world _ _ read c.papers.ensures c.keeps.ensures c.in_ok-pages.ensures.read c.in_ok-journal.ensures.loaded;
-      does = subst (λ result. Attempts asked (Some read) result before.world after.world × IsInOrder asked (Some read) before after (status_by result))
+      does = subst (λ result. Attempts asked (Some read) result before.world after.world
+          × IsInOrder asked (Some read) before after (status_by result))
           (sym (memory.1 ∙ ap Err memory.2)) (
             inl (λ i. record { shelf = c.in_ok-pages.ensures.state i; sink = before.world.sink; keeper = c.in_ok-journal.ensures.state i }),
-            inl (fails_above run_fault.Memory, loaded_first asked before.calls _ _ c.papers.ensures c.keeps.ensures _ c.in_ok-pages.ensures.come _ c.in_ok-journal.ensures.come),
+            inl (
+              fails_above run_fault.Memory,
+              loaded_first asked before.calls _ _ c.papers.ensures c.keeps.ensures _
+                  c.in_ok-pages.ensures.come _ c.in_ok-journal.ensures.come,
+            ),
           );
       counted = c.outcome.ensures.counted;
     }

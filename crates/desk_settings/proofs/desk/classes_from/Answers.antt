@@ -24,9 +24,12 @@ loop-route-preserved c =
     let new = rw iter at c.loop-route.invariant.new in
     let pushed : c.push.new.self ≡ c.loop-route.classes ++ (c.as_str.result.now, c.in-Some-2.class) ∷ [] = c.in_ok-push.ensures.pushed in
     record {
-      gives = entries_go_on class_in c.loop-route.classes c.push.new.self c.in-Some.route.now c.in-Some.value.now c.next.new.self c.as_str.result.now c.in-Some-2.class _
-          (sym c.in_ok-class.ensures ∙ c.in-Some-2.is) c.as_str.ensures.value pushed (sym (ap (λ es. entries_from class_in c.loop-route.classes (members_view es)) iter) ∙ c.loop-route.invariant.gives);
+      gives = entries_go_on class_in c.loop-route.classes c.push.new.self c.in-Some.route.now c.in-Some.value.now c.next.new.self
+          c.as_str.result.now c.in-Some-2.class _
+          (sym c.in_ok-class.ensures ∙ c.in-Some-2.is) c.as_str.ensures.value pushed
+          (sym (ap (λ es. entries_from class_in c.loop-route.classes (members_view es)) iter) ∙ c.loop-route.invariant.gives);
       rising = rising.1;
-      new = subst (λ entries. AreNew entries c.next.new.self) (sym (pushed ∙ ap (λ bytes. c.loop-route.classes ++ (bytes, c.in-Some-2.class) ∷ []) c.as_str.ensures.value))
+      new = subst (λ entries. AreNew entries c.next.new.self)
+          (sym (pushed ∙ ap (λ bytes. c.loop-route.classes ++ (bytes, c.in-Some-2.class) ∷ []) c.as_str.ensures.value))
           (AreNew-push c.loop-route.classes c.in-Some.route.now c.in-Some-2.class c.next.new.self rising.0 new.1);
     }

@@ -6,7 +6,8 @@ use Rattle.desk_settings.proofs.desk.document_in.Goals as goal
 
 pub returns-in-Ok-table_from_str : goal.returns-in-Ok-table_from_str
 returns-in-Ok-table_from_str c =
-    document_in-utf8 c.args.bytes.now c.in-Ok.text.now c.in-Ok.ensures.cases.0 c.in-Ok.ensures.cases.1 ∙ ap (λ o. ok_or o fault.NotToml) c.in-Ok-table_from_str.ensures.ok
+    document_in-utf8 c.args.bytes.now c.in-Ok.text.now c.in-Ok.ensures.cases.0 c.in-Ok.ensures.cases.1
+    ∙ ap (λ o. ok_or o fault.NotToml) c.in-Ok-table_from_str.ensures.ok
 
 pub returns-in-Err : goal.returns-in-Err
 returns-in-Err c = document_in-other c.args.bytes.now c.in-Err.ensures.cases.0

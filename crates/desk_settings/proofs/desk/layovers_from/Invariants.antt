@@ -10,7 +10,8 @@ use Rattle.desk_settings.proofs.desk.layovers_from.Given as goal
 
 abbrev pub invariant-loop-place : goal.invariant-loop-place
 invariant-loop-place l = record {
-  gives : entries_from (minutes_in MOST_LAYOVER) l.layovers (members_view l.place-iterator) ≡ entries_from (minutes_in MOST_LAYOVER) [] (members_view l.fn.table.entries);
+  gives : entries_from (minutes_in MOST_LAYOVER) l.layovers (members_view l.place-iterator) ≡ entries_from (minutes_in MOST_LAYOVER) []
+      (members_view l.fn.table.entries);
   rising : IsStrictlySortedBy string_cmp (keys_of l.place-iterator);
   new : AreNew l.layovers l.place-iterator;
 }

@@ -12,7 +12,8 @@ add-requires-clause-raised g c =
     let few = c.requires.few in
     let minute : m.leaves ≤ 8191 = omega (arith, c.requires.valid.forward, c.requires.valid.in_day) in
     subst (λ (n : Move). change_at d n.from n.leaves <ℤ pos 65536) (sym c.as_move.ensures)
-    (below-most (change_at d m.from m.leaves) (length few.0) few.2 (c.held_law.ensures.change d few.0 m.from m.leaves few.1 c.requires.valid.from minute))
+    (below-most (change_at d m.from m.leaves) (length few.0) few.2
+    (c.held_law.ensures.change d few.0 m.from m.leaves few.1 c.requires.valid.from minute))
 
 pub add-requires-clause-lowered : goal.add-requires-clause-lowered
 add-requires-clause-lowered g c =
@@ -20,4 +21,5 @@ add-requires-clause-lowered g c =
     let m = c.args.deadhead in
     let few = c.requires.few in
     subst (λ (n : Move). negsuc 65535 <ℤ change_at d n.to n.arrives) (sym c.as_move.ensures)
-    (above-least (change_at d m.to m.arrives) (length few.0) few.2 (c.held_law.ensures.change d few.0 m.to m.arrives few.1 c.requires.valid.to c.requires.valid.in_day))
+    (above-least (change_at d m.to m.arrives) (length few.0) few.2
+    (c.held_law.ensures.change d few.0 m.to m.arrives few.1 c.requires.valid.to c.requires.valid.in_day))

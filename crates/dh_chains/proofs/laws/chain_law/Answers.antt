@@ -16,9 +16,11 @@ returns-clause-moves c = λ moves matrix. falls-held (places_with (deficit moves
 pub returns-clause-held : goal.returns-clause-held
 returns-clause-held c = λ deficits moves matrix first rest valid held same. (
   chain-agree (places_of deficits matrix) (deficit moves) first rest
-      (λ k t within h. let there : k < length deficits = omega arith in value-held deficits moves k (valid.changes k _ there) held there t h),
+      (λ k t within h. let there : k < length deficits = omega arith in
+      value-held deficits moves k (valid.changes k _ there) held there t h),
   chain-agree (places_with (deficit moves) matrix) (value deficits) first rest
-      (λ k t within h. let there : k < length deficits = omega arith in sym (value-held deficits moves k (valid.changes k _ there) held there t h)),
+      (λ k t within h. let there : k < length deficits = omega arith in
+      sym (value-held deficits moves k (valid.changes k _ there) held there t h)),
 )
 
 pub returns-clause-first : goal.returns-clause-first

@@ -20,9 +20,12 @@ returns-in-Some-after_first-clause-first c =
     let rest = following chain.second chain.third in
     let next = c.in-Some.ensures.next (value c.args.deficits.now) in
     subst (λ (first : Deadhead). IsFirstChainTo places c.args.target first rest) (sym c.in-Some-after_first.ensures.begins)
-    (first-to places c.args.target c.max-high.result.0 c.max-high.result.1 c.in-Some.first rest c.requires.target c.max-high.ensures.computed (omega arith)
-    (first-branch places 2 (c.args.target ∷ []) c.args.target c.max-high.result.1 c.loop-from.from c.in-Some.first rest c.loop-from.invariant c.in-Some.ensures.from
-    next (subst (λ k. IsFirstTail places 2 (c.in-Some.first.from ∷ k ∷ []) c.in-Some.first rest) next.into c.in-Some-after_first.ensures.first)))
+    (first-to places c.args.target c.max-high.result.0 c.max-high.result.1 c.in-Some.first rest c.requires.target
+    c.max-high.ensures.computed (omega arith)
+    (first-branch places 2 (c.args.target ∷ []) c.args.target c.max-high.result.1 c.loop-from.from c.in-Some.first rest
+    c.loop-from.invariant c.in-Some.ensures.from
+    next (subst (λ k. IsFirstTail places 2 (c.in-Some.first.from ∷ k ∷ []) c.in-Some.first rest) next.into
+    c.in-Some-after_first.ensures.first)))
 
 pub loop-from-preserved : goal.loop-from-preserved
 loop-from-preserved c =
@@ -30,14 +33,17 @@ loop-from-preserved c =
     elim c.match-next_from.branch [
       | in-Some+in_default-after_first w ↦
           let next = w.in-Some.ensures.next (value c.args.deficits.now) in
-          below-dead places 2 (c.args.target ∷ []) c.args.target c.max-high.result.1 c.loop-from.from w.in-Some.first c.loop-from.invariant w.in-Some.ensures.from next
+          below-dead places 2 (c.args.target ∷ []) c.args.target c.max-high.result.1 c.loop-from.from w.in-Some.first c.loop-from.invariant
+          w.in-Some.ensures.from next
           (subst (λ k. NoTail places 2 (w.in-Some.first.from ∷ k ∷ []) w.in-Some.first) next.into w.in_default-after_first.ensures.none)
       | in_default w ↦
-          below-absent places 2 (c.args.target ∷ []) c.args.target c.max-high.result.1 c.loop-from.from c.loop-from.invariant (w.in_default.ensures.none (value c.args.deficits.now))
+          below-absent places 2 (c.args.target ∷ []) c.args.target c.max-high.result.1 c.loop-from.from c.loop-from.invariant
+          (w.in_default.ensures.none (value c.args.deficits.now))
     ]
 
 pub returns-clause-none : goal.returns-clause-none
 returns-clause-none c =
     let places = places_of c.args.deficits.now c.args.matrix.now in
     none-to places c.args.target c.max-high.result.0 c.max-high.result.1 c.max-high.ensures.computed
-    (none-below-all places 2 (c.args.target ∷ []) c.args.target c.max-high.result.1 c.loop-from.from (omega (arith, c.requires.places, c.places-from-end.ensures.count)) c.loop-from.invariant)
+    (none-below-all places 2 (c.args.target ∷ []) c.args.target c.max-high.result.1 c.loop-from.from
+    (omega (arith, c.requires.places, c.places-from-end.ensures.count)) c.loop-from.invariant)

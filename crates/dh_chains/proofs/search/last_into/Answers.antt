@@ -16,7 +16,8 @@ returns-then-is_none-clause-first c =
     let last = c.in-Some.last in
     first-branch places 0 c.args.had.now c.args.to c.args.arrives c.loop-from.from last [] c.loop-from.invariant c.in-Some.ensures.from
     (c.in-Some.ensures.next (value c.args.deficits.now))
-    (first-end places 0 (last.from ∷ c.args.had.now) last (at-none _ c.first_max_from.result c.if-is_none.ensures c.first_max_from.ensures.none))
+    (first-end places 0 (last.from ∷ c.args.had.now) last
+    (at-none _ c.first_max_from.result c.if-is_none.ensures c.first_max_from.ensures.none))
 
 pub loop-from-preserved : goal.loop-from-preserved
 loop-from-preserved c =

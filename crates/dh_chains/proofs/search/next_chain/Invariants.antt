@@ -4,4 +4,5 @@ use Rattle.dh_chains.specs.Chains.{IsUnitChain, places_of}
 use Rattle.dh_chains.proofs.search.next_chain.Given as goal
 
 abbrev pub invariant-loop-target : goal.invariant-loop-target
-invariant-loop-target l = (first : Deadhead) (rest : List Deadhead) → first.to < l.target → IsUnitChain (places_of l.deficits l.matrix) first rest → ⊥
+invariant-loop-target l = (first : Deadhead) (rest : List Deadhead) → first.to < l.target
+    → IsUnitChain (places_of l.deficits l.matrix) first rest → ⊥

@@ -13,8 +13,10 @@ after_second-requires-clause-in_day c =
 
 pub returns-in-Some-after_second-clause-first : goal.returns-in-Some-after_second-clause-first
 returns-in-Some-after_second-clause-first c =
-    first-branch (places_of c.args.deficits.now c.args.matrix.now) 1 (c.args.first.from ∷ c.args.first.to ∷ []) c.args.first.from c.args.arrives c.loop-from.from c.in-Some.second
-    (listed c.in-Some-after_second.third) c.loop-from.invariant c.in-Some.ensures.from (c.in-Some.ensures.next (value c.args.deficits.now)) c.in-Some-after_second.ensures.first
+    first-branch (places_of c.args.deficits.now c.args.matrix.now) 1 (c.args.first.from ∷ c.args.first.to ∷ []) c.args.first.from
+    c.args.arrives c.loop-from.from c.in-Some.second
+    (listed c.in-Some-after_second.third) c.loop-from.invariant c.in-Some.ensures.from (c.in-Some.ensures.next (value c.args.deficits.now))
+    c.in-Some-after_second.ensures.first
 
 pub loop-from-preserved : goal.loop-from-preserved
 loop-from-preserved c =
@@ -22,8 +24,10 @@ loop-from-preserved c =
     let had = c.args.first.from ∷ c.args.first.to ∷ [] in
     elim c.match-next_from.branch [
       | in-Some+in_default-after_second w ↦
-          below-dead places 1 had c.args.first.from c.args.arrives c.loop-from.from w.in-Some.second c.loop-from.invariant w.in-Some.ensures.from
+          below-dead places 1 had c.args.first.from c.args.arrives c.loop-from.from w.in-Some.second c.loop-from.invariant
+          w.in-Some.ensures.from
           (w.in-Some.ensures.next (value c.args.deficits.now)) w.in_default-after_second.ensures.none
       | in_default w ↦
-          below-absent places 1 had c.args.first.from c.args.arrives c.loop-from.from c.loop-from.invariant (w.in_default.ensures.none (value c.args.deficits.now))
+          below-absent places 1 had c.args.first.from c.args.arrives c.loop-from.from c.loop-from.invariant
+          (w.in_default.ensures.none (value c.args.deficits.now))
     ]

@@ -12,14 +12,17 @@ pub returns-in_err-follow-clause-stops : goal.returns-in_err-follow-clause-stops
 returns-in_err-follow-clause-stops g c =
     let lines = c.args.lines.now in
     let n = c.loop-n.n in
-    let at : IsLineAt lines n c.index-lines-n.result = record { within = c.loop-n-test.true; is = get_or_read lines n c.index-lines-n.result c.loop-n-test.true c.index-lines-n.is } in
-    stopped c.from_residual.result _ (c.in_err-follow.ensures.stops c.args.follower.now c.args.lent.now lines n refl at c.loop-n.invariant.stands)
+    let at : IsLineAt lines n c.index-lines-n.result =
+    record { within = c.loop-n-test.true; is = get_or_read lines n c.index-lines-n.result c.loop-n-test.true c.index-lines-n.is } in
+    stopped c.from_residual.result _
+    (c.in_err-follow.ensures.stops c.args.follower.now c.args.lent.now lines n refl at c.loop-n.invariant.stands)
 
 pub loop-n-preserved : goal.loop-n-preserved
 loop-n-preserved g c =
     let lines = c.args.lines.now in
     let n = c.loop-n.n in
-    let at : IsLineAt lines n c.index-lines-n.result = record { within = c.loop-n-test.true; is = get_or_read lines n c.index-lines-n.result c.loop-n-test.true c.index-lines-n.is } in
+    let at : IsLineAt lines n c.index-lines-n.result =
+    record { within = c.loop-n-test.true; is = get_or_read lines n c.index-lines-n.result c.loop-n-test.true c.index-lines-n.is } in
     record {
       ready = c.in_ok-follow.ensures.ready;
       stands = c.in_ok-follow.ensures.stands c.args.follower.now c.args.lent.now lines n refl at c.loop-n.invariant.stands;

@@ -14,18 +14,25 @@ use Rattle.feed_desk.proofs.MomentsLemmas.{IsAnswered-none, has-followed}
 use Rattle.feed_desk.proofs.follow.follow_script.Goals as goal
 
 pub follow_records-requires-clause-ready : goal.follow_records-requires-clause-ready
-follow_records-requires-clause-ready g c = omega (arith, ap (λ (s : ScriptView). s.last) (c.in_ok-desk.ensures.script ∙ c.in_ok-script.ensures))
+follow_records-requires-clause-ready g c =
+    omega (arith, ap (λ (s : ScriptView). s.last) (c.in_ok-desk.ensures.script ∙ c.in_ok-script.ensures))
 
 pub follow_records-requires-clause-stands : goal.follow_records-requires-clause-stands
 follow_records-requires-clause-stands g c =
     let desk = c.in_ok-desk.desk in
     let lines = c.args.lines.now in
     let answer = g.A.Answers.answer c.args.answers desk.matrix in
-    let opened : IsOpened desk = record { timetable = c.args.timetable; script = c.in_ok-desk.ensures.script ∙ c.in_ok-script.ensures; earlier = c.in_ok-desk.ensures.earlier; later = c.in_ok-desk.ensures.later } in
+    let opened : IsOpened desk = record {
+      timetable = c.args.timetable;
+      script = c.in_ok-desk.ensures.script ∙ c.in_ok-script.ensures;
+      earlier = c.in_ok-desk.ensures.earlier;
+      later = c.in_ok-desk.ensures.later;
+    } in
     let steps = c.open-2.new.steps in (
       refl,
       subst (λ text. IsAnswered answer desk.script.timetable lines desk steps 0 desk text false steps) (sym c.new.ensures.bytes)
-          (IsAnswered-none c.machine_law.ensures.start answer lines desk opened c.plan-plan.ensures.certified (subst IsTimetable c.timetable.ensures.timetable c.slots-slots.ensures.valid) steps),
+          (IsAnswered-none c.machine_law.ensures.start answer lines desk opened c.plan-plan.ensures.certified
+          (subst IsTimetable c.timetable.ensures.timetable c.slots-slots.ensures.valid) steps),
     )
 
 pub returns-clause-followed : goal.returns-clause-followed
@@ -34,14 +41,22 @@ returns-clause-followed g c =
     let lines = c.args.lines.now in
     let answer = g.A.Answers.answer c.args.answers in
     let script = c.in_ok-desk.ensures.script ∙ c.in_ok-script.ensures in
-    let opened : IsOpened desk = record { timetable = c.args.timetable; script = script; earlier = c.in_ok-desk.ensures.earlier; later = c.in_ok-desk.ensures.later } in
-    let begun = c.in_ok-desk.ensures.plan ∙ (λ i. first_plan (sym c.in_ok-desk.ensures.script i).timetable (sym c.in_ok-desk.ensures.matrix i)) in
+    let opened : IsOpened desk = record {
+      timetable = c.args.timetable;
+      script = script;
+      earlier = c.in_ok-desk.ensures.earlier;
+      later = c.in_ok-desk.ensures.later;
+    } in
+    let begun = c.in_ok-desk.ensures.plan
+    ∙ (λ i. first_plan (sym c.in_ok-desk.ensures.script i).timetable (sym c.in_ok-desk.ensures.matrix i)) in
     let pulls = subst (λ (m : MatrixView). All IsPull m.pulls) (sym c.in_ok-desk.ensures.matrix) c.places-places.ensures.valid in
     let answered = c.in_ok-follow_records.ensures.stands.1 in
     let done = c.follow_records.new.follower in
     let followed : Followed = record { desk = done.desk; text = done.text; ending = c.ending_by.result } in
-    subst (λ (t : TimetableView). HasFollowed (answer c.args.matrix) t lines c.args.matrix followed) (ap (λ (s : ScriptView). s.timetable) script)
+    subst (λ (t : TimetableView). HasFollowed (answer c.args.matrix) t lines c.args.matrix followed)
+    (ap (λ (s : ScriptView). s.timetable) script)
     (subst (λ (m : MatrixView). HasFollowed (answer m) desk.script.timetable lines m followed) c.in_ok-desk.ensures.matrix
-    (has-followed c.same_edits_law.ensures c.plan_law.ensures c.plain_law.ensures.moves c.plain_law.ensures.made c.plain_blocks_law.ensures.reached
+    (has-followed c.same_edits_law.ensures c.plan_law.ensures c.plain_law.ensures.moves c.plain_law.ensures.made
+    c.plain_blocks_law.ensures.reached
     desk.script.timetable lines desk done.desk (length lines) answered.desks answered.are opened begun pulls
     (answer desk.matrix) followed refl refl answered.put (c.ending_by.ensures ∙ ap ending_by answered.some_is)))

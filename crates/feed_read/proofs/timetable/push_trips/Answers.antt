@@ -14,9 +14,11 @@ unwrap-from-requires c =
     let feed_trip = c.feed_trip-item.result in
     let lt : i < length c.args.feed_trips.now = omega arith in
     let places = places_met (ends_of c.args.settings.now c.args.feed_trips.now) in
-    place_is_numbered c.args.settings.now places (take i c.args.feed_trips.now) c.loop-feed_trip.timetable (start_of c.args.settings.now feed_trip) c.in_ok-find_place.field-0
+    place_is_numbered c.args.settings.now places (take i c.args.feed_trips.now) c.loop-feed_trip.timetable
+    (start_of c.args.settings.now feed_trip) c.in_ok-find_place.field-0
     c.loop-feed_trip.invariant c.in_ok-find_place.ensures.number
-    (subst (λ (j : FeedTrip). Contains (names_of places) (start_of c.args.settings.now j).name) (sym c.feed_trip-item.is) (start_met c.args.settings.now c.args.feed_trips.now i feed_trip lt))
+    (subst (λ (j : FeedTrip). Contains (names_of places) (start_of c.args.settings.now j).name) (sym c.feed_trip-item.is)
+    (start_met c.args.settings.now c.args.feed_trips.now i feed_trip lt))
 
 pub unwrap-to-requires : goal.unwrap-to-requires
 unwrap-to-requires c =
@@ -24,14 +26,17 @@ unwrap-to-requires c =
     let feed_trip = c.feed_trip-item.result in
     let lt : i < length c.args.feed_trips.now = omega arith in
     let places = places_met (ends_of c.args.settings.now c.args.feed_trips.now) in
-    place_is_numbered c.args.settings.now places (take i c.args.feed_trips.now) c.loop-feed_trip.timetable (end_of c.args.settings.now feed_trip) c.in_ok-find_place-2.field-0
+    place_is_numbered c.args.settings.now places (take i c.args.feed_trips.now) c.loop-feed_trip.timetable
+    (end_of c.args.settings.now feed_trip) c.in_ok-find_place-2.field-0
     c.loop-feed_trip.invariant c.in_ok-find_place-2.ensures.number
-    (subst (λ (j : FeedTrip). Contains (names_of places) (end_of c.args.settings.now j).name) (sym c.feed_trip-item.is) (end_met c.args.settings.now c.args.feed_trips.now i feed_trip lt))
+    (subst (λ (j : FeedTrip). Contains (names_of places) (end_of c.args.settings.now j).name) (sym c.feed_trip-item.is)
+    (end_met c.args.settings.now c.args.feed_trips.now i feed_trip lt))
 
 pub push_trip-requires-clause-new : goal.push_trip-requires-clause-new
 push_trip-requires-clause-new c =
     let lt : c.loop-feed_trip.feed_trip-index < length c.args.feed_trips.now = omega arith in
-    name_is_new c.args.settings.now (places_met (ends_of c.args.settings.now c.args.feed_trips.now)) c.args.feed_trips.now c.loop-feed_trip.feed_trip-index c.feed_trip-item.result c.loop-feed_trip.timetable
+    name_is_new c.args.settings.now (places_met (ends_of c.args.settings.now c.args.feed_trips.now)) c.args.feed_trips.now
+    c.loop-feed_trip.feed_trip-index c.feed_trip-item.result c.loop-feed_trip.timetable
     c.as_str.result.now lt c.requires.distinct c.loop-feed_trip.invariant c.as_str.ensures c.feed_trip-item.is
 
 pub push_trip-requires-clause-valid : goal.push_trip-requires-clause-valid
@@ -43,14 +48,18 @@ push_trip-requires-clause-valid c =
     trip_is_valid timetable.places c.unwrap-from.result c.unwrap-to.result feed_trip
     (subst (λ o. IfSome o (λ p. p < length timetable.places)) c.unwrap-from.ensures c.in_ok-find_place.ensures.within)
     (subst (λ o. IfSome o (λ p. p < length timetable.places)) c.unwrap-to.ensures c.in_ok-find_place-2.ensures.within)
-    (trip_of_one_class c.args.settings.now c.args.feed_trips.now (take i c.args.feed_trips.now) i feed_trip timetable c.unwrap-from.result c.unwrap-to.result c.requires.valid lt
-    c.feed_trip-item.is c.loop-feed_trip.invariant (sym c.in_ok-find_place.ensures.number ∙ c.unwrap-from.ensures) (sym c.in_ok-find_place-2.ensures.number ∙ c.unwrap-to.ensures))
+    (trip_of_one_class c.args.settings.now c.args.feed_trips.now (take i c.args.feed_trips.now) i feed_trip timetable c.unwrap-from.result
+    c.unwrap-to.result c.requires.valid lt
+    c.feed_trip-item.is c.loop-feed_trip.invariant (sym c.in_ok-find_place.ensures.number ∙ c.unwrap-from.ensures)
+    (sym c.in_ok-find_place-2.ensures.number ∙ c.unwrap-to.ensures))
     (subst IsFeedTrip (sym c.feed_trip-item.is) (c.requires.valid i feed_trip lt))
 
 pub loop-feed_trip-preserved : goal.loop-feed_trip-preserved
 loop-feed_trip-preserved c =
     let lt : c.loop-feed_trip.feed_trip-index < length c.args.feed_trips.now = omega arith in
-    slots_go_on c.args.settings.now (places_met (ends_of c.args.settings.now c.args.feed_trips.now)) c.args.feed_trips.now c.loop-feed_trip.feed_trip-index c.feed_trip-item.result
-    c.loop-feed_trip.timetable c.push_trip.new.self c.as_str.result.now c.in_ok-find_place.field-0 c.in_ok-find_place-2.field-0 c.unwrap-from.result c.unwrap-to.result
+    slots_go_on c.args.settings.now (places_met (ends_of c.args.settings.now c.args.feed_trips.now)) c.args.feed_trips.now
+    c.loop-feed_trip.feed_trip-index c.feed_trip-item.result
+    c.loop-feed_trip.timetable c.push_trip.new.self c.as_str.result.now c.in_ok-find_place.field-0 c.in_ok-find_place-2.field-0
+    c.unwrap-from.result c.unwrap-to.result
     lt c.feed_trip-item.is c.loop-feed_trip.invariant c.as_str.ensures c.in_ok-find_place.ensures.number c.in_ok-find_place-2.ensures.number
     c.unwrap-from.ensures c.unwrap-to.ensures c.in_ok-push_trip.ensures.pushed

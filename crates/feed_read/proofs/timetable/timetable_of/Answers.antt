@@ -13,6 +13,8 @@ unfolding timetable_of
 returns c =
     let places = places_met (ends_of c.args.settings.now c.args.feed_trips.now) in
     let made = c.in_ok-push_trips.ensures in
-    let few : length places ≤ MOST_PLACES = omega (arith, ap (λ (t : TimetableView). length t.places) made, c.slots-slots.ensures.valid.places) in
-    ap (λ b. provided b (fault.TooManyPlaces paper.StopTimes) (Ok (timetable_over c.args.settings.now places c.args.feed_trips.now))) (le-leb (length places) MOST_PLACES few)
+    let few : length places ≤ MOST_PLACES =
+    omega (arith, ap (λ (t : TimetableView). length t.places) made, c.slots-slots.ensures.valid.places) in
+    ap (λ b. provided b (fault.TooManyPlaces paper.StopTimes) (Ok (timetable_over c.args.settings.now places c.args.feed_trips.now)))
+    (le-leb (length places) MOST_PLACES few)
     ∙ ap Ok (sym made)

@@ -13,8 +13,11 @@ returns-then-len-width-clause-fault c =
 pub records-preserved : goal.records-preserved
 records-preserved c =
     let next = rw c.if-branch.true at c.in_ok-next_record.ensures in
-    let fits : length (fields_of c.next_record.new.fields) ≤ c.args.width = omega (arith, c.len.ensures) in
-    (body-more c.args.width _ c.records.rows.items _ _ _ _ _ c.records.invariant.0 next.0 fits c.in_ok-of.ensures c.in_ok-push.ensures.items, next.1)
+    let fits : length (fields_of c.next_record.new.fields) ≤ c.args.width = omega (arith, c.len.ensures) in (
+      body-more c.args.width _ c.records.rows.items _ _ _ _ _ c.records.invariant.0 next.0 fits c.in_ok-of.ensures
+          c.in_ok-push.ensures.items,
+      next.1,
+    )
 
 pub returns-clause-rows : goal.returns-clause-rows
 returns-clause-rows c =

@@ -8,6 +8,8 @@ use Rattle.joined_deficits.proofs.boards.push_board.Given as goal
 
 abbrev pub invariant-loop-leg : goal.invariant-loop-leg
 invariant-loop-leg l = record {
-  written : l.records ≡ l.initial.records ++ records_text (map (board_record l.timetable (block_name l.prefix l.number)) (take l.leg-index (legs_of l.timetable l.matrix l.block)));
+  written : l.records ≡ l.initial.records
+      ++ records_text (map (board_record l.timetable (block_name l.prefix l.number))
+      (take l.leg-index (legs_of l.timetable l.matrix l.block)));
   text : IsUtf8 l.initial.records → IsUtf8 l.records;
 }

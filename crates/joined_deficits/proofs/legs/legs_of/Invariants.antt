@@ -8,5 +8,6 @@ abbrev pub invariant-loop-n : goal.invariant-loop-n
 invariant-loop-n l = record {
   begun : 1 ≤ l.n;
   follow : Follow (network_of l.timetable l.matrix) (get_or l.block (l.n - 1) 0) (drop l.n l.block);
-  legs : l.legs.items ++ legs_after l.timetable l.matrix (get_or l.block (l.n - 1) 0) (drop l.n l.block) ≡ legs_of l.timetable l.matrix l.block;
+  legs : l.legs.items ++ legs_after l.timetable l.matrix (get_or l.block (l.n - 1) 0) (drop l.n l.block) ≡ legs_of l.timetable l.matrix
+      l.block;
 }

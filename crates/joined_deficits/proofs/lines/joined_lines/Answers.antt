@@ -11,8 +11,10 @@ loop-place-preserved c =
     let places = c.args.timetable.now.places in
     let there : c.loop-place.place < length places = omega (arith, c.places-place-end.ensures.count) in
     let named : c.loop-place.place < length (place_names c.args.timetable.now) = omega (arith, length-map places (λ p. p.name)) in
-    lines-more (place_names c.args.timetable.now) (value c.args.joined.now) (value c.args.before.now) c.loop-place.place c.place_name.result.now (string_bytes c.loop-place.text) (string_bytes c.push_place.new.text) named
-    (c.place_name.ensures ∙ sym (get_or-map (λ p. p.name) places c.loop-place.place _ [] there)) c.loop-place.invariant c.in_ok-push_place.ensures
+    lines-more (place_names c.args.timetable.now) (value c.args.joined.now) (value c.args.before.now) c.loop-place.place
+    c.place_name.result.now (string_bytes c.loop-place.text) (string_bytes c.push_place.new.text) named
+    (c.place_name.ensures ∙ sym (get_or-map (λ p. p.name) places c.loop-place.place _ [] there)) c.loop-place.invariant
+    c.in_ok-push_place.ensures
 
 pub returns-clause-text : goal.returns-clause-text
 returns-clause-text c =
@@ -21,12 +23,14 @@ returns-clause-text c =
     let all : length (place_names c.args.timetable.now) ≤ c.loop-place.place = omega (arith, c.places-place-end.ensures.count) in
     let same : length c.args.joined.now ≡ length (place_names c.args.timetable.now) = omega arith in
     c.wrap.ensures
-    ∙ text-written (place_names c.args.timetable.now) (value c.args.joined.now) (value c.args.before.now) c.args.blocks c.loop-place.place c.total-sum.result _ (string_bytes c.loop-place.text) (string_bytes c.writeln.new.self)
+    ∙ text-written (place_names c.args.timetable.now) (value c.args.joined.now) (value c.args.before.now) c.args.blocks c.loop-place.place
+    c.total-sum.result _ (string_bytes c.loop-place.text) (string_bytes c.writeln.new.self)
     all same c.loop-place.invariant c.total-sum.ensures c.in_ok-writeln.ensures.bytes
 
 pub returns-clause-held : goal.returns-clause-held
 returns-clause-held c = λ moves trips held stood.
     let len = length-map c.args.timetable.now.places (λ p. p.name) in
     returns-clause-text c
-    ∙ c.text_law.ensures (place_names c.args.timetable.now) c.args.joined.now c.args.before.now moves trips c.args.blocks c.places-place-end.ensures.valid c.places-places.ensures.valid held stood
+    ∙ c.text_law.ensures (place_names c.args.timetable.now) c.args.joined.now c.args.before.now moves trips c.args.blocks
+    c.places-place-end.ensures.valid c.places-places.ensures.valid held stood
     (len ∙ c.requires.joined) (len ∙ c.requires.before)

@@ -33,7 +33,8 @@ pub returns : goal.returns
 returns c =
     let base = c.args.timetable in
     let journal = c.args.journal.now in
-    let one = c.in_ok-follow_records.ensures.stands.through base [] (subst (IsAt base (machine base [])) (sym c.in_ok-script.ensures) (c.machine_law.ensures.start base)) in
+    let one = c.in_ok-follow_records.ensures.stands.through base []
+    (subst (IsAt base (machine base [])) (sym c.in_ok-script.ensures) (c.machine_law.ensures.start base)) in
     let two = c.in_ok-follow_records-2.ensures.stands.through base (all_records 0 journal) one.at in
     kept-done base c.args.stored.now journal c.args.lines.now _ c.follow_records.new.follower c.follow_records-2.new.follower
     one (record { at = two.at; text = two.text; kept = two.kept; some = two.some })

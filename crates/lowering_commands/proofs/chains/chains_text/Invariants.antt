@@ -19,7 +19,8 @@ invariant-loop-text g l = record {
   few : length moves + 3 * sum ≤ 16384;
   number : l.number + sum ≤ length l.timetable.slots;
   counted : l.steps + 84 * sum ≤ l.fn.steps + 84 * length l.timetable.slots;
-  text : (rest : List ℕ) → IsChainsText l.timetable l.matrix moves l.number rest → IsChainsText l.timetable l.matrix (live_moves l.timetable.slots) 0 (string_bytes l.text ++ rest);
+  text : (rest : List ℕ) → IsChainsText l.timetable l.matrix moves l.number rest
+      → IsChainsText l.timetable l.matrix (live_moves l.timetable.slots) 0 (string_bytes l.text ++ rest);
 }
 
 abbrev pub decreases-loop-text : goal.decreases-loop-text

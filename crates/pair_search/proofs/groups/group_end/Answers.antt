@@ -12,7 +12,8 @@ loop-to-preserved c =
     let columns = c.args.columns.now in
     let none : Column = record { post = None; minute = 0; slot = 0; rank = 0 } in
     let start : from < length columns = omega (arith, c.requires) in
-    let same : (get_or columns to none).post ≡ (get_or columns from none).post = same-post (get_or columns to none).post (get_or columns from none).post c.if-eq.ensures in
+    let same : (get_or columns to none).post ≡ (get_or columns from none).post =
+    same-post (get_or columns to none).post (get_or columns from none).post c.if-eq.ensures in
     record {
       after = omega (arith, c.loop-to.invariant.after);
       within = omega (arith, c.loop-to-test.true);
@@ -30,17 +31,20 @@ loop-to-preserved c =
           (λ (last : to ≤ k).
           let here : k ≡ to = omega (arith, last, before) in
           let new : (get_or columns k d).minute ≡ (get_or columns to none).minute =
-          ap (λ m. (get_or columns m d).minute) here ∙ ap (λ (x : Column). x.minute) (get_or_default columns to d none c.loop-to-test.true) in
+          ap (λ m. (get_or columns m d).minute) here
+          ∙ ap (λ (x : Column). x.minute) (get_or_default columns to d none c.loop-to-test.true) in
           ⊎_elim
           (λ (e : h ≡ k). omega (arith, ap (λ m. (get_or columns m d).minute) e))
           (λ (ne : h ≡ k → ⊥).
-          let old : (get_or columns (to - 1) d).minute ≡ (get_or columns (to - 1) none).minute = ap (λ (x : Column). x.minute) (get_or_default columns (to - 1) d none (omega (arith, c.loop-to-test.true))) in
+          let old : (get_or columns (to - 1) d).minute ≡ (get_or columns (to - 1) none).minute =
+          ap (λ (x : Column). x.minute) (get_or_default columns (to - 1) d none (omega (arith, c.loop-to-test.true))) in
           omega (
             arith,
             new,
             old,
             c.if-columns-to.true,
-            c.loop-to.invariant.rise h (to - 1) d after (omega (arith, here, le, ne, c.loop-to.invariant.after)) (omega (arith, c.loop-to.invariant.after)),
+            c.loop-to.invariant.rise h (to - 1) d after (omega (arith, here, le, ne, c.loop-to.invariant.after))
+                (omega (arith, c.loop-to.invariant.after)),
           ))
           (cases_eq h k))
           (cases_lt k to);

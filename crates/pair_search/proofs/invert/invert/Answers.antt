@@ -10,6 +10,8 @@ loop-row-preserved c =
     elim c.match-next-row.branch [
       | in-Some w ↦ subst (IsInverse (c.loop-row.row + 1) next) (sym w.before-is)
           (IsInverse-some next c.loop-row.before c.loop-row.row w.in-Some.column c.requires.links
-          (omega (arith, c.requires.links.within c.loop-row.row w.in-Some.column w.in-Some.is, c.requires.slots, c.loop-row.auto.before)) w.in-Some.is c.loop-row.invariant)
-      | in_default w ↦ subst (IsInverse (c.loop-row.row + 1) next) (sym w.before-is) (IsInverse-none next c.loop-row.before c.loop-row.row w.in_default.is c.loop-row.invariant)
+          (omega (arith, c.requires.links.within c.loop-row.row w.in-Some.column w.in-Some.is, c.requires.slots, c.loop-row.auto.before))
+          w.in-Some.is c.loop-row.invariant)
+      | in_default w ↦ subst (IsInverse (c.loop-row.row + 1) next) (sym w.before-is)
+          (IsInverse-none next c.loop-row.before c.loop-row.row w.in_default.is c.loop-row.invariant)
     ]

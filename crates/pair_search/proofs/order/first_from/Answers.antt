@@ -10,4 +10,5 @@ returns-clause-before c =
 
 pub returns-clause-later : goal.returns-clause-later
 returns-clause-later c = λ k d from past lt.
-    late-piece c.args.columns.now c.args.from c.args.upto c.columns_before.result c.args.minute c.requires.within c.columns_before.ensures.after k d past lt
+    late-piece c.args.columns.now c.args.from c.args.upto c.columns_before.result c.args.minute c.requires.within
+    c.columns_before.ensures.after k d past lt

@@ -7,42 +7,53 @@ use Rattle.pair_search.proofs.relink.relink.Goals as goal
 
 pub returns-in_default-clause-path : goal.returns-in_default-clause-path
 returns-in_default-clause-path c =
-    IsPath-relinked c.args.next.now c.back.next c.args.parent.now c.args.rows.now c.args.end.from c.back.place c.back.to c.requires.back c.back.invariant.upto c.back.auto.next c.back.invariant.relinked c.in_default.is
+    IsPath-relinked c.args.next.now c.back.next c.args.parent.now c.args.rows.now c.args.end.from c.back.place c.back.to c.requires.back
+    c.back.invariant.upto c.back.auto.next c.back.invariant.relinked c.in_default.is
 
 pub returns-in_default-clause-matched : goal.returns-in_default-clause-matched
 returns-in_default-clause-matched c = λ w out b leave enter tight passing.
-    IsMatched-passed w out b c.args.next.now c.back.next leave enter c.args.parent.now c.args.rows.now c.args.end.from c.back.place c.back.to c.requires.back c.back.invariant.upto c.back.auto.next c.back.invariant.relinked
+    IsMatched-passed w out b c.args.next.now c.back.next leave enter c.args.parent.now c.args.rows.now c.args.end.from c.back.place
+    c.back.to c.requires.back c.back.invariant.upto c.back.auto.next c.back.invariant.relinked
     c.in_default.is tight (c.back.invariant.matched w out b leave enter tight passing)
 
 pub returns-in_default-clause-linked : goal.returns-in_default-clause-linked
 returns-in_default-clause-linked c = λ from most lt rows.
-    linked_back-last from (linked_back from most c.args.next.now (at c.args.rows.now c.args.end.from) c.args.end.to) c.back.next (at c.args.rows.now c.back.place) c.back.to c.back.place
+    linked_back-last from (linked_back from most c.args.next.now (at c.args.rows.now c.args.end.from) c.args.end.to) c.back.next
+    (at c.args.rows.now c.back.place) c.back.to c.back.place
     (c.back.invariant.linked from most lt rows) c.in_default.is
 
 pub bounds-parent-column : goal.bounds-parent-column
 bounds-parent-column c =
-    (place-before c.args.next.now c.back.next c.args.parent.now c.args.rows.now c.args.end.from c.back.place c.in-Some.column c.back.to c.requires.back c.back.invariant.upto c.back.invariant.relinked c.in-Some.is).0
+    (place-before c.args.next.now c.back.next c.args.parent.now c.args.rows.now c.args.end.from c.back.place c.in-Some.column c.back.to
+    c.requires.back c.back.invariant.upto c.back.invariant.relinked c.in-Some.is).0
 
 pub back-smaller : goal.back-smaller
 back-smaller c =
-    (place-before c.args.next.now c.back.next c.args.parent.now c.args.rows.now c.args.end.from c.back.place c.in-Some.column c.back.to c.requires.back c.back.invariant.upto c.back.invariant.relinked c.in-Some.is).1
+    (place-before c.args.next.now c.back.next c.args.parent.now c.args.rows.now c.args.end.from c.back.place c.in-Some.column c.back.to
+    c.requires.back c.back.invariant.upto c.back.invariant.relinked c.in-Some.is).1
 
 pub back-preserved : goal.back-preserved
 back-preserved c =
     let less =
-    (place-before c.args.next.now c.back.next c.args.parent.now c.args.rows.now c.args.end.from c.back.place c.in-Some.column c.back.to c.requires.back c.back.invariant.upto c.back.invariant.relinked c.in-Some.is).1 in
+    (place-before c.args.next.now c.back.next c.args.parent.now c.args.rows.now c.args.end.from c.back.place c.in-Some.column c.back.to
+    c.requires.back c.back.invariant.upto c.back.invariant.relinked c.in-Some.is).1 in
     record {
       upto = omega (arith, less, c.back.invariant.upto);
       relinked =
-          IsRelinked-more c.args.next.now c.back.next c.args.parent.now c.args.rows.now c.args.end.from c.back.place c.in-Some.column c.back.to c.requires.back c.back.invariant.upto c.back.auto.next c.back.invariant.relinked c.in-Some.is;
+          IsRelinked-more c.args.next.now c.back.next c.args.parent.now c.args.rows.now c.args.end.from c.back.place c.in-Some.column
+          c.back.to c.requires.back c.back.invariant.upto c.back.auto.next c.back.invariant.relinked c.in-Some.is;
       linked = λ from most lt rows.
-          IsOnWayBack-more from (linked_back from most c.args.next.now (at c.args.rows.now c.args.end.from) c.args.end.to) c.back.next (at c.args.rows.now c.back.place) c.in-Some.column
+          IsOnWayBack-more from (linked_back from most c.args.next.now (at c.args.rows.now c.args.end.from) c.args.end.to) c.back.next
+          (at c.args.rows.now c.back.place) c.in-Some.column
           (at c.args.rows.now (at c.args.parent.now c.in-Some.column)) c.back.to c.back.place (at c.args.parent.now c.in-Some.column)
           (c.back.invariant.linked from most lt rows) c.in-Some.is
           (rows c.back.place c.in-Some.column c.back.invariant.upto
-          (sym (row-kept c.args.next.now c.back.next c.args.parent.now c.args.rows.now c.args.end.from c.back.place c.back.to c.requires.back c.back.invariant.relinked) ∙ c.in-Some.is))
+          (sym (row-kept c.args.next.now c.back.next c.args.parent.now c.args.rows.now c.args.end.from c.back.place c.back.to
+          c.requires.back c.back.invariant.relinked) ∙ c.in-Some.is))
           less;
       matched = λ w out b leave enter tight passing.
-          IsPassing-more w out (at c.args.rows.now 0) b c.args.next.now c.back.next leave enter c.args.parent.now c.args.rows.now c.args.end.from c.back.place c.in-Some.column c.back.to c.requires.back c.back.invariant.upto c.back.auto.next c.back.invariant.relinked
+          IsPassing-more w out (at c.args.rows.now 0) b c.args.next.now c.back.next leave enter c.args.parent.now c.args.rows.now
+          c.args.end.from c.back.place c.in-Some.column c.back.to c.requires.back c.back.invariant.upto c.back.auto.next
+          c.back.invariant.relinked
           c.in-Some.is tight (c.back.invariant.matched w out b leave enter tight passing);
     }

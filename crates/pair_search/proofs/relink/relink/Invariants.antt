@@ -12,7 +12,8 @@ invariant-back l = record {
   relinked : IsRelinked l.initial.next l.next l.rows l.fn.end.from l.place l.to;
   linked : (from : List ℕ) (most : ℕ) → l.fn.end.from < most
       → ((t j : ℕ) → t ≤ l.fn.end.from → next_of l.initial.next (at l.rows t) ≡ Some j → at l.rows (at l.parent j) ≡ at from j)
-      → IsOnWayBack from (linked_back from most l.initial.next (at l.rows l.fn.end.from) l.fn.end.to) l.next (at l.rows l.place) l.to l.place;
+      → IsOnWayBack from (linked_back from most l.initial.next (at l.rows l.fn.end.from) l.fn.end.to) l.next (at l.rows l.place) l.to
+      l.place;
   matched : (w : ℕ → ℕ → Option ℕ) (out : ℕ → Bool) (b : Option ℕ) (leave enter : List ℕ)
       → IsTightBack w out l.initial.next leave enter l.parent l.rows l.fn.end.from
       → IsPassing w out (at l.rows 0) b l.initial.next leave enter (at l.rows l.fn.end.from) l.fn.end.to

@@ -6,6 +6,7 @@ use Rattle.pair_search.proofs.scan.approach.Given as goal
 abbrev pub invariant-loop-column : goal.invariant-loop-column
 invariant-loop-column g l = record {
   after : l.first ≤ l.column;
-  approached : AreApproached l.first l.column l.from l.cost l.enter (as_columns l.initial.dist l.initial.parent l.done) (as_columns l.dist l.parent l.done) l.near;
+  approached : AreApproached l.first l.column l.from l.cost l.enter (as_columns l.initial.dist l.initial.parent l.done)
+      (as_columns l.dist l.parent l.done) l.near;
   counted : l.visits + l.first ≡ l.initial.visits + l.column;
 }

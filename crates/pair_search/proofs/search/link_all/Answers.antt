@@ -9,7 +9,8 @@ link_all-requires-clause-leave g c = c.deref_mut.ensures.value ∙ c.requires.le
 
 pub returns-clause-matched : goal.returns-clause-matched
 returns-clause-matched g c =
-    IsMatched-same (side_weight c.args.side.now) (λ _. false) None None c.link_all.new.next c.write_links.new.links c.link_all.new.leave _ c.link_all.new.enter _ c.write_links.ensures
+    IsMatched-same (side_weight c.args.side.now) (λ _. false) None None c.link_all.new.next c.write_links.new.links c.link_all.new.leave _
+    c.link_all.new.enter _ c.write_links.ensures
     (written c.link_all.new.leave c.args.leave.now.items c.args.leave.now.len (c.link_all.auto.leave ∙ c.deref_mut.ensures.len))
     (written c.link_all.new.enter c.args.enter.now.items c.args.enter.now.len (c.link_all.auto.enter ∙ c.deref_mut-2.ensures.len))
     c.link_all.ensures.matched
@@ -24,7 +25,8 @@ returns-clause-covers g c =
 pub returns-clause-plan : goal.returns-clause-plan
 returns-clause-plan g c =
     let side = c.args.side.now in
-    plan-same (all_found (slots_of side.columns) (side_weight side) (slots_of c.args.departures.now)) c.link_all.new.next c.write_links.new.links c.link_all.new.leave _ c.link_all.new.enter _ c.write_links.ensures
+    plan-same (all_found (slots_of side.columns) (side_weight side) (slots_of c.args.departures.now)) c.link_all.new.next
+    c.write_links.new.links c.link_all.new.leave _ c.link_all.new.enter _ c.write_links.ensures
     (written c.link_all.new.leave c.args.leave.now.items c.args.leave.now.len (c.link_all.auto.leave ∙ c.deref_mut.ensures.len))
     (written c.link_all.new.enter c.args.enter.now.items c.args.enter.now.len (c.link_all.auto.enter ∙ c.deref_mut-2.ensures.len))
     c.link_all.ensures.plan

@@ -22,12 +22,15 @@ loop-added-init g c =
       turn = turn;
       renaming = c.requires.renaming.1;
       matched =
-          IsMatched-none (place_weight side) n (stands_before turn (n - 0)) c.args.next.now c.args.leave.now c.args.enter.now c.requires.next c.requires.leave c.requires.enter;
+          IsMatched-none (place_weight side) n (stands_before turn (n - 0)) c.args.next.now c.args.leave.now c.args.enter.now
+          c.requires.next c.requires.leave c.requires.enter;
       covers = subst (λ m. Covers (place_weight side) (stands_before turn m) None c.args.leave.now c.args.enter.now) all
           (covers-none (place_weight side) n turn c.args.leave.now c.args.enter.now c.requires.sound c.requires.renaming.1.place_within);
-      plan = plan-same (found_each (place_weight side) (drop (n - 0) (slots_of c.args.departures.now)) (bare n)) _ c.args.next.now _ c.args.leave.now _ c.args.enter.now
+      plan = plan-same (found_each (place_weight side) (drop (n - 0) (slots_of c.args.departures.now)) (bare n)) _ c.args.next.now _
+          c.args.leave.now _ c.args.enter.now
           c.requires.next c.requires.leave c.requires.enter
-          (sym (ap (λ rows. found_each (place_weight side) rows (bare n)) (drop_all (n - 0) (slots_of c.args.departures.now) (omega (arith, slots-length c.args.departures.now, c.requires.all)))));
+          (sym (ap (λ rows. found_each (place_weight side) rows (bare n))
+          (drop_all (n - 0) (slots_of c.args.departures.now) (omega (arith, slots-length c.args.departures.now, c.requires.all)))));
       counted = omega arith;
     }
 
@@ -38,8 +41,10 @@ search-requires-clause-begins g c =
     let none : Column = record { post = None; minute = 0; slot = 0; rank = 0 } in (
       stands_before loop.invariant.turn (side_slots side - (loop.added + 1)),
       None,
-      MayBegin-added (place_weight side) (side_slots side) c.args.departures.now none loop.invariant.turn loop.added (c.slots-slots.result - 1 - loop.added) loop.next loop.leave loop.enter
-          c.requires.all loop.invariant.renaming (omega (arith, c.loop-added-test.true, c.slots-slots.ensures.count)) loop.invariant.matched loop.invariant.covers,
+      MayBegin-added (place_weight side) (side_slots side) c.args.departures.now none loop.invariant.turn loop.added
+          (c.slots-slots.result - 1 - loop.added) loop.next loop.leave loop.enter
+          c.requires.all loop.invariant.renaming (omega (arith, c.loop-added-test.true, c.slots-slots.ensures.count))
+          loop.invariant.matched loop.invariant.covers,
     )
 
 pub loop-added-preserved : goal.loop-added-preserved
@@ -48,8 +53,10 @@ loop-added-preserved g c =
     let loop = c.loop-added in
     let none : Column = record { post = None; minute = 0; slot = 0; rank = 0 } in
     let begins =
-    MayBegin-added (place_weight side) (side_slots side) c.args.departures.now none loop.invariant.turn loop.added (c.slots-slots.result - 1 - loop.added) loop.next loop.leave loop.enter
-    c.requires.all loop.invariant.renaming (omega (arith, c.loop-added-test.true, c.slots-slots.ensures.count)) loop.invariant.matched loop.invariant.covers in
+    MayBegin-added (place_weight side) (side_slots side) c.args.departures.now none loop.invariant.turn loop.added
+    (c.slots-slots.result - 1 - loop.added) loop.next loop.leave loop.enter
+    c.requires.all loop.invariant.renaming (omega (arith, c.loop-added-test.true, c.slots-slots.ensures.count)) loop.invariant.matched
+    loop.invariant.covers in
     let done = c.search.ensures in
     let n = side_slots side in
     let w = place_weight side in
@@ -60,7 +67,8 @@ loop-added-preserved g c =
     let row : get_or rows last n ≡ (get_or c.args.departures.now read none).slot =
     slots-at n c.args.departures.now last
     ∙ ap (slot_at n c.args.departures.now) (omega (arith, below, c.slots-slots.ensures.count))
-    ∙ ap (λ (x : Column). x.slot) (get_or_default c.args.departures.now read (no_column n) none (omega (arith, below, c.slots-slots.ensures.count, c.requires.all))) in
+    ∙ ap (λ (x : Column). x.slot) (get_or_default c.args.departures.now read (no_column n) none
+    (omega (arith, below, c.slots-slots.ensures.count, c.requires.all))) in
     record {
       turn = loop.invariant.turn;
       renaming = loop.invariant.renaming;
@@ -78,7 +86,8 @@ returns-clause-matched g c =
     let loop = c.loop-added in
     let none : side_slots side - loop.added ≡ 0 = omega (arith, c.loop-added-test.false, c.slots-slots.ensures.count) in
     IsMatched-all (place_weight side) loop.invariant.turn loop.next loop.leave loop.enter
-    (subst (λ m. IsMatched (place_weight side) (stands_before loop.invariant.turn m) None None loop.next loop.leave loop.enter) none loop.invariant.matched)
+    (subst (λ m. IsMatched (place_weight side) (stands_before loop.invariant.turn m) None None loop.next loop.leave loop.enter) none
+    loop.invariant.matched)
 
 pub returns-clause-covers : goal.returns-clause-covers
 returns-clause-covers g c =

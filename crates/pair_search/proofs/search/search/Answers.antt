@@ -1,4 +1,5 @@
-use Rattle.std.proofs.Common.{◌≡◌, ℕ, ◌+◌, ◌-◌, ◌<◌, ◌≤◌, ◌∙◌, List, length, ap, replicate, Option, None, Some, Bool, refl, sym, subst, ⊎_elim, arith}
+use Rattle.std.proofs.Common.{◌≡◌, ℕ, ◌+◌, ◌-◌, ◌<◌, ◌≤◌, ◌∙◌, List, length, ap, replicate, Option, None, Some, Bool, refl, sym, subst}
+use Rattle.std.proofs.Common.{⊎_elim, arith}
 use Rattle.std.proofs.lemmas.Bool.{cases_lt}
 use Rattle.std.proofs.lemmas.List.{get_or_past, get_or-set_same}
 use Rattle.std.proofs.lemmas.Option.{none-some, same_Some}
@@ -12,7 +13,8 @@ use Rattle.pair_search.specs.Search.{at, Problem, problem_of, IsTree, TreeView, 
 use Rattle.pair_search.specs.Side.{side_slots, place_weight}
 use Rattle.pair_search.proofs.FoundLemmas.{last_front, found-over}
 use Rattle.pair_search.proofs.InverseLemmas.{inverse-before}
-use Rattle.pair_search.proofs.ShiftLemmas.{AreNextTrips-matched, enter-low, given-at, IsOver, IsOver-grown, enough, gain-low, covers-over, LeadsBack-over, IsTightBack-over, IsPassing-over, free-over}
+use Rattle.pair_search.proofs.ShiftLemmas.{AreNextTrips-matched, enter-low, given-at, IsOver, IsOver-grown, enough, gain-low, covers-over}
+use Rattle.pair_search.proofs.ShiftLemmas.{LeadsBack-over, IsTightBack-over, IsPassing-over, free-over}
 use Rattle.pair_search.proofs.VisitLemmas.{RowsVisit-first}
 use Rattle.pair_search.proofs.search.search.Given.{Over}
 use Rattle.pair_search.proofs.search.search.Goals as goal
@@ -20,18 +22,22 @@ use Rattle.pair_search.proofs.search.search.Goals as goal
 pub invert-requires-clause-links : goal.invert-requires-clause-links
 invert-requires-clause-links g c =
     let side = c.args.side.now in
-    AreNextTrips-matched (place_weight side) (side_slots side) c.requires.begins.0 (Some c.args.a) c.requires.begins.1 c.args.next.now c.args.leave.now c.args.enter.now c.requires.sound c.requires.next c.requires.begins.2.matched
+    AreNextTrips-matched (place_weight side) (side_slots side) c.requires.begins.0 (Some c.args.a) c.requires.begins.1 c.args.next.now
+    c.args.leave.now c.args.enter.now c.requires.sound c.requires.next c.requires.begins.2.matched
 
 pub begin-requires-clause-enter_low : goal.begin-requires-clause-enter_low
 begin-requires-clause-enter_low g c =
     let side = c.args.side.now in
-    enter-low (place_weight side) (side_slots side) c.requires.begins.0 (Some c.args.a) c.requires.begins.1 c.args.next.now c.args.leave.now c.args.enter.now c.requires.sound c.requires.begins.2.matched c.args.a
+    enter-low (place_weight side) (side_slots side) c.requires.begins.0 (Some c.args.a) c.requires.begins.1 c.args.next.now
+    c.args.leave.now c.args.enter.now c.requires.sound c.requires.begins.2.matched c.args.a
 
 pub grow-end-requires-clause-given : goal.grow-end-requires-clause-given
 grow-end-requires-clause-given g c =
     let side = c.args.side.now in
-    given-at (place_weight side) (side_slots side) c.requires.begins.0 c.args.a c.requires.begins.1 c.args.next.now c.invert.new.before c.args.leave.now c.args.enter.now (at c.begin.new.self.rows.items 0) c.begin.new.leave
-    (omega (arith, c.requires.few)) c.requires.sound c.requires.next c.requires.leave c.invert.ensures c.requires.begins.2 c.begin.ensures.first c.begin.ensures.leave
+    given-at (place_weight side) (side_slots side) c.requires.begins.0 c.args.a c.requires.begins.1 c.args.next.now c.invert.new.before
+    c.args.leave.now c.args.enter.now (at c.begin.new.self.rows.items 0) c.begin.new.leave
+    (omega (arith, c.requires.few)) c.requires.sound c.requires.next c.requires.leave c.invert.ensures c.requires.begins.2
+    c.begin.ensures.first c.begin.ensures.leave
 
 pub grow-end-requires-clause-begun : goal.grow-end-requires-clause-begun
 grow-end-requires-clause-begun g c =
@@ -39,19 +45,24 @@ grow-end-requires-clause-begun g c =
     subst (λ first. IsTree (problem_of side first c.invert.new.before c.begin.new.leave c.args.enter.now)
     (tree_of c.begin.new.self 1 0)) (sym c.begin.ensures.first)
     (c.begin.ensures.tree c.invert.new.before
-    (given-at (place_weight side) (side_slots side) c.requires.begins.0 c.args.a c.requires.begins.1 c.args.next.now c.invert.new.before c.args.leave.now c.args.enter.now c.args.a c.begin.new.leave
-    (omega (arith, c.requires.few)) c.requires.sound c.requires.next c.requires.leave c.invert.ensures c.requires.begins.2 refl c.begin.ensures.leave))
+    (given-at (place_weight side) (side_slots side) c.requires.begins.0 c.args.a c.requires.begins.1 c.args.next.now c.invert.new.before
+    c.args.leave.now c.args.enter.now c.args.a c.begin.new.leave
+    (omega (arith, c.requires.few)) c.requires.sound c.requires.next c.requires.leave c.invert.ensures c.requires.begins.2 refl
+    c.begin.ensures.leave))
 
 -- the search has ended
-over-shift : (g : Over) (c : goal.After-shift-arg-2-1 g) (out : ℕ → Bool) (b : Option ℕ) → MayBegin (place_weight c.args.side.now) (side_slots c.args.side.now) out c.args.a b c.args.next.now c.args.leave.now c.args.enter.now
+over-shift : (g : Over) (c : goal.After-shift-arg-2-1 g) (out : ℕ → Bool) (b : Option ℕ)
+    → MayBegin (place_weight c.args.side.now) (side_slots c.args.side.now) out c.args.a b c.args.next.now c.args.leave.now c.args.enter.now
     → IsOver (problem_of c.args.side.now (at c.begin.new.self.rows.items 0) c.invert.new.before c.begin.new.leave c.args.enter.now)
     (tree_of c.grow-end.new.self c.grow-end.ensures.grown.size c.grow-end.ensures.grown.reach)
     c.grow-end.result out b c.args.next.now
 over-shift g c out b begins =
     let side = c.args.side.now in
-    IsOver-grown (place_weight side) (side_slots side) out c.args.a b c.args.next.now c.invert.new.before c.args.leave.now c.args.enter.now (at c.begin.new.self.rows.items 0) c.begin.new.leave
+    IsOver-grown (place_weight side) (side_slots side) out c.args.a b c.args.next.now c.invert.new.before c.args.leave.now c.args.enter.now
+    (at c.begin.new.self.rows.items 0) c.begin.new.leave
     (tree_of c.grow-end.new.self c.grow-end.ensures.grown.size c.grow-end.ensures.grown.reach)
-    c.grow-end.result (omega (arith, c.requires.few)) c.requires.sound c.requires.next c.requires.leave c.invert.ensures begins c.begin.ensures.first c.begin.ensures.leave
+    c.grow-end.result (omega (arith, c.requires.few)) c.requires.sound c.requires.next c.requires.leave c.invert.ensures begins
+    c.begin.ensures.first c.begin.ensures.leave
     c.grow-end.ensures.grown.tree c.grow-end.ensures.grown.ended
 
 pub shift-requires-clause-within : goal.shift-requires-clause-within
@@ -59,7 +70,8 @@ shift-requires-clause-within g c = λ i j linked.
     let side = c.args.side.now in
     omega (
       arith,
-      (AreNextTrips-matched (place_weight side) (side_slots side) c.requires.begins.0 (Some c.args.a) c.requires.begins.1 c.args.next.now c.args.leave.now c.args.enter.now c.requires.sound c.requires.next c.requires.begins.2.matched).within i j linked,
+      (AreNextTrips-matched (place_weight side) (side_slots side) c.requires.begins.0 (Some c.args.a) c.requires.begins.1 c.args.next.now
+          c.args.leave.now c.args.enter.now c.requires.sound c.requires.next c.requires.begins.2.matched).within i j linked,
       c.requires.next,
       c.begin.ensures.slots,
       c.grow-end.ensures.slots,
@@ -68,86 +80,115 @@ shift-requires-clause-within g c = λ i j linked.
 
 pub shift-requires-clause-enough : goal.shift-requires-clause-enough
 shift-requires-clause-enough g c =
-    let p : Problem = (problem_of c.args.side.now (at c.begin.new.self.rows.items 0) c.invert.new.before c.begin.new.leave c.args.enter.now) in
+    let p : Problem = (problem_of c.args.side.now (at c.begin.new.self.rows.items 0) c.invert.new.before c.begin.new.leave
+    c.args.enter.now) in
     let s : TreeView = (tree_of c.grow-end.new.self c.grow-end.ensures.grown.size c.grow-end.ensures.grown.reach) in
-    subst (λ xs. (i j : ℕ) → next_of c.args.next.now i ≡ Some j → c.grow-end.result.fall - at xs j ≤ at c.begin.new.leave i) (sym c.deref.ensures.value)
-    (enough p s c.grow-end.result c.requires.begins.0 c.requires.begins.1 c.args.next.now (over-shift g c c.requires.begins.0 c.requires.begins.1 c.requires.begins.2))
+    subst (λ xs. (i j : ℕ) → next_of c.args.next.now i ≡ Some j → c.grow-end.result.fall - at xs j ≤ at c.begin.new.leave i)
+    (sym c.deref.ensures.value)
+    (enough p s c.grow-end.result c.requires.begins.0 c.requires.begins.1 c.args.next.now
+    (over-shift g c c.requires.begins.0 c.requires.begins.1 c.requires.begins.2))
 
 pub shift-requires-clause-low : goal.shift-requires-clause-low
 shift-requires-clause-low g c = λ j near.
-    let p : Problem = (problem_of c.args.side.now (at c.begin.new.self.rows.items 0) c.invert.new.before c.begin.new.leave c.args.enter.now) in
+    let p : Problem = (problem_of c.args.side.now (at c.begin.new.self.rows.items 0) c.invert.new.before c.begin.new.leave
+    c.args.enter.now) in
     let s : TreeView = (tree_of c.grow-end.new.self c.grow-end.ensures.grown.size c.grow-end.ensures.grown.reach) in
     ⊎_elim
-    (λ (inside : j < side_slots c.args.side.now). gain-low p s c.grow-end.result c.requires.begins.0 c.requires.begins.1 c.args.next.now (over-shift g c c.requires.begins.0 c.requires.begins.1 c.requires.begins.2) j inside (omega (arith, near, ap (λ xs. at xs j) c.deref.ensures.value)))
-    (λ (past : side_slots c.args.side.now ≤ j). let none : at c.args.enter.now j ≡ 0 = get_or_past c.args.enter.now j 0 (omega (arith, past, c.requires.enter)) in omega (arith, none))
+    (λ (inside : j < side_slots c.args.side.now). gain-low p s c.grow-end.result c.requires.begins.0 c.requires.begins.1 c.args.next.now
+    (over-shift g c c.requires.begins.0 c.requires.begins.1 c.requires.begins.2) j inside
+    (omega (arith, near, ap (λ xs. at xs j) c.deref.ensures.value)))
+    (λ (past : side_slots c.args.side.now ≤ j). let none : at c.args.enter.now j ≡ 0 = get_or_past c.args.enter.now j 0
+    (omega (arith, past, c.requires.enter)) in omega (arith, none))
     (cases_lt j (side_slots c.args.side.now))
 
 -- the search has ended
-over-relink : (g : Over) (c : goal.After-relink-arg-1 g) (out : ℕ → Bool) (b : Option ℕ) → MayBegin (place_weight c.args.side.now) (side_slots c.args.side.now) out c.args.a b c.args.next.now c.args.leave.now c.args.enter.now
+over-relink : (g : Over) (c : goal.After-relink-arg-1 g) (out : ℕ → Bool) (b : Option ℕ)
+    → MayBegin (place_weight c.args.side.now) (side_slots c.args.side.now) out c.args.a b c.args.next.now c.args.leave.now c.args.enter.now
     → IsOver (problem_of c.args.side.now (at c.begin.new.self.rows.items 0) c.invert.new.before c.begin.new.leave c.args.enter.now)
     (tree_of c.grow-end.new.self c.grow-end.ensures.grown.size c.grow-end.ensures.grown.reach)
     c.grow-end.result out b c.args.next.now
 over-relink g c out b begins =
     let side = c.args.side.now in
-    IsOver-grown (place_weight side) (side_slots side) out c.args.a b c.args.next.now c.invert.new.before c.args.leave.now c.args.enter.now (at c.begin.new.self.rows.items 0) c.begin.new.leave
+    IsOver-grown (place_weight side) (side_slots side) out c.args.a b c.args.next.now c.invert.new.before c.args.leave.now c.args.enter.now
+    (at c.begin.new.self.rows.items 0) c.begin.new.leave
     (tree_of c.grow-end.new.self c.grow-end.ensures.grown.size c.grow-end.ensures.grown.reach)
-    c.grow-end.result (omega (arith, c.requires.few)) c.requires.sound c.requires.next c.requires.leave c.invert.ensures begins c.begin.ensures.first c.begin.ensures.leave
+    c.grow-end.result (omega (arith, c.requires.few)) c.requires.sound c.requires.next c.requires.leave c.invert.ensures begins
+    c.begin.ensures.first c.begin.ensures.leave
     c.grow-end.ensures.grown.tree c.grow-end.ensures.grown.ended
 
 pub relink-requires-clause-back : goal.relink-requires-clause-back
 relink-requires-clause-back g c =
-    let p : Problem = (problem_of c.args.side.now (at c.begin.new.self.rows.items 0) c.invert.new.before c.begin.new.leave c.args.enter.now) in
+    let p : Problem = (problem_of c.args.side.now (at c.begin.new.self.rows.items 0) c.invert.new.before c.begin.new.leave
+    c.args.enter.now) in
     let s : TreeView = (tree_of c.grow-end.new.self c.grow-end.ensures.grown.size c.grow-end.ensures.grown.reach) in
     let now = c.grow-end.new.self in
     subst (λ parent. LeadsBack c.args.next.now parent c.deref-3.result.now c.grow-end.result.from) (sym c.deref-2.ensures.value)
     (subst (λ rows. LeadsBack c.args.next.now now.parent.items rows c.grow-end.result.from) (sym c.deref-3.ensures.value)
-    (LeadsBack-over p s c.grow-end.result c.requires.begins.0 c.requires.begins.1 c.args.next.now (over-relink g c c.requires.begins.0 c.requires.begins.1 c.requires.begins.2)
-    (omega (arith, now.parent.ok.0, now.parents, c.begin.ensures.slots, c.grow-end.ensures.slots)) (omega (arith, now.rows.ok.0, now.row_places, c.begin.ensures.slots, c.grow-end.ensures.slots))))
+    (LeadsBack-over p s c.grow-end.result c.requires.begins.0 c.requires.begins.1 c.args.next.now
+    (over-relink g c c.requires.begins.0 c.requires.begins.1 c.requires.begins.2)
+    (omega (arith, now.parent.ok.0, now.parents, c.begin.ensures.slots, c.grow-end.ensures.slots))
+    (omega (arith, now.rows.ok.0, now.row_places, c.begin.ensures.slots, c.grow-end.ensures.slots))))
 
 pub relink-requires-clause-free : goal.relink-requires-clause-free
 relink-requires-clause-free g c =
-    let p : Problem = (problem_of c.args.side.now (at c.begin.new.self.rows.items 0) c.invert.new.before c.begin.new.leave c.args.enter.now) in
+    let p : Problem = (problem_of c.args.side.now (at c.begin.new.self.rows.items 0) c.invert.new.before c.begin.new.leave
+    c.args.enter.now) in
     let s : TreeView = (tree_of c.grow-end.new.self c.grow-end.ensures.grown.size c.grow-end.ensures.grown.reach) in
-    free-over p s c.grow-end.result c.requires.begins.0 c.requires.begins.1 c.args.next.now (over-relink g c c.requires.begins.0 c.requires.begins.1 c.requires.begins.2)
+    free-over p s c.grow-end.result c.requires.begins.0 c.requires.begins.1 c.args.next.now
+    (over-relink g c c.requires.begins.0 c.requires.begins.1 c.requires.begins.2)
 
 -- the search has ended
-over-end : (g : Over) (c : goal.After-next-1 g) (out : ℕ → Bool) (b : Option ℕ) → MayBegin (place_weight c.args.side.now) (side_slots c.args.side.now) out c.args.a b c.args.next.now c.args.leave.now c.args.enter.now
+over-end : (g : Over) (c : goal.After-next-1 g) (out : ℕ → Bool) (b : Option ℕ)
+    → MayBegin (place_weight c.args.side.now) (side_slots c.args.side.now) out c.args.a b c.args.next.now c.args.leave.now c.args.enter.now
     → IsOver (problem_of c.args.side.now (at c.begin.new.self.rows.items 0) c.invert.new.before c.begin.new.leave c.args.enter.now)
     (tree_of c.grow-end.new.self c.grow-end.ensures.grown.size c.grow-end.ensures.grown.reach)
     c.grow-end.result out b c.args.next.now
 over-end g c out b begins =
     let side = c.args.side.now in
-    IsOver-grown (place_weight side) (side_slots side) out c.args.a b c.args.next.now c.invert.new.before c.args.leave.now c.args.enter.now (at c.begin.new.self.rows.items 0) c.begin.new.leave
+    IsOver-grown (place_weight side) (side_slots side) out c.args.a b c.args.next.now c.invert.new.before c.args.leave.now c.args.enter.now
+    (at c.begin.new.self.rows.items 0) c.begin.new.leave
     (tree_of c.grow-end.new.self c.grow-end.ensures.grown.size c.grow-end.ensures.grown.reach)
-    c.grow-end.result (omega (arith, c.requires.few)) c.requires.sound c.requires.next c.requires.leave c.invert.ensures begins c.begin.ensures.first c.begin.ensures.leave
+    c.grow-end.result (omega (arith, c.requires.few)) c.requires.sound c.requires.next c.requires.leave c.invert.ensures begins
+    c.begin.ensures.first c.begin.ensures.leave
     c.grow-end.ensures.grown.tree c.grow-end.ensures.grown.ended
 
 -- the prices are shifted
 shifted : (g : Over) (c : goal.After-next-1 g)
-    → IsShifted (side_slots c.args.side.now) (at c.begin.new.self.rows.items 0) c.args.next.now c.grow-end.new.self.dist.items c.grow-end.result.fall c.begin.new.leave c.args.enter.now c.shift.new.leave c.shift.new.enter
+    → IsShifted (side_slots c.args.side.now) (at c.begin.new.self.rows.items 0) c.args.next.now c.grow-end.new.self.dist.items
+    c.grow-end.result.fall c.begin.new.leave c.args.enter.now c.shift.new.leave c.shift.new.enter
 shifted g c =
-    subst (λ first. IsShifted (side_slots c.args.side.now) first c.args.next.now c.grow-end.new.self.dist.items c.grow-end.result.fall c.begin.new.leave c.args.enter.now c.shift.new.leave c.shift.new.enter) (sym c.begin.ensures.first)
-    (subst (λ dist. IsShifted (side_slots c.args.side.now) c.args.a c.args.next.now dist c.grow-end.result.fall c.begin.new.leave c.args.enter.now c.shift.new.leave c.shift.new.enter) c.deref.ensures.value
-    (subst (λ n. IsShifted n c.args.a c.args.next.now c.deref.result.now c.grow-end.result.fall c.begin.new.leave c.args.enter.now c.shift.new.leave c.shift.new.enter) c.requires.enter c.shift.ensures))
+    subst (λ first. IsShifted (side_slots c.args.side.now) first c.args.next.now c.grow-end.new.self.dist.items c.grow-end.result.fall
+    c.begin.new.leave c.args.enter.now c.shift.new.leave c.shift.new.enter) (sym c.begin.ensures.first)
+    (subst (λ dist. IsShifted (side_slots c.args.side.now) c.args.a c.args.next.now dist c.grow-end.result.fall c.begin.new.leave
+    c.args.enter.now c.shift.new.leave c.shift.new.enter) c.deref.ensures.value
+    (subst (λ n. IsShifted n c.args.a c.args.next.now c.deref.result.now c.grow-end.result.fall c.begin.new.leave c.args.enter.now
+    c.shift.new.leave c.shift.new.enter) c.requires.enter c.shift.ensures))
 
 pub returns-clause-matched : goal.returns-clause-matched
 returns-clause-matched g c = λ out b begins.
-    let p : Problem = (problem_of c.args.side.now (at c.begin.new.self.rows.items 0) c.invert.new.before c.begin.new.leave c.args.enter.now) in
+    let p : Problem = (problem_of c.args.side.now (at c.begin.new.self.rows.items 0) c.invert.new.before c.begin.new.leave
+    c.args.enter.now) in
     let now = c.grow-end.new.self in
     let s : TreeView = (tree_of now c.grow-end.ensures.grown.size c.grow-end.ensures.grown.reach) in
     let w = place_weight c.args.side.now in
     let over = over-end g c out b begins in
     c.relink.ensures.matched w out b c.shift.new.leave c.shift.new.enter
-    (subst (λ parent. IsTightBack w out c.args.next.now c.shift.new.leave c.shift.new.enter parent c.deref-3.result.now c.grow-end.result.from) (sym c.deref-2.ensures.value)
-    (subst (λ rows. IsTightBack w out c.args.next.now c.shift.new.leave c.shift.new.enter now.parent.items rows c.grow-end.result.from) (sym c.deref-3.ensures.value)
+    (subst (λ parent. IsTightBack w out c.args.next.now c.shift.new.leave c.shift.new.enter parent c.deref-3.result.now
+    c.grow-end.result.from) (sym c.deref-2.ensures.value)
+    (subst (λ rows. IsTightBack w out c.args.next.now c.shift.new.leave c.shift.new.enter now.parent.items rows c.grow-end.result.from)
+    (sym c.deref-3.ensures.value)
     (IsTightBack-over p s c.grow-end.result out b c.args.next.now c.shift.new.leave c.shift.new.enter over (shifted g c))))
-    (subst (λ rows. IsPassing w out (at rows 0) b c.args.next.now c.shift.new.leave c.shift.new.enter (at rows c.grow-end.result.from) c.grow-end.result.to) (sym c.deref-3.ensures.value)
-    (subst (λ first. IsPassing w out first b c.args.next.now c.shift.new.leave c.shift.new.enter (at now.rows.items c.grow-end.result.from) c.grow-end.result.to) (sym over.tree.root.1)
-    (IsPassing-over p s c.grow-end.result out b c.args.next.now c.shift.new.leave c.shift.new.enter over (omega (arith, c.requires.enter, c.shift.auto.enter)) (shifted g c))))
+    (subst (λ rows. IsPassing w out (at rows 0) b c.args.next.now c.shift.new.leave c.shift.new.enter (at rows c.grow-end.result.from)
+    c.grow-end.result.to) (sym c.deref-3.ensures.value)
+    (subst (λ first. IsPassing w out first b c.args.next.now c.shift.new.leave c.shift.new.enter (at now.rows.items c.grow-end.result.from)
+    c.grow-end.result.to) (sym over.tree.root.1)
+    (IsPassing-over p s c.grow-end.result out b c.args.next.now c.shift.new.leave c.shift.new.enter over
+    (omega (arith, c.requires.enter, c.shift.auto.enter)) (shifted g c))))
 
 pub returns-clause-covers : goal.returns-clause-covers
 returns-clause-covers g c = λ out b begins.
-    let p : Problem = (problem_of c.args.side.now (at c.begin.new.self.rows.items 0) c.invert.new.before c.begin.new.leave c.args.enter.now) in
+    let p : Problem = (problem_of c.args.side.now (at c.begin.new.self.rows.items 0) c.invert.new.before c.begin.new.leave
+    c.args.enter.now) in
     let s : TreeView = (tree_of c.grow-end.new.self c.grow-end.ensures.grown.size c.grow-end.ensures.grown.reach) in
     covers-over p s c.grow-end.result out b c.args.next.now c.shift.new.leave c.shift.new.enter (over-end g c out b begins) (shifted g c)
 
@@ -158,7 +199,8 @@ returns-clause-visited g c =
       c.grow-end.new.self.rows.items,
       c.grow-end.new.self.dist.items,
       c.grow-end.ensures.visited (replicate n 67111745) c.args.steps.now
-          (RowsVisit-first (place_weight side) side.groups side.count c.begin.new.self.rows.items c.args.a (replicate n 67111745) c.begin.new.self.dist.items c.args.steps.now c.begin.new.steps c.begin.ensures.first c.begin.ensures.visited),
+          (RowsVisit-first (place_weight side) side.groups side.count c.begin.new.self.rows.items c.args.a (replicate n 67111745)
+          c.begin.new.self.dist.items c.args.steps.now c.begin.new.steps c.begin.ensures.first c.begin.ensures.visited),
     )
 
 pub returns-clause-plan : goal.returns-clause-plan
@@ -179,19 +221,26 @@ returns-clause-plan g c =
     let first : Front = first_front w a enter n in
     let over : Front = last_front w a plan in
     let opened_price : at c.begin.new.leave (at start.rows.items 0) ≡ 67111744 =
-    ap (at c.begin.new.leave) c.begin.ensures.first ∙ ap (λ l. at l a) c.begin.ensures.leave ∙ get_or-set_same c.args.leave.now a 67111744 0 (omega (arith, c.requires.begins.2.start, c.requires.leave)) in
-    let begun : Shows start 0 None (at c.begin.new.leave (at start.rows.items 0)) first = subst (λ (f : ℕ). Shows start 0 None f first) (sym opened_price) c.begin.ensures.shown in
-    let at_end = c.grow-end.ensures.shown next first (λ j. sym (inverse-before next c.invert.new.before matched.once c.invert.ensures j)) begun in
+    ap (at c.begin.new.leave) c.begin.ensures.first ∙ ap (λ l. at l a) c.begin.ensures.leave
+    ∙ get_or-set_same c.args.leave.now a 67111744 0 (omega (arith, c.requires.begins.2.start, c.requires.leave)) in
+    let begun : Shows start 0 None (at c.begin.new.leave (at start.rows.items 0)) first =
+    subst (λ (f : ℕ). Shows start 0 None f first) (sym opened_price) c.begin.ensures.shown in
+    let at_end = c.grow-end.ensures.shown next first (λ j. sym (inverse-before next c.invert.new.before matched.once c.invert.ensures j))
+    begun in
     let shown : Shows now end.from end.to end.fall over =
     subst (λ (m : ℕ). Shows now end.from end.to end.fall (grown w (opened a plan) m (first_front w a enter m))) (sym c.requires.next)
-    (subst (λ (l : List ℕ). Shows now end.from end.to end.fall (grown w (record { next = next; leave = l; enter = enter }) n first)) c.begin.ensures.leave at_end) in
-    let from : (t j : ℕ) → t ≤ end.from → next_of next (at now.rows.items t) ≡ Some j → at now.rows.items (at now.parent.items j) ≡ at over.from j = λ t j le linked.
-    let inside = (AreNextTrips-matched w n c.requires.begins.0 (Some a) c.requires.begins.1 next c.args.leave.now enter c.requires.sound c.requires.next matched).within (at now.rows.items t) j linked in
+    (subst (λ (l : List ℕ). Shows now end.from end.to end.fall (grown w (record { next = next; leave = l; enter = enter }) n first))
+    c.begin.ensures.leave at_end) in
+    let from : (t j : ℕ) → t ≤ end.from → next_of next (at now.rows.items t) ≡ Some j
+    → at now.rows.items (at now.parent.items j) ≡ at over.from j = λ t j le linked.
+    let inside = (AreNextTrips-matched w n c.requires.begins.0 (Some a) c.requires.begins.1 next c.args.leave.now enter c.requires.sound
+    c.requires.next matched).within (at now.rows.items t) j linked in
     ⊎_elim
     (λ (lt : 0 < t).
     let via = tree.via t lt (omega (arith, le, ended.within)) in
     let same = same_Some via.column j (sym (c.invert.ensures.linked (at now.rows.items t) via.column via.linked).1 ∙ linked) in
-    let close : at now.dist.items j < 67111745 = omega (arith, ap (at now.dist.items) same, via.far, tree.within t (omega (arith, le, ended.within)), ended.later, ended.low) in
+    let close : at now.dist.items j < 67111745 =
+    omega (arith, ap (at now.dist.items) same, via.far, tree.within t (omega (arith, le, ended.within)), ended.later, ended.low) in
     shown.from j (omega (arith, inside, c.requires.next, now.dist.ok.0, c.begin.ensures.slots, c.grow-end.ensures.slots)) close)
     (λ (le0 : t ≤ 0).
     let zero : t ≡ 0 = omega (arith, le0) in
@@ -201,9 +250,14 @@ returns-clause-plan g c =
     let links : c.relink.new.next ≡ linked_back over.from (length next + 1) next (at now.rows.items end.from) end.to =
     subst (λ rows. c.relink.new.next ≡ linked_back over.from (length next + 1) next (at rows end.from) end.to) c.deref-3.ensures.value
     (c.relink.ensures.linked over.from (length next + 1) (omega (arith, ended.within, tree.count, c.requires.next))
-    (subst (λ parent. (t j : ℕ) → t ≤ end.from → next_of next (at c.deref-3.result.now t) ≡ Some j → at c.deref-3.result.now (at parent j) ≡ at over.from j) (sym c.deref-2.ensures.value)
-    (subst (λ rows. (t j : ℕ) → t ≤ end.from → next_of next (at rows t) ≡ Some j → at rows (at now.parent.items j) ≡ at over.from j) (sym c.deref-3.ensures.value) from))) in
-    found-over w a plan now.dist.items now.parent.items now.done.items now.rows.items end.from end.to end.fall c.relink.new.next c.shift.new.leave c.shift.new.enter shown links
+    (subst (λ parent. (t j : ℕ) → t ≤ end.from → next_of next (at c.deref-3.result.now t) ≡ Some j
+    → at c.deref-3.result.now (at parent j) ≡ at over.from j) (sym c.deref-2.ensures.value)
+    (subst (λ rows. (t j : ℕ) → t ≤ end.from → next_of next (at rows t) ≡ Some j → at rows (at now.parent.items j) ≡ at over.from j)
+    (sym c.deref-3.ensures.value) from))) in
+    found-over w a plan now.dist.items now.parent.items now.done.items now.rows.items end.from end.to end.fall c.relink.new.next
+    c.shift.new.leave c.shift.new.enter shown links
     (omega (arith, c.shift.auto.leave, ap length c.begin.ensures.leave)) (omega (arith, c.shift.auto.enter))
-    (subst (λ (l : List ℕ). IsShifted (length enter) a next now.dist.items end.fall l enter c.shift.new.leave c.shift.new.enter) c.begin.ensures.leave
-    (subst (λ (d : List ℕ). IsShifted (length enter) a next d end.fall c.begin.new.leave enter c.shift.new.leave c.shift.new.enter) c.deref.ensures.value c.shift.ensures))
+    (subst (λ (l : List ℕ). IsShifted (length enter) a next now.dist.items end.fall l enter c.shift.new.leave c.shift.new.enter)
+    c.begin.ensures.leave
+    (subst (λ (d : List ℕ). IsShifted (length enter) a next d end.fall c.begin.new.leave enter c.shift.new.leave c.shift.new.enter)
+    c.deref.ensures.value c.shift.ensures))

@@ -12,7 +12,8 @@ returns-clause-matched g c = λ out b begins.
     (written c.search.new.leave c.args.leave.now.items c.args.leave.now.len (c.search.auto.leave ∙ c.deref_mut.ensures.len))
     (written c.search.new.enter c.args.enter.now.items c.args.enter.now.len (c.search.auto.enter ∙ c.deref_mut-2.ensures.len))
     (c.search.ensures.matched out b
-    (MayBegin-same w (side_slots c.args.side.now) out c.args.a b c.args.links.now c.read_links.new.next c.args.leave.now.items c.deref_mut.result.now c.args.enter.now.items c.deref_mut-2.result.now
+    (MayBegin-same w (side_slots c.args.side.now) out c.args.a b c.args.links.now c.read_links.new.next c.args.leave.now.items
+    c.deref_mut.result.now c.args.enter.now.items c.deref_mut-2.result.now
     c.read_links.ensures c.deref_mut.ensures.value c.deref_mut-2.ensures.value begins))
 
 pub returns-clause-covers : goal.returns-clause-covers
@@ -22,16 +23,19 @@ returns-clause-covers g c = λ out b begins.
     (written c.search.new.leave c.args.leave.now.items c.args.leave.now.len (c.search.auto.leave ∙ c.deref_mut.ensures.len))
     (written c.search.new.enter c.args.enter.now.items c.args.enter.now.len (c.search.auto.enter ∙ c.deref_mut-2.ensures.len))
     (c.search.ensures.covers out b
-    (MayBegin-same w (side_slots c.args.side.now) out c.args.a b c.args.links.now c.read_links.new.next c.args.leave.now.items c.deref_mut.result.now c.args.enter.now.items c.deref_mut-2.result.now
+    (MayBegin-same w (side_slots c.args.side.now) out c.args.a b c.args.links.now c.read_links.new.next c.args.leave.now.items
+    c.deref_mut.result.now c.args.enter.now.items c.deref_mut-2.result.now
     c.read_links.ensures c.deref_mut.ensures.value c.deref_mut-2.ensures.value begins))
 
 pub returns-clause-plan : goal.returns-clause-plan
 returns-clause-plan g c =
     let side = c.args.side.now in
     let was : Plan = record { next = c.args.links.now; leave = c.args.leave.now.items; enter = c.args.enter.now.items } in
-    plan-same (found_by (slots_of side.columns) (side_weight side) c.args.a was) c.search.new.next c.write_links.new.links c.search.new.leave _ c.search.new.enter _ c.write_links.ensures
+    plan-same (found_by (slots_of side.columns) (side_weight side) c.args.a was) c.search.new.next c.write_links.new.links
+    c.search.new.leave _ c.search.new.enter _ c.write_links.ensures
     (written c.search.new.leave c.args.leave.now.items c.args.leave.now.len (c.search.auto.leave ∙ c.deref_mut.ensures.len))
     (written c.search.new.enter c.args.enter.now.items c.args.enter.now.len (c.search.auto.enter ∙ c.deref_mut-2.ensures.len))
     (c.search.ensures.plan ∙ ap (found_by (slots_of side.columns) (side_weight side) c.args.a)
-    (plan-same was c.args.links.now c.read_links.new.next c.args.leave.now.items c.deref_mut.result.now c.args.enter.now.items c.deref_mut-2.result.now
+    (plan-same was c.args.links.now c.read_links.new.next c.args.leave.now.items c.deref_mut.result.now c.args.enter.now.items
+    c.deref_mut-2.result.now
     c.read_links.ensures c.deref_mut.ensures.value c.deref_mut-2.ensures.value refl))

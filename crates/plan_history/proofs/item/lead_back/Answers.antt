@@ -8,4 +8,5 @@ use Rattle.plan_history.proofs.item.lead_back.Goals as goal
 pub write_before-requires : goal.write_before-requires
 write_before-requires c =
     let P : List Changed → Type 0 = λ xs. All (λ (x : Changed). HasRoomFor (length c.args.solver.now.next) x.slot (stood_before x)) xs in
-    subst P (sym c.as_slice.ensures.value) (RoomFor-before (undone_by c.args.solver.now c.args.item.now) c.args.solver.now c.args.item.now c.requires)
+    subst P (sym c.as_slice.ensures.value)
+    (RoomFor-before (undone_by c.args.solver.now c.args.item.now) c.args.solver.now c.args.item.now c.requires)

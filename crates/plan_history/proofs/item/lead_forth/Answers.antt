@@ -12,5 +12,7 @@ write_after-requires c =
     let P : List Changed → Type 0 = λ xs. All (λ (x : Changed). HasRoomFor (length c.set_slots.new.self.next) x.slot (stood_after x)) xs in
     let Q : ℕ → Type 0 = λ n. All (λ (x : Changed). HasRoomFor n x.slot (stood_after x)) c.args.item.now.changes.items in
     let slots : length c.set_slots.new.self.next ≡ length (redone_by c.args.solver.now c.args.item.now).next =
-    ap (λ (p : Plan). length p.next) c.set_slots.ensures ∙ ((IsOf-with_slots c.args.solver.now c.args.item.now.after).nexts ∙ c.requires.after) in
-    subst P (sym c.as_slice.ensures.value) (subst Q (sym slots) (RoomFor-after c.args.solver.now (redone_by c.args.solver.now c.args.item.now) c.args.item.now c.requires))
+    ap (λ (p : Plan). length p.next) c.set_slots.ensures
+    ∙ ((IsOf-with_slots c.args.solver.now c.args.item.now.after).nexts ∙ c.requires.after) in
+    subst P (sym c.as_slice.ensures.value)
+    (subst Q (sym slots) (RoomFor-after c.args.solver.now (redone_by c.args.solver.now c.args.item.now) c.args.item.now c.requires))

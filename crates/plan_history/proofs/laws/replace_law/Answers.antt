@@ -11,11 +11,13 @@ use Rattle.trip_model.specs.declared.trip.Trip.{Trip}
 use Rattle.plan_history.proofs.laws.replace_law.Goals as goal
 
 -- without a slot the pairs are the same, whatever trip stands in it
-pairs-without : (t : TimetableView) (matrix : MatrixView) (s : ℕ) (trip : Trip) → pairs_of (with_trip t s trip) matrix (Some s) ≡ pairs_of t matrix (Some s)
+pairs-without : (t : TimetableView) (matrix : MatrixView) (s : ℕ) (trip : Trip)
+    → pairs_of (with_trip t s trip) matrix (Some s) ≡ pairs_of t matrix (Some s)
 pairs-without t matrix s trip =
     let slot : Slot = record (slot_at t s) { trip = trip } in
     let moves : set (trip_moves (with_trip t s trip).slots) s None ≡ set (trip_moves t.slots) s None =
-    ap (λ (ms : List (Option Move)). set ms s None) (map-set move_of_slot t.slots s slot) ∙ set-set (trip_moves t.slots) s (move_of_slot slot) None in
+    ap (λ (ms : List (Option Move)). set ms s None) (map-set move_of_slot t.slots s slot)
+    ∙ set-set (trip_moves t.slots) s (move_of_slot slot) None in
     let P : List (Option Move) → PairsView = λ ms. record { moves = ms; matrix = matrix } in
     ap P moves
 

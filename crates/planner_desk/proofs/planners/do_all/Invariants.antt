@@ -4,4 +4,5 @@ use Rattle.planner_desk.proofs.planners.do_all.Given as goal
 
 abbrev pub invariant-loop-done : goal.invariant-loop-done
 invariant-loop-done l =
-    Folds l.script.timetable (drop l.done-index l.standing) × (timetable_of l.script.timetable (drop l.done-index l.standing) ≡ timetable_of l.fn.script.timetable l.standing)
+    Folds l.script.timetable (drop l.done-index l.standing)
+    × (timetable_of l.script.timetable (drop l.done-index l.standing) ≡ timetable_of l.fn.script.timetable l.standing)

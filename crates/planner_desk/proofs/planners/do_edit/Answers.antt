@@ -9,4 +9,5 @@ only_memory-requires c = accepted-wants c.args.script.now.timetable c.args.edit.
 
 pub returns-in-Ok : goal.returns-in-Ok
 returns-in-Ok c =
-    subst (λ t. IfOk c.do_judged.result (λ _. c.do_judged.new.script.timetable ≡ t)) (sym (ap (or_same c.args.script.now.timetable) c.in-Ok.ensures.does)) c.do_judged.ensures.done
+    subst (λ t. IfOk c.do_judged.result (λ _. c.do_judged.new.script.timetable ≡ t))
+    (sym (ap (or_same c.args.script.now.timetable) c.in-Ok.ensures.does)) c.do_judged.ensures.done

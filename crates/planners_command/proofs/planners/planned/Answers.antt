@@ -17,15 +17,22 @@ push_numbers-requires g c =
     let base = ap (λ (p : PlannersView). p.base) c.in_ok-planners.ensures ∙ c.in_ok-copy.ensures ∙ c.timetable-base.ensures in
     let stands = c.timetable-timetable.ensures in
     let planners = c.in_ok-answers.answers.planners in
-    record { places = ap length (ap (λ (t : TimetableView). t.places) stands.value ∙ places-standing planners.base planners.standing stands.folds ∙ ap (λ (t : TimetableView). t.places) (c.in_ok-answers.ensures.base_is ∙ base)) ∙ c.requires.places }
+    record {
+      places = ap length (ap (λ (t : TimetableView). t.places) stands.value
+          ∙ places-standing planners.base planners.standing stands.folds
+          ∙ ap (λ (t : TimetableView). t.places) (c.in_ok-answers.ensures.base_is ∙ base)) ∙ c.requires.places;
+    }
 
 pub returns-clause-counted : goal.returns-clause-counted
 returns-clause-counted g c =
     let lines = c.args.lines.now in
     let base = ap (λ (p : PlannersView). p.base) c.in_ok-planners.ensures ∙ c.in_ok-copy.ensures ∙ c.timetable-base.ensures in
     let planners = c.in_ok-answers.answers.planners in
-    let here = c.timetable-timetable.ensures.value ∙ (λ i. timetable_of ((c.in_ok-answers.ensures.base_is ∙ base) i) ((c.in_ok-answers.ensures.stand ∙ ap (λ b. stand_after b lines) base) i)) in
-    subst (λ (t : TimetableView). c.push_numbers.new.steps ≤ c.args.steps.now + most_steps (length t.slots)) here c.push_numbers.ensures.counted
+    let here = c.timetable-timetable.ensures.value
+    ∙ (λ i. timetable_of ((c.in_ok-answers.ensures.base_is ∙ base) i)
+    ((c.in_ok-answers.ensures.stand ∙ ap (λ b. stand_after b lines) base) i)) in
+    subst (λ (t : TimetableView). c.push_numbers.new.steps ≤ c.args.steps.now + most_steps (length t.slots)) here
+    c.push_numbers.ensures.counted
 
 pub returns-clause-planned : goal.returns-clause-planned
 returns-clause-planned g c =
@@ -34,12 +41,15 @@ returns-clause-planned g c =
     let given = c.in_ok-answers.ensures in
     let standing = c.in_ok-answers.answers.planners.standing in
     let base = ap (λ (p : PlannersView). p.base) c.in_ok-planners.ensures ∙ c.in_ok-copy.ensures ∙ c.timetable-base.ensures in
-    planned-put edited.refused edited.ending edited.script.timetable c.args.matrix.now lines c.timetable-timetable.result.now standing _ _ _ c.ending_with-ending.result
+    planned-put edited.refused edited.ending edited.script.timetable c.args.matrix.now lines c.timetable-timetable.result.now standing _ _
+    _ c.ending_with-ending.result
     (given.stand ∙ ap (λ b. stand_after b lines) base)
     (c.timetable-timetable.ensures.value ∙ ap (λ b. timetable_of b standing) (given.base_is ∙ base))
     (given.text ∙ ap (λ b. answers_to b lines (length lines)) base)
     c.in_ok-push_standing.ensures
     c.in_ok-push_numbers.ensures.numbers
-    (c.ending_with-ending.ensures ∙ ap (λ some. ending_with some edited.ending) (given.some ∙ ap (λ b. some_refused b lines (length lines)) base))
+    (c.ending_with-ending.ensures ∙ ap (λ some. ending_with some edited.ending)
+    (given.some ∙ ap (λ b. some_refused b lines (length lines)) base))
     c.putting_after.result
-    (subst (λ text. IfOk c.putting_after.result (λ outcome. outcome ≡ refusing_first edited.refused text c.ending_with-ending.result)) c.wrap.ensures c.putting_after.ensures)
+    (subst (λ text. IfOk c.putting_after.result (λ outcome. outcome ≡ refusing_first edited.refused text c.ending_with-ending.result))
+    c.wrap.ensures c.putting_after.ensures)

@@ -29,7 +29,8 @@ loop-at-preserved c =
     let s = c.unwrap-slot.result in
     let row = get_or_read rows at c.index-rows-at.result c.loop-at-test.true c.index-rows-at.is _ in
     let slot : (block_row rows at).slot ≡ Some s = ap (λ (r : BlockRow). r.slot) (sym row) ∙ c.unwrap-slot.ensures in
-    let before : c.minutes_before-minutes.result ≡ minutes_before network (slot_before rows at) s = c.minutes_before-minutes.ensures.minutes ∙ ap (λ b. minutes_before network b s) c.slot_before.ensures in
+    let before : c.minutes_before-minutes.result ≡ minutes_before network (slot_before rows at) s =
+    c.minutes_before-minutes.ensures.minutes ∙ ap (λ b. minutes_before network b s) c.slot_before.ensures in
     let known = names-known rows c.requires.known in
     let spent = minutes-next network (slot_before rows at) rows at s c.loop-at-test.true slot in
     let made = blocks-next rows at s c.loop-at-test.true slot known in
@@ -41,7 +42,13 @@ loop-at-preserved c =
             blocks = omega (arith, c.loop-at.invariant.blocks, made false e, w.vehicles-is);
             spent = omega (arith, c.loop-at.invariant.spent, before, spent false e, w.minutes-is, w.minutes_home-minutes.ensures.minutes);
             few = omega (arith, c.loop-at.invariant.few, w.vehicles-is);
-            bound = omega (arith, c.loop-at.invariant.bound, c.minutes_before-minutes.ensures.bound, w.minutes_home-minutes.ensures.bound, w.minutes-is);
+            bound = omega (
+              arith,
+              c.loop-at.invariant.bound,
+              c.minutes_before-minutes.ensures.bound,
+              w.minutes_home-minutes.ensures.bound,
+              w.minutes-is,
+            );
           }
       | else-ends_block w ↦
           let e = other joins false (sym c.ends_block.ensures ∙ w.if-ends_block.false) in

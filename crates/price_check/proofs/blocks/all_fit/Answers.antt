@@ -12,7 +12,8 @@ returns-then-not-fit c =
     let network = network_of c.args.timetable.now c.args.matrix.now in
     let row = get_or_read c.args.rows.now c.loop-at.at c.index-rows-at.result c.loop-at-test.true c.index-rows-at.is _ in
     let fits = c.fit.ensures ∙ (λ i. fit network (c.slot_before.ensures i) (row i).slot) in
-    found_first _ _ c.loop-at.at _ c.loop-at.invariant c.loop-at-test.true (sym (ap (λ b. then_some (not b) (NotFit (c.loop-at.at + 1))) (sym fits ∙ c.if-not-fit.true)))
+    found_first _ _ c.loop-at.at _ c.loop-at.invariant c.loop-at-test.true
+    (sym (ap (λ b. then_some (not b) (NotFit (c.loop-at.at + 1))) (sym fits ∙ c.if-not-fit.true)))
 
 pub returns : goal.returns
 returns c = none_first _ _ c.loop-at.at c.loop-at.invariant c.loop-at-test.false

@@ -6,7 +6,8 @@ use Rattle.price_check.proofs.trips.all_once.Goals as goal
 
 pub returns-then-repeats : goal.returns-then-repeats
 returns-then-repeats g c =
-    found_first _ _ c.loop-at.at _ c.loop-at.invariant c.loop-at-test.true (sym (ap (λ b. then_some b (TripTwice c.args.paper (c.loop-at.at + 1))) (sym c.repeats.ensures ∙ c.if-repeats.true)))
+    found_first _ _ c.loop-at.at _ c.loop-at.invariant c.loop-at-test.true
+    (sym (ap (λ b. then_some b (TripTwice c.args.paper (c.loop-at.at + 1))) (sym c.repeats.ensures ∙ c.if-repeats.true)))
 
 pub returns : goal.returns
 returns g c = none_first _ _ c.loop-at.at c.loop-at.invariant c.loop-at-test.false

@@ -15,7 +15,8 @@ returns-then-not-stands g c =
     let live = ap (λ (trip : Trip). trip.live) (sym c.trip.ensures.value) ∙ c.if-trip.true in
     let alone = sym c.stands.ensures ∙ c.if-not-stands.true in
     let test : ((slot_at t s).trip.live && not (stands slots s)) ≡ true = λ i. live i && not (alone i) in
-    found_first _ _ s _ c.loop-slot.invariant (omega (arith, c.loop-slot-test.true, c.slots-slot-end.ensures.count)) (sym (ap (λ b. then_some b (TripMissing c.args.paper s)) test))
+    found_first _ _ s _ c.loop-slot.invariant (omega (arith, c.loop-slot-test.true, c.slots-slot-end.ensures.count))
+    (sym (ap (λ b. then_some b (TripMissing c.args.paper s)) test))
 
 pub returns : goal.returns
 returns g c = none_first _ _ c.loop-slot.slot c.loop-slot.invariant (omega (arith, c.loop-slot-test.false, c.slots-slot-end.ensures.count))

@@ -15,4 +15,5 @@ returns-in-Some g c =
 pub returns-in-None : goal.returns-in-None
 returns-in-None g c =
     let rows = c.args.rows.now in
-    sym (repeats-none (map g.R.Record.slot_of rows) c.args.at (named-map g.R.Record.slot_of rows c.args.at c.index-rows-at.result c.requires c.index-rows-at.is ∙ sym c.in-None.ensures))
+    sym (repeats-none (map g.R.Record.slot_of rows) c.args.at
+    (named-map g.R.Record.slot_of rows c.args.at c.index-rows-at.result c.requires c.index-rows-at.is ∙ sym c.in-None.ensures))

@@ -1,4 +1,5 @@
-use Rattle.price_repair.proofs.EditLemmas.{IsCertifiedWith-left_out, IsCertifiedWith-cancelled, IsCertifiedWithout-restored, IsCertifiedWithout-appended, IsCertifiedWithout-replaced}
+use Rattle.price_repair.proofs.EditLemmas.{IsCertifiedWith-left_out, IsCertifiedWith-cancelled, IsCertifiedWithout-restored}
+use Rattle.price_repair.proofs.EditLemmas.{IsCertifiedWithout-appended, IsCertifiedWithout-replaced}
 use Rattle.price_repair.proofs.laws.edit_law.Goals as goal
 
 pub returns-clause-left_out : goal.returns-clause-left_out

@@ -10,5 +10,6 @@ pub returns-in-Ok : goal.returns-in-Ok
 returns-in-Ok c =
     let files = sample_files c.args.trips in
     let pages : c.in-Ok.read.pages ≡ pages_in feed_papers files =
-    pages_told files feed_papers c.in-Ok.read.pages (subst (λ (fs : Files). AreRead (Some fs) feed_papers c.in-Ok.read.pages) c.in_ok-shelf.ensures.files c.in-Ok.ensures.read) in
+    pages_told files feed_papers c.in-Ok.read.pages
+    (subst (λ (fs : Files). AreRead (Some fs) feed_papers c.in-Ok.read.pages) c.in_ok-shelf.ensures.files c.in-Ok.ensures.read) in
     λ i. record { pages = pages i; journal = c.in-Ok.ensures.journal i }

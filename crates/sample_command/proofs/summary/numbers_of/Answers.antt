@@ -5,13 +5,16 @@ use Rattle.sample_command.proofs.AcceptedLemmas.{not-no, verdict-yes, same-vehic
 use Rattle.sample_command.proofs.summary.numbers_of.Goals as goal
 
 pub claim_of-requires-clause-prices : goal.claim_of-requires-clause-prices
-claim_of-requires-clause-prices g c = ap (λ (plan : Plan). length plan.next) c.plan-plan.ensures ∙ c.in_ok-schedule.ensures.scheduled.certified.slots
+claim_of-requires-clause-prices g c = ap (λ (plan : Plan). length plan.next) c.plan-plan.ensures
+    ∙ c.in_ok-schedule.ensures.scheduled.certified.slots
 
 pub claim_of-requires-clause-accepted : goal.claim_of-requires-clause-accepted
 claim_of-requires-clause-accepted g c =
     let scheduled = c.in_ok-schedule.ensures.scheduled in
-    subst (λ (plan : Plan). IsAccepted c.args.timetable.now c.args.matrix.now c.args.prefix.now c.in_ok-schedule.schedule.blocks plan.leave plan.enter) (sym c.plan-plan.ensures)
-    (c.accepted_law.ensures.accepted c.args.timetable.now c.args.matrix.now c.args.prefix.now c.in_ok-schedule.schedule.solver c.in_ok-schedule.schedule.blocks (record {
+    subst (λ (plan : Plan). IsAccepted c.args.timetable.now c.args.matrix.now c.args.prefix.now c.in_ok-schedule.schedule.blocks plan.leave
+    plan.enter) (sym c.plan-plan.ensures)
+    (c.accepted_law.ensures.accepted c.args.timetable.now c.args.matrix.now c.args.prefix.now c.in_ok-schedule.schedule.solver
+    c.in_ok-schedule.schedule.blocks (record {
       valid = c.slots-slots.ensures.valid;
       pulls = c.places-places.ensures.valid;
       certified = scheduled.certified;
@@ -34,8 +37,10 @@ unreachable-requires g c =
       begun = c.utf8.prefix;
       names = c.requires.names;
     }) in
-    let read = subst (λ (p : Plan). written timetable matrix c.args.prefix.now blocks p.leave p.enter ≡ Ok c.in_ok-claimed.claimed) c.plan-plan.ensures c.in_ok-claimed.ensures.claim in
-    not-no c.in-No.field-0 _ _ (sym c.in-No.is ∙ c.check.ensures.verdict ∙ verdict-yes timetable matrix c.args.prefix.now blocks plan.leave plan.enter c.in_ok-claimed.claimed accepted read)
+    let read = subst (λ (p : Plan). written timetable matrix c.args.prefix.now blocks p.leave p.enter ≡ Ok c.in_ok-claimed.claimed)
+    c.plan-plan.ensures c.in_ok-claimed.ensures.claim in
+    not-no c.in-No.field-0 _ _ (sym c.in-No.is ∙ c.check.ensures.verdict
+    ∙ verdict-yes timetable matrix c.args.prefix.now blocks plan.leave plan.enter c.in_ok-claimed.claimed accepted read)
 
 pub returns-clause-summary : goal.returns-clause-summary
 returns-clause-summary g c =
@@ -51,8 +56,10 @@ returns-clause-summary g c =
       begun = c.utf8.prefix;
       names = c.requires.names;
     }) in
-    let read = subst (λ (p : Plan). written timetable matrix c.args.prefix.now blocks p.leave p.enter ≡ Ok c.in_ok-claimed.claimed) c.plan-plan.ensures c.in_ok-claimed.ensures.claim in
-    let yes = sym c.in-Yes.is ∙ c.check.ensures.verdict ∙ verdict-yes timetable matrix c.args.prefix.now blocks plan.leave plan.enter c.in_ok-claimed.claimed accepted read in
+    let read = subst (λ (p : Plan). written timetable matrix c.args.prefix.now blocks p.leave p.enter ≡ Ok c.in_ok-claimed.claimed)
+    c.plan-plan.ensures c.in_ok-claimed.ensures.claim in
+    let yes = sym c.in-Yes.is ∙ c.check.ensures.verdict
+    ∙ verdict-yes timetable matrix c.args.prefix.now blocks plan.leave plan.enter c.in_ok-claimed.claimed accepted read in
     record {
       plan = plan;
       blocks = blocks;

@@ -5,4 +5,5 @@ use Rattle.claim_files.specs.Written.{IsName}
 use Rattle.sample_command.proofs.summary.summed.Goals as goal
 
 pub numbers_of-requires-clause-names : goal.numbers_of-requires-clause-names
-numbers_of-requires-clause-names g c = subst (λ (t : TimetableView). All (λ slot. IsName slot.name) t.slots) (sym c.timetable-timetable.ensures) c.requires.names
+numbers_of-requires-clause-names g c =
+    subst (λ (t : TimetableView). All (λ slot. IsName slot.name) t.slots) (sym c.timetable-timetable.ensures) c.requires.names

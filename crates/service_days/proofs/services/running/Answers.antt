@@ -7,5 +7,6 @@ pub returns-clause-exact : goal.returns-clause-exact
 returns-clause-exact c = record {
   services = c.in_ok-services.services;
   said = c.in_ok-services.ensures;
-  running = subst (AreRunning c.in_ok-services.services c.args.date) (sym c.in_ok-running.ensures) (are-running c.in_ok-services.services c.args.date);
+  running = subst (AreRunning c.in_ok-services.services c.args.date) (sym c.in_ok-running.ensures)
+      (are-running c.in_ok-services.services c.args.date);
 }

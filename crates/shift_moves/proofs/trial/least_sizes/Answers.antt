@@ -10,9 +10,18 @@ returns-clause-earlier c size h =
     let t = c.args.timetable.now in
     let d = c.args.deficits.now in
     let stands = c.as_move-stands.result in
-    not-earlier t c.args.slot size c.max-came.result.1 stands c.requires.slot c.requires.live (c.as_move-stands.ensures ∙ ap move_of c.trip.ensures.value)
-    (omega (arith, c.trip.ensures.valid.forward, ap (λ (x : Move). x.leaves) c.as_move-stands.ensures, ap (λ (x : Move). x.arrives) c.as_move-stands.ensures))
-    (high-read t d stands.to c.max-came.result.0 c.max-came.result.1 (λ k minute within early. c.held_law.ensures.deficit d (live_moves t.slots) k minute c.places-places.ensures.valid c.requires.held within early)
+    not-earlier t c.args.slot size c.max-came.result.1 stands c.requires.slot c.requires.live
+    (c.as_move-stands.ensures ∙ ap move_of c.trip.ensures.value)
+    (omega (
+      arith,
+      c.trip.ensures.valid.forward,
+      ap (λ (x : Move). x.leaves) c.as_move-stands.ensures,
+      ap (λ (x : Move). x.arrives)
+          c.as_move-stands.ensures,
+    ))
+    (high-read t d stands.to c.max-came.result.0 c.max-came.result.1
+    (λ k minute within early. c.held_law.ensures.deficit d (live_moves t.slots) k minute c.places-places.ensures.valid c.requires.held
+    within early)
     (omega (arith, c.requires.rows, c.trip.ensures.valid.to, ap (λ (x : Move). x.to) c.as_move-stands.ensures)) c.max-came.ensures.computed)
     (c.least_earlier.ensures size h)
 
@@ -21,7 +30,11 @@ returns-clause-later c size h =
     let t = c.args.timetable.now in
     let d = c.args.deficits.now in
     let stands = c.as_move-stands.result in
-    not-later t c.args.slot size c.max-left.result.1 stands c.requires.slot c.requires.live (c.as_move-stands.ensures ∙ ap move_of c.trip.ensures.value)
-    (high-read t d stands.from c.max-left.result.0 c.max-left.result.1 (λ k minute within early. c.held_law.ensures.deficit d (live_moves t.slots) k minute c.places-places.ensures.valid c.requires.held within early)
-    (omega (arith, c.requires.rows, c.trip.ensures.valid.from, ap (λ (x : Move). x.from) c.as_move-stands.ensures)) c.max-left.ensures.computed)
+    not-later t c.args.slot size c.max-left.result.1 stands c.requires.slot c.requires.live
+    (c.as_move-stands.ensures ∙ ap move_of c.trip.ensures.value)
+    (high-read t d stands.from c.max-left.result.0 c.max-left.result.1
+    (λ k minute within early. c.held_law.ensures.deficit d (live_moves t.slots) k minute c.places-places.ensures.valid c.requires.held
+    within early)
+    (omega (arith, c.requires.rows, c.trip.ensures.valid.from, ap (λ (x : Move). x.from) c.as_move-stands.ensures))
+    c.max-left.ensures.computed)
     (c.least_later.ensures size h)

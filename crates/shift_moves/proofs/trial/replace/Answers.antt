@@ -8,12 +8,14 @@ use Rattle.shift_moves.proofs.trial.replace.Goals as goal
 pub take-requires-clause-lowered : goal.take-requires-clause-lowered
 take-requires-clause-lowered g c =
     let among = c.requires.held in
-    (HasRoomFor-few c.args.deficits.now (among.front ++ c.args.taken.now ∷ among.back) c.args.taken.now c.requires.taken among.held among.few).from_lowered
+    (HasRoomFor-few c.args.deficits.now (among.front ++ c.args.taken.now ∷ among.back) c.args.taken.now c.requires.taken among.held
+    among.few).from_lowered
 
 pub take-requires-clause-raised : goal.take-requires-clause-raised
 take-requires-clause-raised g c =
     let among = c.requires.held in
-    (HasRoomFor-few c.args.deficits.now (among.front ++ c.args.taken.now ∷ among.back) c.args.taken.now c.requires.taken among.held among.few).to_raised
+    (HasRoomFor-few c.args.deficits.now (among.front ++ c.args.taken.now ∷ among.back) c.args.taken.now c.requires.taken among.held
+    among.few).to_raised
 
 pub take-requires-clause-begins : goal.take-requires-clause-begins
 take-requires-clause-begins g c =
@@ -23,15 +25,29 @@ take-requires-clause-begins g c =
 pub add-requires-clause-raised : goal.add-requires-clause-raised
 add-requires-clause-raised g c =
     let among = c.requires.held in
-    let few : length (among.front ++ among.back) ≤ 4096 = (let all = among.few in omega (arith, length-append among.front among.back, length-append among.front (c.args.taken.now ∷ among.back))) in
-    (HasRoomFor-few c.take.new.self (among.front ++ among.back) c.args.added.now (subst (λ n. IsMove n c.args.added.now) (sym c.take.ensures.places) c.requires.added)
+    let few : length (among.front ++ among.back) ≤ 4096 =
+    (let all = among.few in omega (
+      arith,
+      length-append among.front among.back,
+      length-append among.front
+          (c.args.taken.now ∷ among.back),
+    )) in
+    (HasRoomFor-few c.take.new.self (among.front ++ among.back) c.args.added.now
+    (subst (λ n. IsMove n c.args.added.now) (sym c.take.ensures.places) c.requires.added)
     (c.take.ensures.held among.front among.back among.held) few).from_raised
 
 pub add-requires-clause-lowered : goal.add-requires-clause-lowered
 add-requires-clause-lowered g c =
     let among = c.requires.held in
-    let few : length (among.front ++ among.back) ≤ 4096 = (let all = among.few in omega (arith, length-append among.front among.back, length-append among.front (c.args.taken.now ∷ among.back))) in
-    (HasRoomFor-few c.take.new.self (among.front ++ among.back) c.args.added.now (subst (λ n. IsMove n c.args.added.now) (sym c.take.ensures.places) c.requires.added)
+    let few : length (among.front ++ among.back) ≤ 4096 =
+    (let all = among.few in omega (
+      arith,
+      length-append among.front among.back,
+      length-append among.front
+          (c.args.taken.now ∷ among.back),
+    )) in
+    (HasRoomFor-few c.take.new.self (among.front ++ among.back) c.args.added.now
+    (subst (λ n. IsMove n c.args.added.now) (sym c.take.ensures.places) c.requires.added)
     (c.take.ensures.held among.front among.back among.held) few).to_lowered
 
 pub returns-clause-held : goal.returns-clause-held

@@ -14,8 +14,10 @@ all_units g c =
 
 pub returns-clause-tree : goal.returns-clause-tree
 returns-clause-tree g c =
-    subst (IsTree g.S.Summary.sums g.S.Summary.empty g.S.Summary.joined c.args.leaves) (sym (all_units g c)) (units_are_tree g.met.S.Summary.laws c.args.leaves)
+    subst (IsTree g.S.Summary.sums g.S.Summary.empty g.S.Summary.joined c.args.leaves) (sym (all_units g c))
+    (units_are_tree g.met.S.Summary.laws c.args.leaves)
 
 pub returns-clause-units : goal.returns-clause-units
 returns-clause-units g c =
-    All-same (λ node. node ≡ g.S.Summary.empty) _ _ (all_units g c) (All-replicate (λ node. node ≡ g.S.Summary.empty) (2 * c.args.leaves) g.S.Summary.empty refl)
+    All-same (λ node. node ≡ g.S.Summary.empty) _ _ (all_units g c)
+    (All-replicate (λ node. node ≡ g.S.Summary.empty) (2 * c.args.leaves) g.S.Summary.empty refl)

@@ -1,5 +1,6 @@
 use Rattle.trip_model.proofs.Counting.{runs-within}
-use Rattle.trip_model.proofs.PlainLemmas.{made-trips, AreMoves-trips, AreDepartures-plain, AreDepartures-timely, AreLinks-timely, IsLeast-plain}
+use Rattle.trip_model.proofs.PlainLemmas.{made-trips, AreMoves-trips, AreDepartures-plain, AreDepartures-timely, AreLinks-timely}
+use Rattle.trip_model.proofs.PlainLemmas.{IsLeast-plain}
 use Rattle.trip_model.proofs.laws.plain_law.Goals as goal
 
 pub returns-clause-within : goal.returns-clause-within

@@ -18,4 +18,5 @@ returns-clause-within c =
 
 pub returns-clause-live : goal.returns-clause-live
 returns-clause-live c =
-    All-permutation (λ s. (slot_at c.args.timetable.now s).trip.live ≡ true) _ _ c.in_ok-sort_by_key.ensures.permutation c.in_ok-order.ensures.live
+    All-permutation (λ s. (slot_at c.args.timetable.now s).trip.live ≡ true) _ _ c.in_ok-sort_by_key.ensures.permutation
+    c.in_ok-order.ensures.live

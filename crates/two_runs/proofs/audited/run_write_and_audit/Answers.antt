@@ -12,5 +12,6 @@ returns g c = record {
   write = c.run_write-first.ensures;
   audit = c.run_audit-second.ensures;
   least = λ all low.
-      finds-written-least c.plan_law.ensures _ _ _ _ _ _ _ _ (c.run_write-first.ensures.run.ended (omega (arith, all))) (c.run_audit-second.ensures.run.ended low) all;
+      finds-written-least c.plan_law.ensures _ _ _ _ _ _ _ _ (c.run_write-first.ensures.run.ended (omega (arith, all)))
+      (c.run_audit-second.ensures.run.ended low) all;
 }

@@ -6,7 +6,8 @@ use Rattle.write_command.proofs.write.written.Goals as goal
 pub returns : goal.returns
 returns c =
     let drawn = c.args.drawn.now in
-    let writes = c.in_ok-writes.ensures ∙ (λ i. files_of c.args.settings.now (c.timetable-timetable.ensures.timetable i) drawn.blocks c.args.trips.now c.args.stop_times) in
+    let writes = c.in_ok-writes.ensures
+    ∙ (λ i. files_of c.args.settings.now (c.timetable-timetable.ensures.timetable i) drawn.blocks c.args.trips.now c.args.stop_times) in
     let text = c.wrap.ensures ∙ c.in_ok-text.ensures.ok ∙ ap (λ r. r ++ written_line) c.as_str-refused.ensures in
     record {
       text = subst IsUtf8 (c.as_bytes-prefix.ensures.value ∙ c.prefix.ensures) c.as_bytes-prefix.ensures.utf8;

@@ -10,19 +10,23 @@ returns-in-Refused-clause-writes g c =
     let read = c.args.said.read.now in
     let said = said_to c.args.said in
     refused-by said c.timetable-stands.result.now c.slots-slots.result (trips_in read) (stop_times_in read) c.in-Refused.outcome
-    (subst (IsWritable said.settings c.timetable-stands.result.now c.slots-slots.result (trips_in read) (stop_times_in read)) c.in-Refused.is c.in_ok-outcome.ensures)
+    (subst (IsWritable said.settings c.timetable-stands.result.now c.slots-slots.result (trips_in read) (stop_times_in read))
+    c.in-Refused.is c.in_ok-outcome.ensures)
 
 pub written-requires-clause-trips : goal.written-requires-clause-trips
 written-requires-clause-trips g c =
     let read = c.args.said.read.now in
     texts-of (trips_in read) c.in-Texts.trips
-    (subst (IsWritable c.args.said.settings.now c.timetable-stands.result.now c.slots-slots.result (trips_in read) (stop_times_in read)) c.in-Texts.is c.in_ok-outcome.ensures).0
+    (subst (IsWritable c.args.said.settings.now c.timetable-stands.result.now c.slots-slots.result (trips_in read) (stop_times_in read))
+    c.in-Texts.is c.in_ok-outcome.ensures).0
 
 pub returns-clause-writes : goal.returns-clause-writes
 returns-clause-writes g c =
     let read = c.args.said.read.now in
     let said = said_to c.args.said in
-    written-given read said c.in_ok-matrix.matrix c.in_ok-drawn.drawn c.timetable-stands.result.now c.slots-slots.result c.in-Texts.trips c.in-Texts.stop_times
+    written-given read said c.in_ok-matrix.matrix c.in_ok-drawn.drawn c.timetable-stands.result.now c.slots-slots.result c.in-Texts.trips
+    c.in-Texts.stop_times
     c.in_ok-matrix.ensures c.in_ok-drawn.ensures.drawn c.timetable-stands.ensures.timetable c.slots-slots.ensures.count
-    (subst (IsWritable said.settings c.timetable-stands.result.now c.slots-slots.result (trips_in read) (stop_times_in read)) c.in-Texts.is c.in_ok-outcome.ensures)
+    (subst (IsWritable said.settings c.timetable-stands.result.now c.slots-slots.result (trips_in read) (stop_times_in read)) c.in-Texts.is
+    c.in_ok-outcome.ensures)
     c.written.result c.written.ensures

@@ -5,4 +5,5 @@ use Rattle.written_laws.proofs.laws.plan_law.Goals as goal
 
 pub returns : goal.returns
 returns c = written-states-plan (λ timetable matrix valid.
-    c.deadhead_law.ensures.departures (length timetable.places) (trip_moves timetable.slots) matrix (c.plain_law.ensures.moves timetable valid))
+    c.deadhead_law.ensures.departures (length timetable.places) (trip_moves timetable.slots) matrix
+    (c.plain_law.ensures.moves timetable valid))

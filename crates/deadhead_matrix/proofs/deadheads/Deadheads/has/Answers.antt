@@ -14,5 +14,7 @@ returns c =
     ∙ c.index-row.ensures
     ∙ ap (λ a. get_or ways a c.index-row.result.now) c.from.ensures
     ∙ get_or_default ways c.args.from c.index-row.result.now [] (omega (arith, c.requires.from, c.self.invariant.rows.rows)) in
-    let same : not (get_or c.minutes.result.now c.from-2.result 0 == 0) ≡ not (way ways c.args.from c.args.to == 0) = (λ i. not (get_or (row i) (c.from-2.ensures i) 0 == 0)) in
-    same ∙ has_entry-told c.self.inside.entries.items ways c.args.from c.args.to c.self.invariant ∙ ap (λ entries. has_entry entries c.args.from c.args.to) c.self.view_is
+    let same : not (get_or c.minutes.result.now c.from-2.result 0 == 0) ≡ not (way ways c.args.from c.args.to == 0) =
+    (λ i. not (get_or (row i) (c.from-2.ensures i) 0 == 0)) in
+    same ∙ has_entry-told c.self.inside.entries.items ways c.args.from c.args.to c.self.invariant
+    ∙ ap (λ entries. has_entry entries c.args.from c.args.to) c.self.view_is

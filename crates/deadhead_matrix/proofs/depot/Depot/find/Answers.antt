@@ -13,4 +13,5 @@ returns-clause-value c = c.copied.ensures ∙ c.find.ensures ∙ ap (value_of c.
 pub returns-clause-valid : goal.returns-clause-valid
 returns-clause-valid c =
     let short = subst (λ (rows : Entries Pull). All (λ row. IsPull row.1) rows) c.self.view_is c.self.invariant in
-    subst (λ found. IfSome found IsPull) (sym (returns-clause-value c)) (All-lookup IsPull (bytes_eq c.args.terminal.now) c.args.self.now short)
+    subst (λ found. IfSome found IsPull) (sym (returns-clause-value c))
+    (All-lookup IsPull (bytes_eq c.args.terminal.now) c.args.self.now short)

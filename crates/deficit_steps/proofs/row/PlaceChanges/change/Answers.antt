@@ -13,7 +13,8 @@ set-requires-clause-lawful g c =
     let there : n < length changes = omega (arith, c.requires.valid.minutes) in
     let read = change_read c.self.inside.tree changes n c.leaf.result c.self.view_is c.leaf.ensures.found in
     let raised = raised-is changes n c.leaf.result.sum c.args.by read there c.requires.valid.bounded c.ranges.by c.requires.bounded in
-    SumsLeaves-change _ (subst IsChange (sym raised) c.requires.bounded) (to_z-of_z w32 c.max.result (record { sfits = c.max.type_inv }) ∙ c.max.ensures.value)
+    SumsLeaves-change _ (subst IsChange (sym raised) c.requires.bounded)
+    (to_z-of_z w32 c.max.result (record { sfits = c.max.type_inv }) ∙ c.max.ensures.value)
 
 pub returns-clause-changed : goal.returns-clause-changed
 returns-clause-changed g c =

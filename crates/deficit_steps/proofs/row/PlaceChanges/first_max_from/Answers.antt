@@ -15,7 +15,8 @@ returns-clause-found c =
     let same = to_z-of_z w32 c.greatest_prefix-high.result (record { sfits = c.greatest_prefix-high.type_inv }) in
     IfSome_then c.first_from.result c.first_from.ensures.found
     (λ at found. subst (λ xs. IsNextMaximum (value_in xs) from at) c.self.view_is
-    (IsNextMaximum-reaching leaves _ from at valid c.greatest_prefix-high.ensures (subst (λ v. IsFirstReaching leaves from v at) same found)))
+    (IsNextMaximum-reaching leaves _ from at valid c.greatest_prefix-high.ensures
+    (subst (λ v. IsFirstReaching leaves from v at) same found)))
 
 pub returns-clause-none : goal.returns-clause-none
 returns-clause-none c =

@@ -10,4 +10,5 @@ returns-clause-empty c = no_changes c.in_ok-open.field-0 c.in_ok-open.ensures.co
 pub returns-clause-valid : goal.returns-clause-valid
 returns-clause-valid c =
     let leaves = c.in_ok-open.field-0 in
-    AreChanges-none _ (length-map leaves (λ (l : MaxPrefix). l.sum) ∙ c.in_ok-open.ensures.count) (no_changes leaves c.in_ok-open.ensures.count c.in_ok-open.ensures.units)
+    AreChanges-none _ (length-map leaves (λ (l : MaxPrefix). l.sum) ∙ c.in_ok-open.ensures.count)
+    (no_changes leaves c.in_ok-open.ensures.count c.in_ok-open.ensures.units)

@@ -2,7 +2,8 @@ use Rattle.std.proofs.Common.{◌≡◌, ◌<◌, length, refl, sym, ap, ◌∙�
 use Rattle.trip_model.proofs.StepsLemmas.{steps_before-zero, steps-at_end}
 use Rattle.deficit_steps.specs.Changes.{value_in}
 use Rattle.deficit_steps.proofs.LeavesLemmas.{change_read}
-use Rattle.deficit_steps.proofs.RowLemmas.{next_sum-fits, next_sum-is, steps_before-same, steps_before-step, change_is_zero, change_is_not_zero}
+use Rattle.deficit_steps.proofs.RowLemmas.{next_sum-fits, next_sum-is, steps_before-same, steps_before-step, change_is_zero}
+use Rattle.deficit_steps.proofs.RowLemmas.{change_is_not_zero}
 use Rattle.deficit_steps.proofs.row.PlaceChanges.step_list.Goals as goal
 use Rattle.deficit_steps.proofs.row.PlaceChanges.step_list.Goals.{then-change-ne0+in_ok-push, else-change-ne0}
 
@@ -15,9 +16,11 @@ loop-minute-init c = record {
 pub overflow_add-value : goal.overflow_add-value
 overflow_add-value c =
     let changes = c.args.self.now in
-    let read = change_read c.self.inside.tree changes c.loop-minute.minute c.leaf-change.result c.self.view_is c.leaf-change.ensures.found in
+    let read = change_read c.self.inside.tree changes c.loop-minute.minute c.leaf-change.result c.self.view_is
+    c.leaf-change.ensures.found in
     let there : c.loop-minute.minute < length changes = omega (arith, c.requires.minutes) in
-    next_sum-fits changes c.loop-minute.minute _ _ read c.requires.bounded (omega (arith, c.requires.minutes)) there c.loop-minute.invariant.sum
+    next_sum-fits changes c.loop-minute.minute _ _ read c.requires.bounded (omega (arith, c.requires.minutes)) there
+    c.loop-minute.invariant.sum
 
 pub loop-minute-preserved : goal.loop-minute-preserved
 loop-minute-preserved c =

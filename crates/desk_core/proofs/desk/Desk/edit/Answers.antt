@@ -15,25 +15,34 @@ repair-requires-clause-may g c =
     let m = c.self.inside.matrix in
     let told = subst (IsSlotOf c.args.edit.now s.timetable) c.in-Some.is c.in_ok-touched.ensures.slot in
     subst (λ (t : TimetableView). MayRepair c.args.edit.now c.in-Some.slot t m c.reserve.new.self.plan) (sym c.timetable-timetable.ensures)
-    (subst (λ (h : HistoryView). MayRepair c.args.edit.now c.in-Some.slot c.step.new.script.timetable m h.plan) (sym c.in_ok-reserve.ensures.seen)
-    (may-repair s c.step.new.script m c.self.inside.history.plan c.args.number c.in-Some.slot c.self.invariant.plan c.self.invariant.places (subst IsTimetable c.timetable.ensures c.slots-slots.ensures.valid)
+    (subst (λ (h : HistoryView). MayRepair c.args.edit.now c.in-Some.slot c.step.new.script.timetable m h.plan)
+    (sym c.in_ok-reserve.ensures.seen)
+    (may-repair s c.step.new.script m c.self.inside.history.plan c.args.number c.in-Some.slot c.self.invariant.plan c.self.invariant.places
+    (subst IsTimetable c.timetable.ensures c.slots-slots.ensures.valid)
     c.args.edit.now c.requires.trip told c.in_ok-touched.ensures.accepted))
 
 pub invariant_of-self-2 : goal.invariant_of-self-2
 invariant_of-self-2 g c =
-    IsDesk-edited c.self.inside.script c.step.new.script c.self.inside.matrix c.self.inside.history c.reserve.new.self c.repair.new.history c.args.number c.args.edit.now c.in_ok-reserve.ensures.seen
-    c.requires.trip c.in_ok-touched.ensures.accepted c.repair.ensures.earlier c.repair.ensures.later c.self.inside.deficits c.step.new.deficits c.self.invariant
-    (subst (λ (t : TimetableView). IsPlanFor t c.self.inside.matrix c.repair.new.history.plan) c.timetable-timetable.ensures c.repair.ensures.plan)
+    IsDesk-edited c.self.inside.script c.step.new.script c.self.inside.matrix c.self.inside.history c.reserve.new.self c.repair.new.history
+    c.args.number c.args.edit.now c.in_ok-reserve.ensures.seen
+    c.requires.trip c.in_ok-touched.ensures.accepted c.repair.ensures.earlier c.repair.ensures.later c.self.inside.deficits
+    c.step.new.deficits c.self.invariant
+    (subst (λ (t : TimetableView). IsPlanFor t c.self.inside.matrix c.repair.new.history.plan) c.timetable-timetable.ensures
+    c.repair.ensures.plan)
     c.in_ok-touched.ensures.held c.in_ok-touched.ensures.rows c.in_ok-touched.ensures.places
 
 pub returns-clause-done : goal.returns-clause-done
 returns-clause-done g c =
-    subst (λ (old : DeskView). IsDone c.args.number c.args.edit.now old (desk_seen c.step.new.script c.self.inside.matrix c.repair.new.history)) c.self.view_is
-    (IsDone-edited c.self.inside.script c.step.new.script c.self.inside.matrix c.self.inside.history c.reserve.new.self c.repair.new.history c.args.number c.args.edit.now c.in_ok-reserve.ensures.seen
+    subst (λ (old : DeskView). IsDone c.args.number c.args.edit.now old
+    (desk_seen c.step.new.script c.self.inside.matrix c.repair.new.history)) c.self.view_is
+    (IsDone-edited c.self.inside.script c.step.new.script c.self.inside.matrix c.self.inside.history c.reserve.new.self
+    c.repair.new.history c.args.number c.args.edit.now c.in_ok-reserve.ensures.seen
     c.requires.trip c.in_ok-touched.ensures.accepted c.repair.ensures.earlier c.repair.ensures.later c.in-Some.slot
     (subst (IsSlotOf c.args.edit.now c.self.inside.script.timetable) c.in-Some.is c.in_ok-touched.ensures.slot) c.repair.ensures.links
-    (c.repair.ensures.found ∙ ap (λ (t : TimetableView). plan_repaired c.args.edit.now c.in-Some.slot t c.self.inside.matrix c.reserve.new.self.plan) c.timetable-timetable.ensures))
+    (c.repair.ensures.found ∙ ap (λ (t : TimetableView). plan_repaired c.args.edit.now c.in-Some.slot t c.self.inside.matrix
+    c.reserve.new.self.plan) c.timetable-timetable.ensures))
 
 pub returns-clause-counted : goal.returns-clause-counted
 returns-clause-counted g c =
-    counted-trip c.args.edit.now (length c.step.new.script.timetable.slots) _ _ _ _ c.requires.trip (ap (λ (t : TimetableView). length t.slots) c.timetable-timetable.ensures) c.in_ok-touched.ensures.counted c.repair.ensures.counted
+    counted-trip c.args.edit.now (length c.step.new.script.timetable.slots) _ _ _ _ c.requires.trip
+    (ap (λ (t : TimetableView). length t.slots) c.timetable-timetable.ensures) c.in_ok-touched.ensures.counted c.repair.ensures.counted

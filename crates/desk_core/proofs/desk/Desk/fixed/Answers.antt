@@ -10,13 +10,16 @@ pub overflow_cast-result : goal.overflow_cast-result
 overflow_cast-result c =
     let t = c.self.inside.script.timetable in
     let deficits = c.self.inside.deficits in
-    let total = total-is t deficits c.total.result c.self.invariant.rows c.total.ensures (c.held_law.ensures.total deficits (live_moves t.slots) c.places-rows.ensures.valid c.self.invariant.held) in
-    let few : c.total.result < 4294967296 = total-few t c.total.result (subst IsTimetable c.timetable.ensures c.places-places.ensures.valid) total in
+    let total = total-is t deficits c.total.result c.self.invariant.rows c.total.ensures
+    (c.held_law.ensures.total deficits (live_moves t.slots) c.places-rows.ensures.valid c.self.invariant.held) in
+    let few : c.total.result < 4294967296 =
+    total-few t c.total.result (subst IsTimetable c.timetable.ensures c.places-places.ensures.valid) total in
     omega (arith, few)
 
 pub returns : goal.returns
 returns c =
     let t = c.self.inside.script.timetable in
     let deficits = c.self.inside.deficits in
-    total-is t deficits c.total.result c.self.invariant.rows c.total.ensures (c.held_law.ensures.total deficits (live_moves t.slots) c.places-rows.ensures.valid c.self.invariant.held)
+    total-is t deficits c.total.result c.self.invariant.rows c.total.ensures
+    (c.held_law.ensures.total deficits (live_moves t.slots) c.places-rows.ensures.valid c.self.invariant.held)
     ∙ ap (λ (d : DeskView). sum_of_maxima (deficit (live_moves d.script.timetable.slots)) (length d.script.timetable.places)) c.self.view_is

@@ -36,12 +36,14 @@ module _ {M : Type 1} {𝓤 : Ura M} (𝓛 : Logic 𝓤) (memory : Memory → SP
     abbrev at : (walk_of 𝓛 called.ended stays (called.clauses 𝓛 memory run)).Ghost
     at = ((tt, tt, tt, tt, tt), tt)
 
-    walk : ent 𝓤 (on_entry 𝓛 called.signature tt tt tt tt) (WpFn 𝓤 H C Λ code.function [] ((walk_of 𝓛 called.ended stays (called.clauses 𝓛 memory run)).post at))
+    walk : ent 𝓤 (on_entry 𝓛 called.signature tt tt tt tt)
+        (WpFn 𝓤 H C Λ code.function [] ((walk_of 𝓛 called.ended stays (called.clauses 𝓛 memory run)).post at))
     walk =
         qed 𝓛 (raw (alive 𝓛 called.signature tt tt) ∷ ‵ (owns [] tt tt) ∷ []) ∵ enter ! C Λ code.function [] _ $
         alloc_all ! (λ l. pass_all ! refl tt $ sets ! (agg ! (no_more !)) refl (tt, tt) $
         returns ! (look_at ! 0 refl) $ free_all ! refl $
-        suffices ! _ (ends_at 𝓛 called.ended stays (called.clauses 𝓛 memory run) at (vstruct vnil) (record { calls = [] }) tt tt) $ says ! refl $
+        suffices ! _ (ends_at 𝓛 called.ended stays (called.clauses 𝓛 memory run) at (vstruct vnil) (record { calls = [] }) tt tt) $ says !
+        refl $
         pure_i ! (history.the_row.own_val (record { calls = [] }) (vstruct vnil ∷ [])) ((λ vss. (tt, tt)), tt) ((tt, (refl, tt)), tt) $
         move ! (1 ∷ 2 ∷ 0 ∷ []) $ done !)
 

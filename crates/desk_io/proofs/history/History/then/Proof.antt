@@ -35,13 +35,17 @@ use Rattle.desk_io.proofs.history.History.then.Statement as stated
 use Rattle.desk_io.proofs.history.History.then.Code as code
 
 abbrev stays : Stays called.ended.signature.params called.ended.kept
-stays = (stay_none_ref (0 ∷ []) tt (plain (λ _. history.the_row)) yes, (stay_none_ref (1 ∷ []) tt (plain (λ κs. request.the_row (named_lft 3 2 tt κs))) yes, tt))
+stays = (
+  stay_none_ref (0 ∷ []) tt (plain (λ _. history.the_row)) yes,
+  (stay_none_ref (1 ∷ []) tt (plain (λ κs. request.the_row (named_lft 3 2 tt κs))) yes, tt),
+)
 
 module _ {M : Type 1} {𝓤 : Ura M} (𝓛 : Logic 𝓤) (memory : Memory → SProp 𝓤) (run : Routine → Fun 𝓤) where
   open 𝓛 use {H}
 
   module _ (C : Calls 𝓤 H) (Λ : Loops 𝓤 H) where
-    module _ (κs : Lfts 3) (qs : Shares 3) (outlive : AllOutlive called.ended.signature.lifetimes called.ended.signature.outlives κs) (a : Args called.signature κs) where
+    module _ (κs : Lfts 3) (qs : Shares 3) (outlive : AllOutlive called.ended.signature.lifetimes called.ended.signature.outlives κs)
+        (a : Args called.signature κs) where
       abbrev before : Val
       before = vptr a.0.ref_ptr.0 a.0.ref_ptr.1
 
@@ -60,8 +64,10 @@ module _ {M : Type 1} {𝓤 : Ura M} (𝓛 : Logic 𝓤) (memory : Memory → SP
           qed 𝓛 (raw (alive 𝓛 called.signature κs qs) ∷ ‵ lent ∷ []) ∵ enter ! C Λ code.function (before ∷ asked ∷ []) _ $
           alloc_all ! (λ l. pass_all ! refl ((tt, tt), ((tt, tt), tt)) $ sets ! (agg ! (no_more !)) refl (tt, tt) $
           returns ! (look_at ! 0 refl) $ free_all ! refl $
-          suffices ! _ (ends_at 𝓛 called.ended stays (called.clauses 𝓛 memory run) at (vstruct vnil) (record { calls = a.0.now.calls ++ call_of a.1.0.now ∷ [] }) (tt, (tt, tt)) (tt, (tt, tt))) $ says ! refl $
-          pure_i ! (history.the_row.own_val (record { calls = a.0.now.calls ++ call_of a.1.0.now ∷ [] }) (vstruct vnil ∷ [])) ((λ vss. (tt, tt)), tt) ((tt, (refl, tt)), tt) $
+          suffices ! _ (ends_at 𝓛 called.ended stays (called.clauses 𝓛 memory run) at (vstruct vnil)
+          (record { calls = a.0.now.calls ++ call_of a.1.0.now ∷ [] }) (tt, (tt, tt)) (tt, (tt, tt))) $ says ! refl $
+          pure_i ! (history.the_row.own_val (record { calls = a.0.now.calls ++ call_of a.1.0.now ∷ [] }) (vstruct vnil ∷ []))
+          ((λ vss. (tt, tt)), tt) ((tt, (refl, tt)), tt) $
           move ! (1 ∷ 2 ∷ 0 ∷ []) $ done !)
 
     walks : Walks 𝓛 called.ended stays (WpFn 𝓤 H C Λ code.function) (called.clauses 𝓛 memory run)
@@ -72,8 +78,10 @@ module _ {M : Type 1} {𝓤 : Ura M} (𝓛 : Logic 𝓤) (memory : Memory → SP
 
   meets : (𝓣 : Tables 𝓤 H) → Meets 𝓛 called.signature (WpFn 𝓤 H 𝓣.C 𝓣.Λ code.function) (called.spec 𝓛 memory run)
   meets 𝓣 =
-      walk_Meets 𝓛 called.ended stays
-      (Goes-none_ref 𝓛 3 (0 ∷ []) tt (plain (λ _. history.the_row)) yes, (Goes-none_ref 𝓛 3 (1 ∷ []) tt (plain (λ κs. request.the_row (named_lft 3 2 tt κs))) yes, tt))
+      walk_Meets 𝓛 called.ended stays (
+        Goes-none_ref 𝓛 3 (0 ∷ []) tt (plain (λ _. history.the_row)) yes,
+        (Goes-none_ref 𝓛 3 (1 ∷ []) tt (plain (λ κs. request.the_row (named_lft 3 2 tt κs))) yes, tt),
+      )
       (called.clauses 𝓛 memory run) (WpFn 𝓤 H 𝓣.C 𝓣.Λ code.function) (WpFn-mono 𝓤 H 𝓛.laws 𝓣 code.function) (walks 𝓣.C 𝓣.Λ)
 
 pub then_spec : {M : Type 1} → stated.statement M

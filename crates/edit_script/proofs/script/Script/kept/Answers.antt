@@ -5,4 +5,5 @@ use Rattle.edit_script.proofs.TimetablesLemmas.{length-timetables_past}
 use Rattle.edit_script.proofs.script.Script.kept.Goals as goal
 
 pub returns : goal.returns
-returns c = c.kept.ensures.count ∙ sym (length-timetables_past without_change c.self.inside.timetable c.self.inside.log.kept) ∙ ap (λ (s : ScriptView). length s.earlier) c.self.view_is
+returns c = c.kept.ensures.count ∙ sym (length-timetables_past without_change c.self.inside.timetable c.self.inside.log.kept)
+    ∙ ap (λ (s : ScriptView). length s.earlier) c.self.view_is

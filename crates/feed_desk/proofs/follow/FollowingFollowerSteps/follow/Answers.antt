@@ -14,7 +14,13 @@ stopped (Err e) S stops = stops
 
 pub returns-in_err-refused-clause-stops : goal.returns-in_err-refused-clause-stops
 returns-in_err-refused-clause-stops g c = stopped c.from_residual.result _ (λ was had lines n number_is at stands.
-    omega (arith, c.in_err-refused.ensures.uncounted, stands.1.counted, most-le was.desk.script.timetable lines n (length lines - n) (length lines) (omega (arith, at.within))))
+    omega (
+      arith,
+      c.in_err-refused.ensures.uncounted,
+      stands.1.counted,
+      most-le was.desk.script.timetable lines n (length lines - n)
+          (length lines) (omega (arith, at.within)),
+    ))
 
 pub returns-in_err-push_answer-clause-stops : goal.returns-in_err-push_answer-clause-stops
 returns-in_err-push_answer-clause-stops g c = stopped c.from_residual-in_err-push_answer.result _ (λ was had lines n number_is at stands.
@@ -23,11 +29,14 @@ returns-in_err-push_answer-clause-stops g c = stopped c.from_residual-in_err-pus
     let next = c.step_desk.new.desk in
     let refused = c.in_ok-refused.refused in
     let here = at.is line.NotAnEdit in
-    let answered = IsAnswered-next (g.A.Answers.answer was.answers) base lines was.desk had n following.desk next (string_bytes following.text) _ following.some _ c.step_desk.new.steps refused stands.1
-    (IsStepped-at lines n c.args.number c.args.line.now refused following.desk.script next.script number_is at c.in_ok-refused.ensures.stepped)
+    let answered = IsAnswered-next (g.A.Answers.answer was.answers) base lines was.desk had n following.desk next
+    (string_bytes following.text) _ following.some _ c.step_desk.new.steps refused stands.1
+    (IsStepped-at lines n c.args.number c.args.line.now refused following.desk.script next.script number_is at
+    c.in_ok-refused.ensures.stepped)
     (subst (λ l. IsFollowed l refused following.desk next) here c.in_ok-refused.ensures.followed) c.in_ok-refused.ensures.matrix
     c.plan-plan.ensures.certified (subst IsTimetable c.timetable.ensures.timetable c.slots-slots.ensures.valid) refl
-    (omega (arith, c.in_ok-refused.ensures.counted, ap (λ l. most_of l (length next.script.timetable.slots) refused) here)) (following.some || is_some refused) refl in
+    (omega (arith, c.in_ok-refused.ensures.counted, ap (λ l. most_of l (length next.script.timetable.slots) refused) here))
+    (following.some || is_some refused) refl in
     omega (arith, answered.counted, most-le base lines (n + 1) (length lines - (n + 1)) (length lines) (omega (arith, at.within))))
 
 pub returns-clause-stands : goal.returns-clause-stands
@@ -37,10 +46,14 @@ returns-clause-stands g c = λ was had lines n number_is at stands.
     let next = c.step_desk.new.desk in
     let refused = c.in_ok-refused.refused in
     let here = at.is line.NotAnEdit in
-    let answered = IsAnswered-next (g.A.Answers.answer was.answers) base lines was.desk had n following.desk next (string_bytes following.text) _ following.some _ c.step_desk.new.steps refused stands.1
-    (IsStepped-at lines n c.args.number c.args.line.now refused following.desk.script next.script number_is at c.in_ok-refused.ensures.stepped)
+    let answered = IsAnswered-next (g.A.Answers.answer was.answers) base lines was.desk had n following.desk next
+    (string_bytes following.text) _ following.some _ c.step_desk.new.steps refused stands.1
+    (IsStepped-at lines n c.args.number c.args.line.now refused following.desk.script next.script number_is at
+    c.in_ok-refused.ensures.stepped)
     (subst (λ l. IsFollowed l refused following.desk next) here c.in_ok-refused.ensures.followed) c.in_ok-refused.ensures.matrix
     c.plan-plan.ensures.certified (subst IsTimetable c.timetable.ensures.timetable c.slots-slots.ensures.valid)
-    (c.in_ok-push_answer.ensures ∙ λ i. string_bytes following.text ++ g.A.Answers.answer (stands.0 i) next.matrix (number_is i) (here i) next.script.timetable next.plan refused)
-    (omega (arith, c.in_ok-refused.ensures.counted, ap (λ l. most_of l (length next.script.timetable.slots) refused) here)) _ (λ i. following.some || c.is_some.ensures i) in
+    (c.in_ok-push_answer.ensures ∙ λ i. string_bytes following.text
+    ++ g.A.Answers.answer (stands.0 i) next.matrix (number_is i) (here i) next.script.timetable next.plan refused)
+    (omega (arith, c.in_ok-refused.ensures.counted, ap (λ l. most_of l (length next.script.timetable.slots) refused) here)) _
+    (λ i. following.some || c.is_some.ensures i) in
     (stands.0, answered)

@@ -4,4 +4,5 @@ use Rattle.gtfs_tables.proofs.EntriesLemmas.{value_of-entries_of}
 use Rattle.gtfs_tables.proofs.entries.Entries.find.Goals as goal
 
 pub returns : goal.returns
-returns g c = c.get.ensures.value ∙ sym (value_of-entries_of c.args.name.now c.self.inside.map.entries) ∙ ap (value_of c.args.name.now) c.self.view_is
+returns g c = c.get.ensures.value ∙ sym (value_of-entries_of c.args.name.now c.self.inside.map.entries)
+    ∙ ap (value_of c.args.name.now) c.self.view_is

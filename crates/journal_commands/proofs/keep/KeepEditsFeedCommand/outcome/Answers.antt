@@ -9,4 +9,6 @@ use Rattle.journal_commands.proofs.keep.KeepEditsFeedCommand.outcome.Goals as go
 pub returns-clause-given : goal.returns-clause-given
 returns-clause-given g c =
     keep-given c.read_back_law.ensures c.args.said.read.now (said_to c.args.said) c.kept.result
-    (subst (λ loaded. IfOk c.kept.result (λ outcome. outcome ≡ keeping_by c.args.said.timetable (lines_loaded loaded) c.args.said.lines.now (script_loaded loaded))) c.journal.ensures c.kept.ensures)
+    (subst (λ loaded. IfOk c.kept.result
+    (λ outcome. outcome ≡ keeping_by c.args.said.timetable (lines_loaded loaded) c.args.said.lines.now (script_loaded loaded)))
+    c.journal.ensures c.kept.ensures)

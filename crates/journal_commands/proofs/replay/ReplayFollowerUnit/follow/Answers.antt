@@ -12,13 +12,20 @@ returns-clause-stands c = λ was had lines n number_is at stands.
     let replay = c.args.self.now in
     let l = c.args.line.now in
     let refused = c.in_ok-refused.refused in
-    let next : Replay = record replay { script = c.step_script.new.script; text = c.push_answer.new.text; kept = c.keep_line.new.kept; some = replay.some || c.is_some.result } in
+    let next : Replay = record replay {
+      script = c.step_script.new.script;
+      text = c.push_answer.new.text;
+      kept = c.keep_line.new.kept;
+      some = replay.some || c.is_some.result;
+    } in
     record {
       source = stands.source;
       before = stands.before;
       last = omega (arith, stands.before, number_is, c.in_ok-refused.ensures.last);
-      through = λ base first starts. through-next base first was.source was.before lines n was replay next l refused (stands.through base first starts) (at.is line.NotAnEdit)
-          (subst (λ number. IsStepped number l refused replay.script next.script) (λ i. stands.before i + number_is i) c.in_ok-refused.ensures.stepped)
+      through = λ base first starts. through-next base first was.source was.before lines n was replay next l refused
+          (stands.through base first starts) (at.is line.NotAnEdit)
+          (subst (λ number. IsStepped number l refused replay.script next.script) (λ i. stands.before i + number_is i)
+          c.in_ok-refused.ensures.stepped)
           (c.in_ok-push_answer.ensures ∙ λ i. string_bytes replay.text ++ answer_line (stands.source i) (number_is i) l refused)
           (c.in_ok-keep_line.ensures ∙ λ i. replay.kept.items ++ kept_line (stands.source i) l refused)
           (λ i. replay.some || c.is_some.ensures i);

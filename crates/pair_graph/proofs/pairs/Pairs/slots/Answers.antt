@@ -18,13 +18,16 @@ count c =
 pub returns-clause-valid : goal.returns-clause-valid
 returns-clause-valid c =
     subst (λ (p : PairsView). AreMoves (length p.matrix.walks) p.moves) c.self.view_is
-    (AreMoves-pairs c.self.inside.timetable.now c.self.inside.matrix.now c.self.inside.without c.slots.ensures.valid c.self.invariant.0 c.self.invariant.1)
+    (AreMoves-pairs c.self.inside.timetable.now c.self.inside.matrix.now c.self.inside.without c.slots.ensures.valid c.self.invariant.0
+    c.self.invariant.1)
 
 pub returns-clause-day : goal.returns-clause-day
 returns-clause-day c =
     let pairs = c.args.self.now in
     subst (λ n. IsDay (pairs_network pairs) n) (sym (count c))
-    (IsDay-deadhead (length pairs.matrix.walks) pairs.moves pairs.matrix (returns-clause-valid c) (subst (λ (p : PairsView). All IsPull p.matrix.pulls) c.self.view_is c.places-places.ensures.valid) (omega (arith, count c, c.slots.ensures.count, c.slots.ensures.valid.slots)))
+    (IsDay-deadhead (length pairs.matrix.walks) pairs.moves pairs.matrix (returns-clause-valid c)
+    (subst (λ (p : PairsView). All IsPull p.matrix.pulls) c.self.view_is c.places-places.ensures.valid)
+    (omega (arith, count c, c.slots.ensures.count, c.slots.ensures.valid.slots)))
 
 pub returns-clause-departures : goal.returns-clause-departures
 returns-clause-departures c =

@@ -17,13 +17,15 @@ pub link_rows-requires-clause-sound : goal.link_rows-requires-clause-sound
 link_rows-requires-clause-sound g c =
     let side = c.args.side.now in
     let at = c.slots.ensures in
-    AreWeights-placed (side_weight side) (side_slots side) (side_slot side) (side_place side) (subst (AreWeights (side_weight side)) at.count at.sound) at.renaming
+    AreWeights-placed (side_weight side) (side_slots side) (side_slot side) (side_place side)
+    (subst (AreWeights (side_weight side)) at.count at.sound) at.renaming
 
 pub link_columns-requires-clause-within : goal.link_columns-requires-clause-within
 link_columns-requires-clause-within g c =
     let side = c.args.side.now in
     let at = c.slots.ensures in
-    within-placed (side_weight side) (side_slots side) (side_slot side) (side_place side) (λ _. false) None None c.link_rows.new.next c.link_rows.new.leave c.link_rows.new.enter
+    within-placed (side_weight side) (side_slots side) (side_slot side) (side_place side) (λ _. false) None None c.link_rows.new.next
+    c.link_rows.new.leave c.link_rows.new.enter
     (subst (AreWeights (side_weight side)) at.count at.sound) at.renaming c.link_rows.ensures.matched
 
 pub returns-clause-matched : goal.returns-clause-matched
@@ -31,10 +33,21 @@ returns-clause-matched g c =
     let side = c.args.side.now in
     let at = c.slots.ensures in
     let n = side_slots side in
-    let entering : length c.link_rows.new.enter ≡ n = omega (arith, c.link_rows.auto.enter, ap length c.as_mut_slice-entering.ensures.value, ap length c.set_slots.ensures.enter, length-replicate {A = ℕ} c.slots.result 0, at.count) in
-    IsMatched-slotted (side_weight side) n (side_slot side) (side_place side) (λ _. false) None c.link_columns.new.next c.link_rows.new.next c.link_rows.new.leave c.price_columns.new.enter c.link_rows.new.enter at.renaming
-    (AreRenamed-matched (side_weight side) n (side_slot side) (side_place side) (λ _. false) None None c.link_columns.new.next c.link_rows.new.next c.link_rows.new.leave c.price_columns.new.enter c.link_rows.new.enter
-    (subst (AreWeights (side_weight side)) at.count at.sound) at.renaming c.link_rows.ensures.matched c.link_columns.ensures c.price_columns.ensures.prices c.price_columns.ensures.length entering)
+    let entering : length c.link_rows.new.enter ≡ n =
+    omega (
+      arith,
+      c.link_rows.auto.enter,
+      ap length c.as_mut_slice-entering.ensures.value,
+      ap length c.set_slots.ensures.enter,
+      length-replicate {A = ℕ} c.slots.result 0,
+      at.count,
+    ) in
+    IsMatched-slotted (side_weight side) n (side_slot side) (side_place side) (λ _. false) None c.link_columns.new.next
+    c.link_rows.new.next c.link_rows.new.leave c.price_columns.new.enter c.link_rows.new.enter at.renaming
+    (AreRenamed-matched (side_weight side) n (side_slot side) (side_place side) (λ _. false) None None c.link_columns.new.next
+    c.link_rows.new.next c.link_rows.new.leave c.price_columns.new.enter c.link_rows.new.enter
+    (subst (AreWeights (side_weight side)) at.count at.sound) at.renaming c.link_rows.ensures.matched c.link_columns.ensures
+    c.price_columns.ensures.prices c.price_columns.ensures.length entering)
     (λ i j e. absurd (none-some j e)) c.link_rows.ensures.matched
 
 pub returns-clause-covers : goal.returns-clause-covers
@@ -42,11 +55,22 @@ returns-clause-covers g c =
     let side = c.args.side.now in
     let at = c.slots.ensures in
     let n = side_slots side in
-    let entering : length c.link_rows.new.enter ≡ n = omega (arith, c.link_rows.auto.enter, ap length c.as_mut_slice-entering.ensures.value, ap length c.set_slots.ensures.enter, length-replicate {A = ℕ} c.slots.result 0, at.count) in
-    Covers-slotted (side_weight side) n (side_slot side) (side_place side) (λ _. false) c.link_columns.new.next c.link_rows.new.next c.link_rows.new.leave c.price_columns.new.enter c.link_rows.new.enter
+    let entering : length c.link_rows.new.enter ≡ n =
+    omega (
+      arith,
+      c.link_rows.auto.enter,
+      ap length c.as_mut_slice-entering.ensures.value,
+      ap length c.set_slots.ensures.enter,
+      length-replicate {A = ℕ} c.slots.result 0,
+      at.count,
+    ) in
+    Covers-slotted (side_weight side) n (side_slot side) (side_place side) (λ _. false) c.link_columns.new.next c.link_rows.new.next
+    c.link_rows.new.leave c.price_columns.new.enter c.link_rows.new.enter
     (subst (AreWeights (side_weight side)) at.count at.sound) at.renaming
-    (AreRenamed-matched (side_weight side) n (side_slot side) (side_place side) (λ _. false) None None c.link_columns.new.next c.link_rows.new.next c.link_rows.new.leave c.price_columns.new.enter c.link_rows.new.enter
-    (subst (AreWeights (side_weight side)) at.count at.sound) at.renaming c.link_rows.ensures.matched c.link_columns.ensures c.price_columns.ensures.prices c.price_columns.ensures.length entering)
+    (AreRenamed-matched (side_weight side) n (side_slot side) (side_place side) (λ _. false) None None c.link_columns.new.next
+    c.link_rows.new.next c.link_rows.new.leave c.price_columns.new.enter c.link_rows.new.enter
+    (subst (AreWeights (side_weight side)) at.count at.sound) at.renaming c.link_rows.ensures.matched c.link_columns.ensures
+    c.price_columns.ensures.prices c.price_columns.ensures.length entering)
     c.link_rows.ensures.covers
 
 pub returns-clause-plan : goal.returns-clause-plan
@@ -59,12 +83,21 @@ returns-clause-plan g c =
     let slot = slot_in-is n side.columns side.places lengths.0 lengths.1 c.slots.ensures.renaming in
     let place = place_in-is n side.columns side.places lengths.0 lengths.1 c.slots.ensures.renaming in
     let room : length c.link_rows.new.next ≡ n =
-    omega (arith, c.link_rows.auto.next, ap length c.as_mut_slice-placed.ensures.value, ap length c.set_slots.ensures.links, length-replicate {A = Option ℕ} c.slots.result None, c.slots.ensures.count) in
+    omega (
+      arith,
+      c.link_rows.auto.next,
+      ap length c.as_mut_slice-placed.ensures.value,
+      ap length c.set_slots.ensures.links,
+      length-replicate {A = Option ℕ} c.slots.result None,
+      c.slots.ensures.count,
+    ) in
     let long : length order ≡ n = slots-length side.columns ∙ lengths.0 in
-    all_found-is order (side_weight side) (place_weight side) rows c.link_rows.new.next c.link_rows.new.leave c.link_rows.new.enter c.link_columns.new.next c.price_columns.new.enter
+    all_found-is order (side_weight side) (place_weight side) rows c.link_rows.new.next c.link_rows.new.leave c.link_rows.new.enter
+    c.link_columns.new.next c.price_columns.new.enter
     (λ i k. ap (side_weight side i) (sym (slot k)))
     (c.link_rows.ensures.plan ∙ ap (λ m. found_each (place_weight side) rows (bare m)) (sym long))
-    (links-renamed (side_slot side) c.link_rows.new.next c.link_columns.new.next (omega (arith, room, c.link_columns.auto.next, c.requires.next)) c.link_columns.ensures
+    (links-renamed (side_slot side) c.link_rows.new.next c.link_columns.new.next
+    (omega (arith, room, c.link_columns.auto.next, c.requires.next)) c.link_columns.ensures
     ∙ ap (λ (f : ℕ → ℕ). map (option_map f) c.link_rows.new.next) (fun_ext (λ k. sym (slot k))))
     (prices-by_slots order c.link_rows.new.enter c.price_columns.new.enter (c.price_columns.ensures.length ∙ sym long)
     (λ j lt. c.price_columns.ensures.prices j (omega (arith, lt, long)) ∙ ap (at c.link_rows.new.enter) (sym (place j))))

@@ -11,10 +11,20 @@ use Rattle.pair_search.proofs.side.Side.slots.Goals as goal
 
 pub returns-clause-sound : goal.returns-clause-sound
 returns-clause-sound c =
-    let side : SideView = record { pairs = c.self.inside.pairs.now; turned = c.self.inside.turned; without = c.self.inside.without; columns = c.self.inside.columns.now; places = c.self.inside.places.now; groups = c.self.inside.groups.now; count = c.self.inside.count } in
+    let side : SideView = record {
+      pairs = c.self.inside.pairs.now;
+      turned = c.self.inside.turned;
+      without = c.self.inside.without;
+      columns = c.self.inside.columns.now;
+      places = c.self.inside.places.now;
+      groups = c.self.inside.groups.now;
+      count =
+          c.self.inside.count;
+    } in
     let departs : ℕ → ℕ = λ s. minute_left (move_at side.pairs.moves s) in
     subst (λ (s : SideView). AreWeights (side_weight s) c.slots.result) c.self.view_is
-    (AreWeights-side side c.slots.result (AreWeights-network (pairs_network side.pairs) c.slots.result departs c.slots.ensures.day c.slots.ensures.departures))
+    (AreWeights-side side c.slots.result
+    (AreWeights-network (pairs_network side.pairs) c.slots.result departs c.slots.ensures.day c.slots.ensures.departures))
 
 pub returns-clause-renaming : goal.returns-clause-renaming
 returns-clause-renaming c =
@@ -22,4 +32,5 @@ returns-clause-renaming c =
 
 pub returns-clause-lengths : goal.returns-clause-lengths
 returns-clause-lengths c =
-    subst (λ (s : SideView). (length s.columns ≡ side_slots s) × (length s.places ≡ side_slots s)) c.self.view_is (c.self.invariant.0.count, c.self.invariant.0.slots)
+    subst (λ (s : SideView). (length s.columns ≡ side_slots s) × (length s.places ≡ side_slots s)) c.self.view_is
+    (c.self.invariant.0.count, c.self.invariant.0.slots)

@@ -26,10 +26,14 @@ returns-clause-tree g c = λ before given.
     subst (λ d. IsTree p (tree_with now.dist.items now.parent.items d now.rows.items now.far.items 1 0)) (sym looked.done)
     (IsTree-begun p was.dist.items was.parent.items now.dist.items now.parent.items was.done.items now.rows.items now.far.items given
     (get_or-set_same c.args.leave.now c.args.a 67111744 0 (omega (arith, c.requires.start, c.requires.leave)))
-    (c.clear.ensures.dist ∙ ap (λ m. replicate m 67111745) c.slots.ensures.count) (c.clear.ensures.done ∙ ap (λ m. replicate m false) c.slots.ensures.count)
-    (ap (λ xs. at xs 0) c.look_from.ensures.rows.0 ∙ get_or-set_same was.rows.items 0 c.args.a 0 (omega (arith, was.rows.ok.0, was.row_places, slots)))
-    (ap (λ xs. at xs 0) c.look_from.ensures.rows.1 ∙ get_or-set_same was.far.items 0 0 0 (omega (arith, was.far.ok.0, was.far_places, slots)))
-    (subst (λ d. AreLooked (place_weight side c.args.a) n 0 67111744 c.args.enter.now (columns_of was) (as_columns now.dist.items now.parent.items d)) looked.done looked))
+    (c.clear.ensures.dist ∙ ap (λ m. replicate m 67111745) c.slots.ensures.count)
+    (c.clear.ensures.done ∙ ap (λ m. replicate m false) c.slots.ensures.count)
+    (ap (λ xs. at xs 0) c.look_from.ensures.rows.0
+    ∙ get_or-set_same was.rows.items 0 c.args.a 0 (omega (arith, was.rows.ok.0, was.row_places, slots)))
+    (ap (λ xs. at xs 0) c.look_from.ensures.rows.1
+    ∙ get_or-set_same was.far.items 0 0 0 (omega (arith, was.far.ok.0, was.far_places, slots)))
+    (subst (λ d. AreLooked (place_weight side c.args.a) n 0 67111744 c.args.enter.now (columns_of was)
+    (as_columns now.dist.items now.parent.items d)) looked.done looked))
 
 pub look_from-requires-clause-seen : goal.look_from-requires-clause-seen
 look_from-requires-clause-seen g c =
@@ -39,12 +43,17 @@ look_from-requires-clause-seen g c =
     let was = c.clear.new.self in
     let none : Seen = record { near = 67111745; cost = 18446744073709551615; from = 65535 } in
     let dists : was.dist.items ≡ replicate n 67111745 = c.clear.ensures.dist ∙ ap (λ m. replicate m 67111745) c.slots.ensures.count in
-    let at-none : (r : ℕ) → r < side.count → seen_at was.seen.items r ≡ none = λ r lt. seen-none c.groups.result was.seen.items none c.clear.ensures.seen r (omega (arith, lt, c.groups.ensures.count)) in
-    let room : side.count ≤ length was.seen.items = omega (arith, ap length c.clear.ensures.seen, length-replicate {A = Seen} c.groups.result none, c.groups.ensures.count) in
+    let at-none : (r : ℕ) → r < side.count
+    → seen_at was.seen.items r ≡ none =
+    λ r lt. seen-none c.groups.result was.seen.items none c.clear.ensures.seen r (omega (arith, lt, c.groups.ensures.count)) in
+    let room : side.count ≤ length was.seen.items =
+    omega (arith, ap length c.clear.ensures.seen, length-replicate {A = Seen} c.groups.result none, c.groups.ensures.count) in
     let near : AreNear side.count side.groups was.done.items was.dist.items was.seen.items =
-    AreNear-none n side.count side.groups was.done.items was.dist.items was.seen.items are.few dists are.within (λ r lt. omega (arith, ap (λ (s : Seen). s.near) (at-none r lt))) in
+    AreNear-none n side.count side.groups was.done.items was.dist.items was.seen.items are.few dists are.within
+    (λ r lt. omega (arith, ap (λ (s : Seen). s.near) (at-none r lt))) in
     let reached : AreReached side.count side.groups c.args.enter.now was.done.items was.dist.items was.seen.items =
-    AreReached-none n side.count side.groups was.done.items was.dist.items was.seen.items are.few dists are.within c.args.enter.now (omega (arith, c.requires.few))
+    AreReached-none n side.count side.groups was.done.items was.dist.items was.seen.items are.few dists are.within c.args.enter.now
+    (omega (arith, c.requires.few))
     (λ r lt. omega (arith, ap (λ (s : Seen). s.from) (at-none r lt))) in
     record { room = room; near = near; reached = reached }
 
@@ -63,12 +72,17 @@ returns-clause-shown g c =
     let far : was.dist.items ≡ replicate n 67111745 = c.clear.ensures.dist ∙ ap (λ m. replicate m 67111745) c.slots.ensures.count in
     let undone : was.done.items ≡ none = c.clear.ensures.done ∙ ap (λ m. replicate m false) c.slots.ensures.count in
     let done : now.done.items ≡ none = looked.done ∙ undone in
-    let begun : AreLooked (w c.args.a) n 0 67111744 c.args.enter.now (as_columns (replicate n 67111745) was.parent.items none) (as_columns now.dist.items now.parent.items none) =
-    subst (λ (d : List ℕ). AreLooked (w c.args.a) n 0 67111744 c.args.enter.now (as_columns d was.parent.items none) (as_columns now.dist.items now.parent.items none)) far
-    (subst (λ (d : List Bool). AreLooked (w c.args.a) n 0 67111744 c.args.enter.now (as_columns was.dist.items was.parent.items d) (as_columns now.dist.items now.parent.items none)) undone
-    (subst (λ (d : List Bool). AreLooked (w c.args.a) n 0 67111744 c.args.enter.now (columns_of was) (as_columns now.dist.items now.parent.items d)) done looked)) in
+    let begun : AreLooked (w c.args.a) n 0 67111744 c.args.enter.now (as_columns (replicate n 67111745) was.parent.items none)
+    (as_columns now.dist.items now.parent.items none) =
+    subst (λ (d : List ℕ). AreLooked (w c.args.a) n 0 67111744 c.args.enter.now (as_columns d was.parent.items none)
+    (as_columns now.dist.items now.parent.items none)) far
+    (subst (λ (d : List Bool). AreLooked (w c.args.a) n 0 67111744 c.args.enter.now (as_columns was.dist.items was.parent.items d)
+    (as_columns now.dist.items now.parent.items none)) undone
+    (subst (λ (d : List Bool). AreLooked (w c.args.a) n 0 67111744 c.args.enter.now (columns_of was)
+    (as_columns now.dist.items now.parent.items d)) done looked)) in
     subst (λ (d : List Bool). IsShown now.dist.items now.parent.items d now.rows.items 0 None 67111744 first) (sym done)
     (IsShown-begun w c.args.a n c.args.enter.now now.dist.items was.parent.items now.parent.items now.rows.items
     (omega (arith, now.dist.ok.0, c.look_from.ensures.slots, slots))
-    (ap (λ xs. at xs 0) c.look_from.ensures.rows.0 ∙ get_or-set_same was.rows.items 0 c.args.a 0 (omega (arith, was.rows.ok.0, was.row_places, slots)))
+    (ap (λ xs. at xs 0) c.look_from.ensures.rows.0
+    ∙ get_or-set_same was.rows.items 0 c.args.a 0 (omega (arith, was.rows.ok.0, was.row_places, slots)))
     begun)

@@ -1,4 +1,5 @@
-use Rattle.std.proofs.Common.{◌≡◌, ◌∙◌, ◌<◌, ◌≤◌, ◌+◌, ◌⊎◌, ℕ, min, nat_lt, true, length, set, None, Some, if◌then◌else◌, inr, refl, sym, ap, subst, arith}
+use Rattle.std.proofs.Common.{◌≡◌, ◌∙◌, ◌<◌, ◌≤◌, ◌+◌, ◌⊎◌, ℕ, min, nat_lt, true, length, set, None, Some, if◌then◌else◌, inr, refl, sym}
+use Rattle.std.proofs.Common.{ap, subst, arith}
 use Rattle.std.proofs.Math.Nat.{mul-le-mul_left}
 use Rattle.std.proofs.lemmas.List.{get_or_read}
 use Rattle.assignment_model.specs.Prices.{Plan}
@@ -26,18 +27,22 @@ visit-requires-clause-seen g c =
     let seen = c.loop-column.invariant.seen in
     record {
       room = omega (arith, seen.room, ap length seens, c.nearest.auto.seen, ap length c.deref_mut.ensures.value);
-      near = AreNear-same side.count side.groups _ was.done.items _ was.dist.items c.nearest.new.seen _ c.deref.ensures.value c.deref-in-loop-column.ensures.value (sym seens) c.nearest.ensures.near;
+      near = AreNear-same side.count side.groups _ was.done.items _ was.dist.items c.nearest.new.seen _ c.deref.ensures.value
+          c.deref-in-loop-column.ensures.value (sym seens) c.nearest.ensures.near;
       reached =
-          AreReached-same side.count side.groups c.args.enter.now _ was.done.items _ was.dist.items c.nearest.new.seen _ c.deref.ensures.value c.deref-in-loop-column.ensures.value (sym seens)
+          AreReached-same side.count side.groups c.args.enter.now _ was.done.items _ was.dist.items c.nearest.new.seen _
+          c.deref.ensures.value c.deref-in-loop-column.ensures.value (sym seens)
           (c.nearest.ensures.reached c.args.enter.now
-          (AreReached-same side.count side.groups c.args.enter.now was.done.items _ was.dist.items _ was.seen.items _ (sym c.deref.ensures.value) (sym c.deref-in-loop-column.ensures.value) (sym c.deref_mut.ensures.value) seen.reached));
+          (AreReached-same side.count side.groups c.args.enter.now was.done.items _ was.dist.items _ was.seen.items _
+          (sym c.deref.ensures.value) (sym c.deref-in-loop-column.ensures.value) (sym c.deref_mut.ensures.value) seen.reached));
     }
 
 pub visit-requires-clause-enter_low : goal.visit-requires-clause-enter_low
 visit-requires-clause-enter_low g c = λ j k fits. c.requires.given.enter_low c.in-Some-before.row j k fits
 
 pub visit-requires-clause-covers : goal.visit-requires-clause-covers
-visit-requires-clause-covers g c = λ j k fits. c.requires.given.covers c.in-Some-before.row j k (inr (c.in-Some.column, c.in-Some-before.is)) fits
+visit-requires-clause-covers g c =
+    λ j k fits. c.requires.given.covers c.in-Some-before.row j k (inr (c.in-Some.column, c.in-Some-before.is)) fits
 
 pub loop-column-preserved : goal.loop-column-preserved
 loop-column-preserved g c =
@@ -52,9 +57,11 @@ loop-column-preserved g c =
     let nearest : IsNearest was.done.items was.dist.items loop.best.fall column =
     subst (λ xs. IsNearest xs was.dist.items loop.best.fall column) c.deref.ensures.value
     (subst (λ xs. IsNearest c.deref.result.now xs loop.best.fall column) c.deref-in-loop-column.ensures.value c.in-Some.ensures.some) in
-    let read : c.index-distance.result.now ≡ far = get_or_read was.dist.items column c.index-distance.result.now nearest.within c.index-distance.ensures 0 in
+    let read : c.index-distance.result.now ≡ far =
+    get_or_read was.dist.items column c.index-distance.result.now nearest.within c.index-distance.ensures 0 in
     let slots : length was.dist.items ≡ side_slots side = omega (arith, was.dist.ok.0, loop.invariant.slots, c.requires.slots) in
-    let room = tree-room p s column loop.invariant.tree (omega (arith, nearest.within, was.dist.ok.0, was.done.ok.0, was.marks)) nearest.undone in
+    let room = tree-room p s column loop.invariant.tree (omega (arith, nearest.within, was.dist.ok.0, was.done.ok.0, was.marks))
+    nearest.undone in
     let in-rows : loop.size < length was.rows.items = omega (arith, room, was.rows.ok.0, was.row_places, was.dist.ok.0, slots) in
     let now = c.visit.new.self in
     let w = place_weight side in
@@ -64,7 +71,8 @@ loop-column-preserved g c =
     let done = set was.done.items column true in
     let picked : first_nearest (length was.dist.items) was.done.items was.dist.items loop.best.fall ≡ Some column =
     sym (subst (λ xs. Some column ≡ first_nearest (length was.dist.items) xs was.dist.items loop.best.fall) c.deref.ensures.value
-    (subst (λ xs. Some column ≡ first_nearest (length xs) c.deref.result.now xs loop.best.fall) c.deref-in-loop-column.ensures.value c.in-Some.ensures.picked)) in
+    (subst (λ xs. Some column ≡ first_nearest (length xs) c.deref.result.now xs loop.best.fall) c.deref-in-loop-column.ensures.value
+    c.in-Some.ensures.picked)) in
     let len : length now.dist.items ≡ length was.dist.items = omega (arith, c.visit.ensures.slots, now.dist.ok.0, was.dist.ok.0) in
     let next : IsNext p s row column = record {
       within = omega (arith, nearest.within, slots);
@@ -76,10 +84,15 @@ loop-column-preserved g c =
     record {
       slots = c.visit.ensures.slots ∙ loop.invariant.slots;
       reach = far;
-      tree = c.visit.ensures.tree (at c.args.self.now.rows.items 0) loop.invariant.reach c.args.before.now c.requires.given loop.invariant.tree next;
-      best = IsBest-more p s (tree_of c.visit.new.self (loop.size + 1) far) row far loop.best c.sooner-best.result loop.invariant.best in-rows
-          (omega (arith, room, was.far.ok.0, was.far_places, was.dist.ok.0, slots)) c.visit.ensures.rows c.visit.ensures.far refl refl nearest.below
-          (subst (λ d. (c.sooner-best.result ≡ loop.best) ⊎ (c.sooner-best.result ≡ record { from = loop.size; to = None; fall = d + at c.args.leave.now row })) read c.sooner-best.ensures.one)
+      tree = c.visit.ensures.tree (at c.args.self.now.rows.items 0) loop.invariant.reach c.args.before.now c.requires.given
+          loop.invariant.tree next;
+      best = IsBest-more p s (tree_of c.visit.new.self (loop.size + 1) far) row far loop.best c.sooner-best.result loop.invariant.best
+          in-rows
+          (omega (arith, room, was.far.ok.0, was.far_places, was.dist.ok.0, slots)) c.visit.ensures.rows c.visit.ensures.far refl refl
+          nearest.below
+          (subst (λ d. (c.sooner-best.result ≡ loop.best)
+          ⊎ (c.sooner-best.result ≡ record { from = loop.size; to = None; fall = d + at c.args.leave.now row })) read
+          c.sooner-best.ensures.one)
           c.sooner-best.ensures.best (omega (arith, read, c.sooner-best.ensures.other));
       shown = λ start front befores begun.
           let plan : Plan = record { next = start; leave = c.args.leave.now; enter = c.args.enter.now } in
@@ -89,19 +102,24 @@ loop-column-preserved g c =
           (loop.invariant.shown start front befores begun) picked (befores column ∙ c.in-Some-before.is) (omega (arith, room, slots)) len
           (λ front shown.
           IsShown-same now.dist.items now.parent.items done now.done.items (set was.rows.items loop.size row) now.rows.items
-          (if nat_lt (far + price) loop.best.fall then loop.size else loop.best.from) best.from loop.best.to best.to (min loop.best.fall (far + price)) best.fall (visited w plan column row front)
+          (if nat_lt (far + price) loop.best.fall then loop.size else loop.best.from) best.from loop.best.to best.to
+          (min loop.best.fall (far + price)) best.fall (visited w plan column row front)
           (sym c.visit.ensures.done) (sym c.visit.ensures.rows)
           (sym (subst (λ d. best.from ≡ (if nat_lt (d + price) loop.best.fall then loop.size else loop.best.from)) read ends.from))
           (loop.invariant.best.alone ∙ sym (ends.to loop.invariant.best.alone))
           (sym (subst (λ d. best.fall ≡ min loop.best.fall (d + price)) read ends.fall))
-          (IsShown-come w plan column row loop.size front was.dist.items was.parent.items was.done.items was.rows.items loop.best.from loop.best.to loop.best.fall now.dist.items now.parent.items shown len
-          (subst (λ m. AreLooked (w row) m loop.size (far + price) c.args.enter.now (as_columns was.dist.items was.parent.items done) (as_columns now.dist.items now.parent.items done)) (sym slots)
+          (IsShown-come w plan column row loop.size front was.dist.items was.parent.items was.done.items was.rows.items loop.best.from
+          loop.best.to loop.best.fall now.dist.items now.parent.items shown len
+          (subst (λ m. AreLooked (w row) m loop.size (far + price) c.args.enter.now (as_columns was.dist.items was.parent.items done)
+          (as_columns now.dist.items now.parent.items done)) (sym slots)
           c.visit.ensures.looked)
           in-rows loop.invariant.best.within (λ j lt close. (loop.invariant.tree.reached j (omega (arith, lt, slots)) close).within)));
       seen = c.visit.ensures.seen;
       visited = λ first steps begun.
-          subst (λ rows. RowsVisit (place_weight side) side.groups side.count rows (loop.size + 1) first c.visit.new.self.dist.items steps c.visit.new.steps) (sym c.visit.ensures.rows)
-          (RowsVisit-more (place_weight side) side.groups side.count was.rows.items loop.size row first was.dist.items c.visit.new.self.dist.items steps loop.steps c.visit.new.steps in-rows
+          subst (λ rows. RowsVisit (place_weight side) side.groups side.count rows (loop.size + 1) first c.visit.new.self.dist.items steps
+          c.visit.new.steps) (sym c.visit.ensures.rows)
+          (RowsVisit-more (place_weight side) side.groups side.count was.rows.items loop.size row first was.dist.items
+          c.visit.new.self.dist.items steps loop.steps c.visit.new.steps in-rows
           (loop.invariant.visited first steps begun) c.visit.ensures.visited);
       counted = omega (arith, loop.invariant.counted, c.visit.ensures.counted);
     }
@@ -127,17 +145,25 @@ returns-in_default-before-clause-shown g c = λ start front befores begun.
     (subst (λ xs. IsNearest c.deref.result.now xs loop.best.fall column) c.deref-in-loop-column.ensures.value c.in-Some.ensures.some) in
     let picked : first_nearest (length was.dist.items) was.done.items was.dist.items loop.best.fall ≡ Some column =
     sym (subst (λ xs. Some column ≡ first_nearest (length was.dist.items) xs was.dist.items loop.best.fall) c.deref.ensures.value
-    (subst (λ xs. Some column ≡ first_nearest (length xs) c.deref.result.now xs loop.best.fall) c.deref-in-loop-column.ensures.value c.in-Some.ensures.picked)) in
+    (subst (λ xs. Some column ≡ first_nearest (length xs) c.deref.result.now xs loop.best.fall) c.deref-in-loop-column.ensures.value
+    c.in-Some.ensures.picked)) in
     let slots : length was.dist.items ≡ side_slots side = omega (arith, was.dist.ok.0, loop.invariant.slots, c.requires.slots) in
-    let room = tree-room p s column loop.invariant.tree (omega (arith, nearest.within, was.dist.ok.0, was.done.ok.0, was.marks)) nearest.undone in
-    let read : c.index-distance.result.now ≡ at was.dist.items column = get_or_read was.dist.items column c.index-distance.result.now nearest.within c.index-distance.ensures 0 in
+    let room = tree-room p s column loop.invariant.tree (omega (arith, nearest.within, was.dist.ok.0, was.done.ok.0, was.marks))
+    nearest.undone in
+    let read : c.index-distance.result.now ≡ at was.dist.items column =
+    get_or_read was.dist.items column c.index-distance.result.now nearest.within c.index-distance.ensures 0 in
     let reader : c.index-in_default-before.result.now ≡ at was.parent.items column =
-    get_or_read was.parent.items column c.index-in_default-before.result.now (omega (arith, nearest.within, was.dist.ok.0, was.parent.ok.0, was.parents)) c.index-in_default-before.ensures 0 in
+    get_or_read was.parent.items column c.index-in_default-before.result.now
+    (omega (arith, nearest.within, was.dist.ok.0, was.parent.ok.0, was.parents)) c.index-in_default-before.ensures 0 in
     let over = grown w plan (side_slots side) front in
-    subst (λ (d : ℕ). IsShown was.dist.items was.parent.items was.done.items was.rows.items c.index-in_default-before.result.now (Some column) d over) (sym read)
-    (subst (λ (d : ℕ). IsShown was.dist.items was.parent.items was.done.items was.rows.items d (Some column) (at was.dist.items column) over) (sym reader)
-    (IsShown-column w plan over loop.size column was.dist.items was.parent.items was.done.items was.rows.items loop.best.from loop.best.to loop.best.fall
-    (loop.invariant.shown start front befores begun) picked (befores column ∙ c.in_default-before.is) (omega (arith, room, slots)) nearest.within
+    subst (λ (d : ℕ). IsShown was.dist.items was.parent.items was.done.items was.rows.items c.index-in_default-before.result.now
+    (Some column) d over) (sym read)
+    (subst (λ (d : ℕ). IsShown was.dist.items was.parent.items was.done.items was.rows.items d (Some column) (at was.dist.items column)
+    over) (sym reader)
+    (IsShown-column w plan over loop.size column was.dist.items was.parent.items was.done.items was.rows.items loop.best.from loop.best.to
+    loop.best.fall
+    (loop.invariant.shown start front befores begun) picked (befores column ∙ c.in_default-before.is) (omega (arith, room, slots))
+    nearest.within
     (omega (arith, nearest.below, loop.invariant.best.low))))
 
 pub returns-clause-shown : goal.returns-clause-shown
@@ -151,4 +177,5 @@ returns-clause-shown g c = λ start front befores begun.
     was.dist.items was.parent.items was.done.items was.rows.items loop.best.from loop.best.to loop.best.fall
     (loop.invariant.shown start front befores begun)
     (sym (subst (λ xs. None ≡ first_nearest (length was.dist.items) xs was.dist.items loop.best.fall) c.deref.ensures.value
-    (subst (λ xs. None ≡ first_nearest (length xs) c.deref.result.now xs loop.best.fall) c.deref-in-loop-column.ensures.value c.in_default.ensures.picked)))
+    (subst (λ xs. None ≡ first_nearest (length xs) c.deref.result.now xs loop.best.fall) c.deref-in-loop-column.ensures.value
+    c.in_default.ensures.picked)))

@@ -21,7 +21,9 @@ invariant-loop-column g l = record {
       (grown (place_weight l.side) (record { next = next; leave = l.leave; enter = l.enter }) (side_slots l.side) front)
       l.size l.self.dist.items l.self.parent.items l.self.done.items l.self.rows.items l.best.from l.best.to l.best.fall;
   seen : IsSeen l.side l.enter l.self;
-  visited : (first : List ℕ) (was : ℕ) → RowsVisit (place_weight l.side) l.side.groups l.side.count l.initial.self.rows.items 1 first l.initial.self.dist.items was l.initial.steps
+  visited : (first : List ℕ) (was : ℕ)
+      → RowsVisit (place_weight l.side) l.side.groups l.side.count l.initial.self.rows.items 1 first l.initial.self.dist.items was
+      l.initial.steps
       → RowsVisit (place_weight l.side) l.side.groups l.side.count l.self.rows.items l.size first l.self.dist.items was l.steps;
   counted : l.steps + side_slots l.side ≤ l.initial.steps + side_slots l.side * l.size;
 }

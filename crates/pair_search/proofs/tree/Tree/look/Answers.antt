@@ -18,28 +18,33 @@ use Rattle.pair_search.proofs.tree.Tree.look.Goals as goal
 pub returns-in_default-clause-visited : goal.returns-in_default-clause-visited
 returns-in_default-clause-visited g c =
     let line : LineView = c.args.line.now in
-    IsVisited-none (line_weight line) (group_at line.side.groups c.args.group) c.args.self.now.dist.items c.args.steps.now c.tick.new.self c.tick.ensures
+    IsVisited-none (line_weight line) (group_at line.side.groups c.args.group) c.args.self.now.dist.items c.args.steps.now c.tick.new.self
+    c.tick.ensures
 
 pub returns-then-first-upto-clause-visited : goal.returns-then-first-upto-clause-visited
 returns-then-first-upto-clause-visited g c =
     let line : LineView = c.args.line.now in
-    IsVisited-none (line_weight line) (group_at line.side.groups c.args.group) c.args.self.now.dist.items c.args.steps.now c.tick-then-first-upto.new.self c.tick-then-first-upto.ensures
+    IsVisited-none (line_weight line) (group_at line.side.groups c.args.group) c.args.self.now.dist.items c.args.steps.now
+    c.tick-then-first-upto.new.self c.tick-then-first-upto.ensures
 
 pub returns-then-first-upto-clause-looked : goal.returns-then-first-upto-clause-looked
 returns-then-first-upto-clause-looked g c = λ before l.
     let line : LineView = c.args.line.now in
     let group : Group = group_at line.side.groups c.args.group in
-    let end : c.group.result.to ≡ group.to = ap (λ (x : Group). x.to) c.group.ensures.group ∙ ap (λ (l : LineView). (group_at l.side.groups c.args.group).to) c.line.view_is in
+    let end : c.group.result.to ≡ group.to = ap (λ (x : Group). x.to) c.group.ensures.group
+    ∙ ap (λ (l : LineView). (group_at l.side.groups c.args.group).to) c.line.view_is in
     let fit = c.first_fit-first.ensures in
     let upto = c.cut-upto.result in
     let cost = c.saturating_sub-cost.result in
     let was = c.args.self.now in
     let read : c.index-was.result.now ≡ seen_at was.seen.items c.args.group =
-    get_or_read was.seen.items c.args.group c.index-was.result.now (omega (arith, c.requires.seen.room, c.requires.group)) c.index-was.ensures (record { near = 0; cost = 0; from = 0 }) in
+    get_or_read was.seen.items c.args.group c.index-was.result.now (omega (arith, c.requires.seen.room, c.requires.group))
+    c.index-was.ensures (record { near = 0; cost = 0; from = 0 }) in
     let dear = ap (λ (s : Seen). s.cost) read in
     let start = ap (λ (s : Seen). s.from) read in
     AreLooked-group (line_weight line) group.from upto upto group.to c.args.from c.args.start c.in-Some.reach.saved cost 0
-    c.args.enter.now before was.done.items was.dist.items was.parent.items was.dist.items was.parent.items (λ lt. absurd (omega (arith, lt))) (omega (arith, c.cut-upto.ensures.within, end))
+    c.args.enter.now before was.done.items was.dist.items was.parent.items was.dist.items was.parent.items
+    (λ lt. absurd (omega (arith, lt))) (omega (arith, c.cut-upto.ensures.within, end))
     (λ j k from lt is.
     let same = weighs-same line group c.in-Some.reach c.in-Some.ensures j k from lt is in
     (same, omega (arith, same, c.saturating_sub-cost.ensures, c.requires.covers j k is, c.requires.low j k is)))
@@ -58,29 +63,38 @@ approach-near-requires-clause-low g c = λ j past lt.
 pub approach-near-requires-clause-enough : goal.approach-near-requires-clause-enough
 approach-near-requires-clause-enough g c = λ j past lt.
     let fit = c.first_fit-first.ensures in
-    omega (arith, c.saturating_sub-cost.ensures, c.requires.covers j c.in-Some.reach.saved (fit.fits j (omega (arith, past, fit.after c.if-first-upto.false)) past lt))
+    omega (
+      arith,
+      c.saturating_sub-cost.ensures,
+      c.requires.covers j c.in-Some.reach.saved
+          (fit.fits j (omega (arith, past, fit.after c.if-first-upto.false)) past lt),
+    )
 
 pub returns-clause-looked : goal.returns-clause-looked
 returns-clause-looked g c = λ before l.
     let line : LineView = c.args.line.now in
     let group : Group = group_at line.side.groups c.args.group in
-    let end : c.group.result.to ≡ group.to = ap (λ (x : Group). x.to) c.group.ensures.group ∙ ap (λ (l : LineView). (group_at l.side.groups c.args.group).to) c.line.view_is in
+    let end : c.group.result.to ≡ group.to = ap (λ (x : Group). x.to) c.group.ensures.group
+    ∙ ap (λ (l : LineView). (group_at l.side.groups c.args.group).to) c.line.view_is in
     let fit = c.first_fit-first.ensures in
     let first = c.first_fit-first.result in
     let upto = c.cut-upto.result in
     let cost = c.saturating_sub-cost.result in
     let was = c.args.self.now in
     let read : c.index-was.result.now ≡ seen_at was.seen.items c.args.group =
-    get_or_read was.seen.items c.args.group c.index-was.result.now (omega (arith, c.requires.seen.room, c.requires.group)) c.index-was.ensures (record { near = 0; cost = 0; from = 0 }) in
+    get_or_read was.seen.items c.args.group c.index-was.result.now (omega (arith, c.requires.seen.room, c.requires.group))
+    c.index-was.ensures (record { near = 0; cost = 0; from = 0 }) in
     let dear = ap (λ (s : Seen). s.cost) read in
     let start = ap (λ (s : Seen). s.from) read in
     let a =
-    AreApproached-same first upto c.args.from cost c.approach-near.result c.args.enter.now was.done.items _ was.dist.items _ was.parent.items _ _ c.approach-near.new.dist _ c.approach-near.new.parent
+    AreApproached-same first upto c.args.from cost c.approach-near.result c.args.enter.now was.done.items _ was.dist.items _
+    was.parent.items _ _ c.approach-near.new.dist _ c.approach-near.new.parent
     c.deref.ensures.value c.deref_mut.ensures.value c.deref_mut-2.ensures.value
     (written c.approach-near.new.dist was.dist.items was.dist.len (c.approach-near.auto.dist ∙ c.deref_mut.ensures.len))
     (written c.approach-near.new.parent was.parent.items was.parent.len (c.approach-near.auto.parent ∙ c.deref_mut-2.ensures.len))
     c.approach-near.ensures.approached in
-    AreLooked-group (line_weight line) group.from first upto group.to c.args.from c.args.start c.in-Some.reach.saved cost c.approach-near.result
+    AreLooked-group (line_weight line) group.from first upto group.to c.args.from c.args.start c.in-Some.reach.saved cost
+    c.approach-near.result
     c.args.enter.now before was.done.items was.dist.items was.parent.items _ _ fit.after (omega (arith, c.cut-upto.ensures.within, end))
     (λ j k from lt is.
     let same = weighs-same line group c.in-Some.reach c.in-Some.ensures j k from lt is in
@@ -95,38 +109,58 @@ pub returns-clause-seen : goal.returns-clause-seen
 returns-clause-seen g c =
     let line : LineView = c.args.line.now in
     let group : Group = group_at line.side.groups c.args.group in
-    let end : c.group.result.to ≡ group.to = ap (λ (x : Group). x.to) c.group.ensures.group ∙ ap (λ (l : LineView). (group_at l.side.groups c.args.group).to) c.line.view_is in
+    let end : c.group.result.to ≡ group.to = ap (λ (x : Group). x.to) c.group.ensures.group
+    ∙ ap (λ (l : LineView). (group_at l.side.groups c.args.group).to) c.line.view_is in
     let fit = c.first_fit-first.ensures in
     let first = c.first_fit-first.result in
     let upto = c.cut-upto.result in
     let cost = c.saturating_sub-cost.result in
     let was = c.args.self.now in
     let read : c.index-was.result.now ≡ seen_at was.seen.items c.args.group =
-    get_or_read was.seen.items c.args.group c.index-was.result.now (omega (arith, c.requires.seen.room, c.requires.group)) c.index-was.ensures (record { near = 0; cost = 0; from = 0 }) in
+    get_or_read was.seen.items c.args.group c.index-was.result.now (omega (arith, c.requires.seen.room, c.requires.group))
+    c.index-was.ensures (record { near = 0; cost = 0; from = 0 }) in
     let near = ap (λ (s : Seen). s.near) read in
     let dear = ap (λ (s : Seen). s.cost) read in
     let start = ap (λ (s : Seen). s.from) read in
     let a =
-    AreApproached-same first upto c.args.from cost c.approach-near.result c.args.enter.now was.done.items _ was.dist.items _ was.parent.items _ _ c.approach-near.new.dist _ c.approach-near.new.parent
+    AreApproached-same first upto c.args.from cost c.approach-near.result c.args.enter.now was.done.items _ was.dist.items _
+    was.parent.items _ _ c.approach-near.new.dist _ c.approach-near.new.parent
     c.deref.ensures.value c.deref_mut.ensures.value c.deref_mut-2.ensures.value
     (written c.approach-near.new.dist was.dist.items was.dist.len (c.approach-near.auto.dist ∙ c.deref_mut.ensures.len))
     (written c.approach-near.new.parent was.parent.items was.parent.len (c.approach-near.auto.parent ∙ c.deref_mut-2.ensures.len))
     c.approach-near.ensures.approached in
-    let are = subst (λ (l : LineView). AreGroups (side_slots l.side) l.side.columns l.side.count l.side.groups) c.line.view_is c.group.ensures.groups in
+    let are = subst (λ (l : LineView). AreGroups (side_slots l.side) l.side.columns l.side.count l.side.groups) c.line.view_is
+    c.group.ensures.groups in
     let after = fit.after c.if-first-upto.false in
     let within : upto ≤ group.to = omega (arith, c.cut-upto.ensures.within, end) in
     let room : c.args.group < length was.seen.items = omega (arith, c.requires.seen.room, c.requires.group) in
     record {
       room = omega (arith, c.requires.seen.room, length-seen was.seen.items c.args.group c.renewed.result);
       near =
-          AreNear-look (side_slots line.side) line.side.columns line.side.count line.side.groups are c.args.group first upto c.args.from cost c.approach-near.result
-          c.args.enter.now was.done.items was.dist.items was.parent.items _ _ a was.seen.items c.renewed.result c.requires.group room after within (omega (arith, c.renewed.ensures.near.0, near)) c.renewed.ensures.near.1 c.requires.seen.near;
+          AreNear-look (side_slots line.side) line.side.columns line.side.count line.side.groups are c.args.group first upto c.args.from
+          cost c.approach-near.result
+          c.args.enter.now was.done.items was.dist.items was.parent.items _ _ a was.seen.items c.renewed.result c.requires.group room after
+          within (omega (arith, c.renewed.ensures.near.0, near)) c.renewed.ensures.near.1 c.requires.seen.near;
       reached =
-          AreReached-look (side_slots line.side) line.side.columns line.side.count line.side.groups are c.args.group first upto c.args.from cost c.approach-near.result
-          c.args.enter.now was.done.items was.dist.items was.parent.items _ _ a was.seen.items c.renewed.result c.requires.group room after within
+          AreReached-look (side_slots line.side) line.side.columns line.side.count line.side.groups are c.args.group first upto c.args.from
+          cost c.approach-near.result
+          c.args.enter.now was.done.items was.dist.items was.parent.items _ _ a was.seen.items c.renewed.result c.requires.group room after
+          within
           (λ j past from before undone. ⊎_elim
-          (λ same. omega (arith, same.0, dear, a.nearer j, c.requires.seen.reached c.args.group j c.requires.group (omega (arith, past, same.1, start)) from before undone))
-          (λ cheaper. omega (arith, cheaper.1, a.covered j (omega (arith, past, cheaper.2)) (omega (arith, before, end, c.cut-upto.ensures.cheaper cheaper.0)) undone))
+          (λ same. omega (
+            arith,
+            same.0,
+            dear,
+            a.nearer j,
+            c.requires.seen.reached c.args.group j c.requires.group
+                (omega (arith, past, same.1, start)) from before undone,
+          ))
+          (λ cheaper. omega (
+            arith,
+            cheaper.1,
+            a.covered j (omega (arith, past, cheaper.2))
+                (omega (arith, before, end, c.cut-upto.ensures.cheaper cheaper.0)) undone,
+          ))
           c.renewed.ensures.reached)
           c.requires.seen.reached;
     }
@@ -135,7 +169,8 @@ pub returns-clause-visited : goal.returns-clause-visited
 returns-clause-visited g c =
     let line : LineView = c.args.line.now in
     let group : Group = group_at line.side.groups c.args.group in
-    let end : c.group.result.to ≡ group.to = ap (λ (x : Group). x.to) c.group.ensures.group ∙ ap (λ (l : LineView). (group_at l.side.groups c.args.group).to) c.line.view_is in
+    let end : c.group.result.to ≡ group.to = ap (λ (x : Group). x.to) c.group.ensures.group
+    ∙ ap (λ (l : LineView). (group_at l.side.groups c.args.group).to) c.line.view_is in
     let fit = c.first_fit-first.ensures in
     let after = fit.after c.if-first-upto.false in
     let was = c.args.self.now in
@@ -152,7 +187,8 @@ returns-clause-visited g c =
           (λ (nearer : at c.approach-near.new.dist j < at c.deref_mut.result.now j).
           let b = a.between j nearer in
           absurd (⊎_elim (λ before. omega (arith, before, b.0)) (λ past. omega (arith, past, b.1)) out))
-          (λ (far : at c.deref_mut.result.now j ≤ at c.approach-near.new.dist j). omega (arith, far, a.nearer j, ap (λ xs. at xs j) c.deref_mut.ensures.value))
+          (λ (far : at c.deref_mut.result.now j ≤ at c.approach-near.new.dist j). omega
+          (arith, far, a.nearer j, ap (λ xs. at xs j) c.deref_mut.ensures.value))
           (cases_lt (at c.approach-near.new.dist j) (at c.deref_mut.result.now j));
       steps = omega (arith, c.approach-near.ensures.counted, c.if-first-upto.false);
     })

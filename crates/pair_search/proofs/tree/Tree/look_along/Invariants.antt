@@ -10,7 +10,8 @@ abbrev pub invariant-loop-group : goal.invariant-loop-group
 invariant-loop-group g l = record {
   slots : vec_len l.self.dist ≡ vec_len l.initial.self.dist;
   rows : (l.self.rows.items ≡ l.initial.self.rows.items) × (l.self.far.items ≡ l.initial.self.far.items);
-  looked : AreLooked (line_weight l.line) (begins (side_slots l.line.side) l.line.side.count l.line.side.groups l.group) l.from l.start l.enter (columns_of l.initial.self) (columns_of l.self);
+  looked : AreLooked (line_weight l.line) (begins (side_slots l.line.side) l.line.side.count l.line.side.groups l.group) l.from l.start
+      l.enter (columns_of l.initial.self) (columns_of l.self);
   seen : IsSeen l.line.side l.enter l.self;
   visited : AreVisited (line_weight l.line) l.line.side.groups l.group l.initial.self.dist.items l.self.dist.items l.initial.steps l.steps;
 }

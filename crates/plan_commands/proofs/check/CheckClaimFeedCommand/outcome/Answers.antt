@@ -21,7 +21,8 @@ returns-clause-given g c =
     let timetable = c.timetable-timetable.result.now in
     let stands = c.timetable-timetable.ensures ∙ is.timetable in
     let read_claim = claimed_of timetable c.found-blocks.result.now c.found-prices.result.now in
-    let claim : read_claim ≡ claim_in read said = λ i. claimed_of (stands i) (c.found-blocks.ensures.found i) (c.found-prices.ensures.found i) in
+    let claim : read_claim ≡ claim_in read said =
+    λ i. claimed_of (stands i) (c.found-blocks.ensures.found i) (c.found-prices.ensures.found i) in
     check-given read said timetable c.in_ok-matrix.matrix stands c.in_ok-matrix.ensures
     c.checked.result edited.refused is.refused
     read_claim claim c.checked.ensures.proved c.checked.ensures.done

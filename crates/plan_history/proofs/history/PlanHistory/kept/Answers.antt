@@ -6,7 +6,8 @@ use Rattle.plan_history.proofs.history.PlanHistory.kept.Goals as goal
 
 pub returns-clause-count : goal.returns-clause-count
 returns-clause-count c =
-    c.kept.ensures.count ∙ (sym (length-plans undone_by c.self.inside.solver c.self.inside.log.kept) ∙ ap (λ (h : HistoryView). length h.earlier) c.self.view_is)
+    c.kept.ensures.count ∙ (sym (length-plans undone_by c.self.inside.solver c.self.inside.log.kept)
+    ∙ ap (λ (h : HistoryView). length h.earlier) c.self.view_is)
 
 pub returns-clause-within : goal.returns-clause-within
 returns-clause-within c =

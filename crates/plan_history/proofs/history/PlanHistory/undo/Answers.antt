@@ -8,13 +8,17 @@ use Rattle.plan_history.proofs.HistoryLemmas.{leads-back, AreItems-undone, earli
 use Rattle.plan_history.proofs.history.PlanHistory.undo.Goals as goal
 
 pub lead_back-requires : goal.lead_back-requires
-lead_back-requires c = leads-back c.self.inside.solver c.self.inside.log c.take_back.new.self c.in-Some.item c.self.invariant.0 c.in-Some.ensures.last
+lead_back-requires c = leads-back c.self.inside.solver c.self.inside.log c.take_back.new.self c.in-Some.item c.self.invariant.0
+    c.in-Some.ensures.last
 
 pub invariant_of-self : goal.invariant_of-self
 invariant_of-self c =
     let P : Plan → Type 0 = λ plan. AreItemsOf plan c.put_undone.new.self in
     let Q : LogView Item → Type 0 = λ log. AreItemsOf (undone_by c.self.inside.solver c.in-Some.item) log in (
-      subst P (sym c.lead_back.ensures) (subst Q (sym c.put_undone.ensures) (AreItems-undone c.self.inside.solver c.self.inside.log c.take_back.new.self c.in-Some.item c.self.invariant.0 c.in-Some.ensures.last)),
+      subst P (sym c.lead_back.ensures)
+          (subst Q (sym c.put_undone.ensures)
+          (AreItems-undone c.self.inside.solver c.self.inside.log c.take_back.new.self c.in-Some.item c.self.invariant.0
+          c.in-Some.ensures.last)),
       c.self.invariant.1,
       c.self.invariant.2,
     )
@@ -24,7 +28,8 @@ returns-in-Some-clause-earlier c =
     ap (λ (h : HistoryView). h.earlier) (sym c.self.view_is)
     ∙ (earlier-undone c.self.inside.solver c.self.inside.log c.take_back.new.self c.in-Some.item c.in-Some.ensures.last
     ∙ (ap (λ (p : Plan). plans_along undone_by p c.take_back.new.self.kept ++ p ∷ []) (sym c.lead_back.ensures)
-    ∙ ap (λ (log : LogView Item). plans_along undone_by c.lead_back.new.solver log.kept ++ c.lead_back.new.solver ∷ []) (sym c.put_undone.ensures)))
+    ∙ ap (λ (log : LogView Item). plans_along undone_by c.lead_back.new.solver log.kept ++ c.lead_back.new.solver ∷ [])
+    (sym c.put_undone.ensures)))
 
 pub returns-in-Some-clause-later : goal.returns-in-Some-clause-later
 returns-in-Some-clause-later c =

@@ -6,7 +6,8 @@ use Rattle.plan_history.proofs.history.PlanHistory.undone.Goals as goal
 
 pub returns-clause-count : goal.returns-clause-count
 returns-clause-count c =
-    c.undone.ensures.count ∙ (sym (length-plans redone_by c.self.inside.solver c.self.inside.log.undone) ∙ ap (λ (h : HistoryView). length h.later) c.self.view_is)
+    c.undone.ensures.count ∙ (sym (length-plans redone_by c.self.inside.solver c.self.inside.log.undone)
+    ∙ ap (λ (h : HistoryView). length h.later) c.self.view_is)
 
 pub returns-clause-within : goal.returns-clause-within
 returns-clause-within c =

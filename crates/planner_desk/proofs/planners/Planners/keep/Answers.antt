@@ -17,6 +17,7 @@ invariant_of-self-in-Ok c =
     let t = c.self.inside.script.timetable in
     let here = c.self.invariant.timetable_is ∙ ap (λ (p : PlannersView). timetable_of p.base p.standing) c.self.view_is in
     let does = (subst (λ t. IsDue t c.args.asked.now.edit c.args.judged) (sym here) c.requires.due).does in
-    IsUnder-push c.self.inside.base t _ c.self.inside.numbers.items _ c.self.inside.standing.items _ c.args.number c.args.asked.now c.in_ok-last.last
+    IsUnder-push c.self.inside.base t _ c.self.inside.numbers.items _ c.self.inside.standing.items _ c.args.number c.args.asked.now
+    c.in_ok-last.last
     c.self.invariant c.requires.form c.requires.trip (subst IsOk (sym does) refl)
     c.in_ok-last.ensures (c.in-Ok.ensures.done ∙ sym (ap (or_same t) does)) c.in_ok-push.ensures.numbers c.in_ok-push.ensures.standing

@@ -11,4 +11,5 @@ take_out-requires-clause-folds c =
     folds-not_held c.args.self.now.base c.args.planner.now c.args.self.now.standing place
     (subst (λ (p : PlannersView). Folds p.base p.standing) c.self.view_is c.self.invariant.folds)
     (c.in-Some.ensures.place ∙ ap (last_place c.args.planner.now) (c.deref.ensures.value ∙ stands))
-    (c.in-None.ensures ∙ ap (λ standing. holder (standing_at standing place) (drop (place + 1) standing)) (c.deref-2.ensures.value ∙ stands))
+    (c.in-None.ensures ∙ ap (λ standing. holder (standing_at standing place) (drop (place + 1) standing))
+    (c.deref-2.ensures.value ∙ stands))

@@ -17,7 +17,8 @@ search_befores-requires-clause-apart g c =
     let pairs = c.args.pairs.now in
     let departs : ℕ → ℕ = λ s. minute_left (move_at pairs.moves s) in
     let was : Plan = record { next = c.self.inside.links; leave = c.self.inside.leave.items; enter = c.self.inside.enter.items } in
-    AreNextTrips-loose (pairs_network pairs) (length pairs.moves) departs was c.args.a (Some c.args.b) (subst (IsDay (pairs_network pairs)) c.slots-slots.ensures.count c.slots-slots.ensures.day) c.slots-slots.ensures.departures
+    AreNextTrips-loose (pairs_network pairs) (length pairs.moves) departs was c.args.a (Some c.args.b)
+    (subst (IsDay (pairs_network pairs)) c.slots-slots.ensures.count c.slots-slots.ensures.day) c.slots-slots.ensures.departures
     (subst (λ (p : Plan). length p.next ≡ length pairs.moves) (sym c.self.view_is) c.requires.slots)
     (subst (λ (p : Plan). IsLoose (pairs_network pairs) p c.args.a (Some c.args.b)) (sym c.self.view_is) c.requires.loose)
 
@@ -26,7 +27,8 @@ search_befores-requires-clause-begins g c =
     let pairs = c.args.pairs.now in
     let was : Plan = record { next = c.self.inside.links; leave = c.self.inside.leave.items; enter = c.self.inside.enter.items } in (
       c.args.a,
-      MayBegin-entering pairs c.of-side.result.columns c.of-side.result.places c.of-side.result.groups c.of-side.result.count c.of-side.result was c.args.a c.args.b c.of-side.ensures.pairs
+      MayBegin-entering pairs c.of-side.result.columns c.of-side.result.places c.of-side.result.groups c.of-side.result.count
+          c.of-side.result was c.args.a c.args.b c.of-side.ensures.pairs
           (subst (IsDay (pairs_network pairs)) c.slots-slots.ensures.count c.slots-slots.ensures.day)
           (subst (λ (p : Plan). IsLoose (pairs_network pairs) p c.args.a (Some c.args.b)) (sym c.self.view_is) c.requires.loose),
     )
@@ -36,10 +38,18 @@ returns-clause-loose g c =
     let pairs = c.args.pairs.now in
     let departs : ℕ → ℕ = λ s. minute_left (move_at pairs.moves s) in
     let was : Plan = record { next = c.self.inside.links; leave = c.self.inside.leave.items; enter = c.self.inside.enter.items } in
-    let new : Plan = record { next = c.search_befores.new.links; leave = c.search_befores.new.leave.items; enter = c.search_befores.new.enter.items } in
-    let loose : IsLoose (pairs_network pairs) was c.args.a (Some c.args.b) = subst (λ (p : Plan). IsLoose (pairs_network pairs) p c.args.a (Some c.args.b)) (sym c.self.view_is) c.requires.loose in
-    let begins = MayBegin-entering pairs c.of-side.result.columns c.of-side.result.places c.of-side.result.groups c.of-side.result.count c.of-side.result was c.args.a c.args.b c.of-side.ensures.pairs (subst (IsDay (pairs_network pairs)) c.slots-slots.ensures.count c.slots-slots.ensures.day) loose in
-    IsLoose-entering pairs c.of-side.result.columns c.of-side.result.places c.of-side.result.groups c.of-side.result.count departs c.of-side.result was new c.args.a c.args.b c.of-side.ensures.pairs c.slots-slots.ensures.departures loose
+    let new : Plan = record {
+      next = c.search_befores.new.links;
+      leave = c.search_befores.new.leave.items;
+      enter = c.search_befores.new.enter.items;
+    } in
+    let loose : IsLoose (pairs_network pairs) was c.args.a (Some c.args.b) =
+    subst (λ (p : Plan). IsLoose (pairs_network pairs) p c.args.a (Some c.args.b)) (sym c.self.view_is) c.requires.loose in
+    let begins = MayBegin-entering pairs c.of-side.result.columns c.of-side.result.places c.of-side.result.groups c.of-side.result.count
+    c.of-side.result was c.args.a c.args.b c.of-side.ensures.pairs
+    (subst (IsDay (pairs_network pairs)) c.slots-slots.ensures.count c.slots-slots.ensures.day) loose in
+    IsLoose-entering pairs c.of-side.result.columns c.of-side.result.places c.of-side.result.groups c.of-side.result.count departs
+    c.of-side.result was new c.args.a c.args.b c.of-side.ensures.pairs c.slots-slots.ensures.departures loose
     (omega (arith, c.search_befores.ensures.leave.0, c.search_befores.ensures.links, c.self.invariant.1, c.search_befores.new.leave.ok.0))
     (omega (arith, c.search_befores.ensures.enter.0, c.search_befores.ensures.links, c.self.invariant.2, c.search_befores.new.enter.ok.0))
     (c.search_befores.ensures.found c.args.a begins)
@@ -49,13 +59,21 @@ returns-clause-path g c =
     let pairs = c.args.pairs.now in
     let departs : ℕ → ℕ = λ s. minute_left (move_at pairs.moves s) in
     let was : Plan = record { next = c.self.inside.links; leave = c.self.inside.leave.items; enter = c.self.inside.enter.items } in
-    let new : Plan = record { next = c.search_befores.new.links; leave = c.search_befores.new.leave.items; enter = c.search_befores.new.enter.items } in
-    let loose : IsLoose (pairs_network pairs) was c.args.a (Some c.args.b) = subst (λ (p : Plan). IsLoose (pairs_network pairs) p c.args.a (Some c.args.b)) (sym c.self.view_is) c.requires.loose in
-    let slots : length was.next ≡ length pairs.moves = subst (λ (p : Plan). length p.next ≡ length pairs.moves) (sym c.self.view_is) c.requires.slots in
+    let new : Plan = record {
+      next = c.search_befores.new.links;
+      leave = c.search_befores.new.leave.items;
+      enter = c.search_befores.new.enter.items;
+    } in
+    let loose : IsLoose (pairs_network pairs) was c.args.a (Some c.args.b) =
+    subst (λ (p : Plan). IsLoose (pairs_network pairs) p c.args.a (Some c.args.b)) (sym c.self.view_is) c.requires.loose in
+    let slots : length was.next ≡ length pairs.moves =
+    subst (λ (p : Plan). length p.next ≡ length pairs.moves) (sym c.self.view_is) c.requires.slots in
     let day = subst (IsDay (pairs_network pairs)) c.slots-slots.ensures.count c.slots-slots.ensures.day in
-    let begins = MayBegin-entering pairs c.of-side.result.columns c.of-side.result.places c.of-side.result.groups c.of-side.result.count c.of-side.result was c.args.a c.args.b c.of-side.ensures.pairs day loose in
+    let begins = MayBegin-entering pairs c.of-side.result.columns c.of-side.result.places c.of-side.result.groups c.of-side.result.count
+    c.of-side.result was c.args.a c.args.b c.of-side.ensures.pairs day loose in
     subst (λ (p : Plan). IsRightPath p.next c.search_befores.new.links c.args.b) c.self.view_is
-    (IsRightPath-loose (pairs_network pairs) (length pairs.moves) departs was new c.args.a c.args.b (side_weight c.of-side.result) day c.slots-slots.ensures.departures
+    (IsRightPath-loose (pairs_network pairs) (length pairs.moves) departs was new c.args.a c.args.b (side_weight c.of-side.result) day
+    c.slots-slots.ensures.departures
     slots c.search_befores.ensures.links loose (returns-clause-loose g c) (c.search_befores.ensures.found c.args.a begins))
 
 pub returns-clause-visited : goal.returns-clause-visited
@@ -71,6 +89,11 @@ returns-clause-plan g c =
     let pairs = c.args.pairs.now in
     let side = c.of-side.result in
     let was : Plan = record { next = c.self.inside.links; leave = c.self.inside.leave.items; enter = c.self.inside.enter.items } in
-    let new : Plan = record { next = c.search_befores.new.links; leave = c.search_befores.new.leave.items; enter = c.search_befores.new.enter.items } in
+    let new : Plan = record {
+      next = c.search_befores.new.links;
+      leave = c.search_befores.new.leave.items;
+      enter = c.search_befores.new.enter.items;
+    } in
     subst (λ (p : Plan). new ≡ found_right pairs c.args.b c.args.a p) c.self.view_is
-    (found-right pairs side (slots_of side.columns) was new c.args.b c.args.a c.of-side.ensures.pairs c.of-side.ensures.slots c.search_befores.ensures.plan)
+    (found-right pairs side (slots_of side.columns) was new c.args.b c.args.a c.of-side.ensures.pairs c.of-side.ensures.slots
+    c.search_befores.ensures.plan)

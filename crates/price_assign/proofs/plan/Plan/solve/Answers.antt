@@ -14,8 +14,11 @@ returns-clause-certified g c =
     let pairs = c.args.pairs.now in
     let departs : ℕ → ℕ = λ s. minute_left (move_at pairs.moves s) in
     let plan : Plan = record { next = c.link_all.new.links; leave = c.link_all.new.leave.items; enter = c.link_all.new.enter.items } in
-    IsCertified-leaving pairs c.of-side.result.columns c.of-side.result.places c.of-side.result.groups c.of-side.result.count departs c.of-side.result plan c.of-side.ensures.pairs (subst (IsDay (pairs_network pairs)) c.slots-slots.ensures.count c.slots-slots.ensures.day) c.slots-slots.ensures.departures
-    c.link_all.ensures.links (omega (arith, c.link_all.ensures.leave.0, c.link_all.ensures.links, c.link_all.new.leave.ok.0)) (omega (arith, c.link_all.ensures.enter.0, c.link_all.ensures.links, c.link_all.new.enter.ok.0))
+    IsCertified-leaving pairs c.of-side.result.columns c.of-side.result.places c.of-side.result.groups c.of-side.result.count departs
+    c.of-side.result plan c.of-side.ensures.pairs
+    (subst (IsDay (pairs_network pairs)) c.slots-slots.ensures.count c.slots-slots.ensures.day) c.slots-slots.ensures.departures
+    c.link_all.ensures.links (omega (arith, c.link_all.ensures.leave.0, c.link_all.ensures.links, c.link_all.new.leave.ok.0))
+    (omega (arith, c.link_all.ensures.enter.0, c.link_all.ensures.links, c.link_all.new.enter.ok.0))
     c.link_all.ensures.matched c.link_all.ensures.covers
 
 pub link_all-requires-clause-renaming : goal.link_all-requires-clause-renaming
@@ -29,4 +32,5 @@ pub returns-clause-plan : goal.returns-clause-plan
 returns-clause-plan g c =
     let side = c.of-side.result in
     let plan : Plan = record { next = c.link_all.new.links; leave = c.link_all.new.leave.items; enter = c.link_all.new.enter.items } in
-    solved-is c.args.pairs.now side (slots_of side.columns) (slots_of c.arrange-departures.result.now) plan c.of-side.ensures.pairs c.of-side.ensures.slots c.arrange-departures.ensures.slots c.link_all.ensures.plan
+    solved-is c.args.pairs.now side (slots_of side.columns) (slots_of c.arrange-departures.result.now) plan c.of-side.ensures.pairs
+    c.of-side.ensures.slots c.arrange-departures.ensures.slots c.link_all.ensures.plan

@@ -10,4 +10,5 @@ use Rattle.sample_command.proofs.sample.SampleCommand.outcome.Goals as goal
 pub returns-clause-given : goal.returns-clause-given
 returns-clause-given g c =
     sample-given c.args.self.now.trips c.args._read.now c.in_ok-read.read c.in_ok-read.ensures
-    c.outcome.result (subst (λ (command : Summarize). IfOk c.outcome.result (IsGiven (of_feed (summary_does command.trips)) c.in_ok-read.read)) c.of.ensures c.outcome.ensures.given)
+    c.outcome.result (subst (λ (command : Summarize). IfOk c.outcome.result
+    (IsGiven (of_feed (summary_does command.trips)) c.in_ok-read.read)) c.of.ensures c.outcome.ensures.given)

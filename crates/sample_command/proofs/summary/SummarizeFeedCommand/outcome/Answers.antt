@@ -10,9 +10,11 @@ use Rattle.sample_command.proofs.summary.SummarizeFeedCommand.outcome.Goals as g
 pub summed-requires-clause-names : goal.summed-requires-clause-names
 summed-requires-clause-names g c =
     let said = said_to c.args.said in
-    subst (λ (t : TimetableView). All (λ slot. IsName slot.name) t.slots) (sym c.in_ok-edited.ensures.edited.timetable) (c.names_law.ensures (found_of c.args.said.read.now.pages) said c.requires.says)
+    subst (λ (t : TimetableView). All (λ slot. IsName slot.name) t.slots) (sym c.in_ok-edited.ensures.edited.timetable)
+    (c.names_law.ensures (found_of c.args.said.read.now.pages) said c.requires.says)
 
 pub returns-clause-given : goal.returns-clause-given
 returns-clause-given g c =
     summary-given c.args.self.now.trips c.args.said.read.now (said_to c.args.said) c.in_ok-edited.edited c.in_ok-matrix.matrix
-    c.in_ok-edited.ensures.edited c.in_ok-matrix.ensures c.summed.result c.prefix-prefix.result.now c.prefix-prefix.ensures c.summed.ensures.summed
+    c.in_ok-edited.ensures.edited c.in_ok-matrix.ensures c.summed.result c.prefix-prefix.result.now c.prefix-prefix.ensures
+    c.summed.ensures.summed

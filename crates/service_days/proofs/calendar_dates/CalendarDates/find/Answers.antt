@@ -7,5 +7,6 @@ pub returns : goal.returns
 returns c =
     c.copied.ensures
     ∙ c.get.ensures.value
-    ∙ sym (lookup-viewed (λ k. (string_bytes k.0, k.1)) (is_same (string_bytes c.in_ok-service.service, c.args.date)) c.self.inside.exceptions.entries)
+    ∙ sym (lookup-viewed (λ k. (string_bytes k.0, k.1)) (is_same (string_bytes c.in_ok-service.service, c.args.date))
+    c.self.inside.exceptions.entries)
     ∙ (λ i. exception_of (c.self.view_is i) (c.in_ok-service.ensures.ok i, c.args.date))

@@ -13,7 +13,8 @@ loop-number-preserved c =
     let n = c.loop-number.number in
     let key : ServiceDate = (c.service_date-on.result.0.now, c.service_date-on.result.1) in
     let at : option_map (λ entry. entry.0) (slice_get c.args.self.now.exceptions n) ≡ Some key =
-    sym (ap (λ (services : ServicesView). option_map (λ entry. entry.0) (slice_get services.exceptions n)) c.self.view_is) ∙ c.service_date-on.ensures in
+    sym (ap (λ (services : ServicesView). option_map (λ entry. entry.0) (slice_get services.exceptions n)) c.self.view_is)
+    ∙ c.service_date-on.ensures in
     let next = sym (fold-next (with_excepted c.args.self.now c.args.date) _ c.args.self.now.exceptions n key at) in
     elim c.if-on-date.branch [
       | then-on-date+in_ok-add_running w ↦

@@ -19,4 +19,5 @@ returns c =
     let fits = node_fits nodes LEAVES 13 tree refl (omega arith) 13 1 0 LEAVES (root_span 13) in
     let value = ap (λ (x : MaxPrefix). to_z w32 (of_z w32 x.high)) read ∙ to_z-of_z w32 _ fits.1 in
     subst (λ (high : ℤ). IsGreatestPrefix c.args.self.now high) (sym value)
-    (subst (λ (leaves : List MaxPrefix). IsGreatestPrefix leaves (node_of no_leaf nodes 1).high) c.self.view_is (root_greatest nodes LEAVES 13 tree refl (omega arith)))
+    (subst (λ (leaves : List MaxPrefix). IsGreatestPrefix leaves (node_of no_leaf nodes 1).high) c.self.view_is
+    (root_greatest nodes LEAVES 13 tree refl (omega arith)))

@@ -12,8 +12,10 @@ returns-clause-found g c =
     let leaf = c.index.result.now in
     let count = leaves_count g.met.S.Summary.laws nodes LEAVES 13 tree refl (omega arith) in
     let place : ℕ = c.args.place in
-    let read = get_or_read nodes (LEAVES + place) leaf (omega (arith, tree.count, c.requires)) (c.index.ensures ∙ ap (λ (k : ℕ). get_or nodes (LEAVES + k) leaf) c.from.ensures) leaf in
-    ap (λ xs. slice_get xs place) (sym c.self.view_is) ∙ slice_get-get_or (drop LEAVES nodes) place leaf (omega (arith, count, c.requires)) ∙ ap Some (get_or-drop LEAVES nodes place leaf ∙ sym read)
+    let read = get_or_read nodes (LEAVES + place) leaf (omega (arith, tree.count, c.requires))
+    (c.index.ensures ∙ ap (λ (k : ℕ). get_or nodes (LEAVES + k) leaf) c.from.ensures) leaf in
+    ap (λ xs. slice_get xs place) (sym c.self.view_is) ∙ slice_get-get_or (drop LEAVES nodes) place leaf (omega (arith, count, c.requires))
+    ∙ ap Some (get_or-drop LEAVES nodes place leaf ∙ sym read)
 
 pub returns-clause-lawful : goal.returns-clause-lawful
 returns-clause-lawful g c =

@@ -8,4 +8,5 @@ pub invariant_of-self-2 : goal.invariant_of-self-2
 invariant_of-self-2 c =
     let t = timetable_of c.self.inside.classed c.self.inside.places.entries c.pop.new.self.entries c.self.inside.early c.self.inside.late in
     IsTimetable-pop_slot t _
-    (subst (λ slots. IsTimetable (record t { slots = slots })) (ap slots_of c.in_ok-name.ensures.entries ∙ map-append _ c.pop.new.self.entries _) c.self.invariant)
+    (subst (λ slots. IsTimetable (record t { slots = slots }))
+    (ap slots_of c.in_ok-name.ensures.entries ∙ map-append _ c.pop.new.self.entries _) c.self.invariant)

@@ -4,9 +4,12 @@ use Rattle.trip_model.proofs.TimetableLemmas.{pushed_place, IsTimetable-push_pla
 use Rattle.trip_model.proofs.timetable.Timetable.push.Goals as goal
 
 pub returns-clause-pushed : goal.returns-clause-pushed
-returns-clause-pushed c = pushed_place _ _ _ _ _ _ _ _ c.args.self.now _ _ c.self.view_is c.in_ok-of.ensures c.in_ok-of-2.ensures c.requires.new c.in_ok-insert.ensures.entries
+returns-clause-pushed c = pushed_place _ _ _ _ _ _ _ _ c.args.self.now _ _ c.self.view_is c.in_ok-of.ensures c.in_ok-of-2.ensures
+    c.requires.new c.in_ok-insert.ensures.entries
 
 pub invariant_of-self-2 : goal.invariant_of-self-2
 invariant_of-self-2 c =
-    subst IsTimetable (sym (pushed_place _ _ _ _ _ _ _ _ c.args.self.now _ _ c.self.view_is c.in_ok-of.ensures c.in_ok-of-2.ensures c.requires.new c.in_ok-insert.ensures.entries))
-    (IsTimetable-push_place c.args.self.now _ (subst IsTimetable c.self.view_is c.self.invariant) c.requires.new c.requires.room c.requires.place)
+    subst IsTimetable (sym (pushed_place _ _ _ _ _ _ _ _ c.args.self.now _ _ c.self.view_is c.in_ok-of.ensures c.in_ok-of-2.ensures
+    c.requires.new c.in_ok-insert.ensures.entries))
+    (IsTimetable-push_place c.args.self.now _ (subst IsTimetable c.self.view_is c.self.invariant) c.requires.new c.requires.room
+    c.requires.place)

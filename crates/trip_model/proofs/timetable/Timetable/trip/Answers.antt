@@ -8,4 +8,5 @@ use Rattle.trip_model.proofs.timetable.Timetable.trip.Goals as goal
 pub returns-clause-valid : goal.returns-clause-valid
 returns-clause-valid c =
     subst (λ t. IsValidTrip t.places c.unwrap.result.1.now) c.self.view_is
-    (trip-valid _ c.self.inside.trips.entries _ (deref_pair c.unwrap.result) c.self.invariant.trips (sym c.get_index.ensures.entry ∙ ap (option_map deref_pair) c.unwrap.ensures))
+    (trip-valid _ c.self.inside.trips.entries _ (deref_pair c.unwrap.result) c.self.invariant.trips
+    (sym c.get_index.ensures.entry ∙ ap (option_map deref_pair) c.unwrap.ensures))

@@ -9,5 +9,6 @@ returns c =
     let is = shifted-is c.args.self c.args.by _ _ _ (search rules) (search rules) (grind (arith, ints, to_z-of_z)) in
     record {
       trip = is;
-      valid = λ places valid. subst (IsValidTrip places) (sym is) (IsValidTrip-shifted places c.args.self c.args.by valid c.requires.within);
+      valid = λ places valid. subst (IsValidTrip places) (sym is)
+          (IsValidTrip-shifted places c.args.self c.args.by valid c.requires.within);
     }
