@@ -1,1 +1,2 @@
 pub mod PairsLemmas
+pub mod ShareLemmas

@@ -1,5 +1,5 @@
 -- What the pairs of a timetable are seen as.
-use Rattle.std.specs.Prelude.{◌≡◌, ℕ, ◌+◌, ◌≤◌, List, [], length, slice_index_or, slice_set, Option, None, Some}
+use Rattle.std.specs.Prelude.{◌≡◌, ℕ, ◌+◌, ◌≤◌, Bool, List, [], length, slice_index_or, slice_set, Option, None, Some, if◌then◌else◌}
 use Rattle.assignment_model.specs.declared.limits.TheConstants.{MOST_DEADHEAD, VEHICLE_WEIGHT}
 use Rattle.deadhead_matrix.specs.Fitting.{deadhead_network}
 use Rattle.deadhead_matrix.specs.Matrix.{MatrixView}
@@ -7,7 +7,9 @@ use Rattle.deadhead_matrix.specs.Pulls.{pull_at}
 use Rattle.trip_model.specs.Network.{Network}
 use Rattle.trip_model.specs.Plain.{move_at, trip_moves}
 use Rattle.trip_model.specs.Timetable.{TimetableView}
+use Rattle.trip_model.specs.declared.limits.TheConstants.{LAST_MINUTE}
 use Rattle.trip_model.specs.declared.trip.Move.{Move}
+use Rattle.pair_graph.specs.declared.share.Share.{Share}
 
 -- the moves of the slots, and the walks between their places with the pulls of these
 pub record PairsView : Type 0 where
@@ -27,16 +29,24 @@ pairs_of timetable matrix without = record { moves = moves_without (trip_moves t
 abbrev pub pairs_network : PairsView → Network
 pairs_network pairs = deadhead_network pairs.moves pairs.matrix
 
--- the pairs of one slot with each
+-- the pull-out to a place or, seen backward, the pull-in from there
+abbrev pub pairs_pull : PairsView → Bool → ℕ → ℕ
+pairs_pull pairs turned place =
+    if turned then (pull_at pairs.matrix.pulls place).pull_in else (pull_at pairs.matrix.pulls place).pull_out
+
+-- the pairs of one slot with each, and what they share
 pub record RowView : Type 0 where
   pub pairs : PairsView
   pub slot : ℕ
+  pub share : Share
 
--- what the pairs of a slot share: its move, the walks from where that ends, and a vehicle's weight with the minutes home from
--- there
-pub record IsRow (pairs : PairsView) (slot : ℕ) (before : Move) (walks : List (Option ℕ)) (saved : ℕ) : Type 0 where
+-- what the pairs of a slot share: its move, the walks from where that ends, when it arrives, and a vehicle's weight with the
+-- minutes home from there
+pub record IsRow (pairs : PairsView) (slot : ℕ) (before : Move) (walks : List (Option ℕ)) (share : Share) : Type 0 where
   pub made : move_at pairs.moves slot ≡ Some before
   pub led : walks ≡ slice_index_or pairs.matrix.walks before.to []
   pub places : length walks ≡ length pairs.matrix.walks
-  pub weighed : saved ≡ VEHICLE_WEIGHT + (pull_at pairs.matrix.pulls before.to).pull_in
-  pub bounded : saved ≤ VEHICLE_WEIGHT + MOST_DEADHEAD
+  pub arrives : before.arrives ≤ LAST_MINUTE
+  pub ready : share.ready ≡ before.arrives
+  pub weighed : share.saved ≡ VEHICLE_WEIGHT + (pull_at pairs.matrix.pulls before.to).pull_in
+  pub bounded : share.saved ≤ VEHICLE_WEIGHT + MOST_DEADHEAD

@@ -1,11 +1,15 @@
-ghost use Rattle.std.specs.Prelude.{◌≡◌, ℕ, ◌<◌, ◌≤◌, length, Some};
+ghost use Rattle.std.specs.Prelude.{◌≡◌, ℕ, ◌+◌, ◌-◌, ◌<◌, ◌≤◌, length, Some, IfSome};
 ghost use Rattle.assignment_model.specs.Prices.{weight};
+ghost use Rattle.assignment_model.specs.declared.limits.TheConstants.{MOST_DEADHEAD, VEHICLE_WEIGHT};
+ghost use Rattle.deadhead_matrix.specs.Pulls.{pull_at};
+ghost use Rattle.deadhead_matrix.specs.declared.limits.TheConstants.{LONGEST_WALK};
 ghost use Rattle.pair_graph.specs.Pairs.{pairs_network};
-ghost use Rattle.pair_graph.specs.Reach.{saved_until};
+ghost use Rattle.pair_graph.specs.Shares.{saved_along};
+ghost use Rattle.trip_model.specs.declared.limits.TheConstants.{LAST_MINUTE};
 ghost use Rattle.trip_model.specs.Plain.{move_at};
 ghost use Rattle.trip_model.specs.declared.trip.Move.{Move};
 
-use crate::{Pairs, Reach};
+use crate::{Pairs, Share};
 use std::marker::Model;
 use trip_model::Move;
 
@@ -15,39 +19,41 @@ pub struct Column<'a> {
     pub(crate) pairs: &'a Pairs<'a>,
     pub(crate) slot: u16,
     pub(crate) after: Move,
-    pub(crate) saved: u64,
+    pub(crate) share: Share,
 }
 
 impl<'a> Model for Column<'a> {
     ghost use Rattle.pair_graph.specs.Pairs.{RowView};
-    ghost use Rattle.pair_graph.specs.Reach.{IsColumn};
+    ghost use Rattle.pair_graph.specs.Shares.{IsColumn};
 
     ghost Value = { RowView };
 
-    ghost view = { λ c. record { pairs = c.pairs.now; slot = c.slot } };
+    ghost view = { λ c. record { pairs = c.pairs.now; slot = c.slot; share = c.share } };
 
-    ghost invariant = { λ c. IsColumn c.pairs.now c.slot c.after c.saved };
+    ghost invariant = { λ c. IsColumn c.pairs.now c.slot c.after c.share };
 }
 
 impl<'a> Column<'a> {
-    /// What it saves to make the trip of the column's slot next after any trip that ends at a place, and no sooner than at a
-    /// minute. And until when that trip must end. None where it cannot be made. The caller counts the pairs that it then reads.
-    pub fn reach(&self, place: u16, soonest: u16) -> Option<Reach>
+    /// What the pairs of the column's slot share.
+    pub fn share(&self) -> Share
+        ensures share { result ≡ self.now.share }
+        ensures least { VEHICLE_WEIGHT ≤ result.saved }
+        ensures most { result.saved ≤ VEHICLE_WEIGHT + MOST_DEADHEAD }
+    {
+        self.share
+    }
+
+    /// In how many minutes a vehicle runs empty from a place to where the trip of the column's slot begins. This tells what it
+    /// saves to make that trip next after one that ends there. The caller counts the pairs that it then reads.
+    pub fn walk(&self, place: u16) -> Option<u32>
         requires { place < length self.now.pairs.matrix.walks }
-        ensures { (i : ℕ) (m : Move) → move_at self.now.pairs.moves i ≡ Some m → m.to ≡ place → soonest ≤ m.arrives
-            → weight (pairs_network self.now.pairs) i self.now.slot ≡ saved_until result m.arrives }
+        ensures weights { (i : ℕ) (m : Move) → move_at self.now.pairs.moves i ≡ Some m → m.to ≡ place → m.arrives ≤ LAST_MINUTE
+            → weight (pairs_network self.now.pairs) i self.now.slot
+            ≡ saved_along self.now.share (pull_at self.now.pairs.matrix.pulls place).pull_in result (LAST_MINUTE - m.arrives) }
+        ensures bound { IfSome result (λ minutes. minutes ≤ LONGEST_WALK) }
     {
         let pairs = self.pairs;
         let matrix = pairs.matrix;
-        let minutes = matrix.minutes(place, self.after.from)?;
-        let minute = u32::from(self.after.leaves).checked_sub(minutes)?;
-        if minute < u32::from(soonest) {
-            return None;
-        }
-        let home = matrix.pull_in(place);
-        Some(Reach {
-            minute: minute as u16,
-            saved: self.saved + u64::from(home) - u64::from(minutes),
-        })
+        matrix.minutes(place, self.after.from)
     }
 }

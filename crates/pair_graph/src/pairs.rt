@@ -1,18 +1,19 @@
 ghost use Rattle.std.specs.Prelude.{◌≡◌, ◌+◌, ◌<◌, ◌≤◌, length, None, Some, IfSome, is_some};
 ghost use Rattle.assignment_model.specs.Prices.{weight, IsDay};
+ghost use Rattle.assignment_model.specs.declared.limits.TheConstants.{MOST_DEADHEAD};
 ghost use Rattle.trip_model.specs.declared.limits.TheConstants.{MOST_SLOTS};
 ghost use Rattle.trip_model.specs.Network.{AreDepartures};
 ghost use Rattle.trip_model.specs.Order.{minute_left};
 ghost use Rattle.trip_model.specs.Plain.{move_at, AreMoves, IsMove};
-ghost use Rattle.pair_graph.specs.Pairs.{pairs_of, pairs_network};
+ghost use Rattle.pair_graph.specs.Pairs.{pairs_of, pairs_network, pairs_pull};
 
-use crate::{Column, Row};
+use crate::{Column, Row, Share};
 use assignment_model::VEHICLE_WEIGHT;
 use deadhead_matrix::Matrix;
 use desk_io::Steps;
 use std::marker::Model;
 use std::sync::ledger::Ledger;
-use trip_model::{Move, Timetable};
+use trip_model::{LAST_MINUTE, Move, Timetable};
 
 /// The pairs of trips of a timetable, with the least walks of a matrix between their places.
 #[derive(Drop)]
@@ -93,7 +94,7 @@ impl<'a> Pairs<'a> {
     /// The pairs of a slot with each, for a caller that looks at many of them; None where its trip does not run.
     pub fn row(&self, slot: u16) -> Option<Row<'_>>
         requires { slot < length self.now.moves }
-        ensures row { IfSome result (λ row. row ≡ record { pairs = self.now; slot = slot }) }
+        ensures row { IfSome result (λ row. row ≡ record { pairs = self.now; slot = slot; share = row.share }) }
         ensures live { is_some result ≡ (pairs_network self.now).live slot }
     {
         let before = self.move_at(slot)?;
@@ -102,14 +103,17 @@ impl<'a> Pairs<'a> {
             slot,
             before,
             walks: self.matrix.walks_from(before.to),
-            saved: VEHICLE_WEIGHT + u64::from(self.matrix.pull_in(before.to)),
+            share: Share {
+                ready: before.arrives,
+                saved: VEHICLE_WEIGHT + u64::from(self.matrix.pull_in(before.to)),
+            },
         })
     }
 
     /// The pairs of each slot with one, for a caller that looks at many of them; None where its trip does not run.
     pub fn column(&self, slot: u16) -> Option<Column<'_>>
         requires { slot < length self.now.moves }
-        ensures column { IfSome result (λ column. column ≡ record { pairs = self.now; slot = slot }) }
+        ensures column { IfSome result (λ column. column ≡ record { pairs = self.now; slot = slot; share = column.share }) }
         ensures live { is_some result ≡ (pairs_network self.now).live slot }
     {
         let after = self.move_at(slot)?;
@@ -117,8 +121,24 @@ impl<'a> Pairs<'a> {
             pairs: self,
             slot,
             after,
-            saved: VEHICLE_WEIGHT + u64::from(self.matrix.pull_out(after.from)),
+            share: Share {
+                ready: LAST_MINUTE - after.leaves,
+                saved: VEHICLE_WEIGHT + u64::from(self.matrix.pull_out(after.from)),
+            },
         })
+    }
+
+    /// In how many minutes a vehicle runs empty from the depot to a place. Seen backward, from there home.
+    pub fn pull(&self, turned: bool, place: u16) -> u16
+        requires { place < length self.now.matrix.walks }
+        ensures pull { result ≡ pairs_pull self.now turned place }
+        ensures bound { result ≤ MOST_DEADHEAD }
+    {
+        if turned {
+            self.matrix.pull_in(place)
+        } else {
+            self.matrix.pull_out(place)
+        }
     }
 
     /// What it saves to make the trip of `j` next after that of `i`, where one vehicle can. It is 67,108,864 for a vehicle,

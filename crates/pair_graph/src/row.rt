@@ -1,11 +1,14 @@
-ghost use Rattle.std.specs.Prelude.{◌≡◌, ℕ, ◌+◌, ◌<◌, ◌≤◌, length, Some};
+ghost use Rattle.std.specs.Prelude.{◌≡◌, ℕ, ◌+◌, ◌<◌, ◌≤◌, length, Some, IfSome};
 ghost use Rattle.assignment_model.specs.Prices.{weight};
+ghost use Rattle.assignment_model.specs.declared.limits.TheConstants.{MOST_DEADHEAD, VEHICLE_WEIGHT};
+ghost use Rattle.deadhead_matrix.specs.Pulls.{pull_at};
+ghost use Rattle.deadhead_matrix.specs.declared.limits.TheConstants.{LONGEST_WALK};
 ghost use Rattle.pair_graph.specs.Pairs.{pairs_network};
-ghost use Rattle.pair_graph.specs.Reach.{saved_from};
+ghost use Rattle.pair_graph.specs.Shares.{saved_along};
 ghost use Rattle.trip_model.specs.Plain.{move_at};
 ghost use Rattle.trip_model.specs.declared.trip.Move.{Move};
 
-use crate::{Pairs, Reach};
+use crate::{Pairs, Share};
 use deadhead_matrix::Walks;
 use desk_io::Steps;
 use std::marker::Model;
@@ -19,7 +22,7 @@ pub struct Row<'a> {
     pub(crate) slot: u16,
     pub(crate) before: Move,
     pub(crate) walks: Walks<'a>,
-    pub(crate) saved: u64,
+    pub(crate) share: Share,
 }
 
 impl<'a> Model for Row<'a> {
@@ -27,9 +30,9 @@ impl<'a> Model for Row<'a> {
 
     ghost Value = { RowView };
 
-    ghost view = { λ r. record { pairs = r.pairs.now; slot = r.slot } };
+    ghost view = { λ r. record { pairs = r.pairs.now; slot = r.slot; share = r.share } };
 
-    ghost invariant = { λ r. IsRow r.pairs.now r.slot r.before r.walks r.saved };
+    ghost invariant = { λ r. IsRow r.pairs.now r.slot r.before r.walks r.share };
 }
 
 impl<'a> Row<'a> {
@@ -48,26 +51,27 @@ impl<'a> Row<'a> {
             return None;
         }
         let out = pairs.matrix.pull_out(after.from);
-        Some(self.saved + u64::from(out) - u64::from(minutes))
+        Some(self.share.saved + u64::from(out) - u64::from(minutes))
     }
 
-    /// What it saves to make any trip next after that of the row's slot that begins at a place, and no later than at a minute.
-    /// And from when on that trip must leave. None where none can be made. The caller counts the pairs that it then reads.
-    pub fn reach(&self, place: u16, latest: u16) -> Option<Reach>
-        requires { place < length self.now.pairs.matrix.walks }
-        ensures { (j : ℕ) (m : Move) → move_at self.now.pairs.moves j ≡ Some m → m.from ≡ place → m.leaves ≤ latest
-            → weight (pairs_network self.now.pairs) self.now.slot j ≡ saved_from result m.leaves }
+    /// What the pairs of the row's slot share.
+    pub fn share(&self) -> Share
+        ensures share { result ≡ self.now.share }
+        ensures least { VEHICLE_WEIGHT ≤ result.saved }
+        ensures most { result.saved ≤ VEHICLE_WEIGHT + MOST_DEADHEAD }
     {
-        let pairs = self.pairs;
-        let minutes = self.walks.to(place)?;
-        let minute = u32::from(self.before.arrives) + minutes;
-        if minute > u32::from(latest) {
-            return None;
-        }
-        let out = pairs.matrix.pull_out(place);
-        Some(Reach {
-            minute: minute as u16,
-            saved: self.saved + u64::from(out) - u64::from(minutes),
-        })
+        self.share
+    }
+
+    /// In how many minutes a vehicle runs empty from where the trip of the row's slot ends to a place. This tells what it saves to
+    /// make a trip next that begins there. The caller counts the pairs that it then reads.
+    pub fn walk(&self, place: u16) -> Option<u32>
+        requires { place < length self.now.pairs.matrix.walks }
+        ensures weights { (j : ℕ) (m : Move) → move_at self.now.pairs.moves j ≡ Some m → m.from ≡ place
+            → weight (pairs_network self.now.pairs) self.now.slot j
+            ≡ saved_along self.now.share (pull_at self.now.pairs.matrix.pulls place).pull_out result m.leaves }
+        ensures bound { IfSome result (λ minutes. minutes ≤ LONGEST_WALK) }
+    {
+        self.walks.to(place)
     }
 }

@@ -1,9 +1,9 @@
 -- What a row weighs with the columns at one post.
 use Rattle.std.proofs.Common.{◌≡◌, ℕ, ◌+◌, ◌-◌, ◌<◌, ◌≤◌, nat_le, Bool, true, false, cond, List, length, take, drop, get_or, Option, None}
-use Rattle.std.proofs.Common.{Some, refl, sym, ap, ◌∙◌, ⊎_elim, arith}
+use Rattle.std.proofs.Common.{Some, refl, sym, ap, ◌∙◌, arith}
 use Rattle.std.specs.Prelude.{is_some}
 use Rattle.std.specs.Option.{option_map}
-use Rattle.std.proofs.lemmas.Bool.{both_ways, cases_lt, le-leb, lt-leb}
+use Rattle.std.proofs.lemmas.Bool.{both_ways, le-leb, lt-leb}
 use Rattle.std.proofs.lemmas.List.{get_or-drop, get_or-take, length-drop, length-take}
 use Rattle.std.proofs.lemmas.Option.{none-some, same_Some}
 use Rattle.trip_model.specs.Links.{leads_to}
@@ -12,14 +12,17 @@ use Rattle.trip_model.specs.declared.trip.Move.{Move}
 use Rattle.deadhead_matrix.specs.Matrix.{walk}
 use Rattle.deadhead_matrix.specs.Fitting.{empty_between}
 use Rattle.assignment_model.specs.Prices.{weight}
-use Rattle.pair_graph.specs.Pairs.{PairsView, pairs_network}
-use Rattle.pair_graph.specs.Reach.{saved_from, saved_until}
-use Rattle.pair_graph.specs.declared.reach.Reach.{Reach}
+use Rattle.deadhead_matrix.specs.Pulls.{pull_at}
+use Rattle.pair_graph.specs.Pairs.{PairsView, pairs_network, pairs_pull}
+use Rattle.pair_graph.specs.Shares.{saved_along}
+use Rattle.pair_search.specs.declared.line.Reach.{Reach}
 use Rattle.pair_search.specs.Order.{column_minute, column_post, no_column, IsOrder}
 use Rattle.pair_search.specs.declared.order.Column.{Column}
 use Rattle.pair_search.specs.Groups.{group_at, AreGroups}
 use Rattle.pair_search.specs.declared.groups.Group.{Group}
-use Rattle.pair_search.specs.Side.{SideView, LineView, side_slots, side_slot, line_weight, pairs_minute, pairs_post, IsFirstFit, IsReachOf}
+use Rattle.pair_search.specs.Side.{SideView, LineView, side_slots, side_slot, line_weight, pairs_minute, pairs_post, post_pull}
+use Rattle.pair_search.specs.Side.{reach_weight, IsFirstFit, IsReachOf}
+use Rattle.pair_search.proofs.GroupLemmas.{to-latest}
 use Rattle.pair_search.proofs.SideLemmas.{all_weights, masked}
 
 -- the column of a trip that runs and is not left out stands at a post
@@ -62,21 +65,6 @@ idle pairs i j none = (
     by None e = ap (λ m. weighed-back (empty_between (walk pairs.matrix) m (move_at pairs.moves i))) e
     by (Some m) e = ap (λ o. weighed-back (empty_between (walk pairs.matrix) o (move_at pairs.moves i))) e
         ∙ ap (λ o. weighed-back (empty_between (walk pairs.matrix) (Some m) o)) none
-
--- seen from the entering side, the minutes count backward
-turned-minutes : (result : Option Reach) (arrives : ℕ) → arrives ≤ 8191
-    → saved_until result arrives ≡ saved_from (option_map (λ (r : Reach). record { minute = 8191 - r.minute; saved = r.saved }) result)
-    (8191 - arrives)
-turned-minutes None arrives day = refl
-turned-minutes (Some r) arrives day = ap (λ b. cond b (Some r.saved) None) same
-  where
-    same : nat_le arrives r.minute ≡ nat_le (8191 - r.minute) (8191 - arrives)
-    same = ⊎_elim
-        (λ (late : r.minute < arrives). lt-leb arrives r.minute late
-        ∙ sym (lt-leb (8191 - r.minute) (8191 - arrives) (omega (arith, late, day))))
-        (λ (in-time : arrives ≤ r.minute). le-leb arrives r.minute in-time
-        ∙ sym (le-leb (8191 - r.minute) (8191 - arrives) (omega (arith, in-time, day))))
-        (cases_lt r.minute arrives)
 
 -- the columns of a side are in order and in groups, and moves are of one day
 pub record IsArranged (side : SideView) : Type 0 where
@@ -130,43 +118,46 @@ module _ (line : LineView) (arranged : IsArranged line.side) where
       by None is e = unmade (leads_to (side_slot line.side k) line.side.without) refl is
       by (Some m) is e = left m (leads_to (side_slot line.side k) line.side.without) refl e
 
-  -- the weights of the columns at a post that need a row no later than at a minute
-  abbrev pub AreSaved : ℕ → ℕ → Option Reach → Type 0
-  AreSaved p latest result = (k : ℕ) → k < side_slots line.side → (column k).post ≡ Some p → (column k).minute ≤ latest
-      → line_weight line k ≡ saved_from result (column k).minute
+  -- the weights of the columns at a post
+  abbrev pub AreSaved : ℕ → Option ℕ → Type 0
+  AreSaved p result = (k : ℕ) → k < side_slots line.side → (column k).post ≡ Some p
+      → line_weight line k ≡ saved_along line.share (pairs_pull line.side.pairs line.side.turned p) result (column k).minute
 
-  pub saved-leaving : (p latest : ℕ) (result : Option Reach) → line.side.turned ≡ false
-      → ((j : ℕ) (m : Move) → move_at line.side.pairs.moves j ≡ Some m → m.from ≡ p → m.leaves ≤ latest
-      → weight (pairs_network line.side.pairs) line.row j ≡ saved_from result m.leaves)
-      → AreSaved p latest result
-  saved-leaving p latest result leaving reach k lt e soon =
+  pub saved-leaving : (p : ℕ) (result : Option ℕ) → line.side.turned ≡ false
+      → ((j : ℕ) (m : Move) → move_at line.side.pairs.moves j ≡ Some m → m.from ≡ p
+      → weight (pairs_network line.side.pairs) line.row j
+      ≡ saved_along line.share (pull_at line.side.pairs.matrix.pulls p).pull_out result m.leaves)
+      → AreSaved p result
+  saved-leaving p result leaving weighs k lt e =
       let s = at-post k p lt e in
       let slot = side_slot line.side k in
       let minute : (column k).minute ≡ s.made.leaves = arranged.order.minutes k lt ∙ ap (column_minute line.side.turned) s.is
       ∙ ap (λ t. column_minute t (Some s.made)) leaving in
       masked line.side line.row slot false s.kept
       ∙ ap (λ t. all_weights line.side.pairs t line.row slot) leaving
-      ∙ reach slot s.made s.is (sym (ap (λ t. cond t s.made.to s.made.from) leaving) ∙ s.here) (omega (arith, minute, soon))
-      ∙ ap (saved_from result) (sym minute)
+      ∙ weighs slot s.made s.is (sym (ap (λ t. cond t s.made.to s.made.from) leaving) ∙ s.here)
+      ∙ ap (λ t. saved_along line.share (pairs_pull line.side.pairs t p) result s.made.leaves) (sym leaving)
+      ∙ ap (saved_along line.share (pairs_pull line.side.pairs line.side.turned p) result) (sym minute)
 
-  pub saved-entering : (p latest soonest : ℕ) (result : Option Reach) → soonest ≡ 8191 - latest → line.side.turned ≡ true
-      → ((i : ℕ) (m : Move) → move_at line.side.pairs.moves i ≡ Some m → m.to ≡ p → soonest ≤ m.arrives
-      → weight (pairs_network line.side.pairs) i line.row ≡ saved_until result m.arrives)
-      → AreSaved p latest (option_map (λ (r : Reach). record { minute = 8191 - r.minute; saved = r.saved }) result)
-  saved-entering p latest soonest result is entering reach k lt e soon =
+  pub saved-entering : (p : ℕ) (result : Option ℕ) → line.side.turned ≡ true
+      → ((i : ℕ) (m : Move) → move_at line.side.pairs.moves i ≡ Some m → m.to ≡ p → m.arrives ≤ 8191
+      → weight (pairs_network line.side.pairs) i line.row
+      ≡ saved_along line.share (pull_at line.side.pairs.matrix.pulls p).pull_in result (8191 - m.arrives))
+      → AreSaved p result
+  saved-entering p result entering weighs k lt e =
       let s = at-post k p lt e in
       let slot = side_slot line.side k in
       let minute : (column k).minute ≡ 8191 - s.made.arrives = arranged.order.minutes k lt ∙ ap (column_minute line.side.turned) s.is
       ∙ ap (λ t. column_minute t (Some s.made)) entering in
-      let turned = option_map (λ (r : Reach). record { minute = 8191 - r.minute; saved = r.saved }) result in
       masked line.side line.row slot false s.kept
       ∙ ap (λ t. all_weights line.side.pairs t line.row slot) entering
-      ∙ reach slot s.made s.is (sym (ap (λ t. cond t s.made.to s.made.from) entering) ∙ s.here) (omega (arith, is, minute, soon))
-      ∙ turned-minutes result s.made.arrives (arranged.moves.each slot s.made s.is).in_day
-      ∙ ap (saved_from turned) (sym minute)
+      ∙ weighs slot s.made s.is (sym (ap (λ t. cond t s.made.to s.made.from) entering) ∙ s.here)
+      (arranged.moves.each slot s.made s.is).in_day
+      ∙ ap (λ t. saved_along line.share (pairs_pull line.side.pairs t p) result (8191 - s.made.arrives)) (sym entering)
+      ∙ ap (saved_along line.share (pairs_pull line.side.pairs line.side.turned p) result) (sym minute)
 
-  pub saved-idle : (p latest : ℕ) → (pairs_network line.side.pairs).live line.row ≡ false → AreSaved p latest None
-  saved-idle p latest dead k lt e soon =
+  pub saved-idle : (p : ℕ) → (pairs_network line.side.pairs).live line.row ≡ false → AreSaved p None
+  saved-idle p dead k lt e =
       let s = at-post k p lt e in
       masked line.side line.row (side_slot line.side k) false s.kept ∙ by line.side.turned
     where
@@ -198,21 +189,52 @@ module _ (line : LineView) (arranged : IsArranged line.side) where
         (stand begin (omega arith) (arranged.groups.after g inside) ∙ e)
 
     pub IsReachOf-nowhere : (group_at line.side.groups g).post ≡ None → IsReachOf line (group_at line.side.groups g) None
-    IsReachOf-nowhere e k after before = nowhere k (in-group k before) (stand k after before ∙ e)
+    IsReachOf-nowhere e = record { weights = λ k after before. nowhere k (in-group k before) (stand k after before ∙ e); walk = tt }
+
+    -- by a walk to the post of the group
+    module _ (p : ℕ) (here : (group_at line.side.groups g).post ≡ Some p) where
+      saved : (walk : Option ℕ) → AreSaved p walk → (k : ℕ) → (group_at line.side.groups g).from ≤ k → k < (group_at line.side.groups g).to
+          → line_weight line k ≡ saved_along line.share (post_pull line.side (group_at line.side.groups g).post) walk (column k).minute
+      saved walk weighs k after before = weighs k (in-group k before) (stand k after before ∙ here)
+          ∙ ap (λ o. saved_along line.share (post_pull line.side o) walk (column k).minute) (sym here)
+
+      pub IsReachOf-apart : AreSaved p None → IsReachOf line (group_at line.side.groups g) None
+      IsReachOf-apart weighs = record { weights = saved None weighs; walk = tt }
+
+      pub IsReachOf-late : (walk : ℕ) → AreSaved p (Some walk) → (group_at line.side.groups g).latest < line.share.ready + walk
+          → IsReachOf line (group_at line.side.groups g) None
+      IsReachOf-late walk weighs late = record {
+        weights = λ k after before. saved (Some walk) weighs k after before
+            ∙ ap (λ b. cond b (Some (line.share.saved + post_pull line.side (group_at line.side.groups g).post - walk)) None)
+            (lt-leb (line.share.ready + walk) (column k).minute (omega (
+              arith,
+              late,
+              to-latest (side_slots line.side) line.side.columns line.side.count line.side.groups arranged.groups g k
+                  (no_column (side_slots line.side)) inside after before,
+            )));
+        walk = tt;
+      }
+
+      pub IsReachOf-found : (r : Reach) → AreSaved p (Some r.walk) → r.minute ≡ line.share.ready + r.walk → r.walk ≤ 735840
+          → IsReachOf line (group_at line.side.groups g) (Some r)
+      IsReachOf-found r weighs is bound = record {
+        weights = λ k after before. saved (Some r.walk) weighs k after before
+            ∙ ap (λ m. cond (nat_le m (column k).minute) (Some (reach_weight line (group_at line.side.groups g).post r)) None) (sym is);
+        walk = bound;
+      }
 
 -- the first column of a group that a row fits is the first that needs it no sooner than it is ready
 pub IsFirstFit-found : (line : LineView) (group : Group) (r : Reach) (upto first : ℕ) → IsReachOf line group (Some r) → upto ≤ group.to
     → first ≤ upto → (first < upto → group.from ≤ first)
     → ((k : ℕ) (d : Column) → group.from ≤ k → k < first → (get_or line.side.columns k d).minute < r.minute)
     → ((k : ℕ) (d : Column) → group.from ≤ k → first ≤ k → k < upto → r.minute ≤ (get_or line.side.columns k d).minute)
-    → IsFirstFit line group r.saved upto first
+    → IsFirstFit line group r upto first
 IsFirstFit-found line group r upto first reach within le after before later = record {
   within = le;
   after = after;
-  early = λ k from lt. reach k from (omega (arith, lt, le, within))
-      ∙ ap (λ b. cond b (Some r.saved) None) (lt-leb r.minute (minute k) (before k none from lt));
-  fits = λ k from past lt. reach k from (omega (arith, lt, within))
-      ∙ ap (λ b. cond b (Some r.saved) None) (le-leb r.minute (minute k) (later k none from past lt));
+  sooner = before;
+  fits = λ k from past lt. reach.weights k from (omega (arith, lt, within))
+      ∙ ap (λ b. cond b (Some (reach_weight line group.post r)) None) (le-leb r.minute (minute k) (later k none from past lt));
 }
   where
     none : Column
@@ -221,14 +243,21 @@ IsFirstFit-found line group r upto first reach within le after before later = re
     minute : ℕ → ℕ
     minute k = (get_or line.side.columns k none).minute
 
+-- a row does not fit a column that needs it sooner than it is ready
+pub too-soon : (line : LineView) (group : Group) (r : Reach) → IsReachOf line group (Some r) → (k : ℕ) → group.from ≤ k → k < group.to
+    → ((d : Column) → (get_or line.side.columns k d).minute < r.minute) → line_weight line k ≡ None
+too-soon line group r reach k from to soon = reach.weights k from to
+    ∙ ap (λ b. cond b (Some (reach_weight line group.post r)) None)
+    (lt-leb r.minute (get_or line.side.columns k (no_column (side_slots line.side))).minute (soon (no_column (side_slots line.side))))
+
 -- the columns of a group weigh the same with a row, where they fit it
 pub weighs-same : (line : LineView) (group : Group) (r : Reach) → IsReachOf line group (Some r) → (j k : ℕ) → group.from ≤ j → j < group.to
-    → line_weight line j ≡ Some k → k ≡ r.saved
+    → line_weight line j ≡ Some k → k ≡ reach_weight line group.post r
 weighs-same line group r reach j k from to fit =
-    by (nat_le r.minute (get_or line.side.columns j (no_column (side_slots line.side))).minute) (sym fit ∙ reach j from to)
+    by (nat_le r.minute (get_or line.side.columns j (no_column (side_slots line.side))).minute) (sym fit ∙ reach.weights j from to)
   where
-    by : (b : Bool) → Some k ≡ cond b (Some r.saved) None → k ≡ r.saved
-    by true e = same_Some k r.saved e
+    by : (b : Bool) → Some k ≡ cond b (Some (reach_weight line group.post r)) None → k ≡ reach_weight line group.post r
+    by true e = same_Some k (reach_weight line group.post r) e
     by false e = absurd (none-some k (sym e))
 
 -- the columns of a list between two places

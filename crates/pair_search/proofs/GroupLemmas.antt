@@ -7,8 +7,9 @@ use Rattle.std.proofs.lemmas.List.{get_or_past, get_or-replicate, get_or-set_sam
 use Rattle.pair_search.specs.declared.groups.Group.{Group}
 use Rattle.pair_search.specs.declared.order.Column.{Column}
 use Rattle.pair_search.specs.declared.tree.Seen.{Seen}
-use Rattle.pair_search.specs.Groups.{begins, group_at, seen_at, AreGroups, AreApproached, AreNear, AreReached}
+use Rattle.pair_search.specs.Groups.{begins, group_at, group_pull, seen_at, AreGroups, AreApproached, AreNear, AreReached}
 use Rattle.pair_search.specs.Search.{at, is_done, as_columns}
+use Rattle.pair_search.specs.Side.{SideView, side_slots}
 use Rattle.pair_search.proofs.LookLemmas.{stays}
 
 -- two posts that are found equal
@@ -164,34 +165,35 @@ AreGroups-more from to columns count groups group are begin end rises few room p
     other r lt = get_or-set_other groups count r group (record { post = None; from = 0; to = 0; latest = 0 }) (λ e. omega (arith, lt, e))
 
 -- columns of one group were approached
-module _ (n : ℕ) (columns : List Column) (count : ℕ) (groups : List Group) (are : AreGroups n columns count groups)
+module _ (side : SideView) (are : AreGroups (side_slots side) side.columns side.count side.groups)
     (g first upto from cost near : ℕ) (enter : List ℕ) (done : List Bool)
     (dist parent dist' parent' : List ℕ)
     (approached : AreApproached first upto from cost enter (as_columns dist parent done) (as_columns dist' parent' done) near)
-    (seen : List Seen) (now : Seen) (inside : g < count)
-    (room : g < length seen) (after : (group_at groups g).from ≤ first) (within : upto ≤ (group_at groups g).to) where
+    (seen : List Seen) (now : Seen) (inside : g < side.count)
+    (room : g < length seen) (after : (group_at side.groups g).from ≤ first) (within : upto ≤ (group_at side.groups g).to) where
   here : (r : ℕ) → r ≡ g → seen_at (set seen g now) r ≡ now
-  here r e = ap (seen_at (set seen g now)) e ∙ get_or-set_same seen g now (record { near = 0; cost = 0; from = 0 }) room
+  here r e = ap (seen_at (set seen g now)) e ∙ get_or-set_same seen g now (record { near = 0; cost = 0; from = 0; minute = 0 }) room
 
   other : (r : ℕ) → r ≢ g → seen_at (set seen g now) r ≡ seen_at seen r
-  other r ne = get_or-set_other seen g r now (record { near = 0; cost = 0; from = 0 }) ne
+  other r ne = get_or-set_other seen g r now (record { near = 0; cost = 0; from = 0; minute = 0 }) ne
 
   -- columns of other groups are as far as before
-  as-far : (r j : ℕ) → r < count → r ≢ g → (group_at groups r).from ≤ j → j < (group_at groups r).to → at dist' j ≡ at dist j
+  as-far : (r j : ℕ) → r < side.count → r ≢ g → (group_at side.groups r).from ≤ j → j < (group_at side.groups r).to → at dist' j ≡ at dist j
   as-far r j lt ne from to = ⊎_elim
       (λ (nearer : at dist' j < at dist j).
       let b = approached.between j nearer in
-      absurd (elsewhere n columns count groups are r g j lt inside ne from to (omega (arith, b.0, after)) (omega (arith, b.1, within))))
+      absurd (elsewhere (side_slots side) side.columns side.count side.groups are r g j lt inside ne from to
+      (omega (arith, b.0, after)) (omega (arith, b.1, within))))
       (λ (le : at dist j ≤ at dist' j). stays first upto _ cost near enter done dist parent dist' parent' approached j le)
       (cases_lt (at dist' j) (at dist j))
 
-  pub AreNear-look : now.near ≤ (seen_at seen g).near → now.near ≤ near → AreNear count groups done dist seen
-      → AreNear count groups done dist' (set seen g now)
+  pub AreNear-look : now.near ≤ (seen_at seen g).near → now.near ≤ near → AreNear side.count side.groups done dist seen
+      → AreNear side.count side.groups done dist' (set seen g now)
   AreNear-look le le' old r j lt from to undone = ⊎_elim
       (λ (e : r ≡ g).
       let was : (seen_at seen g).near ≤ at dist j =
-      old g j inside (omega (arith, from, ap (λ t. (group_at groups t).from) e))
-      (omega (arith, to, ap (λ t. (group_at groups t).to) e)) undone in
+      old g j inside (omega (arith, from, ap (λ t. (group_at side.groups t).from) e))
+      (omega (arith, to, ap (λ t. (group_at side.groups t).to) e)) undone in
       let same : (seen_at (set seen g now) r).near ≡ now.near = ap (λ (s : Seen). s.near) (here r e) in
       ⊎_elim
       (λ (nearer : at dist' j < at dist j). omega (arith, same, le', approached.least j nearer))
@@ -200,28 +202,51 @@ module _ (n : ℕ) (columns : List Column) (count : ℕ) (groups : List Group) (
       (λ (ne : r ≡ g → ⊥). omega (arith, ap (λ (s : Seen). s.near) (other r ne), as-far r j lt ne from to, old r j lt from to undone))
       (cases_eq r g)
 
-  pub AreReached-look : ((j : ℕ) → now.from ≤ j → (group_at groups g).from ≤ j → j < (group_at groups g).to → is_done done j ≡ false
-      → at dist' j + 67111744 ≤ now.cost + at enter j)
-      → AreReached count groups enter done dist seen → AreReached count groups enter done dist' (set seen g now)
-  AreReached-look mine old r j lt past from to undone = ⊎_elim
-      (λ (e : r ≡ g).
-      let same = here r e in
-      omega (
-        arith,
-        ap (λ (s : Seen). s.cost) same,
-        mine j (omega (arith, past, ap (λ (s : Seen). s.from) same)) (omega (arith, from, ap (λ t. (group_at groups t).from) e))
-            (omega (arith, to, ap (λ t. (group_at groups t).to) e)) undone,
-      ))
-      (λ (ne : r ≡ g → ⊥).
-      let same = other r ne in
-      omega (
-        arith,
-        ap (λ (s : Seen). s.cost) same,
-        as-far r j lt ne from to,
-        old r j lt
-            (omega (arith, past, ap (λ (s : Seen). s.from) same)) from to undone,
-      ))
-      (cases_eq r g)
+  pub AreReached-look : ((j : ℕ) → now.from ≤ j → (group_at side.groups g).from ≤ j → j < (group_at side.groups g).to
+      → is_done done j ≡ false → at dist' j + 67111744 + group_pull side g ≤ now.cost + at enter j)
+      → ((j : ℕ) (d : Column) → (group_at side.groups g).from ≤ j → j < (group_at side.groups g).to → j < now.from
+      → now.cost < 18446744073709551615 → (get_or side.columns j d).minute < now.minute)
+      → AreReached side enter done dist seen → AreReached side enter done dist' (set seen g now)
+  AreReached-look mine soon old = record {
+    covered = λ r j lt past from to undone. ⊎_elim
+        (λ (e : r ≡ g).
+        let same = here r e in
+        omega (
+          arith,
+          ap (λ (s : Seen). s.cost) same,
+          ap (group_pull side) e,
+          mine j (omega (arith, past, ap (λ (s : Seen). s.from) same)) (omega (arith, from, ap (λ t. (group_at side.groups t).from) e))
+              (omega (arith, to, ap (λ t. (group_at side.groups t).to) e)) undone,
+        ))
+        (λ (ne : r ≡ g → ⊥).
+        let same = other r ne in
+        omega (
+          arith,
+          ap (λ (s : Seen). s.cost) same,
+          as-far r j lt ne from to,
+          old.covered r j lt (omega (arith, past, ap (λ (s : Seen). s.from) same)) from to undone,
+        ))
+        (cases_eq r g);
+    sooner = λ r j d lt from to past reached. ⊎_elim
+        (λ (e : r ≡ g).
+        let same = here r e in
+        omega (
+          arith,
+          ap (λ (s : Seen). s.minute) same,
+          soon j d (omega (arith, from, ap (λ t. (group_at side.groups t).from) e))
+              (omega (arith, to, ap (λ t. (group_at side.groups t).to) e)) (omega (arith, past, ap (λ (s : Seen). s.from) same))
+              (omega (arith, reached, ap (λ (s : Seen). s.cost) same)),
+        ))
+        (λ (ne : r ≡ g → ⊥).
+        let same = other r ne in
+        omega (
+          arith,
+          ap (λ (s : Seen). s.minute) same,
+          old.sooner r j d lt from to (omega (arith, past, ap (λ (s : Seen). s.from) same))
+              (omega (arith, reached, ap (λ (s : Seen). s.cost) same)),
+        ))
+        (cases_eq r g);
+  }
 
 -- a column that is done no longer counts
 pub undone-before : (done : List Bool) (column j : ℕ) → is_done (set done column true) j ≡ false → is_done done j ≡ false
@@ -245,18 +270,24 @@ module _ (n count : ℕ) (groups : List Group) (done : List Bool) (dist : List �
   AreNear-none nears r j lt from to undone =
       omega (arith, nears r lt, ap (λ xs. at xs j) far, get_or-replicate {A = ℕ} n j 67111745 0 (omega (arith, to, within r lt)))
 
-  pub AreReached-none : (enter : List ℕ) (small : n ≤ 4096) (froms : (r : ℕ) → r < count → 65535 ≤ (seen_at seen r).from)
-      → AreReached count groups enter done dist seen
-  AreReached-none enter small froms r j lt past from to undone = absurd (omega (arith, froms r lt, past, to, within r lt, small))
+-- no column is reached before a search
+pub AreReached-none : (side : SideView) (enter : List ℕ) (done : List Bool) (dist : List ℕ) (seen : List Seen) → side_slots side ≤ 4096
+    → ((r : ℕ) → r < side.count → (group_at side.groups r).to ≤ side_slots side)
+    → ((r : ℕ) → r < side.count → (65535 ≤ (seen_at seen r).from) × (18446744073709551615 ≤ (seen_at seen r).cost))
+    → AreReached side enter done dist seen
+AreReached-none side enter done dist seen small within none = record {
+  covered = λ r j lt past from to undone. absurd (omega (arith, (none r lt).0, past, to, within r lt, small));
+  sooner = λ r j d lt from to past reached. absurd (omega (arith, (none r lt).1, reached));
+}
 
 -- what is nearest in a group is known
 module _ (count : ℕ) (groups : List Group) (done : List Bool) (dist : List ℕ) (seen : List Seen) (g : ℕ) (now : Seen)
     (room : g < length seen) where
   now-here : (r : ℕ) → r ≡ g → seen_at (set seen g now) r ≡ now
-  now-here r e = ap (seen_at (set seen g now)) e ∙ get_or-set_same seen g now (record { near = 0; cost = 0; from = 0 }) room
+  now-here r e = ap (seen_at (set seen g now)) e ∙ get_or-set_same seen g now (record { near = 0; cost = 0; from = 0; minute = 0 }) room
 
   now-other : (r : ℕ) → r ≢ g → seen_at (set seen g now) r ≡ seen_at seen r
-  now-other r ne = get_or-set_other seen g r now (record { near = 0; cost = 0; from = 0 }) ne
+  now-other r ne = get_or-set_other seen g r now (record { near = 0; cost = 0; from = 0; minute = 0 }) ne
 
   pub AreNear-known : ((j : ℕ) → (group_at groups g).from ≤ j → j < (group_at groups g).to → is_done done j ≡ false → now.near ≤ at dist j)
       → AreNear count groups done dist seen
@@ -271,22 +302,30 @@ module _ (count : ℕ) (groups : List Group) (done : List Bool) (dist : List ℕ
       (λ (ne : r ≡ g → ⊥). omega (arith, ap (λ (s : Seen). s.near) (now-other r ne), old r j lt from to undone))
       (cases_eq r g)
 
-  pub AreReached-known : (enter : List ℕ) → now.cost ≡ (seen_at seen g).cost → now.from ≡ (seen_at seen g).from
-      → AreReached count groups enter done dist seen → AreReached count groups enter done dist (set seen g now)
-  AreReached-known enter cost from old r j lt past after before undone = ⊎_elim
-      (λ (e : r ≡ g).
-      let same = now-here r e in
-      omega (
-        arith,
-        cost,
-        ap (λ (s : Seen). s.cost) same,
-        ap (λ t. (seen_at seen t).cost) e,
-        old r j lt (omega (arith, past, from, ap (λ (s : Seen). s.from) same, ap (λ t. (seen_at seen t).from) e)) after before undone,
-      ))
-      (λ (ne : r ≡ g → ⊥).
-      let same = now-other r ne in
-      omega (arith, ap (λ (s : Seen). s.cost) same, old r j lt (omega (arith, past, ap (λ (s : Seen). s.from) same)) after before undone))
-      (cases_eq r g)
+  pub AreReached-known : (side : SideView) (enter : List ℕ) → now.cost ≡ (seen_at seen g).cost → now.from ≡ (seen_at seen g).from
+      → now.minute ≡ (seen_at seen g).minute
+      → AreReached side enter done dist seen → AreReached side enter done dist (set seen g now)
+  AreReached-known side enter cost from minute old = record {
+    covered = λ r j lt past after before undone. let same = alike r in
+        omega (arith, same.0, old.covered r j lt (omega (arith, past, same.1)) after before undone);
+    sooner = λ r j d lt after before past reached. let same = alike r in
+        omega (arith, same.2, old.sooner r j d lt after before (omega (arith, past, same.1)) (omega (arith, reached, same.0)));
+  }
+    where
+      alike : (r : ℕ) → ((seen_at (set seen g now) r).cost ≡ (seen_at seen r).cost)
+          × ((seen_at (set seen g now) r).from ≡ (seen_at seen r).from)
+          × ((seen_at (set seen g now) r).minute ≡ (seen_at seen r).minute)
+      alike r = ⊎_elim
+          (λ (e : r ≡ g).
+          let same = now-here r e in (
+            ap (λ (s : Seen). s.cost) same ∙ cost ∙ ap (λ t. (seen_at seen t).cost) (sym e),
+            ap (λ (s : Seen). s.from) same ∙ from ∙ ap (λ t. (seen_at seen t).from) (sym e),
+            ap (λ (s : Seen). s.minute) same ∙ minute ∙ ap (λ t. (seen_at seen t).minute) (sym e),
+          ))
+          (λ (ne : r ≡ g → ⊥).
+          let same = now-other r ne in
+          (ap (λ (s : Seen). s.cost) same, ap (λ (s : Seen). s.from) same, ap (λ (s : Seen). s.minute) same))
+          (cases_eq r g)
 
 -- what is said of lists is said of those that are equal to them
 pub AreNear-same : (count : ℕ) (groups : List Group) (done done' : List Bool) (dist dist' : List ℕ) (seen seen' : List Seen) → done ≡ done'
@@ -296,13 +335,11 @@ AreNear-same count groups done done' dist dist' seen seen' dones dists seens nea
     subst (λ xs. AreNear count groups xs dist' seen') dones
     (subst (λ xs. AreNear count groups done xs seen') dists (subst (λ xs. AreNear count groups done dist xs) seens near))
 
-pub AreReached-same : (count : ℕ) (groups : List Group) (enter : List ℕ) (done done' : List Bool) (dist dist' : List ℕ)
-    (seen seen' : List Seen) → done ≡ done' → dist ≡ dist' → seen ≡ seen'
-    → AreReached count groups enter done dist seen → AreReached count groups enter done' dist' seen'
-AreReached-same count groups enter done done' dist dist' seen seen' dones dists seens reached =
-    subst (λ xs. AreReached count groups enter xs dist' seen') dones
-    (subst (λ xs. AreReached count groups enter done xs seen') dists
-    (subst (λ xs. AreReached count groups enter done dist xs) seens reached))
+pub AreReached-same : (side : SideView) (enter : List ℕ) (done done' : List Bool) (dist dist' : List ℕ) (seen seen' : List Seen)
+    → done ≡ done' → dist ≡ dist' → seen ≡ seen' → AreReached side enter done dist seen → AreReached side enter done' dist' seen'
+AreReached-same side enter done done' dist dist' seen seen' dones dists seens reached =
+    subst (λ xs. AreReached side enter xs dist' seen') dones
+    (subst (λ xs. AreReached side enter done xs seen') dists (subst (λ xs. AreReached side enter done dist xs) seens reached))
 
 -- what is seen of one group leaves how many there are
 pub length-seen : (seen : List Seen) (g : ℕ) (now : Seen) → length (set seen g now) ≡ length seen
@@ -311,4 +348,4 @@ length-seen seen g now = length-set seen g now
 -- of as many groups as there are nothing is seen
 pub seen-none : (m : ℕ) (seen : List Seen) (none : Seen) → seen ≡ replicate m none → (r : ℕ) → r < m → seen_at seen r ≡ none
 seen-none m seen none is r lt = ap (λ xs. seen_at xs r) is
-    ∙ get_or-replicate {A = Seen} m r none (record { near = 0; cost = 0; from = 0 }) lt
+    ∙ get_or-replicate {A = Seen} m r none (record { near = 0; cost = 0; from = 0; minute = 0 }) lt

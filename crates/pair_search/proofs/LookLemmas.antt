@@ -154,6 +154,26 @@ AreLooked-group w begin first upto end from start weight cost near enter was don
           (cases_lt (at dist' j) (at dist j));
     }
 
+-- A group of columns is looked at, and none is approached. Those before a place fit no row. The others are no farther than as they
+-- would be reached.
+pub AreLooked-spent : (w : ℕ → Option ℕ) (begin end from start place : ℕ) (enter : List ℕ) (was now : Columns)
+    → ((j : ℕ) → begin ≤ j → j < end → j < place → w j ≡ None)
+    → ((j k : ℕ) → begin ≤ j → j < end → place ≤ j → is_done now.done j ≡ false → w j ≡ Some k → at now.dist j + k ≤ start + at enter j)
+    → AreLooked w begin from start enter was now → AreLooked w end from start enter was now
+AreLooked-spent w begin end from start place enter was now none seen l = record {
+  done = l.done;
+  covered = λ j k lt undone fit. ⊎_elim
+      (λ (before : j < begin). l.covered j k before undone fit)
+      (λ (after : begin ≤ j). ⊎_elim
+      (λ (early : j < place). absurd (none-some k (sym (none j after lt early) ∙ fit)))
+      (λ (late : place ≤ j). seen j k after lt late (ap (λ xs. is_done xs j) l.done ∙ undone) fit)
+      (cases_lt j place))
+      (cases_lt j begin);
+  nearer = l.nearer;
+  same = l.same;
+  reached = l.reached;
+}
+
 -- what is said of columns is said of lists that are equal to theirs
 pub AreApproached-same : (first upto from cost near : ℕ) (enter : List ℕ) (done done1 : List Bool)
     (dist dist1 parent parent1 dist' dist1' parent' parent1' : List ℕ)

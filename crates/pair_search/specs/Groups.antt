@@ -3,7 +3,7 @@ use Rattle.std.specs.Prelude.{◌≡◌, ℕ, ◌+◌, ◌-◌, ◌<◌, ◌≤�
 use Rattle.std.specs.Prelude.{if◌then◌else◌}
 use Rattle.trip_model.specs.declared.limits.TheConstants.{MOST_SLOTS}
 use Rattle.pair_search.specs.declared.groups.Group.{Group}
-use Rattle.pair_search.specs.declared.limits.TheConstants.{GREATEST_PRICE}
+use Rattle.pair_search.specs.declared.limits.TheConstants.{GREATEST_PRICE, UNREACHED}
 use Rattle.pair_search.specs.declared.order.Column.{Column}
 use Rattle.pair_search.specs.declared.scan.Nearby.{Nearby}
 use Rattle.pair_search.specs.declared.tree.Seen.{Seen}
@@ -12,7 +12,7 @@ use Rattle.pair_search.specs.Search.{at, is_done, Columns}
 use Rattle.pair_search.specs.declared.orders.Order.{Order}
 use Rattle.pair_search.specs.Arranged.{arranged, slots_of}
 use Rattle.pair_search.specs.Order.{IsOrder}
-use Rattle.pair_search.specs.Side.{SideView, pairs_minute, pairs_post}
+use Rattle.pair_search.specs.Side.{SideView, pairs_minute, pairs_post, post_pull}
 use Rattle.pair_graph.specs.Pairs.{PairsView}
 
 -- a group of a list; past its end one without columns
@@ -49,24 +49,30 @@ pub record IsOrderOf (pairs : PairsView) (turned : Bool) (without : Option ℕ) 
 
 -- what was seen at a place of a list
 abbrev pub seen_at : List Seen → ℕ → Seen
-seen_at seen r = slice_index_or seen r (record { near = 0; cost = 0; from = 0 })
+seen_at seen r = slice_index_or seen r (record { near = 0; cost = 0; from = 0; minute = 0 })
 
 -- of the columns of each group that are not done none is nearer than what was seen of it
 abbrev pub AreNear : ℕ → List Group → List Bool → List ℕ → List Seen → Type 0
 AreNear count groups done dist seen = (r j : ℕ) → r < count → (group_at groups r).from ≤ j → j < (group_at groups r).to
     → is_done done j ≡ false → (seen_at seen r).near ≤ at dist j
 
--- those from a place on are no farther than as they are reached at a cost
-abbrev pub AreReached : ℕ → List Group → List ℕ → List Bool → List ℕ → List Seen → Type 0
-AreReached count groups enter done dist seen = (r j : ℕ) → r < count → (seen_at seen r).from ≤ j → (group_at groups r).from ≤ j
-    → j < (group_at groups r).to → is_done done j ≡ false
-    → at dist j + GREATEST_PRICE ≤ (seen_at seen r).cost + at enter j
+-- the pull at the post of a group
+abbrev pub group_pull : SideView → ℕ → ℕ
+group_pull side r = post_pull side (group_at side.groups r).post
+
+-- The columns of each group from a place on are no farther than as they are reached at a cost, which leaves out the pull of their
+-- post. Those before it need a row sooner than at a minute.
+pub record AreReached (side : SideView) (enter : List ℕ) (done : List Bool) (dist : List ℕ) (seen : List Seen) : Type 0 where
+  pub covered : (r j : ℕ) → r < side.count → (seen_at seen r).from ≤ j → (group_at side.groups r).from ≤ j → j < (group_at side.groups r).to
+      → is_done done j ≡ false → at dist j + GREATEST_PRICE + group_pull side r ≤ (seen_at seen r).cost + at enter j
+  pub sooner : (r j : ℕ) (d : Column) → r < side.count → (group_at side.groups r).from ≤ j → j < (group_at side.groups r).to
+      → j < (seen_at seen r).from → (seen_at seen r).cost < UNREACHED → (slice_index_or side.columns j d).minute < (seen_at seen r).minute
 
 -- what a tree has seen of the groups of a side is so
 pub record IsSeen (side : SideView) (enter : List ℕ) (tree : Tree) : Type 0 where
   pub room : side.count ≤ length tree.seen.items
   pub near : AreNear side.count side.groups tree.done.items tree.dist.items tree.seen.items
-  pub reached : AreReached side.count side.groups enter tree.done.items tree.dist.items tree.seen.items
+  pub reached : AreReached side enter tree.done.items tree.dist.items tree.seen.items
 
 -- Columns between two places were approached at a cost from a place of the tree. Each that is not done is no farther than
 -- before and than the cost with its price. If it is nearer than before, it was reached so. None of these is nearer than `near`.

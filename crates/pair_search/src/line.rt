@@ -1,20 +1,29 @@
-ghost use Rattle.std.specs.Prelude.{◌≡◌, ℕ, ◌<◌, ◌≤◌, Some, length, slice_index_or};
-ghost use Rattle.pair_graph.specs.Reach.{saved_from};
+ghost use Rattle.std.specs.Prelude.{◌≡◌, ℕ, ◌<◌, ◌≤◌, Some, length, slice_index_or, IfSome};
+ghost use Rattle.deadhead_matrix.specs.declared.limits.TheConstants.{LONGEST_WALK};
+ghost use Rattle.pair_graph.specs.Pairs.{pairs_pull};
+ghost use Rattle.pair_graph.specs.Shares.{saved_along};
 ghost use Rattle.pair_search.specs.Groups.{group_at};
 ghost use Rattle.pair_search.specs.Side.{side_slots, line_weight, IsFirstFit, IsReachOf};
 ghost use Rattle.pair_search.specs.Order.{no_column};
 
 use crate::order::first_from;
 use crate::side::Side;
-use pair_graph::{Column, Reach, Row};
+use pair_graph::{Column, Row, Share};
 use std::marker::Model;
-use trip_model::LAST_MINUTE;
 
-/// One row of a side with each column: what its pairs share, where its trip runs.
+/// What a row needs to come to a post: the minutes of the walk, and the minute at which it is there.
+#[derive(Clone, Copy)]
+pub(crate) struct Reach {
+    pub walk: u32,
+    pub minute: u16,
+}
+
+/// One row of a side with each column: what its pairs share, and the pairs themselves, where its trip runs.
 #[derive(Drop)]
 pub(crate) struct Line<'a> {
     pub(crate) side: &'a Side<'a>,
     pub(crate) row: u16,
+    pub(crate) share: Share,
     pub(crate) leaving: Option<Row<'a>>,
     pub(crate) entering: Option<Column<'a>>,
 }
@@ -25,40 +34,34 @@ impl<'a> Model for Line<'a> {
 
     ghost Value = { LineView };
 
-    ghost view = { λ l. record { side = l.side.now; row = l.row } };
+    ghost view = { λ l. record { side = l.side.now; row = l.row; share = l.share } };
 
-    ghost invariant = { λ l. (l.row < side_slots l.side.now) × IsHeld l.side.now l.row l.leaving l.entering };
+    ghost invariant = { λ l. (l.row < side_slots l.side.now) × IsHeld l.side.now l.row l.share l.leaving l.entering };
 }
 
 impl<'a> Line<'a> {
-    // What the row weighs with each column at a post that it is in time for, of those that need a row no later than at a minute.
-    // And the minute from which on such a column may need it.
-    fn reach(&self, post: u16, latest: u16) -> Option<Reach>
+    // The walk between the row and a post, where there is one.
+    fn walk(&self, post: u16) -> Option<u32>
         requires { post < length self.now.side.pairs.matrix.walks }
-        ensures { (k : ℕ) → k < side_slots self.now.side
+        ensures weights { (k : ℕ) → k < side_slots self.now.side
             → (slice_index_or self.now.side.columns k (no_column (side_slots self.now.side))).post ≡ Some post
-            → (slice_index_or self.now.side.columns k (no_column (side_slots self.now.side))).minute ≤ latest
-            → line_weight self.now k ≡ saved_from result
+            → line_weight self.now k ≡ saved_along self.now.share (pairs_pull self.now.side.pairs self.now.side.turned post) result
             (slice_index_or self.now.side.columns k (no_column (side_slots self.now.side))).minute }
+        ensures bound { IfSome result (λ minutes. minutes ≤ LONGEST_WALK) }
     {
         let side = self.side;
         // Its clauses say that moves are of one day.
         let _slots = side.pairs.slots();
         if let Some(row) = &self.leaving {
-            return row.reach(post, latest);
+            return row.walk(post);
         }
         let Some(column) = &self.entering else {
             return None;
         };
-        let soonest = LAST_MINUTE.saturating_sub(latest);
-        let reach = column.reach(post, soonest)?;
-        Some(Reach {
-            minute: LAST_MINUTE.saturating_sub(reach.minute),
-            saved: reach.saved,
-        })
+        column.walk(post)
     }
 
-    /// What the row weighs with each column of a group that it is in time for, and from which minute on.
+    /// How the row comes to the columns of a group, where it is in time for any.
     pub(crate) fn reach_of(&self, group: usize) -> Option<Reach>
         requires { group < self.now.side.count }
         ensures { IsReachOf self.now (group_at self.now.side.groups group) result }
@@ -67,7 +70,15 @@ impl<'a> Line<'a> {
         // Its clauses say that moves are of one day.
         let _slots = side.pairs.slots();
         let group = side.group(group);
-        self.reach(group.post?, group.latest)
+        let walk = self.walk(group.post?)?;
+        let minute = u32::from(self.share.ready) + walk;
+        if minute > u32::from(group.latest) {
+            return None;
+        }
+        Some(Reach {
+            walk,
+            minute: minute as u16,
+        })
     }
 
     /// The first column of a group before a place that the row fits; that place where it fits none of them.
@@ -75,7 +86,7 @@ impl<'a> Line<'a> {
         requires group { group < self.now.side.count }
         requires reach { IsReachOf self.now (group_at self.now.side.groups group) (Some reach) }
         requires upto { upto ≤ (group_at self.now.side.groups group).to }
-        ensures { IsFirstFit self.now (group_at self.now.side.groups group) reach.saved upto result }
+        ensures { IsFirstFit self.now (group_at self.now.side.groups group) reach upto result }
     {
         let side = self.side;
         let group = side.group(group);

@@ -64,14 +64,19 @@ fn cut(was: Seen, cost: u64, to: u16) -> u16
 }
 
 // What is seen of a group after its columns from a place on were approached at a cost.
-fn renewed(was: Seen, near: u64, cost: u64, from: u16) -> Seen
+fn renewed(was: Seen, near: u64, cost: u64, from: u16, minute: u16) -> Seen
     ensures near { (result.near ≤ was.near) × (result.near ≤ near) }
-    ensures reached { ((result.cost ≡ was.cost) × (result.from ≡ was.from))
-        ⊎ ((cost < was.cost) × (result.cost ≡ cost) × (result.from ≡ from)) }
+    ensures reached { ((result.cost ≡ was.cost) × (result.from ≡ was.from) × (result.minute ≡ was.minute))
+        ⊎ ((cost < was.cost) × (result.cost ≡ cost) × (result.from ≡ from) × (result.minute ≡ minute)) }
 {
     let near = near.min(was.near);
     if cost < was.cost {
-        return Seen { near, cost, from };
+        return Seen {
+            near,
+            cost,
+            from,
+            minute,
+        };
     }
     Seen { near, ..was }
 }
@@ -149,8 +154,12 @@ impl Tree {
             return;
         };
         let was = self.seen[group];
-        // Where the row would save more than this sum, it fits no column of the group.
-        let cost = (start + GREATEST_PRICE).saturating_sub(reach.saved);
+        let cost = start + GREATEST_PRICE - line.share.saved + u64::from(reach.walk);
+        // Most looks end here: all columns that the row is in time for were reached at no more.
+        if cost >= was.cost && reach.minute >= was.minute {
+            steps.tick();
+            return;
+        }
         let upto = cut(was, cost, line.side.group(group).to);
         let first = line.first_fit(group, reach, upto);
         if first >= upto {
@@ -161,14 +170,14 @@ impl Tree {
             first,
             upto,
             from,
-            cost,
+            cost - u64::from(line.side.pull(group)),
             enter,
             &self.done,
             &mut self.dist,
             &mut self.parent,
             steps,
         );
-        self.seen[group] = renewed(was, near, cost, first);
+        self.seen[group] = renewed(was, near, cost, first, reach.minute);
     }
 
     // Looks at all columns from a place of the tree, which is so far with the price of its row.
@@ -248,8 +257,8 @@ fn nearest_of(
     requires near { AreNear side.now.count side.now.groups done.now dist.now seen.old }
     requires low { best.distance ≤ FAR }
     ensures near { AreNear side.now.count side.now.groups done.now dist.now seen.new }
-    ensures reached { (enter : List ℕ) → AreReached side.now.count side.now.groups enter done.now dist.now seen.old
-        → AreReached side.now.count side.now.groups enter done.now dist.now seen.new }
+    ensures reached { (enter : List ℕ) → AreReached side.now enter done.now dist.now seen.old
+        → AreReached side.now enter done.now dist.now seen.new }
     ensures low { result.distance ≤ best.distance }
     ensures least { (j : ℕ) → (group_at side.now.groups group).from ≤ j → j < (group_at side.now.groups group).to
         → is_done done.now j ≡ false
@@ -287,8 +296,8 @@ pub(crate) fn nearest(
     requires near { AreNear side.now.count side.now.groups done.now dist.now seen.old }
     requires bound { bound ≤ FAR }
     ensures near { AreNear side.now.count side.now.groups done.now dist.now seen.new }
-    ensures reached { (enter : List ℕ) → AreReached side.now.count side.now.groups enter done.now dist.now seen.old
-        → AreReached side.now.count side.now.groups enter done.now dist.now seen.new }
+    ensures reached { (enter : List ℕ) → AreReached side.now enter done.now dist.now seen.old
+        → AreReached side.now enter done.now dist.now seen.new }
     ensures some { IfSome result (IsNearest done.now dist.now bound) }
     ensures none { IfNone result ((j : ℕ) → j < length dist.now → is_done done.now j ≡ false → bound ≤ at dist.now j) }
     ensures first { IfSome result (λ j. (h : ℕ) → h < j → is_done done.now h ≡ false → at dist.now j < at dist.now h) }

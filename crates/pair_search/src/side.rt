@@ -1,7 +1,8 @@
 ghost use Rattle.std.specs.Prelude.{◌≡◌, ◌<◌, ◌≤◌, length};
+ghost use Rattle.assignment_model.specs.declared.limits.TheConstants.{MOST_DEADHEAD};
 ghost use Rattle.pair_search.specs.Arranged.{arranged, slots_of};
 ghost use Rattle.pair_search.specs.Assignment.{AreWeights};
-ghost use Rattle.pair_search.specs.Groups.{group_at, AreGroups, IsOrderOf};
+ghost use Rattle.pair_search.specs.Groups.{group_at, group_pull, AreGroups, IsOrderOf};
 ghost use Rattle.pair_search.specs.Order.{IsRenaming};
 ghost use Rattle.pair_search.specs.Side.{side_slots, side_slot, side_place, side_weight, IsSideOf};
 ghost use Rattle.trip_model.specs.declared.limits.TheConstants.{MOST_SLOTS};
@@ -10,7 +11,8 @@ use crate::groups::Group;
 use crate::line::Line;
 use crate::order::Column;
 use crate::orders::Order;
-use pair_graph::Pairs;
+use assignment_model::VEHICLE_WEIGHT;
+use pair_graph::{Pairs, Share};
 use std::marker::Model;
 
 /// What rows and columns of a search weigh: leaving sides as rows and entering sides as columns, or the other way round. One
@@ -104,6 +106,20 @@ impl<'a> Side<'a> {
         groups[group]
     }
 
+    /// The pull at the post of a group.
+    pub(crate) fn pull(&self, group: usize) -> u16
+        requires { group < self.now.count }
+        ensures pull { result ≡ group_pull self.now group }
+        ensures bound { result ≤ MOST_DEADHEAD }
+    {
+        // Its clauses say that moves are of one day.
+        let _slots = self.pairs.slots();
+        match self.group(group).post {
+            Some(post) => self.pairs.pull(self.turned, post),
+            None => 0,
+        }
+    }
+
     /// The slot of the column at a place.
     pub(crate) fn slot(&self, place: u16) -> u16
         requires { place < side_slots self.now }
@@ -125,7 +141,7 @@ impl<'a> Side<'a> {
     /// A row with each column.
     pub(crate) fn line(&self, row: u16) -> Line<'_>
         requires { row < side_slots self.now }
-        ensures { result ≡ record { side = self.now; row = row } }
+        ensures { result ≡ record { side = self.now; row = row; share = result.share } }
     {
         let pairs = self.pairs;
         let (leaving, entering) = if self.turned {
@@ -133,9 +149,20 @@ impl<'a> Side<'a> {
         } else {
             (pairs.row(row), None)
         };
+        let share = match &leaving {
+            Some(held) => held.share(),
+            None => match &entering {
+                Some(held) => held.share(),
+                None => Share {
+                    ready: 0,
+                    saved: VEHICLE_WEIGHT,
+                },
+            },
+        };
         Line {
             side: self,
             row,
+            share,
             leaving,
             entering,
         }

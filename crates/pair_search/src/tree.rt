@@ -1,26 +1,28 @@
 ghost use Rattle.std.specs.Prelude.{◌≡◌, ◌+◌, ◌≤◌, vec_len, vec_capacity, replicate, false};
 ghost use Rattle.trip_model.specs.declared.limits.TheConstants.{MOST_SLOTS};
-ghost use Rattle.pair_search.specs.declared.limits.TheConstants.{FAR};
+ghost use Rattle.pair_search.specs.declared.limits.TheConstants.{FAR, UNREACHED};
 
-use crate::limits::FAR;
+use crate::limits::{FAR, UNREACHED};
 use desk_io::Memory;
 use std::alloc::Global;
 use trip_model::MOST_SLOTS;
 
-/// What a search has seen of a group of columns. None that is not done is nearer than `near`, and those from a place on were
-/// reached at a cost.
+/// What a search has seen of a group of columns. None that is not done is nearer than `near`. Those from a place on were reached
+/// at a cost, which leaves out the pull of their post. They are all that need a row no sooner than at a minute.
 #[derive(Clone, Copy)]
 pub(crate) struct Seen {
     pub near: u64,
     pub cost: u64,
     pub from: u16,
+    pub minute: u16,
 }
 
 /// What is seen of a group before a search: no column is near, and none was reached.
 pub(crate) const UNSEEN: Seen = Seen {
     near: FAR,
-    cost: u64::MAX,
+    cost: UNREACHED,
     from: u16::MAX,
+    minute: u16::MAX,
 };
 
 /// What a search grows. Of each group: what it has seen there. Of each column: how far it is, from which place of the tree it
@@ -63,7 +65,7 @@ impl Tree {
     pub(crate) fn clear(&mut self, groups: usize, slots: u16)
         requires groups { groups ≤ MOST_SLOTS }
         requires slots { slots ≤ MOST_SLOTS }
-        ensures seen { self.new.seen.items ≡ replicate groups (record { near = FAR; cost = 18446744073709551615; from = 65535 }) }
+        ensures seen { self.new.seen.items ≡ replicate groups (record { near = FAR; cost = UNREACHED; from = 65535; minute = 65535 }) }
         ensures dist { self.new.dist.items ≡ replicate slots FAR }
         ensures done { self.new.done.items ≡ replicate slots false }
         ensures slots { vec_len self.new.dist ≡ slots }

@@ -8,8 +8,7 @@ use Rattle.pair_search.proofs.scan.nearest.Given as goal
 abbrev pub invariant-loop-group : goal.invariant-loop-group
 invariant-loop-group l = record {
   near : AreNear l.side.count l.side.groups l.done l.dist l.seen;
-  reached : (enter : List ℕ) → AreReached l.side.count l.side.groups enter l.done l.dist l.initial.seen
-      → AreReached l.side.count l.side.groups enter l.done l.dist l.seen;
+  reached : (enter : List ℕ) → AreReached l.side enter l.done l.dist l.initial.seen → AreReached l.side enter l.done l.dist l.seen;
   low : l.best.distance ≤ l.bound;
   least : (j : ℕ) → j < begins (side_slots l.side) l.side.count l.side.groups l.group → is_done l.done j ≡ false
       → l.best.distance ≤ at l.dist j;

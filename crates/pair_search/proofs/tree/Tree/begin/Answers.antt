@@ -41,7 +41,7 @@ look_from-requires-clause-seen g c =
     let n = side_slots side in
     let are = c.groups.ensures.groups in
     let was = c.clear.new.self in
-    let none : Seen = record { near = 67111745; cost = 18446744073709551615; from = 65535 } in
+    let none : Seen = record { near = 67111745; cost = 18446744073709551615; from = 65535; minute = 65535 } in
     let dists : was.dist.items ≡ replicate n 67111745 = c.clear.ensures.dist ∙ ap (λ m. replicate m 67111745) c.slots.ensures.count in
     let at-none : (r : ℕ) → r < side.count
     → seen_at was.seen.items r ≡ none =
@@ -51,10 +51,9 @@ look_from-requires-clause-seen g c =
     let near : AreNear side.count side.groups was.done.items was.dist.items was.seen.items =
     AreNear-none n side.count side.groups was.done.items was.dist.items was.seen.items are.few dists are.within
     (λ r lt. omega (arith, ap (λ (s : Seen). s.near) (at-none r lt))) in
-    let reached : AreReached side.count side.groups c.args.enter.now was.done.items was.dist.items was.seen.items =
-    AreReached-none n side.count side.groups was.done.items was.dist.items was.seen.items are.few dists are.within c.args.enter.now
-    (omega (arith, c.requires.few))
-    (λ r lt. omega (arith, ap (λ (s : Seen). s.from) (at-none r lt))) in
+    let reached : AreReached side c.args.enter.now was.done.items was.dist.items was.seen.items =
+    AreReached-none side c.args.enter.now was.done.items was.dist.items was.seen.items c.requires.few are.within
+    (λ r lt. let e = at-none r lt in (omega (arith, ap (λ (s : Seen). s.from) e), omega (arith, ap (λ (s : Seen). s.cost) e))) in
     record { room = room; near = near; reached = reached }
 
 pub returns-clause-shown : goal.returns-clause-shown

@@ -30,10 +30,10 @@ visit-requires-clause-seen g c =
       near = AreNear-same side.count side.groups _ was.done.items _ was.dist.items c.nearest.new.seen _ c.deref.ensures.value
           c.deref-in-loop-column.ensures.value (sym seens) c.nearest.ensures.near;
       reached =
-          AreReached-same side.count side.groups c.args.enter.now _ was.done.items _ was.dist.items c.nearest.new.seen _
+          AreReached-same side c.args.enter.now _ was.done.items _ was.dist.items c.nearest.new.seen _
           c.deref.ensures.value c.deref-in-loop-column.ensures.value (sym seens)
           (c.nearest.ensures.reached c.args.enter.now
-          (AreReached-same side.count side.groups c.args.enter.now was.done.items _ was.dist.items _ was.seen.items _
+          (AreReached-same side c.args.enter.now was.done.items _ was.dist.items _ was.seen.items _
           (sym c.deref.ensures.value) (sym c.deref-in-loop-column.ensures.value) (sym c.deref_mut.ensures.value) seen.reached));
     }
 

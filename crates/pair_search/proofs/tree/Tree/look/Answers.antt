@@ -1,16 +1,16 @@
-use Rattle.std.proofs.Common.{◌≡◌, ◌<◌, ◌≤◌, length, sym, ap, subst, ◌∙◌, ⊎_elim, arith}
+use Rattle.std.proofs.Common.{◌≡◌, ◌+◌, ◌-◌, ◌<◌, ◌≤◌, length, sym, ap, subst, ◌∙◌, ⊎_elim, arith}
 use Rattle.std.proofs.lemmas.Bool.{cases_lt}
 use Rattle.std.proofs.lemmas.List.{get_or_read}
 use Rattle.std.proofs.lemmas.Option.{none-some}
 use Rattle.pair_search.specs.declared.groups.Group.{Group}
 use Rattle.pair_search.specs.declared.tree.Seen.{Seen}
-use Rattle.pair_search.specs.Groups.{group_at, seen_at, AreGroups}
+use Rattle.pair_search.specs.Groups.{group_at, group_pull, seen_at, AreGroups}
 use Rattle.pair_search.specs.Search.{at}
-use Rattle.pair_search.specs.Side.{LineView, side_slots, line_weight}
+use Rattle.pair_search.specs.Side.{LineView, side_slots, line_weight, reach_weight}
 use Rattle.pair_search.specs.Visits.{IsVisited}
-use Rattle.pair_search.proofs.FitLemmas.{weighs-same}
+use Rattle.pair_search.proofs.FitLemmas.{too-soon, weighs-same}
 use Rattle.pair_search.proofs.LentLemmas.{written}
-use Rattle.pair_search.proofs.LookLemmas.{AreApproached-none, AreApproached-same, AreLooked-group}
+use Rattle.pair_search.proofs.LookLemmas.{AreApproached-same, AreLooked-group, AreLooked-spent}
 use Rattle.pair_search.proofs.GroupLemmas.{AreNear-look, AreReached-look, length-seen}
 use Rattle.pair_search.proofs.VisitLemmas.{IsVisited-none}
 use Rattle.pair_search.proofs.tree.Tree.look.Goals as goal
@@ -21,11 +21,58 @@ returns-in_default-clause-visited g c =
     IsVisited-none (line_weight line) (group_at line.side.groups c.args.group) c.args.self.now.dist.items c.args.steps.now c.tick.new.self
     c.tick.ensures
 
+pub returns-then-reach-was-clause-visited : goal.returns-then-reach-was-clause-visited
+returns-then-reach-was-clause-visited g c =
+    let line : LineView = c.args.line.now in
+    IsVisited-none (line_weight line) (group_at line.side.groups c.args.group) c.args.self.now.dist.items c.args.steps.now
+    c.tick-then-reach-was.new.self c.tick-then-reach-was.ensures
+
 pub returns-then-first-upto-clause-visited : goal.returns-then-first-upto-clause-visited
 returns-then-first-upto-clause-visited g c =
     let line : LineView = c.args.line.now in
     IsVisited-none (line_weight line) (group_at line.side.groups c.args.group) c.args.self.now.dist.items c.args.steps.now
     c.tick-then-first-upto.new.self c.tick-then-first-upto.ensures
+
+pub returns-then-reach-was-clause-looked : goal.returns-then-reach-was-clause-looked
+returns-then-reach-was-clause-looked g c = λ before l.
+    let line : LineView = c.args.line.now in
+    let group : Group = group_at line.side.groups c.args.group in
+    let was = c.args.self.now in
+    let read : c.index-was.result.now ≡ seen_at was.seen.items c.args.group =
+    get_or_read was.seen.items c.args.group c.index-was.result.now (omega (arith, c.requires.seen.room, c.requires.group))
+    c.index-was.ensures (record { near = 0; cost = 0; from = 0; minute = 0 }) in
+    let dear = ap (λ (s : Seen). s.cost) read in
+    let start = ap (λ (s : Seen). s.from) read in
+    let saved = ap (λ (l : LineView). l.share.saved) c.line.view_is in
+    let ready = ap (λ (s : Seen). s.minute) read in
+    AreLooked-spent (line_weight line) group.from group.to c.args.from c.args.start c.index-was.result.now.from c.args.enter.now before _
+    (λ j from lt early. too-soon line group c.in-Some.reach c.in-Some.ensures j from lt
+    (λ d. omega (
+      arith,
+      ready,
+      c.if-reach-was.true,
+      c.requires.seen.reached.sooner c.args.group j d c.requires.group from lt (omega (arith, early, start))
+          (omega (
+            arith,
+            dear,
+            c.if-cost-was.true,
+            c.from.ensures,
+            c.in-Some.ensures.walk,
+            c.requires.start,
+          )),
+    )))
+    (λ j k from lt late undone is. omega (
+      arith,
+      weighs-same line group c.in-Some.reach c.in-Some.ensures j k from lt is,
+      c.requires.seen.reached.covered c.args.group j c.requires.group (omega (arith, late, start)) from lt undone,
+      dear,
+      saved,
+      c.if-cost-was.true,
+      c.from.ensures,
+      c.in-Some.ensures.walk,
+      c.line.invariant.1.least,
+      c.line.invariant.1.most,
+    )) l
 
 pub returns-then-first-upto-clause-looked : goal.returns-then-first-upto-clause-looked
 returns-then-first-upto-clause-looked g c = λ before l.
@@ -33,40 +80,61 @@ returns-then-first-upto-clause-looked g c = λ before l.
     let group : Group = group_at line.side.groups c.args.group in
     let end : c.group.result.to ≡ group.to = ap (λ (x : Group). x.to) c.group.ensures.group
     ∙ ap (λ (l : LineView). (group_at l.side.groups c.args.group).to) c.line.view_is in
-    let fit = c.first_fit-first.ensures in
-    let upto = c.cut-upto.result in
-    let cost = c.saturating_sub-cost.result in
     let was = c.args.self.now in
     let read : c.index-was.result.now ≡ seen_at was.seen.items c.args.group =
     get_or_read was.seen.items c.args.group c.index-was.result.now (omega (arith, c.requires.seen.room, c.requires.group))
-    c.index-was.ensures (record { near = 0; cost = 0; from = 0 }) in
+    c.index-was.ensures (record { near = 0; cost = 0; from = 0; minute = 0 }) in
     let dear = ap (λ (s : Seen). s.cost) read in
     let start = ap (λ (s : Seen). s.from) read in
-    AreLooked-group (line_weight line) group.from upto upto group.to c.args.from c.args.start c.in-Some.reach.saved cost 0
-    c.args.enter.now before was.done.items was.dist.items was.parent.items was.dist.items was.parent.items
-    (λ lt. absurd (omega (arith, lt))) (omega (arith, c.cut-upto.ensures.within, end))
-    (λ j k from lt is.
-    let same = weighs-same line group c.in-Some.reach c.in-Some.ensures j k from lt is in
-    (same, omega (arith, same, c.saturating_sub-cost.ensures, c.requires.covers j k is, c.requires.low j k is)))
-    (λ j from lt. fit.early j from (omega (arith, lt, c.if-first-upto.true)))
-    (λ j from past lt. absurd (omega (arith, past, lt)))
-    (λ j from past before undone.
-    let rest = c.cut-upto.ensures.rest j past (omega (arith, before, end)) in
-    omega (arith, rest.0, dear, c.requires.seen.reached c.args.group j c.requires.group (omega (arith, rest.1, start)) from before undone))
-    (AreApproached-none upto c.args.from cost 0 c.args.enter.now was.done.items was.dist.items was.parent.items) l
+    let saved = ap (λ (l : LineView). l.share.saved) c.line.view_is in
+    AreLooked-spent (line_weight line) group.from group.to c.args.from c.args.start c.cut-upto.result c.args.enter.now before _
+    (λ j from lt early. too-soon line group c.in-Some.reach c.in-Some.ensures j from lt
+    (λ d. c.first_fit-first.ensures.sooner j d from (omega (arith, early, c.if-first-upto.true))))
+    (λ j k from lt late undone is.
+    let rest = c.cut-upto.ensures.rest j late (omega (arith, lt, end)) in
+    omega (
+      arith,
+      weighs-same line group c.in-Some.reach c.in-Some.ensures j k from lt is,
+      c.requires.seen.reached.covered c.args.group j c.requires.group (omega (arith, rest.1, start)) from lt undone,
+      rest.0,
+      dear,
+      saved,
+      c.from.ensures,
+      c.in-Some.ensures.walk,
+      c.line.invariant.1.least,
+      c.line.invariant.1.most,
+    )) l
+
+pub approach-near-requires-clause-cost : goal.approach-near-requires-clause-cost
+approach-near-requires-clause-cost g c =
+    omega (arith, c.requires.start, c.from.ensures, c.in-Some.ensures.walk, c.line.invariant.1.least)
 
 pub approach-near-requires-clause-low : goal.approach-near-requires-clause-low
 approach-near-requires-clause-low g c = λ j past lt.
+    let line : LineView = c.args.line.now in
+    let group : Group = group_at line.side.groups c.args.group in
     let fit = c.first_fit-first.ensures in
-    c.requires.low j c.in-Some.reach.saved (fit.fits j (omega (arith, past, fit.after c.if-first-upto.false)) past lt)
+    c.requires.low j (reach_weight line group.post c.in-Some.reach)
+    (fit.fits j (omega (arith, past, fit.after c.if-first-upto.false)) past lt)
 
 pub approach-near-requires-clause-enough : goal.approach-near-requires-clause-enough
 approach-near-requires-clause-enough g c = λ j past lt.
+    let line : LineView = c.args.line.now in
+    let group : Group = group_at line.side.groups c.args.group in
+    let saved = ap (λ (l : LineView). l.share.saved) c.line.view_is in
     let fit = c.first_fit-first.ensures in
+    let pulled = c.pull.ensures.pull ∙ ap (λ (l : LineView). group_pull l.side c.args.group) c.line.view_is in
     omega (
       arith,
-      c.saturating_sub-cost.ensures,
-      c.requires.covers j c.in-Some.reach.saved
+      saved,
+      pulled,
+      c.pull.ensures.bound,
+      c.from.ensures,
+      c.from-2.ensures,
+      c.in-Some.ensures.walk,
+      c.line.invariant.1.least,
+      c.line.invariant.1.most,
+      c.requires.covers j (reach_weight line group.post c.in-Some.reach)
           (fit.fits j (omega (arith, past, fit.after c.if-first-upto.false)) past lt),
     )
 
@@ -76,16 +144,18 @@ returns-clause-looked g c = λ before l.
     let group : Group = group_at line.side.groups c.args.group in
     let end : c.group.result.to ≡ group.to = ap (λ (x : Group). x.to) c.group.ensures.group
     ∙ ap (λ (l : LineView). (group_at l.side.groups c.args.group).to) c.line.view_is in
-    let fit = c.first_fit-first.ensures in
-    let first = c.first_fit-first.result in
-    let upto = c.cut-upto.result in
-    let cost = c.saturating_sub-cost.result in
     let was = c.args.self.now in
     let read : c.index-was.result.now ≡ seen_at was.seen.items c.args.group =
     get_or_read was.seen.items c.args.group c.index-was.result.now (omega (arith, c.requires.seen.room, c.requires.group))
-    c.index-was.ensures (record { near = 0; cost = 0; from = 0 }) in
+    c.index-was.ensures (record { near = 0; cost = 0; from = 0; minute = 0 }) in
     let dear = ap (λ (s : Seen). s.cost) read in
     let start = ap (λ (s : Seen). s.from) read in
+    let saved = ap (λ (l : LineView). l.share.saved) c.line.view_is in
+    let fit = c.first_fit-first.ensures in
+    let first = c.first_fit-first.result in
+    let upto = c.cut-upto.result in
+    let pulled = c.pull.ensures.pull ∙ ap (λ (l : LineView). group_pull l.side c.args.group) c.line.view_is in
+    let cost = c.args.start + 67111744 - c.line.inside.share.saved + c.from.result - c.from-2.result in
     let a =
     AreApproached-same first upto c.args.from cost c.approach-near.result c.args.enter.now was.done.items _ was.dist.items _
     was.parent.items _ _ c.approach-near.new.dist _ c.approach-near.new.parent
@@ -93,16 +163,40 @@ returns-clause-looked g c = λ before l.
     (written c.approach-near.new.dist was.dist.items was.dist.len (c.approach-near.auto.dist ∙ c.deref_mut.ensures.len))
     (written c.approach-near.new.parent was.parent.items was.parent.len (c.approach-near.auto.parent ∙ c.deref_mut-2.ensures.len))
     c.approach-near.ensures.approached in
-    AreLooked-group (line_weight line) group.from first upto group.to c.args.from c.args.start c.in-Some.reach.saved cost
-    c.approach-near.result
+    AreLooked-group (line_weight line) group.from first upto group.to c.args.from c.args.start
+    (reach_weight line group.post c.in-Some.reach) cost c.approach-near.result
     c.args.enter.now before was.done.items was.dist.items was.parent.items _ _ fit.after (omega (arith, c.cut-upto.ensures.within, end))
     (λ j k from lt is.
-    let same = weighs-same line group c.in-Some.reach c.in-Some.ensures j k from lt is in
-    (same, omega (arith, same, c.saturating_sub-cost.ensures, c.requires.covers j k is, c.requires.low j k is)))
-    fit.early fit.fits
+    let same = weighs-same line group c.in-Some.reach c.in-Some.ensures j k from lt is in (
+      same,
+      omega (
+        arith,
+        saved,
+        pulled,
+        c.pull.ensures.bound,
+        c.from.ensures,
+        c.from-2.ensures,
+        c.in-Some.ensures.walk,
+        c.line.invariant.1.least,
+        c.line.invariant.1.most,
+      ),
+    ))
+    (λ j from early. too-soon line group c.in-Some.reach c.in-Some.ensures j from
+    (omega (arith, early, fit.within, c.cut-upto.ensures.within, end)) (λ d. fit.sooner j d from early))
+    fit.fits
     (λ j from past before undone.
     let rest = c.cut-upto.ensures.rest j past (omega (arith, before, end)) in
-    omega (arith, rest.0, dear, c.requires.seen.reached c.args.group j c.requires.group (omega (arith, rest.1, start)) from before undone))
+    omega (
+      arith,
+      rest.0,
+      dear,
+      pulled,
+      c.from-2.ensures,
+      c.requires.seen.reached.covered c.args.group j c.requires.group (omega (arith, rest.1, start)) from before undone,
+      saved,
+      c.pull.ensures.bound,
+      c.line.invariant.1.most,
+    ))
     a l
 
 pub returns-clause-seen : goal.returns-clause-seen
@@ -111,17 +205,20 @@ returns-clause-seen g c =
     let group : Group = group_at line.side.groups c.args.group in
     let end : c.group.result.to ≡ group.to = ap (λ (x : Group). x.to) c.group.ensures.group
     ∙ ap (λ (l : LineView). (group_at l.side.groups c.args.group).to) c.line.view_is in
-    let fit = c.first_fit-first.ensures in
-    let first = c.first_fit-first.result in
-    let upto = c.cut-upto.result in
-    let cost = c.saturating_sub-cost.result in
     let was = c.args.self.now in
     let read : c.index-was.result.now ≡ seen_at was.seen.items c.args.group =
     get_or_read was.seen.items c.args.group c.index-was.result.now (omega (arith, c.requires.seen.room, c.requires.group))
-    c.index-was.ensures (record { near = 0; cost = 0; from = 0 }) in
-    let near = ap (λ (s : Seen). s.near) read in
+    c.index-was.ensures (record { near = 0; cost = 0; from = 0; minute = 0 }) in
     let dear = ap (λ (s : Seen). s.cost) read in
     let start = ap (λ (s : Seen). s.from) read in
+    let saved = ap (λ (l : LineView). l.share.saved) c.line.view_is in
+    let near = ap (λ (s : Seen). s.near) read in
+    let ready = ap (λ (s : Seen). s.minute) read in
+    let fit = c.first_fit-first.ensures in
+    let first = c.first_fit-first.result in
+    let upto = c.cut-upto.result in
+    let pulled = c.pull.ensures.pull ∙ ap (λ (l : LineView). group_pull l.side c.args.group) c.line.view_is in
+    let cost = c.args.start + 67111744 - c.line.inside.share.saved + c.from.result - c.from-2.result in
     let a =
     AreApproached-same first upto c.args.from cost c.approach-near.result c.args.enter.now was.done.items _ was.dist.items _
     was.parent.items _ _ c.approach-near.new.dist _ c.approach-near.new.parent
@@ -137,13 +234,11 @@ returns-clause-seen g c =
     record {
       room = omega (arith, c.requires.seen.room, length-seen was.seen.items c.args.group c.renewed.result);
       near =
-          AreNear-look (side_slots line.side) line.side.columns line.side.count line.side.groups are c.args.group first upto c.args.from
-          cost c.approach-near.result
+          AreNear-look line.side are c.args.group first upto c.args.from cost c.approach-near.result
           c.args.enter.now was.done.items was.dist.items was.parent.items _ _ a was.seen.items c.renewed.result c.requires.group room after
           within (omega (arith, c.renewed.ensures.near.0, near)) c.renewed.ensures.near.1 c.requires.seen.near;
       reached =
-          AreReached-look (side_slots line.side) line.side.columns line.side.count line.side.groups are c.args.group first upto c.args.from
-          cost c.approach-near.result
+          AreReached-look line.side are c.args.group first upto c.args.from cost c.approach-near.result
           c.args.enter.now was.done.items was.dist.items was.parent.items _ _ a was.seen.items c.renewed.result c.requires.group room after
           within
           (λ j past from before undone. ⊎_elim
@@ -152,15 +247,30 @@ returns-clause-seen g c =
             same.0,
             dear,
             a.nearer j,
-            c.requires.seen.reached c.args.group j c.requires.group
+            c.requires.seen.reached.covered c.args.group j c.requires.group
                 (omega (arith, past, same.1, start)) from before undone,
           ))
           (λ cheaper. omega (
             arith,
             cheaper.1,
+            pulled,
+            saved,
+            c.from-2.ensures,
+            c.pull.ensures.bound,
+            c.line.invariant.1.most,
             a.covered j (omega (arith, past, cheaper.2))
                 (omega (arith, before, end, c.cut-upto.ensures.cheaper cheaper.0)) undone,
           ))
+          c.renewed.ensures.reached)
+          (λ j d from before early reached. ⊎_elim
+          (λ same. omega (
+            arith,
+            same.2,
+            ready,
+            c.requires.seen.reached.sooner c.args.group j d c.requires.group from before (omega (arith, early, same.1, start))
+                (omega (arith, reached, same.0, dear)),
+          ))
+          (λ cheaper. omega (arith, cheaper.3, fit.sooner j d from (omega (arith, early, cheaper.2))))
           c.renewed.ensures.reached)
           c.requires.seen.reached;
     }
@@ -182,7 +292,8 @@ returns-clause-visited g c =
       upto = c.cut-upto.result;
       after = after;
       within = omega (arith, c.cut-upto.ensures.within, end);
-      fits = λ j past lt none. none-some c.in-Some.reach.saved (sym none ∙ fit.fits j (omega (arith, past, after)) past lt);
+      fits = λ j past lt none. none-some (reach_weight line group.post c.in-Some.reach)
+          (sym none ∙ fit.fits j (omega (arith, past, after)) past lt);
       others = λ j out. ⊎_elim
           (λ (nearer : at c.approach-near.new.dist j < at c.deref_mut.result.now j).
           let b = a.between j nearer in
