@@ -1,9 +1,12 @@
 -- The fields of a record with empty ones at its end.
 use Rattle.std.proofs.Common.{◌≡◌, ℕ, zero, suc, ◌+◌, ◌-◌, ◌<◌, ◌≤◌, List, [], ◌∷◌, ◌++◌, add-one, drop, length, get_or, replicate, take}
-use Rattle.std.proofs.Common.{unwrap_or, refl, sym, arith}
+use Rattle.std.proofs.Common.{unwrap_or, All, get_or-drop, refl, sym, subst, ap, arith}
+use Rattle.std.specs.Str.{IsAscii, IsUtf8}
 use Rattle.std.proofs.lemmas.List.{append-nil, get_or_append_left, length-append, length-replicate}
+use Rattle.std.proofs.lemmas.List.Elements.{All-append, All-cons, All-nil, All-replicate}
+use Rattle.std.proofs.lemmas.Str.{IsUtf8-from_ascii, IsUtf8-nil}
 use Rattle.std.proofs.Math.Seq.{take-suc}
-use Rattle.csv.specs.Records.{field_at}
+use Rattle.csv.specs.Records.{cut_from, field_at}
 use Rattle.gtfs_tables.specs.Rows.{padded}
 
 empty-at : (k n : ℕ) → get_or {A = List ℕ} (replicate k []) n [] ≡ []
@@ -38,3 +41,31 @@ next_field (f ∷ fields) rest (suc n) first within =
 -- a record has at least the fields of the width that it is padded to
 pub padded-length : (width : ℕ) (fields : List (List ℕ)) → length (padded width fields) ≡ length fields + (width - length fields)
 padded-length width fields = simp (length-append, length-replicate) refl
+
+-- the front of a text of ASCII is one
+ascii-take : (n : ℕ) (text : List ℕ) → IsAscii text → IsAscii (take n text)
+ascii-take zero text ascii i = omega arith
+ascii-take (suc n) [] ascii i = omega arith
+ascii-take (suc n) (b ∷ text) ascii zero = ascii 0
+ascii-take (suc n) (b ∷ text) ascii (suc i) = ascii-take n text (λ k. ascii (suc k)) i
+
+-- each part of a text of ASCII is UTF-8
+cut-texts : (start : ℕ) (ends bytes : List ℕ) → IsAscii bytes → All IsUtf8 (cut_from start ends bytes)
+unfolding cut_from
+cut-texts start [] bytes ascii = All-nil IsUtf8
+cut-texts start (end ∷ ends) bytes ascii =
+    let rest : IsAscii (drop start bytes) = λ i. rw (get_or-drop start bytes i 0) (ascii (start + i)) in
+    All-cons IsUtf8 (take (end - start) (drop start bytes)) (cut_from end ends bytes)
+    (IsUtf8-from_ascii _ (ascii-take (end - start) _ rest)) (cut-texts end ends bytes ascii)
+
+-- the fields of a record whose bytes are ASCII are UTF-8, and so are empty ones at its end
+pub padded-texts : (width : ℕ) (ends bytes : List ℕ) → IsAscii bytes → All IsUtf8 (padded width (cut_from 0 ends bytes))
+padded-texts width ends bytes ascii =
+    let fields = cut_from 0 ends bytes in
+    All-append IsUtf8 fields (replicate (width - length fields) []) (cut-texts 0 ends bytes ascii)
+    (All-replicate IsUtf8 (width - length fields) [] IsUtf8-nil)
+
+-- a record that has the fields of its width already
+pub padded-whole : (width : ℕ) (fields : List (List ℕ)) → length fields ≤ width → width ≤ length fields → fields ≡ padded width fields
+padded-whole width fields fits has =
+    let none : width - length fields ≡ 0 = omega arith in rw (none, append-nil fields) refl

@@ -1,4 +1,5 @@
-ghost use Rattle.std.specs.Prelude.{◌≡◌, ◌<◌, ◌≤◌, [], drop, IfOk, IfSome, length, slice_index_or};
+ghost use Rattle.std.specs.Prelude.{◌≡◌, ◌<◌, ◌≤◌, [], ◌∷◌, ◌++◌, true, drop, map, All, IfOk, IfSome, IsUtf8, OnOk, length};
+ghost use Rattle.std.specs.Prelude.{slice_index_or};
 ghost use Rattle.csv.specs.Records.{fields_of};
 ghost use Rattle.gtfs_tables.specs.Records.{IsReading, ReadsRow};
 ghost use Rattle.gtfs_tables.specs.Rows.{padded};
@@ -10,6 +11,14 @@ use csv::{ByteRecord, Reader};
 use desk_io::Memory;
 use std::alloc::{AllocError, Global};
 use std::marker::Model;
+
+// Appends a field.
+fn push_field<'a>(fields: &mut Vec<&'a [u8]>, field: &'a [u8]) -> Result<(), Memory>
+    ensures { OnOk result (map (λ field. field.now) fields.new.items ≡ map (λ field. field.now) fields.old.items ++ field.now ∷ []) }
+{
+    fields.push(field)?;
+    Ok(())
+}
 
 /// One record of a file, seen as the list of its fields, each a list of bytes.
 pub struct Row {
@@ -85,6 +94,34 @@ impl Row {
             Some(field) => field,
             None => &[],
         }
+    }
+
+    /// Whether all bytes of its fields are ASCII, so that each field is UTF-8. It looks at all of them at once.
+    pub fn is_ascii(&self) -> bool
+        ensures { result ≡ true → All IsUtf8 self.now }
+    {
+        self.fields.as_slice().is_ascii()
+    }
+
+    /// Its fields.
+    pub fn fields(&self, alloc: Global) -> Result<Vec<&[u8]>, Memory>
+        ensures { IfOk result (λ fields. map (λ field. field.now) fields.items ≡ self.now) }
+    {
+        let mut fields = Vec::with_capacity(alloc, self.len())?;
+        for place in 0..self.len() {
+            push_field(&mut fields, self.field(place))?;
+        }
+        Ok(fields)
+    }
+
+    /// The record as `csv` holds it, where that has all of its fields.
+    pub(crate) fn whole(&self) -> Option<&ByteRecord>
+        ensures { IfSome result (λ whole. fields_of whole.now ≡ self.now) }
+    {
+        if self.fields.len() < self.width {
+            return None;
+        }
+        Some(&self.fields)
     }
 
     /// The first field that, without spaces at both ends, equals the name; the fields count from 0.

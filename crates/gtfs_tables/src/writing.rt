@@ -1,7 +1,9 @@
 ghost use Rattle.std.specs.Prelude.{◌≡◌, [], ◌++◌, IfOk, IsUtf8, OnOk, OnErr, map};
+ghost use Rattle.csv.specs.Records.{fields_of};
 ghost use Rattle.gtfs_tables.specs.Writing.{record_text};
 
-use csv::{Writer, WriterBuilder};
+use crate::Row;
+use csv::{ByteRecord, Writer, WriterBuilder};
 use desk_io::{Bytes, Memory, Text};
 use std::alloc::Global;
 use std::marker::Model;
@@ -62,6 +64,40 @@ impl RecordWriter {
         }
         self.failed = false;
         Ok(())
+    }
+
+    // Appends a record that `csv` holds.
+    fn push_whole(&mut self, whole: &ByteRecord) -> Result<(), Memory>
+        ensures pushed { OnOk result (self.new ≡ self.old ++ record_text (fields_of whole.now)) }
+        ensures err { OnErr result (self.new ≡ []) }
+    {
+        if self.failed {
+            return Err(Memory);
+        }
+        self.failed = true;
+        if self.writer.write_byte_record(whole).is_err() {
+            return Err(Memory);
+        }
+        self.failed = false;
+        Ok(())
+    }
+
+    /// Appends a record that was read, in quotes where its fields need them. Its fields are not gathered, unless some are missing
+    /// at its end.
+    pub fn push_row(&mut self, alloc: Global, row: &Row) -> Result<(), Memory>
+        ensures pushed { OnOk result (self.new ≡ self.old ++ record_text row.now) }
+        ensures err { OnErr result (self.new ≡ []) }
+    {
+        if let Some(whole) = row.whole() {
+            return self.push_whole(whole);
+        }
+        match row.fields(alloc) {
+            Ok(fields) => self.push(&fields),
+            Err(_) => {
+                self.failed = true;
+                Err(Memory)
+            }
+        }
     }
 
     /// The bytes of the records.

@@ -1,0 +1,12 @@
+use Rattle.std.proofs.Common.{subst}
+use Rattle.std.specs.Bool.{MatchBool}
+use Rattle.std.specs.Str.{IsAscii, IsNotAscii}
+use Rattle.csv.specs.Records.{text_of}
+use Rattle.gtfs_tables.proofs.Fields.{padded-texts}
+use Rattle.gtfs_tables.proofs.row.Row.is_ascii.Goals as goal
+
+pub returns : goal.returns
+returns c all =
+    let row = c.self.inside.fields in
+    let ascii = subst (λ b. MatchBool b (IsAscii c.as_slice.result.now) (IsNotAscii c.as_slice.result.now)) all c.is_ascii.ensures.cases in
+    rw (← c.self.view_is) (padded-texts c.self.inside.width row.ends row.bytes (subst IsAscii c.as_slice.ensures ascii))
