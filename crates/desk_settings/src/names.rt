@@ -3,9 +3,70 @@ ghost use Rattle.trip_model.specs.Timetable.{number_of};
 ghost use Rattle.desk_settings.specs.Names.{each_once, is_among, kept_among, with_name};
 
 use desk_io::{Memory, Text};
-use indexmap::IndexSet;
+use indexmap::{Equivalent, IndexSet};
 use std::alloc::Global;
+use std::hash::{Hash, Hasher};
 use std::marker::Model;
+
+// The bytes of a name that may be one of a set's. They are looked up as the text that they spell, and need not be UTF-8.
+#[derive(Clone, Copy)]
+struct Spelled<'a> {
+    bytes: &'a [u8],
+}
+
+impl<'a> PartialEq for Spelled<'a> {
+    ghost use Rattle.std.proofs.Common.{rules};
+    ghost use Rattle.std.specs.Cmp.Rules.{comparing};
+    ghost use Rattle.std.specs.Str.{bytes_eq};
+
+    ghost eq = { λ x y. bytes_eq x.bytes.now y.bytes.now };
+
+    ghost laws = { Prim.search (comparing, rules) };
+
+    fn eq(&self, other: &Spelled<'a>) -> bool {
+        self.bytes == other.bytes
+    }
+}
+
+impl<'a> Eq for Spelled<'a> {
+    ghost use Rattle.std.proofs.Common.{rules};
+    ghost use Rattle.std.specs.Cmp.Rules.{comparing};
+
+    ghost laws = { Prim.search (comparing, rules) };
+}
+
+impl<'a> Hash for Spelled<'a> {
+    ghost use Rattle.std.proofs.Common.{ap};
+    ghost use Rattle.std.specs.Cmp.Lexicographic.{bytes_decides};
+    ghost use Rattle.std.specs.Hash as fed;
+
+    ghost hash_input = { λ name. fed.str name.bytes.now };
+
+    ghost respects_eq = { λ x y h. ap fed.str ((bytes_decides x.bytes.now y.bytes.now).0 h) };
+
+    fn hash<H: Hasher>(&self, state: &mut H) {
+        state.write(self.bytes);
+        state.write_u8(0xff);
+    }
+}
+
+impl<'a> Equivalent<String> for Spelled<'a> {
+    ghost use Rattle.std.proofs.Common.{ap};
+    ghost use Rattle.std.specs.Cmp.Lexicographic.{bytes_decides, nat_list_eq_equiv};
+    ghost use Rattle.std.specs.Hash as fed;
+    ghost use Rattle.std.specs.Str.{bytes_eq};
+    ghost use Rattle.std.specs.String.{string_bytes};
+
+    ghost equivalent = { λ name key. bytes_eq name.bytes.now (string_bytes key) };
+
+    ghost respects_hash = { λ name key h. ap fed.str ((bytes_decides name.bytes.now (string_bytes key)).0 h) };
+
+    ghost respects_eq = { λ name x y. nat_list_eq_equiv.congr name.bytes.now (string_bytes x) (string_bytes y) };
+
+    fn equivalent(&self, key: &String) -> bool {
+        self.bytes == key.as_bytes()
+    }
+}
 
 /// Names, each once, in the order in which they first come; one is found without going over the others.
 pub struct Names {
@@ -52,12 +113,12 @@ impl Names {
         self.set.get_index(number).unwrap().as_str()
     }
 
-    /// The number of a name, from 0.
-    pub fn number(&self, name: &str) -> Option<usize>
+    /// The number, from 0, of the name of these bytes, which need not be UTF-8.
+    pub fn number(&self, name: &[u8]) -> Option<usize>
         ensures number { result ≡ number_of self.now name.now }
         ensures within { IfSome result (λ number. number < length self.now) }
     {
-        self.set.get_index_of(name)
+        self.set.get_index_of(Spelled { bytes: name })
     }
 
     /// Whether the name is one of them.
