@@ -1,5 +1,8 @@
-ghost use Rattle.std.specs.Prelude.{◌≡◌, ◌<◌, IfOk, OnOk, length, map, slice_index_or, slice_set};
+ghost use Rattle.std.specs.Prelude.{◌≡◌, ◌<◌, true, IfOk, IsAscii, OnOk, length, map, slice_index_or, slice_set};
 ghost use Rattle.gtfs_tables.specs.Papers.{IsWithinLimit};
+ghost use Rattle.gtfs_tables.specs.declared.paper.Column.{Column};
+ghost use Rattle.gtfs_tables.specs.declared.paper.Paper.{Paper};
+ghost use Rattle.gtfs_tables.specs.Reading as reading;
 ghost use Rattle.gtfs_tables.specs.Reading.{Gives};
 ghost use Rattle.feed_read.specs.Kept.{nothing_kept, trip_ends_seen, with_kept, Keeps};
 ghost use Rattle.feed_read.specs.StopTimes as spec;
@@ -23,6 +26,31 @@ pub(crate) struct Columns {
     pub(crate) departure: usize,
     pub(crate) stop: usize,
     pub(crate) sequence: usize,
+}
+
+// Whether all bytes of a name are ASCII. Names are short, and a plain loop over one is faster than a call.
+fn is_ascii(name: &[u8]) -> bool
+    ensures { result ≡ true → IsAscii name.now }
+{
+    for byte in name {
+        if *byte >= 128 {
+            return false;
+        }
+    }
+    true
+}
+
+// Refuses the record of a trip whose name is not UTF-8.
+fn judge_name(number: u32, name: &[u8]) -> Result<(), FeedFault>
+    ensures { Gives (λ _. name.now) result (reading.text_in Paper.StopTimes number Column.TripId name.now) }
+{
+    if is_ascii(name) {
+        return Ok(());
+    }
+    match str::from_utf8(name) {
+        Ok(_) => Ok(()),
+        Err(_) => Err(FeedFault::NotUtf8(Paper::StopTimes, number, Column::TripId)),
+    }
 }
 
 // The record of the trip of a slot.
@@ -129,12 +157,8 @@ impl<'a> RecordReader for StopTimes<'a> {
 
     #[tactic(auto, unfolding(crate::specs::Kept::with_record_kept))]
     fn record(&mut self, columns: &Columns, number: u32, row: &Row) -> Result<(), FeedFault> {
-        let name = text_in(
-            Paper::StopTimes,
-            number,
-            Column::TripId,
-            row.field(columns.trip),
-        )?;
+        let name = row.field(columns.trip);
+        judge_name(number, name)?;
         let Some(trip) = self.names.number(name) else {
             return Ok(());
         };

@@ -1,0 +1,5 @@
+use Rattle.std.proofs.Common.{ℕ, ◌<◌, get_or}
+use Rattle.feed_read.proofs.stop_times.is_ascii.Given as goal
+
+abbrev pub invariant-loop-byte : goal.invariant-loop-byte
+invariant-loop-byte l = (k : ℕ) → k < l.byte-index → get_or l.name k 0 < 128
