@@ -1,7 +1,6 @@
 -- What a paper gives whose records are written again one by one.
 use Rattle.std.proofs.Common.{◌≡◌, ◌≢◌, ℕ, zero, suc, ◌+◌, ◌<◌, List, [], ◌∷◌, ◌++◌, length, get_or, map, All, Option, Some, None, Result}
 use Rattle.std.proofs.Common.{Ok, Err, refl, sym, ap, subst, ◌∙◌, append_assoc, arith}
-use Rattle.std.specs.Borrow.{Bor}
 use Rattle.std.specs.Str.{IsUtf8}
 use Rattle.std.proofs.lemmas.List.{append-nil}
 use Rattle.std.proofs.lemmas.List.Elements.{All-cons, All-nil}
@@ -188,9 +187,5 @@ module _ (timetable : TimetableView) (base : ℕ) where
       sym (cc same)
 
 -- the text of a header alone
-pub started : (before start : List ℕ) (fields items : List (Bor (List ℕ))) (header : Fields) → before ≡ [] → fields ≡ items
-    → map (λ field. field.now) items ≡ header
-    → start ≡ before ++ record_text (map (λ field. field.now) fields) → start ≡ record_text header
-started before start fields items header none same seen written =
-    written ∙ ap (λ before. before ++ record_text (map (λ field. field.now) fields)) none
-    ∙ ap record_text (ap (map (λ (field : Bor (List ℕ)). field.now)) same ∙ seen)
+pub started : (before start : List ℕ) (header : Fields) → before ≡ [] → start ≡ before ++ record_text header → start ≡ record_text header
+started before start header none written = written ∙ ap (λ before. before ++ record_text header) none

@@ -1,16 +1,17 @@
 -- The records of a table, as they are written one after the other.
-use Rattle.std.proofs.Common.{◌≡◌, ℕ, inl, inr, ◌+◌, ◌-◌, List, [], ◌++◌, length, get_or, map, Bool, false, Option, ◌≢◌, refl, sym, ap}
-use Rattle.std.proofs.Common.{◌∙◌, arith}
-use Rattle.std.specs.Prelude.{ℤ, pos, negsuc, unsigned_abs, ◌==◌}
+use Rattle.std.proofs.Common.{◌≡◌, ℕ, inl, inr, ◌+◌, ◌-◌, ◌<◌, ◌≤◌, List, [], ◌++◌, length, get_or, map, Bool, true, false, Option}
+use Rattle.std.proofs.Common.{Some, None, ◌≢◌, refl, sym, ap, subst, ◌∙◌, arith, nat_lt, ◌&&◌}
+use Rattle.std.specs.Prelude.{ℤ, pos, negsuc, unsigned_abs, ◌==◌, if◌then◌else◌}
 use Rattle.std.specs.List.{range_with_len}
-use Rattle.std.proofs.lemmas.Bool.{cases_Bool, eqb-true}
+use Rattle.std.proofs.lemmas.Bool.{cases_Bool, cases_lt, eqb-true}
+use Rattle.std.proofs.lemmas.List.{get_or_past}
 use Rattle.block_build.proofs.FilesWritten.{record-more}
 use Rattle.gtfs_tables.specs.Table.{TableView}
 use Rattle.gtfs_tables.specs.Writing.{record_text, records_text}
 use Rattle.gtfs_tables.specs.declared.paper.Column.TheVariants as column
 use Rattle.gtfs_tables.specs.Reading.{place_of}
 use Rattle.trip_model.specs.Timetable.{TimetableView}
-use Rattle.block_writer.specs.StopTimes.{moved_by, moved_row}
+use Rattle.block_writer.specs.StopTimes.{moved_by, moved_row, offset_of, MovesNone}
 use Rattle.block_writer.specs.Trips.{block_numbers, header_written, trip_written, with_blocks, trips_written}
 
 -- the fields of a trip that is shifted
@@ -24,6 +25,27 @@ shifted-row offset arrival departure row other = elim (cases_Bool (unsigned_abs 
     no-minutes : (z : ℤ) → unsigned_abs z ≡ 0 → z ≡ pos 0
     no-minutes (pos n) none = ap pos none
     no-minutes (negsuc n) none = absurd (omega arith)
+
+-- no rows are moved of one slot more
+pub none-more : (t : TimetableView) (base n : ℕ) (offset : ℤ) → ((k : ℕ) → k < n → offset_of t base (Some k) ≡ pos 0)
+    → offset ≡ offset_of t base (Some n) → offset ≡ pos 0 → (k : ℕ) → k < n + 1 → offset_of t base (Some k) ≡ pos 0
+none-more t base n offset before is none k below = elim (cases_lt k n) [
+  | inl earlier ↦ before k earlier
+  | inr last ↦ let same : n ≡ k = omega arith in subst (λ k. offset_of t base (Some k) ≡ pos 0) same (sym is ∙ none)
+]
+
+-- no rows are moved, of any slot
+pub none-moved : (t : TimetableView) (base n : ℕ) → length t.slots ≤ n → ((k : ℕ) → k < n → offset_of t base (Some k) ≡ pos 0)
+    → MovesNone t base
+none-moved t base n all before None = refl
+none-moved t base n all before (Some k) = elim (cases_lt k n) [
+  | inl earlier ↦ before k earlier
+  | inr past ↦ rw (get_or_past t.slots k _ (omega arith)) (by (nat_lt k base))
+]
+  where
+    by : (has : Bool) → ◌≡◌ {A = ℤ} (if has && false then pos 0 else pos 0) (pos 0)
+    by true = refl
+    by false = refl
 
 -- the text after one record more of the trips
 pub trip-more : (t : TimetableView) (numbers items : List (Option ℕ)) (prefix : List ℕ) (trip block : ℕ) (chosen : List Bool)

@@ -5,7 +5,6 @@ use Rattle.std.specs.Prelude.{not}
 use Rattle.std.specs.List.{position_from}
 use Rattle.std.specs.Str.{IsUtf8, is_utf8}
 use Rattle.std.proofs.lemmas.Bool.{cases_lt}
-use Rattle.std.proofs.lemmas.List.{drop_all}
 use Rattle.std.proofs.lemmas.List.Elements.{All-cons, All-from_get_or, All-nil}
 use Rattle.std.proofs.lemmas.Str.{IsUtf8-from_is_utf8, is_utf8-from_IsUtf8}
 use Rattle.gtfs_tables.specs.Table.{TableView}
@@ -60,10 +59,13 @@ pub first-bad : (row : List (List ℕ)) (found : Option ℕ) (place : ℕ) → f
     → IsFirstBadField row place
 first-bad row found place some is = subst (Tells row) (sym is ∙ some) (tells row)
 
--- a record of which no field is left in which a bad one may be
-pub all-texts : (row : List (List ℕ)) (n : ℕ) → length row ≤ n
-    → bad_field row ≡ position_from (λ field. not (is_utf8 field)) n (drop n row) → All IsUtf8 row
-all-texts row n all is = none-bad row None refl (sym (is ∙ ap (position_from (λ field. not (is_utf8 field)) n) (drop_all n row all)))
+-- a record of texts has no bad field
+pub no-bad : (row : List (List ℕ)) → All IsUtf8 row → bad_field row ≡ None
+no-bad row are = by (bad_field row) (tells row)
+  where
+    by : (bad : Option ℕ) → Tells row bad → bad ≡ None
+    by None told = refl
+    by (Some place) first = absurd (first.bad (are place [] first.within))
 
 -- the first bad field of a table, in its header and in a record
 pub bad-header : (table : TableView) (header : List (List ℕ)) (place : ℕ) → header ≡ table.header → IsFirstBadField header place

@@ -1,5 +1,5 @@
 -- The records of `stop_times.txt`, written with the times of shifted trips moved.
-use Rattle.std.specs.Prelude.{ℕ, ◌+◌, ◌-◌, ◌*◌, ◌/◌, ◌%◌, ◌==◌, ◌&&◌, ℤ, pos, int_lt, unsigned_abs, List, [], ◌∷◌, ◌++◌, map, nat_lt}
+use Rattle.std.specs.Prelude.{◌≡◌, ℕ, ◌+◌, ◌-◌, ◌*◌, ◌/◌, ◌%◌, ◌==◌, ◌&&◌, ℤ, pos, int_lt, unsigned_abs, List, [], ◌∷◌, ◌++◌, map, nat_lt}
 use Rattle.std.specs.Prelude.{slice_set, Option, None, Some, Result, Ok, if◌then◌else◌}
 use Rattle.gtfs_tables.specs.Reading.{◌>>=◌, place_of, field_at}
 use Rattle.gtfs_tables.specs.Table.{TableView}
@@ -38,6 +38,10 @@ moved_row offset arrival departure row =
 abbrev pub offset_of : TimetableView → ℕ → Option ℕ → ℤ
 offset_of timetable base None = pos 0
 offset_of timetable base (Some s) = if nat_lt s base && (slot_at timetable s).trip.live then (slot_at timetable s).trip.offset else pos 0
+
+-- no rows are moved, whatever slot they are of
+abbrev pub MovesNone : TimetableView → ℕ → Type 0
+MovesNone timetable base = (slot : Option ℕ) → offset_of timetable base slot ≡ pos 0
 
 -- a record with its times moved; where its trip is not shifted, as it came
 abbrev pub moved_by : ℤ → ℕ → ℕ → List (List ℕ) → List (List ℕ)

@@ -1,4 +1,5 @@
-ghost use Rattle.std.specs.Prelude.{◌≡◌, ◌≢◌, ◌≤◌, ◌++◌, All, Err, IfErr, IfOk, IsUtf8, OnOk, map, slice_set};
+ghost use Rattle.std.specs.Prelude.{◌≡◌, ◌≢◌, ◌<◌, ◌≤◌, ◌++◌, false, All, Err, IfErr, IfOk, IsUtf8, OnOk, Some, length, map, slice_set};
+ghost use Rattle.std.proofs.Props.{props};
 ghost use Rattle.gtfs_tables.specs.declared.fault.FeedFault.{FeedFault};
 ghost use Rattle.gtfs_tables.specs.declared.paper.Paper.{Paper};
 ghost use Rattle.gtfs_tables.specs.Papers.{IsWithinLimit};
@@ -7,10 +8,12 @@ ghost use Rattle.gtfs_tables.specs.Writing.{record_text};
 ghost use Rattle.gtfs_tables.specs.declared.times.TheConstants.{LAST_SECOND};
 ghost use Rattle.trip_model.specs.Timetable.{number_of, slot_names};
 ghost use Rattle.block_writer.specs.Texts.{IsRefusedPaper, IsTextPaper};
+ghost use Rattle.block_writer.specs.Fields.{slot_in};
 ghost use Rattle.block_writer.specs.StopTimes as spec;
+ghost use Rattle.block_writer.specs.StopTimes.{MovesNone};
 
-use crate::fields::{fields_of, text_of};
-use crate::texts::texts_of;
+use crate::fields::text_of;
+use crate::texts::judge_texts;
 use desk_io::{Bytes, Found, Memory, Text};
 use gtfs_tables::{
     Column, FeedFault, Paper, RecordReader, RecordWriter, Row, place_of, read_header, read_records,
@@ -61,19 +64,51 @@ fn moved_field(alloc: Global, offset: i8, field: &str) -> Result<Text, Memory>
     }
 }
 
-// By how many minutes the rows of a trip of that name are moved.
-fn offset_of(timetable: &Timetable, base: u16, trip: &str) -> i8
-    ensures { result ≡ spec.offset_of timetable.now base (number_of (slot_names timetable.now) trip.now) }
+// By how many minutes the rows of the trip in a slot are moved.
+fn offset_at(timetable: &Timetable, base: u16, slot: u16) -> i8
+    requires { slot < length timetable.now.slots }
+    ensures { result ≡ spec.offset_of timetable.now base (Some slot) }
 {
-    let Some(slot) = timetable.find(trip) else {
-        return 0;
-    };
     let trip = timetable.trip(slot);
     if slot < base && trip.live {
         trip.offset
     } else {
         0
     }
+}
+
+// Whether the rows of some trip are moved.
+fn moves_some(timetable: &Timetable, base: u16) -> bool
+    ensures { result ≡ false → MovesNone timetable.now base }
+{
+    for slot in 0..timetable.slots() {
+        if offset_at(timetable, base, slot) != 0 {
+            return true;
+        }
+    }
+    false
+}
+
+// By how many minutes the rows of a trip of that name are moved.
+fn offset_of(timetable: &Timetable, base: u16, trip: &str) -> i8
+    ensures { result ≡ spec.offset_of timetable.now base (number_of (slot_names timetable.now) trip.now) }
+{
+    match timetable.find(trip) {
+        Some(slot) => offset_at(timetable, base, slot),
+        None => 0,
+    }
+}
+
+// By how many minutes a row is moved. Where no rows are, its trip is not looked up.
+fn offset_for(timetable: &Timetable, base: u16, some: bool, row: &Row, trip: usize) -> i8
+    requires texts { All IsUtf8 row.now }
+    requires none { some ≡ false → MovesNone timetable.now base }
+    ensures { result ≡ spec.offset_of timetable.now base (slot_in timetable.now trip row.now) }
+{
+    if !some {
+        return 0;
+    }
+    offset_of(timetable, base, text_of(row.field(trip)))
 }
 
 // Puts another field into a column, where there is such a column.
@@ -97,7 +132,7 @@ fn push_with<'a>(
 ) -> Result<(), Memory>
     ensures { OnOk result (records.new ≡ records.old ++ record_text (slice_set (slice_set row.now first arrives.now) second departs.now)) }
 {
-    let mut fields = fields_of(alloc, row)?;
+    let mut fields = row.fields(alloc)?;
     put_field(&mut fields, first, arrives);
     put_field(&mut fields, second, departs);
     records.push(&fields)
@@ -128,22 +163,20 @@ fn push_moved(
     )
 }
 
-// Appends a record of these fields with its times moved, or as it came where its trip is not shifted.
+// Appends a record with its times moved, or as it came where its trip is not shifted.
 fn push_by(
     alloc: Global,
     records: &mut RecordWriter,
     row: &Row,
-    fields: &[&[u8]],
     arrival: usize,
     departure: usize,
     offset: i8,
 ) -> Result<(), Memory>
-    requires texts { All IsUtf8 row.now }
-    requires fields { map (λ field. field.now) fields.now ≡ row.now }
+    requires { All IsUtf8 row.now }
     ensures { OnOk result (records.new ≡ records.old ++ record_text (spec.moved_by offset arrival departure row.now)) }
 {
     if offset == 0 {
-        return records.push(fields);
+        return records.push_row(alloc, row);
     }
     push_moved(alloc, records, row, arrival, departure, offset)
 }
@@ -156,41 +189,42 @@ pub(crate) struct Columns {
     departure: usize,
 }
 
-// Appends the record of a stop time of these fields, with its times moved where its trip is shifted.
+// Appends the record of a stop time, with its times moved where its trip is shifted.
 fn push_stop_time(
     alloc: Global,
     records: &mut RecordWriter,
     timetable: &Timetable,
     base: u16,
+    some: bool,
     columns: &Columns,
     row: &Row,
-    fields: &[&[u8]],
 ) -> Result<(), Memory>
     requires texts { All IsUtf8 row.now }
-    requires fields { map (λ field. field.now) fields.now ≡ row.now }
+    requires none { some ≡ false → MovesNone timetable.now base }
     ensures { OnOk result (records.new ≡ records.old
         ++ record_text (spec.stop_time_written timetable.now base columns.now.trip columns.now.arrival columns.now.departure row.now)) }
 {
-    let offset = offset_of(timetable, base, text_of(row.field(columns.trip)));
+    let offset = offset_for(timetable, base, some, row, columns.trip);
     push_by(
         alloc,
         records,
         row,
-        fields,
         columns.arrival,
         columns.departure,
         offset,
     )
 }
 
-// The text of the header and of the records that were read.
+// The text of the header and of the records that were read. It is known whether rows of some trip are moved.
 #[derive(Drop)]
 struct StopTimes<'a> {
     alloc: Global,
     timetable: &'a Timetable,
     base: u16,
+    some: bool,
     header: &'a Row,
     records: RecordWriter,
+    ghost none: { some ≡ false → MovesNone timetable.now base } by { Prim.hlevel props },
 }
 
 impl<'a> RecordReader for StopTimes<'a> {
@@ -210,14 +244,7 @@ impl<'a> RecordReader for StopTimes<'a> {
 
     #[tactic(auto, unfolding(crate::specs::StopTimes::columns_in))]
     fn columns(&self, header: &Row) -> Result<Columns, FeedFault> {
-        texts_of(
-            self.alloc,
-            Paper::StopTimes,
-            &STOP_TIME_COLUMNS,
-            header,
-            0,
-            header,
-        )?;
+        judge_texts(Paper::StopTimes, &STOP_TIME_COLUMNS, header, 0, header)?;
         Ok(Columns {
             trip: place_of(Column::TripId, header),
             arrival: place_of(Column::ArrivalTime, header),
@@ -226,8 +253,7 @@ impl<'a> RecordReader for StopTimes<'a> {
     }
 
     fn record(&mut self, columns: &Columns, number: u32, row: &Row) -> Result<(), FeedFault> {
-        let fields = texts_of(
-            self.alloc,
+        judge_texts(
             Paper::StopTimes,
             &STOP_TIME_COLUMNS,
             self.header,
@@ -239,9 +265,9 @@ impl<'a> RecordReader for StopTimes<'a> {
             &mut self.records,
             self.timetable,
             self.base,
+            self.some,
             columns,
             row,
-            &fields,
         )?;
         Ok(())
     }
@@ -265,11 +291,12 @@ pub fn stop_times_text(
 {
     let header = read_header(alloc, Paper::StopTimes, found)?;
     let mut records = RecordWriter::new(alloc);
-    records.push(&fields_of(alloc, &header)?)?;
+    records.push_row(alloc, &header)?;
     let begun = StopTimes {
         alloc,
         timetable,
         base,
+        some: moves_some(timetable, base),
         header: &header,
         records,
     };

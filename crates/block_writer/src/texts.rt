@@ -1,5 +1,5 @@
-ghost use Rattle.std.specs.Prelude.{◌≡◌, ◌≢◌, true, map, All, IfErr, IfNone, IfOk, IfSome, IsUtf8, OnOk};
-ghost use Rattle.std.specs.Str.{IsAscii, is_utf8};
+ghost use Rattle.std.specs.Prelude.{◌≡◌, ◌≢◌, All, IfErr, IfNone, IfOk, IfSome, IsUtf8, OnOk};
+ghost use Rattle.std.specs.Str.{is_utf8};
 ghost use Rattle.gtfs_tables.specs.declared.fault.FeedFault.{FeedFault};
 ghost use Rattle.gtfs_tables.specs.Papers.{IsWithinLimit, column_name_of};
 ghost use Rattle.gtfs_tables.specs.Reading.{Gives, table_in};
@@ -7,40 +7,27 @@ ghost use Rattle.gtfs_tables.specs.Table.{column_of};
 ghost use Rattle.block_writer.specs.Texts as spec;
 ghost use Rattle.block_writer.specs.Texts.{AreTexts, IsFirstBad, IsRefusedFor, IsRefusedPaper, IsTextPaper};
 
-use crate::fields::{push_field, room_for};
 use desk_io::Found;
 use gtfs_tables::{Column, FeedFault, Paper, Row, Table, table_in};
 use std::alloc::Global;
-
-// Whether all bytes of a field are ASCII. Fields are short, and a plain loop over one is faster than a call.
-fn is_ascii(field: &[u8]) -> bool
-    ensures { result ≡ true → IsAscii field.now }
-{
-    for byte in field {
-        if *byte >= 128 {
-            return false;
-        }
-    }
-    true
-}
 
 // Whether a field is UTF-8.
 fn is_utf8(field: &[u8]) -> bool
     ensures { result ≡ is_utf8 field.now }
 {
-    if is_ascii(field) {
-        return true;
-    }
     match str::from_utf8(field) {
         Ok(_) => true,
         Err(_) => false,
     }
 }
 
-// The first field of a record that is not UTF-8.
+// The first field of a record that is not UTF-8. Most records are ASCII, and then no field is looked at by itself.
 fn bad_field(row: &Row) -> Option<usize>
     ensures { result ≡ spec.bad_field row.now }
 {
+    if row.is_ascii() {
+        return None;
+    }
     for place in 0..row.len() {
         if !is_utf8(row.field(place)) {
             return Some(place);
@@ -71,31 +58,25 @@ fn column_at(columns: &[Column], header: &Row, place: usize) -> Column
     Column::Other
 }
 
-/// The fields of the record of that number. All must be UTF-8. The header is record 0. The header tells in which of these
-/// columns the first stands that is not.
-pub(crate) fn texts_of<'a>(
-    alloc: Global,
+/// Refuses the record of that number where a field of it is not UTF-8. The header is record 0. The header tells in which of
+/// these columns the first stands that is not.
+pub(crate) fn judge_texts(
     paper: Paper,
     columns: &[Column],
     header: &Row,
     number: u32,
-    row: &'a Row,
-) -> Result<Vec<&'a [u8]>, FeedFault>
-    ensures gives { Gives (λ fields. map (λ field. field.now) fields.items) result
-        (spec.texts_in paper columns.now header.now number row.now) }
-    ensures same { IfOk result (λ fields. map (λ field. field.now) fields.items ≡ row.now) }
+    row: &Row,
+) -> Result<(), FeedFault>
+    ensures gives { Gives (λ _. row.now) result (spec.texts_in paper columns.now header.now number row.now) }
     ensures texts { OnOk result (All IsUtf8 row.now) }
 {
-    let mut fields = room_for(alloc, row)?;
-    for place in 0..row.len() {
-        let field = row.field(place);
-        if !is_utf8(field) {
+    match bad_field(row) {
+        None => Ok(()),
+        Some(place) => {
             let column = column_at(columns, header, place);
-            return Err(FeedFault::NotUtf8(paper, number, column));
+            Err(FeedFault::NotUtf8(paper, number, column))
         }
-        push_field(&mut fields, field)?;
     }
-    Ok(fields)
 }
 
 // The first field of a table that is not UTF-8. It has the number of its record, 0 for the header, and that of its column, from

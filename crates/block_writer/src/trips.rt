@@ -5,7 +5,7 @@ ghost use Rattle.block_writer.specs.Fields.{with_field};
 ghost use Rattle.block_writer.specs.Texts.{AreTexts};
 ghost use Rattle.block_writer.specs.Trips as spec;
 
-use crate::fields::{fields_of, text_of};
+use crate::fields::text_of;
 use block_build::Blocks;
 use desk_io::{Bytes, Memory, Text};
 use gtfs_tables::{Column, RecordWriter, Row, Table, place_of};
@@ -74,7 +74,7 @@ fn push_with<'a>(
 ) -> Result<(), Memory>
     ensures { OnOk result (records.new ≡ records.old ++ record_text (with_field row.now place field.now)) }
 {
-    let mut fields = fields_of(alloc, row)?;
+    let mut fields = row.fields(alloc)?;
     if place < row.len() {
         fields[place] = field.as_bytes();
         return records.push(&fields);
@@ -93,8 +93,7 @@ fn push_header(
     ensures { OnOk result (records.new ≡ records.old ++ record_text (spec.header_written block header.now)) }
 {
     if block < header.len() {
-        let fields = fields_of(alloc, header)?;
-        return records.push(&fields);
+        return records.push_row(alloc, header);
     }
     push_with(alloc, records, header, block, Column::BlockId.name())
 }

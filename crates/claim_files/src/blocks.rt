@@ -53,7 +53,7 @@ fn block_number(names: &Names, number: u32, name: &str) -> Result<usize, FeedFau
     ensures within { IfOk result (λ block. block ≤ length names.now) }
 {
     let blocks = names.len();
-    match names.number(name) {
+    match names.number(name.as_bytes()) {
         None => Ok(blocks),
         Some(block) if block + 1 == blocks => Ok(block),
         Some(_) => Err(FeedFault::DuplicateRow(Paper::Blocks, number)),
