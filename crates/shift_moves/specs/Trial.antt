@@ -1,12 +1,12 @@
 -- What is known as one shift is tried, and as those of one slot are.
-use Rattle.std.specs.Prelude.{◌≡◌, ℕ, ◌+◌, ◌*◌, ◌<◌, ◌≤◌, min, List, ◌∷◌, ◌++◌, length, All, ℤ, pos, neg_ℤ, ◌+ℤ◌}
+use Rattle.std.specs.Prelude.{◌≡◌, ℕ, ◌+◌, ◌*◌, ◌<◌, ◌≤◌, min, true, List, ◌∷◌, ◌++◌, length, All, ℤ, pos, neg_ℤ, ◌+ℤ◌}
 use Rattle.deficit_steps.specs.Holds.{Holds}
 use Rattle.trip_model.specs.declared.limits.TheConstants.{MOST_SLOTS, MOST_TOLERANCE}
 use Rattle.trip_model.specs.declared.trip.Move.{Move}
 use Rattle.trip_model.specs.declared.trip.Trip.{Trip}
 use Rattle.trip_model.specs.Deficit.{live_moves}
 use Rattle.trip_model.specs.Maximum.{first_maximum}
-use Rattle.trip_model.specs.Timetable.{Slot, TimetableView}
+use Rattle.trip_model.specs.Timetable.{Slot, TimetableView, slot_at}
 use Rattle.trip_model.specs.Trip.{MayShift}
 use Rattle.shift_moves.specs.Lowering.{IsBefore, IsLowering}
 
@@ -24,6 +24,13 @@ pub record HoldsAmong (deficits : List (List ℤ)) (m : Move) : Type 0 where
   pub held : Holds deficits (front ++ m ∷ back)
   pub forward : All (λ n. n.leaves < n.arrives) (front ++ m ∷ back)
   pub few : length (front ++ m ∷ back) ≤ MOST_SLOTS
+
+-- the moves of the trips that run are held, over the places of the timetable, and the trip of a slot is one of them
+pub record HoldsTrip (deficits : List (List ℤ)) (timetable : TimetableView) (slot : ℕ) : Type 0 where
+  pub held : Holds deficits (live_moves timetable.slots)
+  pub rows : length deficits ≡ length timetable.places
+  pub in_timetable : slot < length timetable.slots
+  pub live : (slot_at timetable slot).trip.live ≡ true
 
 -- the maxima of two places added up, where d is a function of the place and of the minute
 abbrev pub maxima_at : (ℕ → ℕ → ℤ) → ℕ → ℕ → ℤ

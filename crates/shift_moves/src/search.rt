@@ -1,9 +1,9 @@
-ghost use Rattle.std.specs.Prelude.{◌≡◌, ℕ, ◌+◌, ◌-◌, ◌*◌, ◌<◌, ◌≤◌, ◌⊎◌, true, false, length, ℤ, pos, neg_ℤ, unsigned_abs, IfNone, IfSome};
-ghost use Rattle.std.specs.Prelude.{List};
+ghost use Rattle.std.specs.Prelude.{◌≡◌, ℕ, ◌+◌, ◌-◌, ◌*◌, ◌<◌, ◌≤◌, ◌⊎◌, true, false, List, length, ℤ, pos, neg_ℤ, unsigned_abs};
+ghost use Rattle.std.specs.Prelude.{IfNone, IfSome};
 ghost use Rattle.deficit_steps.specs.Changes.{IsDeficits};
 ghost use Rattle.deficit_steps.specs.Holds.{Holds};
 ghost use Rattle.shift_moves.specs.Lowering.{IsFirst, IsLowering};
-ghost use Rattle.shift_moves.specs.Trial.{IsFirstInSlot, IsRoom, tried};
+ghost use Rattle.shift_moves.specs.Trial.{HoldsTrip, IsFirstInSlot, IsRoom, tried};
 ghost use Rattle.trip_model.specs.Deficit.{live_moves};
 ghost use Rattle.trip_model.specs.Fleet.{with_shift};
 ghost use Rattle.trip_model.specs.Place.{Place};
@@ -78,10 +78,7 @@ fn shift_of_size<L: Ledger>(
     size: u16,
     steps: &mut Steps<L>,
 ) -> Option<i16>
-    requires held { Holds deficits.old (live_moves timetable.now.slots) }
-    requires rows { length deficits.old ≡ length timetable.now.places }
-    requires slot { slot < length timetable.now.slots }
-    requires live { (slot_at timetable.now slot).trip.live ≡ true }
+    requires trip { HoldsTrip deficits.old timetable.now slot }
     requires room { IsRoom (slot_at timetable.now slot).trip room.earlier room.later }
     requires least_earlier { (n : ℕ) → n < least.earlier → ¬ IsLowering timetable.now slot (neg_ℤ (pos n)) }
     requires least_later { (n : ℕ) → n < least.later → ¬ IsLowering timetable.now slot (pos n) }

@@ -2,8 +2,7 @@ ghost use Rattle.std.specs.Prelude.{◌≡◌, ◌≢◌, ℕ, ◌+◌, ◌<◌,
 ghost use Rattle.deficit_steps.specs.Changes.{IsDeficits, changes_of, value};
 ghost use Rattle.deficit_steps.specs.Holds.{Holds};
 ghost use Rattle.shift_moves.specs.Lowering.{IsLowering};
-ghost use Rattle.shift_moves.specs.Trial.{AreSwapped, HoldsAmong, maxima_at};
-ghost use Rattle.trip_model.specs.Deficit.{live_moves};
+ghost use Rattle.shift_moves.specs.Trial.{AreSwapped, HoldsAmong, HoldsTrip, maxima_at};
 ghost use Rattle.trip_model.specs.Plain.{IsMove};
 ghost use Rattle.trip_model.specs.Timetable.{slot_at};
 ghost use Rattle.trip_model.specs.Trip.{MayShift};
@@ -85,10 +84,7 @@ fn lowers<L: Ledger>(
     by: i16,
     steps: &mut Steps<L>,
 ) -> bool
-    requires held { Holds deficits.old (live_moves timetable.now.slots) }
-    requires rows { length deficits.old ≡ length timetable.now.places }
-    requires slot { slot < length timetable.now.slots }
-    requires live { (slot_at timetable.now slot).trip.live ≡ true }
+    requires trip { HoldsTrip deficits.old timetable.now slot }
     requires within { MayShift (slot_at timetable.now slot).trip by }
     ensures lower { (result ≡ true) ↔ (deficit_sum (with_shift timetable.now slot by) <ℤ deficit_sum timetable.now) }
     ensures unchanged { deficits.new ≡ deficits.old }
@@ -139,10 +135,7 @@ fn least_later(leaves: u16, high: u16) -> u16
 /// place in the minutes between. So these must have the first one of the greatest deficit. The same holds of the place where
 /// it arrives, if it arrives earlier.
 pub(crate) fn least_sizes(timetable: &Timetable, deficits: &Deficits, slot: u16) -> Least
-    requires held { Holds deficits.now (live_moves timetable.now.slots) }
-    requires rows { length deficits.now ≡ length timetable.now.places }
-    requires slot { slot < length timetable.now.slots }
-    requires live { (slot_at timetable.now slot).trip.live ≡ true }
+    requires { HoldsTrip deficits.now timetable.now slot }
     ensures earlier { (size : ℕ) → size < result.earlier → ¬ IsLowering timetable.now slot (neg_ℤ (pos size)) }
     ensures later { (size : ℕ) → size < result.later → ¬ IsLowering timetable.now slot (pos size) }
 {
@@ -168,10 +161,7 @@ pub(crate) fn is_lowering<L: Ledger>(
     may: bool,
     steps: &mut Steps<L>,
 ) -> bool
-    requires held { Holds deficits.old (live_moves timetable.now.slots) }
-    requires rows { length deficits.old ≡ length timetable.now.places }
-    requires slot { slot < length timetable.now.slots }
-    requires live { (slot_at timetable.now slot).trip.live ≡ true }
+    requires trip { HoldsTrip deficits.old timetable.now slot }
     requires moved { by ≢ pos 0 }
     requires may { may ≡ true → MayShift (slot_at timetable.now slot).trip by }
     requires may_not { may ≡ false → ¬ IsLowering timetable.now slot by }

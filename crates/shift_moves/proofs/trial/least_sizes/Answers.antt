@@ -10,7 +10,7 @@ returns-clause-earlier c size h =
     let t = c.args.timetable.now in
     let d = c.args.deficits.now in
     let stands = c.as_move-stands.result in
-    not-earlier t c.args.slot size c.max-came.result.1 stands c.requires.slot c.requires.live
+    not-earlier t c.args.slot size c.max-came.result.1 stands c.requires.in_timetable c.requires.live
     (c.as_move-stands.ensures ∙ ap move_of c.trip.ensures.value)
     (omega (
       arith,
@@ -30,7 +30,7 @@ returns-clause-later c size h =
     let t = c.args.timetable.now in
     let d = c.args.deficits.now in
     let stands = c.as_move-stands.result in
-    not-later t c.args.slot size c.max-left.result.1 stands c.requires.slot c.requires.live
+    not-later t c.args.slot size c.max-left.result.1 stands c.requires.in_timetable c.requires.live
     (c.as_move-stands.ensures ∙ ap move_of c.trip.ensures.value)
     (high-read t d stands.from c.max-left.result.0 c.max-left.result.1
     (λ k minute within early. c.held_law.ensures.deficit d (live_moves t.slots) k minute c.places-places.ensures.valid c.requires.held
