@@ -1,4 +1,4 @@
-ghost use Rattle.std.specs.Prelude.{◌≡◌, ◌<◌, ◌++◌, length, All, codes, string_bytes, IfOk, OnOk};
+ghost use Rattle.std.specs.Prelude.{◌≡◌, ◌<◌, ◌++◌, length, All, string_bytes, IfOk, OnOk};
 ghost use Rattle.dh_chains.specs.Chains.{deadheads, following};
 ghost use Rattle.dh_chains.specs.Lines.{IsBetween, chain_text, deadhead_text, further_text};
 
@@ -9,21 +9,23 @@ use std::alloc::Global;
 use std::fmt::Write;
 use trip_model::Timetable;
 
+// Appends a deadhead behind what stands before it.
 #[tactic(auto, unfolding(crate::specs::Lines::deadhead_text))]
 fn push_deadhead(
     alloc: Global,
     text: &mut String,
     timetable: &Timetable,
+    before: &str,
     deadhead: Deadhead,
 ) -> Result<(), Memory>
     requires { IsBetween (length timetable.now.places) deadhead }
-    ensures { OnOk result (string_bytes text.new ≡ string_bytes text.old ++ deadhead_text timetable.now deadhead) }
+    ensures { OnOk result (string_bytes text.new ≡ string_bytes text.old ++ (before.now ++ deadhead_text timetable.now deadhead)) }
 {
     let leaves = minute_text(alloc, deadhead.leaves)?;
     let arrives = minute_text(alloc, deadhead.arrives)?;
     write!(
         text,
-        "{} {} to {} {}",
+        "{before}{} {} to {} {}",
         timetable.place_name(deadhead.from),
         leaves.as_str(),
         timetable.place_name(deadhead.to),
@@ -32,20 +34,7 @@ fn push_deadhead(
     Ok(())
 }
 
-// A deadhead that is not the first.
-fn push_further(
-    alloc: Global,
-    text: &mut String,
-    timetable: &Timetable,
-    deadhead: Deadhead,
-) -> Result<(), Memory>
-    requires { IsBetween (length timetable.now.places) deadhead }
-    ensures { OnOk result (string_bytes text.new ≡ string_bytes text.old ++ (codes "; " ++ deadhead_text timetable.now deadhead)) }
-{
-    text.push_str("; ")?;
-    push_deadhead(alloc, text, timetable, deadhead)
-}
-
+// Appends the deadheads behind the first.
 fn push_following(
     alloc: Global,
     text: &mut String,
@@ -59,11 +48,11 @@ fn push_following(
     let Some(second) = chain.second else {
         return Ok(())
     };
-    push_further(alloc, text, timetable, second)?;
+    push_deadhead(alloc, text, timetable, "; ", second)?;
     let Some(third) = chain.third else {
         return Ok(())
     };
-    push_further(alloc, text, timetable, third)?;
+    push_deadhead(alloc, text, timetable, "; ", third)?;
     Ok(())
 }
 
@@ -82,7 +71,7 @@ pub fn chain_line(
 {
     let mut text = String::new(alloc);
     write!(text, "chain {number}: ")?;
-    push_deadhead(alloc, &mut text, timetable, chain.first)?;
+    push_deadhead(alloc, &mut text, timetable, "", chain.first)?;
     push_following(alloc, &mut text, timetable, chain)?;
     writeln!(text, ", sum {sum}")?;
     Ok(Text::wrap(text))

@@ -8,12 +8,12 @@ returns-in_default c = none-written c.args.timetable.now (string_bytes c.args.te
 
 pub returns-in_default-third : goal.returns-in_default-third
 returns-in_default-third c =
-    one-written c.args.timetable.now (string_bytes c.args.text.now) (string_bytes c.push_further.new.text) c.args.chain.now.second
+    one-written c.args.timetable.now (string_bytes c.args.text.now) (string_bytes c.push_deadhead.new.text) c.args.chain.now.second
     c.args.chain.now.third c.in-Some.second
-    c.in-Some.is c.in_default-third.is c.in_ok-push_further.ensures
+    c.in-Some.is c.in_default-third.is c.in_ok-push_deadhead.ensures
 
 pub returns : goal.returns
 returns c =
-    two-written c.args.timetable.now (string_bytes c.args.text.now) (string_bytes c.push_further.new.text)
-    (string_bytes c.push_further-2.new.text) c.args.chain.now.second c.args.chain.now.third
-    c.in-Some.second c.in-Some-third.third c.in-Some.is c.in-Some-third.is c.in_ok-push_further.ensures c.in_ok-push_further-2.ensures
+    two-written c.args.timetable.now (string_bytes c.args.text.now) (string_bytes c.push_deadhead.new.text)
+    (string_bytes c.push_deadhead-2.new.text) c.args.chain.now.second c.args.chain.now.third
+    c.in-Some.second c.in-Some-third.third c.in-Some.is c.in-Some-third.is c.in_ok-push_deadhead.ensures c.in_ok-push_deadhead-2.ensures
