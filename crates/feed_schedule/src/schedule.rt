@@ -1,5 +1,5 @@
 ghost use Rattle.std.specs.Prelude.{◌≡◌, ◌+◌, ◌*◌, ◌≤◌, ◌<◌, length, All, IfOk};
-ghost use Rattle.deadhead_matrix.specs.Plans.{IsPlanFor, IsScheduled};
+ghost use Rattle.deadhead_matrix.specs.Plans.{IsScheduled};
 
 use block_build::{Blocks, blocks_of};
 use deadhead_matrix::Matrix;
@@ -26,23 +26,7 @@ impl Drop for Schedule {
     }
 }
 
-// A plan for a timetable and the matrix over its places, which its prices prove.
-fn plan_of<L: Ledger>(
-    alloc: Global,
-    timetable: &Timetable,
-    matrix: &Matrix,
-    steps: &mut Steps<L>,
-) -> Result<Solver, Memory>
-    requires { length timetable.now.places ≡ length matrix.now.walks }
-    ensures plan { IfOk result (IsPlanFor timetable.now matrix.now) }
-    ensures counted { let n = length timetable.now.slots in steps.new ≤ steps.old + (n * n * n + n * n) }
-{
-    let mut solver = Solver::open(alloc)?;
-    solver.solve(&Pairs::of(timetable, matrix), steps);
-    Ok(solver)
-}
-
-/// A plan for a timetable and the matrix over its places, and its blocks, which are least.
+/// A plan for a timetable and the matrix over its places, which its prices prove, and its blocks, which are least.
 pub fn schedule_of<L: Ledger>(
     alloc: Global,
     timetable: &Timetable,
@@ -58,7 +42,8 @@ pub fn schedule_of<L: Ledger>(
     // Their clauses say that the timetable is valid and that no pull is longer than a day.
     let _slots = timetable.slots();
     let _places = matrix.places();
-    let solver = plan_of(alloc, timetable, matrix, steps)?;
+    let mut solver = Solver::open(alloc)?;
+    solver.solve(&Pairs::of(timetable, matrix), steps);
     let blocks = blocks_of(alloc, timetable, solver.plan().links())?;
     Ok(Schedule { solver, blocks })
 }
