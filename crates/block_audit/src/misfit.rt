@@ -1,5 +1,4 @@
 ghost use Rattle.std.specs.Prelude.{◌≡◌, ◌<◌, ◌++◌, length, All, IfOk, OnOk};
-ghost use Rattle.deadhead_matrix.specs.Fitting.{network_of};
 ghost use Rattle.price_check.specs.Claim.{Runs};
 ghost use Rattle.block_audit.specs.Misfits as spec;
 ghost use Rattle.block_audit.specs.Stated.{slots_by};
