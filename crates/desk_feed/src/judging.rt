@@ -8,19 +8,28 @@ use desk_run::{Ending, Outcome, Read};
 use gtfs_tables::{FeedFault, Paper, feed_line};
 use std::alloc::Global;
 
+/// The papers of a feed, in the order in which they are read and judged, and behind them those that are given.
+#[macro_export]
+macro_rules! feed_papers {
+    ($($further:expr),*) => {
+        [
+            Paper::Settings,
+            Paper::Terminals,
+            Paper::Tolerances,
+            Paper::Calendar,
+            Paper::CalendarDates,
+            Paper::Trips,
+            Paper::StopTimes,
+            Paper::Deadheads,
+            Paper::Depot,
+            Paper::Edits,
+            $($further),*
+        ]
+    };
+}
+
 /// The papers of a feed, in the order in which they are read and judged.
-pub const FEED_PAPERS: [Paper; 10] = [
-    Paper::Settings,
-    Paper::Terminals,
-    Paper::Tolerances,
-    Paper::Calendar,
-    Paper::CalendarDates,
-    Paper::Trips,
-    Paper::StopTimes,
-    Paper::Deadheads,
-    Paper::Depot,
-    Paper::Edits,
-];
+pub const FEED_PAPERS: [Paper; 10] = feed_papers!();
 
 /// What a feed says, or what is done where it is refused.
 #[derive(Drop)]

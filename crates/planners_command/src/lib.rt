@@ -26,6 +26,7 @@
 #![tactic(auto)]
 
 mod answers;
+mod numbers;
 mod planners;
 mod reading;
 

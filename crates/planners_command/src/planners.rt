@@ -1,4 +1,4 @@
-ghost use Rattle.std.specs.Prelude.{◌≡◌, ◌+◌, ◌≤◌, length, IfOk, OnOk, string_bytes, ◌*◌, ◌++◌, pos};
+ghost use Rattle.std.specs.Prelude.{◌≡◌, ◌+◌, ◌≤◌, length, IfOk, ◌*◌, ◌++◌, pos};
 ghost use Rattle.desk_feed.specs.Commands.{said_to};
 ghost use Rattle.desk_feed.specs.Feed.{standing};
 ghost use Rattle.desk_feed.specs.Schedule.{most_steps};
@@ -9,67 +9,22 @@ ghost use Rattle.planners_command.specs.Moments.{timetable_after};
 ghost use Rattle.planners_command.specs.Planners as spec;
 ghost use Rattle.planners_command.specs.Planners.{IsPlanned, IsPlanners, planners_asked};
 ghost use Rattle.planners_command.specs.Reading.{IsPlannerScript};
-ghost use Rattle.planners_command.specs.Stepped.{HasNumbers};
 
 use crate::answers::{answer_all, push_standing};
+use crate::numbers::push_numbers;
 use crate::reading::read_lines;
-use block_build::empty_minutes;
 use deadhead_matrix::Matrix;
-use deficit_steps::fixed_of;
 use desk_feed::{
-    Edited, FeedCommand, OnFeed, Said, after_script, matrix_of, push_numbers_line, putting_after,
-    refuse,
+    Edited, FeedCommand, OnFeed, Said, after_script, feed_papers, matrix_of, putting_after, refuse,
 };
 use desk_io::{Memory, Shelf, Sink, Steps, Text};
 use desk_keeper::Keeper;
 use desk_run::{Ending, Outcome, perform};
-use feed_schedule::schedule_of;
-use fixed_fleet::laws::plain_blocks_law;
 use gtfs_tables::{FeedFault, Paper};
 use planner_desk::laws::{folding_law, machine_law, undo_law};
 use planner_desk::{PlannerLine, Planners};
 use std::alloc::Global;
 use std::sync::ledger::Ledger;
-use trip_model::Timetable;
-use trip_model::laws::plain_law;
-
-// The papers of a feed, and then the script of the planners.
-const PLANNER_PAPERS: [Paper; 11] = [
-    Paper::Settings,
-    Paper::Terminals,
-    Paper::Tolerances,
-    Paper::Calendar,
-    Paper::CalendarDates,
-    Paper::Trips,
-    Paper::StopTimes,
-    Paper::Deadheads,
-    Paper::Depot,
-    Paper::Edits,
-    Paper::PlannerEdits,
-];
-
-// Appends the numbers of a timetable: the fewest vehicles without deadheads, and of the blocks of a plan from scratch.
-fn push_numbers<L: Ledger>(
-    alloc: Global,
-    text: &mut String,
-    timetable: &Timetable,
-    matrix: &Matrix,
-    steps: &mut Steps<L>,
-) -> Result<(), Memory>
-    requires places { length timetable.now.places ≡ length matrix.now.walks }
-    ensures numbers { OnOk result (HasNumbers timetable.now matrix.now (string_bytes text.old) (string_bytes text.new)) }
-    ensures counted { steps.new ≤ steps.old + most_steps (length timetable.now.slots) }
-{
-    plain_law();
-    plain_blocks_law();
-    // Its clause says that the timetable is valid.
-    let _slots = timetable.slots();
-    let fixed = fixed_of(alloc, timetable, steps)?;
-    let schedule = schedule_of(alloc, timetable, matrix, steps)?;
-    let vehicles = schedule.blocks.len();
-    let minutes = empty_minutes(timetable, matrix, &schedule.blocks);
-    push_numbers_line(text, fixed, vehicles, minutes)
-}
 
 // How a run ends: as one with refused edits where a record of a planner is refused, and else as after the script.
 fn ending_with(some: bool, after_script: Ending) -> Ending
@@ -158,6 +113,7 @@ pub fn run_planners<S: Shelf, O: Sink, K: Keeper, L: Ledger>(
     ensures { let at = outside S.state S.history O.state O.history K.state K.history in
         Performs planners_asked (at shelf.old out.old keeper.old) (at shelf.new out.new keeper.new) result steps.old steps.new }
 {
-    let command = OnFeed::with(FollowPlanners, &PLANNER_PAPERS);
+    let papers = feed_papers!(Paper::PlannerEdits);
+    let command = OnFeed::with(FollowPlanners, &papers);
     perform(&command, alloc, shelf, out, keeper, steps)
 }

@@ -1,5 +1,5 @@
 use Rattle.planners_command.proofs.NumbersLemmas.{numbers-put}
-use Rattle.planners_command.proofs.planners.push_numbers.Goals as goal
+use Rattle.planners_command.proofs.numbers.push_numbers.Goals as goal
 
 pub returns-clause-numbers : goal.returns-clause-numbers
 returns-clause-numbers g c =
