@@ -1,71 +1,26 @@
 ghost use Rattle.std.specs.Prelude.{◌≡◌, length, IfOk};
 ghost use Rattle.gtfs_tables.specs.Papers.{IsWithinLimit};
-ghost use Rattle.price_check.specs.Claim.{AreBlockRows, ArePriceRows};
-ghost use Rattle.price_check.specs.Reasons.{verdict_of};
 ghost use Rattle.claim_files.specs.Claims.{claimed_of};
 ghost use Rattle.desk_run.specs.Outside.{outside};
 ghost use Rattle.desk_run.specs.Performs.{Performs};
-ghost use Rattle.plan_commands.specs.Check.{Proves, check_asked, claim_outcome, verdict_outcome};
+ghost use Rattle.plan_commands.specs.Check.{Proves, check_asked, claim_outcome};
 
 use claim_files::laws::{rows_law, told_law};
 use claim_files::{ClaimFault, claim_line, read_claimed, reason_line};
 use deadhead_matrix::Matrix;
-use desk_feed::{FeedCommand, OnFeed, Said, after_script, matrix_of, putting_after};
+use desk_feed::{FeedCommand, OnFeed, Said, after_script, feed_papers, matrix_of, putting_after};
 use desk_io::{Found, Memory, Shelf, Sink, Steps, Text};
 use desk_keeper::Keeper;
 use desk_run::{Ending, Outcome, perform};
 use gtfs_tables::Paper;
 use price_check::laws::{certificate_law, least_law};
-use price_check::{Claimed, Verdict, check};
+use price_check::{Verdict, check};
 use std::alloc::Global;
 use std::sync::ledger::Ledger;
 use trip_model::Timetable;
 use trip_model::laws::plain_law;
 
-// The papers of a feed, and then the two files of a claim.
-const CLAIM_PAPERS: [Paper; 12] = [
-    Paper::Settings,
-    Paper::Terminals,
-    Paper::Tolerances,
-    Paper::Calendar,
-    Paper::CalendarDates,
-    Paper::Trips,
-    Paper::StopTimes,
-    Paper::Deadheads,
-    Paper::Depot,
-    Paper::Edits,
-    Paper::Blocks,
-    Paper::Prices,
-];
-
-// What is put of a claim that was read, behind the lines of refused records.
-fn judged(
-    alloc: Global,
-    refused: &Text,
-    timetable: &Timetable,
-    matrix: &Matrix,
-    claimed: &Claimed,
-) -> Result<Outcome, Memory>
-    requires places { length timetable.now.places ≡ length matrix.now.walks }
-    requires blocks { AreBlockRows timetable.now claimed.now.blocks }
-    requires prices { ArePriceRows timetable.now claimed.now.prices }
-    ensures { IfOk result (λ outcome. outcome ≡ verdict_outcome refused.now timetable.now claimed.now
-        (verdict_of timetable.now matrix.now claimed.now)) }
-{
-    told_law();
-    match check(timetable, matrix, claimed) {
-        Verdict::Yes { vehicles, minutes } => {
-            let line = format!(in alloc; "yes, vehicles {vehicles}, minutes {minutes}\n")?;
-            putting_after(alloc, refused, &Text::wrap(line), Ending::Done)
-        }
-        Verdict::No(reason) => {
-            let line = reason_line(alloc, timetable, claimed, &reason)?;
-            putting_after(alloc, refused, &line, Ending::No)
-        }
-    }
-}
-
-// What is put of the two files of a claim, behind the lines of refused records.
+// What is put of the two files of a claim, behind the lines of refused records: the verdict, or why they are no claim.
 fn checked(
     alloc: Global,
     refused: &Text,
@@ -85,14 +40,25 @@ fn checked(
     rows_law();
     certificate_law();
     least_law();
+    told_law();
     // Their clauses say that the timetable is valid and that no pull is longer than a day.
     let _slots = timetable.slots();
     let _places = matrix.places();
-    match read_claimed(alloc, timetable, blocks, prices) {
-        Ok(claimed) => judged(alloc, refused, timetable, matrix, &claimed),
-        Err(ClaimFault::Memory) => Err(Memory),
+    let claimed = match read_claimed(alloc, timetable, blocks, prices) {
+        Ok(claimed) => claimed,
+        Err(ClaimFault::Memory) => return Err(Memory),
         Err(fault) => {
             let line = claim_line(alloc, &fault)?;
+            return putting_after(alloc, refused, &line, Ending::No);
+        }
+    };
+    match check(timetable, matrix, &claimed) {
+        Verdict::Yes { vehicles, minutes } => {
+            let line = format!(in alloc; "yes, vehicles {vehicles}, minutes {minutes}\n")?;
+            putting_after(alloc, refused, &Text::wrap(line), Ending::Done)
+        }
+        Verdict::No(reason) => {
+            let line = reason_line(alloc, timetable, &claimed, &reason)?;
             putting_after(alloc, refused, &line, Ending::No)
         }
     }
@@ -130,6 +96,7 @@ pub fn run_check<S: Shelf, O: Sink, K: Keeper, L: Ledger>(
     ensures { let at = outside S.state S.history O.state O.history K.state K.history in
         Performs check_asked (at shelf.old out.old keeper.old) (at shelf.new out.new keeper.new) result steps.old steps.new }
 {
-    let command = OnFeed::with(CheckClaim, &CLAIM_PAPERS);
+    let papers = feed_papers!(Paper::Blocks, Paper::Prices);
+    let command = OnFeed::with(CheckClaim, &papers);
     perform(&command, alloc, shelf, out, keeper, steps)
 }
