@@ -4,6 +4,14 @@ use desk_io::Memory;
 use edit_script::{EditFault, Line};
 use std::alloc::Global;
 
+/// A record of a script that was followed: its number, its line, and why it is refused, if it is.
+#[derive(Drop)]
+pub struct Step<'a> {
+    pub number: u32,
+    pub line: &'a Line,
+    pub refused: &'a Option<EditFault>,
+}
+
 /// What is put of each record of a script.
 pub trait Answers {
     ghost use Rattle.std.specs.Prelude.{◌≡◌, ◌≢◌, ◌++◌, OnOk, Some, string_bytes};
@@ -14,41 +22,27 @@ pub trait Answers {
     ghost answer: { Self → MatrixView → Answer };
 
     /// Appends what is put of a record. The desk is that after the record.
-    fn push_answer(
-        &self,
-        alloc: Global,
-        text: &mut String,
-        desk: &Desk,
-        number: u32,
-        line: &Line,
-        refused: &Option<EditFault>,
-    ) -> Result<(), Memory>
-        requires { refused.now ≢ Some EditFault.Memory }
-        ensures { OnOk result (string_bytes text.new ≡ string_bytes text.old
-            ++ answer self.now desk.now.matrix number line.now desk.now.script.timetable desk.now.plan refused.now) };
+    fn push_answer(&self, text: &mut String, desk: &Desk, step: &Step) -> Result<(), Memory>
+        requires { step.now.refused.now ≢ Some EditFault.Memory }
+        ensures { OnOk result (string_bytes text.new ≡ string_bytes text.old ++ answer self.now desk.now.matrix step.now.number
+            step.now.line.now desk.now.script.timetable desk.now.plan step.now.refused.now) };
 }
 
 /// The lines of refused records alone.
 #[derive(Drop)]
-pub struct Refusals;
+pub struct Refusals {
+    pub alloc: Global,
+}
 
 impl Answers for Refusals {
     ghost use Rattle.feed_desk.specs.Answers.{refusals};
 
     ghost answer = { λ _ _. refusals };
 
-    fn push_answer(
-        &self,
-        alloc: Global,
-        text: &mut String,
-        _desk: &Desk,
-        number: u32,
-        line: &Line,
-        refused: &Option<EditFault>,
-    ) -> Result<(), Memory> {
-        match refused {
+    fn push_answer(&self, text: &mut String, _desk: &Desk, step: &Step) -> Result<(), Memory> {
+        match step.refused {
             None => Ok(()),
-            Some(refused) => push_refusal(alloc, text, number, line, refused),
+            Some(refused) => push_refusal(self.alloc, text, step.number, step.line, refused),
         }
     }
 }

@@ -58,7 +58,8 @@ pub fn draw_after<L: Ledger>(
     ensures within { IfOk result (λ drawn. All (All (λ s. s < length drawn.desk.script.timetable.slots)) drawn.blocks) }
     ensures counted { steps.new ≤ steps.old + (most_steps (length timetable.slots) + most_to timetable lines.now (length lines.now)) }
 {
-    let followed = follow_script(alloc, timetable, lines, matrix, Refusals, steps)?;
+    let answers = Refusals { alloc };
+    let followed = follow_script(alloc, timetable, lines, matrix, answers, steps)?;
     let blocks = blocks_now(alloc, &followed.desk)?;
     Ok(Drawn {
         desk: followed.desk,

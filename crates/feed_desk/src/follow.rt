@@ -6,7 +6,7 @@ ghost use Rattle.feed_desk.specs.Drawn.{HasFollowed};
 ghost use Rattle.feed_desk.specs.Moments.{IsFollowed};
 ghost use Rattle.feed_desk.specs.Plans.{most_of, most_to};
 
-use crate::answers::Answers;
+use crate::answers::{Answers, Step};
 use deadhead_matrix::Matrix;
 use deadhead_matrix::laws::plan_law;
 use desk_core::Desk;
@@ -33,7 +33,6 @@ pub struct Followed {
 // A desk that follows records, what is put of these, and whether one was refused.
 #[derive(Drop)]
 struct Following<A> {
-    alloc: Global,
     answers: A,
     desk: Desk,
     text: String,
@@ -93,14 +92,12 @@ impl<A: Answers, L: Ledger> Follower<Steps<L>> for Following<A> {
         // Their clauses say that the plan is certified, and that the timetable is valid.
         let _plan = self.desk.plan();
         let _slots = self.desk.timetable().slots();
-        self.answers.push_answer(
-            self.alloc,
-            &mut self.text,
-            &self.desk,
+        let step = Step {
             number,
             line,
-            &refused,
-        )?;
+            refused: &refused,
+        };
+        self.answers.push_answer(&mut self.text, &self.desk, &step)?;
         self.some |= refused.is_some();
         Ok(())
     }
@@ -132,7 +129,6 @@ pub fn follow_script<A: Answers + Drop, L: Ledger>(
     let _plan = desk.plan();
     let _slots = desk.timetable().slots();
     let mut following = Following {
-        alloc,
         answers,
         desk,
         text: String::new(alloc),
