@@ -1,9 +1,8 @@
-ghost use Rattle.std.specs.Prelude.{◌≡◌, ◌+◌, ◌<◌, ◌^◌, ◌++◌, [], ◌∷◌, length, All, IfOk, IsUtf8, OnOk};
+ghost use Rattle.std.specs.Prelude.{◌≡◌, ◌<◌, ◌++◌, [], ◌∷◌, length, slice_index_or, All, IfOk, IsUtf8, OnOk};
 ghost use Rattle.gtfs_tables.specs.Writing.{record_text, records_text};
-ghost use Rattle.trip_model.specs.Timetable.{slot_at};
 ghost use Rattle.block_build.specs.Files as spec;
 
-use crate::Blocks;
+use crate::{NamedBlocks, SlotPrices};
 use deadhead_matrix::Matrix;
 use desk_io::{Memory, Text};
 use gtfs_tables::laws::written_text_law;
@@ -44,23 +43,22 @@ fn minutes_before(timetable: &Timetable, matrix: &Matrix, block: &[u16], n: usiz
 fn push_block(
     alloc: Global,
     records: &mut RecordWriter,
-    timetable: &Timetable,
-    matrix: &Matrix,
-    prefix: &str,
+    named: &NamedBlocks<'_>,
     number: usize,
-    block: &[u16],
 ) -> Result<(), Memory>
-    requires number { number + 1 < 2 ^ 64 }
-    requires slots { All (λ s. s < length timetable.now.slots) block.now }
-    requires places { length matrix.now.walks ≡ length timetable.now.places }
+    requires { number < length named.now.blocks.now }
     ensures written { OnOk result (records.new ≡ records.old
-        ++ records_text (spec.records_of_block timetable.now matrix.now prefix.now number block.now)) }
+        ++ records_text (spec.records_of_block named.now.timetable.now named.now.matrix.now named.now.prefix.now number
+        (slice_index_or named.now.blocks.now number []))) }
     ensures text { OnOk result (IsUtf8 records.old → IsUtf8 records.new) }
 {
-    let name = format!(in alloc; "{prefix}{}", number + 1)?;
+    let block = named.block(number);
+    let name = named.name(alloc, number)?;
     for n in 0..block.len() {
-        let minutes = format!(in alloc; "{}", minutes_before(timetable, matrix, block, n))?;
-        push_record(records, &name, timetable.name(block[n]), &minutes)?;
+        let trip = named.timetable.name(block[n]);
+        let minutes = minutes_before(named.timetable, named.matrix, block, n);
+        let minutes = format!(in alloc; "{minutes}")?;
+        push_record(records, &name, trip, &minutes)?;
     }
     Ok(())
 }
@@ -68,16 +66,9 @@ fn push_block(
 /// The text of `blocks.csv`. For each trip, block by block, it has the name of its block, its own name and the empty minutes
 /// before it. For the first trip of a block these are the minutes out of the depot, for every other those from the trip before.
 /// Where there is no way from the trip before it has none.
-pub fn blocks_text(
-    alloc: Global,
-    timetable: &Timetable,
-    matrix: &Matrix,
-    blocks: &Blocks,
-    prefix: &str,
-) -> Result<Text, Memory>
-    requires slots { All (All (λ s. s < length timetable.now.slots)) blocks.now }
-    requires places { length matrix.now.walks ≡ length timetable.now.places }
-    ensures { IfOk result (λ text. text ≡ spec.blocks_text timetable.now matrix.now prefix.now blocks.now) }
+pub fn blocks_text(alloc: Global, named: &NamedBlocks<'_>) -> Result<Text, Memory>
+    ensures { IfOk result (λ text. text ≡ spec.blocks_text named.now.timetable.now named.now.matrix.now named.now.prefix.now
+        named.now.blocks.now) }
 {
     let mut records = RecordWriter::new(alloc);
     push_record(
@@ -86,16 +77,8 @@ pub fn blocks_text(
         Column::TripId.name(),
         Column::Deadhead.name(),
     )?;
-    for number in 0..blocks.len() {
-        push_block(
-            alloc,
-            &mut records,
-            timetable,
-            matrix,
-            prefix,
-            number,
-            blocks.block(number),
-        )?;
+    for number in 0..named.blocks.len() {
+        push_block(alloc, &mut records, named, number)?;
     }
     records.into_text()
 }
@@ -104,35 +87,26 @@ pub fn blocks_text(
 fn push_prices(
     alloc: Global,
     records: &mut RecordWriter,
-    timetable: &Timetable,
-    leave: &[u64],
-    enter: &[u64],
+    prices: &SlotPrices<'_>,
     slot: u16,
 ) -> Result<(), Memory>
-    requires slot { slot < length timetable.now.slots }
-    requires leave { length leave.now ≡ length timetable.now.slots }
-    requires enter { length enter.now ≡ length timetable.now.slots }
-    ensures written { OnOk result (records.new ≡ records.old ++ records_text (spec.price_record timetable.now leave.now enter.now slot)) }
+    requires { slot < length prices.now.timetable.now.slots }
+    ensures written { OnOk result (records.new ≡ records.old
+        ++ records_text (spec.price_record prices.now.timetable.now prices.now.leave.now prices.now.enter.now slot)) }
     ensures text { OnOk result (IsUtf8 records.old → IsUtf8 records.new) }
 {
+    let timetable = prices.timetable;
     if !timetable.trip(slot).live {
         return Ok(());
     }
-    let leaving = format!(in alloc; "{}", leave[usize::from(slot)])?;
-    let entering = format!(in alloc; "{}", enter[usize::from(slot)])?;
+    let leaving = format!(in alloc; "{}", prices.leave[usize::from(slot)])?;
+    let entering = format!(in alloc; "{}", prices.enter[usize::from(slot)])?;
     push_record(records, timetable.name(slot), &leaving, &entering)
 }
 
 /// The text of `prices.csv`: for each trip that runs, slot by slot, its name, the price of leaving it and that of entering it.
-pub fn prices_text(
-    alloc: Global,
-    timetable: &Timetable,
-    leave: &[u64],
-    enter: &[u64],
-) -> Result<Text, Memory>
-    requires leave { length leave.now ≡ length timetable.now.slots }
-    requires enter { length enter.now ≡ length timetable.now.slots }
-    ensures { IfOk result (λ text. text ≡ spec.prices_text timetable.now leave.now enter.now) }
+pub fn prices_text(alloc: Global, prices: &SlotPrices<'_>) -> Result<Text, Memory>
+    ensures { IfOk result (λ text. text ≡ spec.prices_text prices.now.timetable.now prices.now.leave.now prices.now.enter.now) }
 {
     let mut records = RecordWriter::new(alloc);
     push_record(
@@ -141,8 +115,8 @@ pub fn prices_text(
         Column::Leave.name(),
         Column::Enter.name(),
     )?;
-    for slot in 0..timetable.slots() {
-        push_prices(alloc, &mut records, timetable, leave, enter, slot)?;
+    for slot in 0..prices.timetable.slots() {
+        push_prices(alloc, &mut records, prices, slot)?;
     }
     records.into_text()
 }

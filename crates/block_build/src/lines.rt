@@ -1,9 +1,9 @@
-ghost use Rattle.std.specs.Prelude.{◌≡◌, ◌+◌, ◌^◌, ◌<◌, ◌++◌, length, codes, string_bytes, IfOk, OnOk, All};
+ghost use Rattle.std.specs.Prelude.{◌≡◌, ◌<◌, ◌++◌, [], length, slice_index_or, codes, string_bytes, IfOk, OnOk, All};
 ghost use Rattle.deadhead_matrix.specs.Matrix.{walk};
 ghost use Rattle.trip_model.specs.Timetable.{slot_at};
 ghost use Rattle.block_build.specs.Lines as spec;
 
-use crate::Blocks;
+use crate::{NamedBlocks, SlotPrices};
 use deadhead_matrix::Matrix;
 use desk_io::{Memory, Text};
 use gtfs_tables::minute_text;
@@ -116,19 +116,18 @@ fn push_pull_in(text: &mut String, minutes: u16) -> Result<(), Memory>
 fn push_block(
     alloc: Global,
     text: &mut String,
-    timetable: &Timetable,
-    matrix: &Matrix,
-    prefix: &str,
+    named: &NamedBlocks<'_>,
     number: usize,
-    block: &[u16],
 ) -> Result<(), Memory>
-    requires filled { 0 < length block.now }
-    requires slots { All (λ s. s < length timetable.now.slots) block.now }
-    requires places { length matrix.now.walks ≡ length timetable.now.places }
-    requires number { number + 1 < 2 ^ 64 }
+    requires { number < length named.now.blocks.now }
     ensures { OnOk result (string_bytes text.new ≡ string_bytes text.old
-        ++ spec.block_line timetable.now matrix.now prefix.now number block.now) }
+        ++ spec.block_line named.now.timetable.now named.now.matrix.now named.now.prefix.now number
+        (slice_index_or named.now.blocks.now number [])) }
 {
+    let timetable = named.timetable;
+    let matrix = named.matrix;
+    let prefix = named.prefix;
+    let block = named.block(number);
     let first = timetable.trip(block[0]);
     let last = timetable.trip(block[block.len() - 1]);
     write!(text, "{prefix}{}: ", number + 1)?;
@@ -142,71 +141,43 @@ fn push_block(
 /// The lines of blocks as they are printed. Each has the name of its block, which is the prefix and its number counted from 1,
 /// and its trips. Pull-out, deadheads and pull-in are printed where they take time. Between trips between which there is no way
 /// it prints none.
-pub fn block_lines(
-    alloc: Global,
-    timetable: &Timetable,
-    matrix: &Matrix,
-    blocks: &Blocks,
-    prefix: &str,
-) -> Result<Text, Memory>
-    requires slots { All (All (λ s. s < length timetable.now.slots)) blocks.now }
-    requires places { length matrix.now.walks ≡ length timetable.now.places }
-    ensures { IfOk result (λ text. text ≡ spec.block_text timetable.now matrix.now prefix.now blocks.now) }
+pub fn block_lines(alloc: Global, named: &NamedBlocks<'_>) -> Result<Text, Memory>
+    ensures { IfOk result (λ text. text ≡ spec.block_text named.now.timetable.now named.now.matrix.now named.now.prefix.now
+        named.now.blocks.now) }
 {
     let mut text = String::new(alloc);
-    for number in 0..blocks.len() {
-        push_block(
-            alloc,
-            &mut text,
-            timetable,
-            matrix,
-            prefix,
-            number,
-            blocks.block(number),
-        )?;
+    for number in 0..named.blocks.len() {
+        push_block(alloc, &mut text, named, number)?;
     }
     Ok(Text::wrap(text))
 }
 
 // The line of the prices of a slot, where its trip runs.
 #[tactic(auto, unfolding(crate::specs::Lines::price_line))]
-fn push_price(
-    text: &mut String,
-    timetable: &Timetable,
-    leave: &[u64],
-    enter: &[u64],
-    slot: u16,
-) -> Result<(), Memory>
-    requires slot { slot < length timetable.now.slots }
-    requires leave { length leave.now ≡ length timetable.now.slots }
-    requires enter { length enter.now ≡ length timetable.now.slots }
-    ensures { OnOk result (string_bytes text.new ≡ string_bytes text.old ++ spec.price_line timetable.now leave.now enter.now slot) }
+fn push_price(text: &mut String, prices: &SlotPrices<'_>, slot: u16) -> Result<(), Memory>
+    requires { slot < length prices.now.timetable.now.slots }
+    ensures { OnOk result (string_bytes text.new ≡ string_bytes text.old
+        ++ spec.price_line prices.now.timetable.now prices.now.leave.now prices.now.enter.now slot) }
 {
+    let timetable = prices.timetable;
     if !timetable.trip(slot).live {
         return Ok(());
     }
     let name = timetable.name(slot);
-    let leaving = leave[usize::from(slot)];
-    let entering = enter[usize::from(slot)];
+    let leaving = prices.leave[usize::from(slot)];
+    let entering = prices.enter[usize::from(slot)];
     writeln!(text, " price {name} {leaving} {entering}")?;
     Ok(())
 }
 
 /// The lines of prices as they are printed, one space before each. For each trip that runs, slot by slot, a line has its name,
 /// the price of leaving it and that of entering it.
-pub fn price_lines(
-    alloc: Global,
-    timetable: &Timetable,
-    leave: &[u64],
-    enter: &[u64],
-) -> Result<Text, Memory>
-    requires leave { length leave.now ≡ length timetable.now.slots }
-    requires enter { length enter.now ≡ length timetable.now.slots }
-    ensures { IfOk result (λ text. text ≡ spec.price_text timetable.now leave.now enter.now) }
+pub fn price_lines(alloc: Global, prices: &SlotPrices<'_>) -> Result<Text, Memory>
+    ensures { IfOk result (λ text. text ≡ spec.price_text prices.now.timetable.now prices.now.leave.now prices.now.enter.now) }
 {
     let mut text = String::new(alloc);
-    for slot in 0..timetable.slots() {
-        push_price(&mut text, timetable, leave, enter, slot)?;
+    for slot in 0..prices.timetable.slots() {
+        push_price(&mut text, prices, slot)?;
     }
     Ok(Text::wrap(text))
 }

@@ -1,12 +1,12 @@
 ghost use Rattle.std.specs.Prelude.{◌≡◌, ◌++◌, OnOk, string_bytes};
 ghost use Rattle.blocks_command.specs.Answers as spec;
 
-use block_build::{block_lines, price_lines};
+use block_build::{NamedBlocks, SlotPrices, block_lines, price_lines};
 use desk_core::Desk;
 use desk_feed::{push_numbers_line, push_refusal};
 use desk_io::Memory;
-use edit_script::{Edit, EditFault, Line};
-use feed_desk::{Answers, blocks_now};
+use edit_script::{Edit, Line};
+use feed_desk::{Answers, Step, blocks_now};
 use std::alloc::Global;
 use std::fmt::Write;
 
@@ -29,8 +29,19 @@ fn push_show(alloc: Global, text: &mut String, desk: &Desk, prefix: &str) -> Res
     let plan = desk.plan();
     let blocks = blocks_now(alloc, desk)?;
     let indented = format!(in alloc; " {prefix}")?;
-    let lines = block_lines(alloc, timetable, desk.matrix(), &blocks, &indented)?;
-    let prices = price_lines(alloc, timetable, plan.leave(), plan.enter())?;
+    let named = NamedBlocks {
+        timetable,
+        matrix: desk.matrix(),
+        blocks: &blocks,
+        prefix: &indented,
+    };
+    let lines = block_lines(alloc, &named)?;
+    let prices = SlotPrices {
+        timetable,
+        leave: plan.leave(),
+        enter: plan.enter(),
+    };
+    let prices = price_lines(alloc, &prices)?;
     text.push_str(lines.as_str())?;
     text.push_str(prices.as_str())?;
     Ok(())
@@ -56,6 +67,7 @@ fn push_shown(
 /// Of each record the numbers after it, and of a show the plan with blocks of this prefix; or why the record is refused.
 #[derive(Drop)]
 pub(crate) struct Numbers<'a> {
+    pub(crate) alloc: Global,
     pub(crate) prefix: &'a str,
 }
 
@@ -65,21 +77,14 @@ impl<'a> Answers for Numbers<'a> {
     ghost answer = { λ numbers matrix. answer_text matrix numbers.prefix.now };
 
     #[tactic(auto, unfolding(crate::specs::Answers::answer_text))]
-    fn push_answer(
-        &self,
-        alloc: Global,
-        text: &mut String,
-        desk: &Desk,
-        number: u32,
-        line: &Line,
-        refused: &Option<EditFault>,
-    ) -> Result<(), Memory> {
-        match refused {
-            Some(refused) => push_refusal(alloc, text, number, line, refused),
+    fn push_answer(&self, text: &mut String, desk: &Desk, step: &Step) -> Result<(), Memory> {
+        let number = step.number;
+        match step.refused {
+            Some(refused) => push_refusal(self.alloc, text, number, step.line, refused),
             None => {
                 write!(text, "record {number}: ok, ")?;
                 push_numbers(text, desk)?;
-                push_shown(alloc, text, desk, line, self.prefix)
+                push_shown(self.alloc, text, desk, step.line, self.prefix)
             }
         }
     }

@@ -8,9 +8,10 @@ ghost use Rattle.desk_feed.specs.Script.{IsScript};
 ghost use Rattle.feed_desk.specs.Plans.{most_to};
 
 use crate::answers::{Numbers, push_numbers};
-use block_build::{blocks_text, prices_text};
+use block_build::{NamedBlocks, SlotPrices, blocks_text, prices_text};
 use claim_files::laws::accepted_law;
 use deadhead_matrix::Matrix;
+use desk_core::Desk;
 use desk_feed::{FeedCommand, OnFeed, Said, matrix_of};
 use desk_io::{Memory, Shelf, Sink, Steps, Text};
 use desk_keeper::Keeper;
@@ -22,6 +23,31 @@ use gtfs_tables::Paper;
 use std::alloc::Global;
 use std::sync::ledger::Ledger;
 use trip_model::Timetable;
+
+// The two files of the plan of a desk.
+fn files_of(alloc: Global, desk: &Desk, prefix: &str) -> Result<Vec<Writing>, Memory>
+    ensures { IfOk result (λ writes. writes.items ≡ plan_files desk.now.script.timetable desk.now.matrix prefix.now desk.now.plan) }
+{
+    let timetable = desk.timetable();
+    let plan = desk.plan();
+    let blocks = blocks_now(alloc, desk)?;
+    let named = NamedBlocks {
+        timetable,
+        matrix: desk.matrix(),
+        blocks: &blocks,
+        prefix,
+    };
+    let blocks = blocks_text(alloc, &named)?;
+    let prices = SlotPrices {
+        timetable,
+        leave: plan.leave(),
+        enter: plan.enter(),
+    };
+    let prices = prices_text(alloc, &prices)?;
+    let first = Writing::of(alloc, Paper::Blocks.file_name(), blocks)?;
+    let second = Writing::of(alloc, Paper::Prices.file_name(), prices)?;
+    Ok(vec![in alloc; first, second]?)
+}
 
 // The files of the last plan, and behind what was put of the records the numbers after them all.
 fn finished(alloc: Global, followed: Followed, prefix: &str) -> Result<Outcome, Memory>
@@ -37,14 +63,7 @@ fn finished(alloc: Global, followed: Followed, prefix: &str) -> Result<Outcome, 
         mut text,
         ending,
     } = followed;
-    let timetable = desk.timetable();
-    let plan = desk.plan();
-    let blocks = blocks_now(alloc, &desk)?;
-    let blocks = blocks_text(alloc, timetable, desk.matrix(), &blocks, prefix)?;
-    let prices = prices_text(alloc, timetable, plan.leave(), plan.enter())?;
-    let first = Writing::of(alloc, Paper::Blocks.file_name(), blocks)?;
-    let second = Writing::of(alloc, Paper::Prices.file_name(), prices)?;
-    let writes = vec![in alloc; first, second]?;
+    let writes = files_of(alloc, &desk, prefix)?;
     push_numbers(&mut text, &desk)?;
     Ok(Outcome::of(writes, None, Text::wrap(text), ending))
 }
@@ -63,7 +82,7 @@ fn planned<L: Ledger>(
     ensures planned { IfOk result (IsPlanned timetable lines.now matrix prefix.now) }
     ensures counted { steps.new ≤ steps.old + (most_steps (length timetable.slots) + most_to timetable lines.now (length lines.now)) }
 {
-    let answers = Numbers { prefix };
+    let answers = Numbers { alloc, prefix };
     let followed = follow_script(alloc, timetable, lines, matrix, answers, steps)?;
     finished(alloc, followed, prefix)
 }

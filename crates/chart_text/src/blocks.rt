@@ -1,11 +1,11 @@
-ghost use Rattle.std.specs.Prelude.{◌≡◌, ◌+◌, ◌^◌, ◌<◌, ◌≤◌, ◌++◌, All, map, length, string_bytes, IfOk, OnOk};
+ghost use Rattle.std.specs.Prelude.{◌≡◌, ◌<◌, ◌++◌, [], All, map, length, slice_index_or, string_bytes, IfOk, OnOk};
 ghost use Rattle.std.specs.List.{list_any};
 ghost use Rattle.deadhead_matrix.specs.Matrix.{walk};
 ghost use Rattle.chart_text.specs.Blocks as spec;
 ghost use Rattle.chart_text.specs.Columns.{IsColumn};
 
 use crate::columns::{COLUMN_MINUTES, column_list};
-use block_build::Blocks;
+use block_build::NamedBlocks;
 use deadhead_matrix::Matrix;
 use desk_io::{Memory, Text};
 use std::alloc::Global;
@@ -108,21 +108,19 @@ fn push_marks(
 /// The line of the block of a number, counted from 0.
 pub fn push_block(
     text: &mut String,
-    timetable: &Timetable,
-    matrix: &Matrix,
+    named: &NamedBlocks<'_>,
     columns: &[u16],
-    prefix: &str,
     number: usize,
-    block: &[u16],
 ) -> Result<(), Memory>
-    requires slots { All (λ s. s < length timetable.now.slots) block.now }
-    requires places { length matrix.now.walks ≡ length timetable.now.places }
     requires columns { All IsColumn columns.now }
-    requires number { number + 1 < 2 ^ 64 }
+    requires number { number < length named.now.blocks.now }
     ensures { OnOk result (string_bytes text.new ≡ string_bytes text.old
-        ++ spec.block_line timetable.now (walk matrix.now) columns.now prefix.now number block.now) }
+        ++ spec.block_line named.now.timetable.now (walk named.now.matrix.now) columns.now named.now.prefix.now number
+        (slice_index_or named.now.blocks.now number [])) }
 {
-    push_marks(text, timetable, matrix, block, columns)?;
+    let prefix = named.prefix;
+    let block = named.block(number);
+    push_marks(text, named.timetable, named.matrix, block, columns)?;
     writeln!(text, " {prefix}{}", number + 1)?;
     Ok(())
 }
@@ -132,29 +130,14 @@ pub fn push_block(
 /// is `#` where one of its trips runs in one of these minutes, from its departure until it ends. Else it is `~` where its
 /// vehicle runs empty: from the end of a trip for the minutes of the least walk to the next. Else it is `.`. Where no trip runs
 /// there are no characters. The form of the chart is this project's own.
-pub fn block_chart(
-    alloc: Global,
-    timetable: &Timetable,
-    matrix: &Matrix,
-    blocks: &Blocks,
-    prefix: &str,
-) -> Result<Text, Memory>
-    requires slots { All (All (λ s. s < length timetable.now.slots)) blocks.now }
-    requires places { length matrix.now.walks ≡ length timetable.now.places }
-    ensures { IfOk result (λ text. text ≡ spec.block_chart_text timetable.now (walk matrix.now) prefix.now blocks.now) }
+pub fn block_chart(alloc: Global, named: &NamedBlocks<'_>) -> Result<Text, Memory>
+    ensures { IfOk result (λ text. text ≡ spec.block_chart_text named.now.timetable.now (walk named.now.matrix.now)
+        named.now.prefix.now named.now.blocks.now) }
 {
-    let columns = column_list(alloc, timetable)?;
+    let columns = column_list(alloc, named.timetable)?;
     let mut text = String::new(alloc);
-    for number in 0..blocks.len() {
-        push_block(
-            &mut text,
-            timetable,
-            matrix,
-            &columns,
-            prefix,
-            number,
-            blocks.block(number),
-        )?;
+    for number in 0..named.blocks.len() {
+        push_block(&mut text, named, &columns, number)?;
     }
     Ok(Text::wrap(text))
 }

@@ -9,13 +9,12 @@ ghost use Rattle.desk_run.specs.Outside.{outside};
 ghost use Rattle.desk_run.specs.Performs.{Performs};
 ghost use Rattle.feed_commands.specs.Fixed.{IsFixedText, fixed_asked};
 
-use block_build::{Blocks, block_lines, blocks_of};
-use deadhead_matrix::{Deadheads, Matrix, Pulls};
+use block_build::{Blocks, NamedBlocks, block_lines, blocks_of};
+use deadhead_matrix::{Deadheads, Matrix};
 use desk_feed::{OnFeed, Stands, TextCommand};
 use desk_io::{Memory, Shelf, Sink, Steps, Text};
 use desk_keeper::Keeper;
 use desk_run::perform;
-use desk_settings::Settings;
 use fixed_fleet::fixed_links;
 use std::alloc::Global;
 use std::sync::ledger::Ledger;
@@ -39,19 +38,22 @@ fn fixed_blocks(alloc: Global, timetable: &Timetable) -> Result<Blocks, Memory>
 
 // The lines of the blocks without deadheads, and their number. No least walk is asked for: no vehicle runs empty but out of
 // the depot and home.
-fn fixed_text(
-    alloc: Global,
-    settings: &Settings,
-    timetable: &Timetable,
-    pulls: Pulls,
-) -> Result<Text, Memory>
-    requires { length pulls ≡ length timetable.now.places }
-    ensures { IfOk result (IsFixedText timetable.now pulls settings.now.prefix) }
+fn fixed_text(stands: Stands) -> Result<Text, Memory>
+    requires { length stands.pulls ≡ length stands.timetable.now.places }
+    ensures { IfOk result (IsFixedText stands.entry.timetable.now stands.entry.pulls stands.entry.settings.now.prefix) }
 {
+    let alloc = stands.alloc;
+    let timetable = stands.timetable;
     let blocks = fixed_blocks(alloc, timetable)?;
     let mut matrix = Matrix::of(alloc, &Deadheads::none(alloc)?, timetable.places())?;
-    matrix.set_pulls(pulls);
-    let lines = block_lines(alloc, timetable, &matrix, &blocks, settings.prefix())?;
+    matrix.set_pulls(stands.pulls);
+    let named = NamedBlocks {
+        timetable,
+        matrix: &matrix,
+        blocks: &blocks,
+        prefix: stands.settings.prefix(),
+    };
+    let lines = block_lines(alloc, &named)?;
     let lines = lines.as_str();
     Ok(Text::wrap(format!(in alloc; "{lines}fixed {}\n", blocks.len())?))
 }
@@ -65,12 +67,7 @@ impl TextCommand for ShowFixed {
     ghost asks = { λ _. fixed_shown };
 
     fn text<L: Ledger>(&self, stands: Stands, _steps: &mut Steps<L>) -> Result<Text, Memory> {
-        fixed_text(
-            stands.alloc,
-            stands.settings,
-            stands.timetable,
-            stands.pulls,
-        )
+        fixed_text(stands)
     }
 }
 

@@ -1,11 +1,15 @@
-ghost use Rattle.std.specs.Prelude.{◌≡◌, ◌+◌, ◌*◌, ◌≤◌, IfOk};
+ghost use Rattle.std.specs.Prelude.{◌≡◌, ◌+◌, ◌*◌, ◌<◌, ◌≤◌, length, All, IfOk};
 ghost use Rattle.joined_command.specs.Joined.{boards_outcome, joined_asked, joined_of};
 ghost use Rattle.deadhead_matrix.specs.Fitting.{network_of};
+ghost use Rattle.deficit_steps.specs.Holds.{Holds};
 ghost use Rattle.desk_run.specs.Outside.{outside};
 ghost use Rattle.desk_run.specs.Performs.{Performs};
 ghost use Rattle.joined_deficits.specs.declared.limits.TheConstants.{MOST_MOVES};
 ghost use Rattle.trip_model.specs.Blocking.{IsBlocking};
+ghost use Rattle.trip_model.specs.Deficit.{live_moves};
 
+use block_build::NamedBlocks;
+use deficit_steps::Deficits;
 use desk_feed::{FeedCommand, OnFeed, Said, matrix_of};
 use desk_io::{Memory, Shelf, Sink, Steps, Text};
 use desk_keeper::Keeper;
@@ -20,18 +24,20 @@ use std::sync::ledger::Ledger;
 // The deficits of all moves of the blocks beside those of the trips alone.
 fn joined_text<L: Ledger>(
     alloc: Global,
-    drawn: &Drawn,
+    named: &NamedBlocks<'_>,
+    before: &Deficits,
     steps: &mut Steps<L>,
 ) -> Result<Text, Memory>
-    requires blocking { IsBlocking (network_of drawn.now.desk.script.timetable drawn.now.desk.matrix) drawn.now.blocks }
-    ensures text { IfOk result (λ text. text ≡ joined_of drawn.now.desk.script.timetable drawn.now.desk.matrix drawn.now.blocks) }
+    requires blocking { IsBlocking (network_of named.now.timetable.now named.now.matrix.now) named.now.blocks.now }
+    requires held { Holds before.now (live_moves named.now.timetable.now.slots) }
+    requires rows { length before.now ≡ length named.now.timetable.now.places }
+    ensures text { IfOk result (λ text. text ≡ joined_of named.now.timetable.now named.now.matrix.now named.now.blocks.now) }
     ensures counted { steps.new ≤ steps.old + 28 * MOST_MOVES }
 {
-    let timetable = drawn.desk.timetable();
-    let moves = joined_moves(alloc, timetable, drawn.desk.matrix(), &drawn.blocks)?;
+    let timetable = named.timetable;
+    let moves = joined_moves(alloc, named)?;
     let joined = joined_deficits(alloc, timetable.places(), &moves, steps)?;
-    let before = drawn.desk.deficits();
-    joined_lines(alloc, timetable, &joined, before, drawn.blocks.len())
+    joined_lines(alloc, timetable, &joined, before, named.blocks.len())
 }
 
 // What is written and put of the plan after a script.
@@ -41,18 +47,23 @@ fn boarded<L: Ledger>(
     drawn: &Drawn,
     steps: &mut Steps<L>,
 ) -> Result<Outcome, Memory>
+    requires slots { All (All (λ s. s < length drawn.now.desk.script.timetable.slots)) drawn.now.blocks }
     requires blocking { IsBlocking (network_of drawn.now.desk.script.timetable drawn.now.desk.matrix) drawn.now.blocks }
     ensures boarded { IfOk result (λ outcome.
         outcome ≡ boards_outcome drawn.now.refused drawn.now.ending settings.now.prefix drawn.now.desk.script.timetable
         drawn.now.desk.matrix drawn.now.blocks) }
     ensures counted { steps.new ≤ steps.old + 28 * MOST_MOVES }
 {
-    let timetable = drawn.desk.timetable();
-    let matrix = drawn.desk.matrix();
-    let boards = boards_text(alloc, timetable, matrix, &drawn.blocks, settings.prefix())?;
+    let named = NamedBlocks {
+        timetable: drawn.desk.timetable(),
+        matrix: drawn.desk.matrix(),
+        blocks: &drawn.blocks,
+        prefix: settings.prefix(),
+    };
+    let boards = boards_text(alloc, &named)?;
     let writing = Writing::of(alloc, "boards.csv", boards)?;
     let writes = vec![in alloc; writing]?;
-    let text = joined_text(alloc, drawn, steps)?;
+    let text = joined_text(alloc, &named, drawn.desk.deficits(), steps)?;
     let text = format!(in alloc; "{}{}", drawn.refused.as_str(), text.as_str())?;
     Ok(Outcome::of(writes, None, Text::wrap(text), drawn.ending))
 }

@@ -1,13 +1,12 @@
-ghost use Rattle.std.specs.Prelude.{◌≡◌, ◌+◌, ◌<◌, ◌^◌, ◌++◌, [], ◌∷◌, length, All, IfOk, IfSome, IsUtf8, OnOk};
+ghost use Rattle.std.specs.Prelude.{◌≡◌, ◌<◌, ◌++◌, [], ◌∷◌, length, slice_index_or, IfOk, IfSome, IsUtf8, OnOk};
 ghost use Rattle.gtfs_tables.specs.Writing.{record_text, records_text};
-ghost use Rattle.trip_model.specs.Blocking.{IsBlock, IsBlocking};
+ghost use Rattle.trip_model.specs.Blocking.{IsBlocking};
 ghost use Rattle.trip_model.specs.Plain.{IsMove};
 ghost use Rattle.deadhead_matrix.specs.Fitting.{network_of};
 ghost use Rattle.joined_deficits.specs.Boards as spec;
 
 use crate::legs::{Leg, legs_of};
-use block_build::Blocks;
-use deadhead_matrix::Matrix;
+use block_build::NamedBlocks;
 use desk_io::{Memory, Text};
 use gtfs_tables::laws::written_text_law;
 use gtfs_tables::{RecordWriter, minute_text};
@@ -94,24 +93,21 @@ fn push_leg(
 fn push_board(
     alloc: Global,
     records: &mut RecordWriter,
-    timetable: &Timetable,
-    matrix: &Matrix,
-    prefix: &str,
+    named: &NamedBlocks<'_>,
     number: usize,
-    block: &[u16],
 ) -> Result<(), Memory>
-    requires number { number + 1 < 2 ^ 64 }
-    requires slots { All (λ s. s < length timetable.now.slots) block.now }
-    requires places { length matrix.now.walks ≡ length timetable.now.places }
-    requires block { IsBlock (network_of timetable.now matrix.now) block.now }
+    requires blocking { IsBlocking (network_of named.now.timetable.now named.now.matrix.now) named.now.blocks.now }
+    requires number { number < length named.now.blocks.now }
     ensures written { OnOk result (records.new ≡ records.old
-        ++ records_text (spec.board_of_block timetable.now matrix.now prefix.now number block.now)) }
+        ++ records_text (spec.board_of_block named.now.timetable.now named.now.matrix.now named.now.prefix.now number
+        (slice_index_or named.now.blocks.now number []))) }
     ensures text { OnOk result (IsUtf8 records.old → IsUtf8 records.new) }
 {
-    let name = format!(in alloc; "{prefix}{}", number + 1)?;
-    let legs = legs_of(alloc, timetable, matrix, block)?;
+    let block = named.block(number);
+    let name = named.name(alloc, number)?;
+    let legs = legs_of(alloc, named.timetable, named.matrix, block)?;
     for leg in &legs {
-        push_leg(alloc, records, timetable, &name, leg)?;
+        push_leg(alloc, records, named.timetable, &name, leg)?;
     }
     Ok(())
 }
@@ -119,16 +115,10 @@ fn push_board(
 /// The text of `boards.csv`, a record for each joined move, block by block. It has the name of its block, `trip` or `dh`, and
 /// the name of the trip, which is empty for a deadhead. Then come the place and the minute at which the vehicle leaves and
 /// arrives. A block is named by the prefix and its number counted from 1.
-pub fn boards_text(
-    alloc: Global,
-    timetable: &Timetable,
-    matrix: &Matrix,
-    blocks: &Blocks,
-    prefix: &str,
-) -> Result<Text, Memory>
-    requires places { length matrix.now.walks ≡ length timetable.now.places }
-    requires blocking { IsBlocking (network_of timetable.now matrix.now) blocks.now }
-    ensures { IfOk result (λ text. text ≡ spec.boards_text timetable.now matrix.now prefix.now blocks.now) }
+pub fn boards_text(alloc: Global, named: &NamedBlocks<'_>) -> Result<Text, Memory>
+    requires { IsBlocking (network_of named.now.timetable.now named.now.matrix.now) named.now.blocks.now }
+    ensures { IfOk result (λ text. text ≡ spec.boards_text named.now.timetable.now named.now.matrix.now named.now.prefix.now
+        named.now.blocks.now) }
 {
     let mut records = RecordWriter::new(alloc);
     push_record(
@@ -141,16 +131,8 @@ pub fn boards_text(
         "to",
         "arrives",
     )?;
-    for number in 0..blocks.len() {
-        push_board(
-            alloc,
-            &mut records,
-            timetable,
-            matrix,
-            prefix,
-            number,
-            blocks.block(number),
-        )?;
+    for number in 0..named.blocks.len() {
+        push_board(alloc, &mut records, named, number)?;
     }
     records.into_text()
 }

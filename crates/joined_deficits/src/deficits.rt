@@ -8,14 +8,13 @@ ghost use Rattle.joined_deficits.specs.Joined as spec;
 
 use crate::laws::moves_law;
 use crate::legs::{Leg, legs_of};
-use block_build::Blocks;
-use deadhead_matrix::Matrix;
+use block_build::NamedBlocks;
 use deficit_steps::Deficits;
 use deficit_steps::laws::held_law;
 use desk_io::{Memory, Steps};
 use std::alloc::Global;
 use std::sync::ledger::Ledger;
-use trip_model::{Move, Timetable};
+use trip_model::Move;
 
 // Appends the moves of legs.
 fn push_ways(moves: &mut Vec<Move>, legs: &[Leg]) -> Result<(), Memory>
@@ -30,24 +29,20 @@ fn push_ways(moves: &mut Vec<Move>, legs: &[Leg]) -> Result<(), Memory>
 /// The joined moves of blocks, block by block and trip by trip. Before a trip that follows on another comes the deadhead
 /// between them, where that takes time. Then comes the move of the trip itself. A deadhead leaves when the trip before it ends,
 /// with its layover, and arrives the minutes of the least walk later.
-pub fn joined_moves(
-    alloc: Global,
-    timetable: &Timetable,
-    matrix: &Matrix,
-    blocks: &Blocks,
-) -> Result<Vec<Move>, Memory>
-    requires places { length matrix.now.walks ≡ length timetable.now.places }
-    requires blocking { IsBlocking (network_of timetable.now matrix.now) blocks.now }
-    ensures moves { IfOk result (λ moves. moves.items ≡ spec.joined_moves timetable.now matrix.now blocks.now) }
-    ensures valid { IfOk result (λ moves. All (IsMove (length timetable.now.places)) moves.items) }
+pub fn joined_moves(alloc: Global, named: &NamedBlocks<'_>) -> Result<Vec<Move>, Memory>
+    requires { IsBlocking (network_of named.now.timetable.now named.now.matrix.now) named.now.blocks.now }
+    ensures moves { IfOk result (λ moves. moves.items ≡ spec.joined_moves named.now.timetable.now named.now.matrix.now
+        named.now.blocks.now) }
+    ensures valid { IfOk result (λ moves. All (IsMove (length named.now.timetable.now.places)) moves.items) }
     ensures few { IfOk result (λ moves. length moves.items ≤ MOST_MOVES) }
 {
     moves_law();
     // Its clause says that the timetable is valid.
-    let _slots = timetable.slots();
+    let _slots = named.timetable.slots();
     let mut moves = Vec::new(alloc);
-    for number in 0..blocks.len() {
-        let legs = legs_of(alloc, timetable, matrix, blocks.block(number))?;
+    for number in 0..named.blocks.len() {
+        let block = named.block(number);
+        let legs = legs_of(alloc, named.timetable, named.matrix, block)?;
         push_ways(&mut moves, &legs)?;
     }
     Ok(moves)

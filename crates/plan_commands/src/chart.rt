@@ -3,6 +3,7 @@ ghost use Rattle.desk_run.specs.Outside.{outside};
 ghost use Rattle.desk_run.specs.Performs.{Performs};
 ghost use Rattle.plan_commands.specs.Chart.{chart_asked, chart_text};
 
+use block_build::NamedBlocks;
 use chart_text::{block_chart, deficit_chart};
 use desk_feed::{FeedCommand, OnFeed, Said, matrix_of, putting_after};
 use desk_io::{Memory, Shelf, Sink, Steps, Text};
@@ -19,7 +20,13 @@ fn charts(alloc: Global, drawn: &Drawn, prefix: &str) -> Result<Text, Memory>
 {
     let timetable = drawn.desk.timetable();
     let above = deficit_chart(alloc, timetable, drawn.desk.deficits())?;
-    let below = block_chart(alloc, timetable, drawn.desk.matrix(), &drawn.blocks, prefix)?;
+    let named = NamedBlocks {
+        timetable,
+        matrix: drawn.desk.matrix(),
+        blocks: &drawn.blocks,
+        prefix,
+    };
+    let below = block_chart(alloc, &named)?;
     Ok(Text::wrap(format!(in alloc; "{}{}", above.as_str(), below.as_str())?))
 }
 

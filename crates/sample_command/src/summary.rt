@@ -1,4 +1,4 @@
-ghost use Rattle.std.specs.Prelude.{◌≡◌, ◌+◌, ◌≤◌, ◌<◌, length, All, IfOk, Ok, ◌*◌, pos};
+ghost use Rattle.std.specs.Prelude.{◌≡◌, ◌+◌, ◌≤◌, length, All, IfOk, Ok, ◌*◌, pos};
 ghost use Rattle.claim_files.specs.Written.{IsAccepted, IsName, written};
 ghost use Rattle.desk_feed.specs.Schedule.{most_steps};
 ghost use Rattle.desk_io.specs.declared.shelf.Found.TheVariants.{File};
@@ -7,7 +7,7 @@ ghost use Rattle.price_check.specs.Claim.{AreBlockRows, ArePriceRows};
 ghost use Rattle.sample_command.specs.Sample.{HasSummary};
 ghost use Rattle.sample_command.specs.Summed.{IsSummedOf};
 
-use block_build::{Blocks, blocks_text, prices_text};
+use block_build::{NamedBlocks, SlotPrices, blocks_text, prices_text};
 use claim_files::laws::accepted_law;
 use claim_files::{ClaimFault, read_claimed};
 use deadhead_matrix::Matrix;
@@ -44,31 +44,23 @@ fn file_of(alloc: Global, text: &Text) -> Result<Found, Memory>
 }
 
 // The claim of a plan and its blocks, as its two files are read, which are in form.
-fn claim_of(
-    alloc: Global,
-    timetable: &Timetable,
-    matrix: &Matrix,
-    prefix: &str,
-    plan: &Plan,
-    blocks: &Blocks,
-) -> Result<Claimed, Memory>
-    requires places { length timetable.now.places ≡ length matrix.now.walks }
-    requires slots { All (All (λ s. s < length timetable.now.slots)) blocks.now }
-    requires prices { length plan.now.next ≡ length timetable.now.slots }
-    requires accepted { IsAccepted timetable.now matrix.now prefix.now blocks.now plan.now.leave plan.now.enter }
-    ensures claim { IfOk result (λ claimed. written timetable.now matrix.now prefix.now blocks.now plan.now.leave
-        plan.now.enter ≡ Ok claimed) }
-    ensures blocks { IfOk result (λ claimed. AreBlockRows timetable.now claimed.blocks) }
-    ensures prices { IfOk result (λ claimed. ArePriceRows timetable.now claimed.prices) }
+fn claim_of(alloc: Global, named: &NamedBlocks<'_>, plan: &Plan) -> Result<Claimed, Memory>
+    requires prices { length plan.now.next ≡ length named.now.timetable.now.slots }
+    requires accepted { IsAccepted named.now.timetable.now named.now.matrix.now named.now.prefix.now named.now.blocks.now plan.now.leave
+        plan.now.enter }
+    ensures claim { IfOk result (λ claimed. written named.now.timetable.now named.now.matrix.now named.now.prefix.now
+        named.now.blocks.now plan.now.leave plan.now.enter ≡ Ok claimed) }
+    ensures blocks { IfOk result (λ claimed. AreBlockRows named.now.timetable.now claimed.blocks) }
+    ensures prices { IfOk result (λ claimed. ArePriceRows named.now.timetable.now claimed.prices) }
 {
-    let blocks = file_of(
-        alloc,
-        &blocks_text(alloc, timetable, matrix, blocks, prefix)?,
-    )?;
-    let prices = file_of(
-        alloc,
-        &prices_text(alloc, timetable, plan.leave(), plan.enter())?,
-    )?;
+    let timetable = named.timetable;
+    let blocks = file_of(alloc, &blocks_text(alloc, named)?)?;
+    let prices = SlotPrices {
+        timetable,
+        leave: plan.leave(),
+        enter: plan.enter(),
+    };
+    let prices = file_of(alloc, &prices_text(alloc, &prices)?)?;
     match read_claimed(alloc, timetable, &blocks, &prices) {
         Ok(claimed) => Ok(claimed),
         Err(ClaimFault::Memory) => Err(Memory),
@@ -96,7 +88,13 @@ fn numbers_of<L: Ledger>(
     let fixed = fixed_of(alloc, timetable, steps)?;
     let schedule = schedule_of(alloc, timetable, matrix, steps)?;
     let plan = schedule.solver.plan();
-    let claimed = claim_of(alloc, timetable, matrix, prefix, plan, &schedule.blocks)?;
+    let named = NamedBlocks {
+        timetable,
+        matrix,
+        blocks: &schedule.blocks,
+        prefix,
+    };
+    let claimed = claim_of(alloc, &named, plan)?;
     match check(timetable, matrix, &claimed) {
         Verdict::Yes { vehicles, minutes } => Ok(Numbers {
             fixed,

@@ -8,6 +8,7 @@ use Rattle.block_build.proofs.files.blocks_text.Given as goal
 abbrev pub invariant-loop-number : goal.invariant-loop-number
 invariant-loop-number l = record {
   written : l.records ≡ record_text block_header
-      ++ records_text (flat_map (λ n. records_of_block l.timetable l.matrix l.prefix n (get_or l.blocks n [])) (range_with_len 0 l.number));
+      ++ records_text (flat_map (λ n. records_of_block l.named.timetable.now l.named.matrix.now l.named.prefix.now n
+      (get_or l.named.blocks.now n [])) (range_with_len 0 l.number));
   text : IsUtf8 l.records;
 }

@@ -8,6 +8,6 @@ use Rattle.block_build.proofs.files.prices_text.Given as goal
 abbrev pub invariant-loop-slot : goal.invariant-loop-slot
 invariant-loop-slot l = record {
   written : l.records ≡ record_text price_header
-      ++ records_text (flat_map (price_record l.timetable l.leave l.enter) (range_with_len 0 l.slot));
+      ++ records_text (flat_map (price_record l.prices.timetable.now l.prices.leave.now l.prices.enter.now) (range_with_len 0 l.slot));
   text : IsUtf8 l.records;
 }

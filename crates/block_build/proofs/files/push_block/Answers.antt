@@ -7,12 +7,14 @@ use Rattle.block_build.proofs.files.push_block.Goals as goal
 
 pub loop-n-preserved : goal.loop-n-preserved
 loop-n-preserved c =
-    let name = c.deref.ensures ∙ c.in_ok-name.ensures.ok in
-    let minutes = c.deref-in-loop-n.ensures ∙ c.in_ok-minutes.ensures.ok ∙ ap decimal c.minutes_before.ensures in
+    let named = c.args.named.now in
+    let name = c.deref.ensures ∙ c.in_ok-name.ensures in
+    let minutes = c.deref-in-loop-n.ensures ∙ c.in_ok-minutes.ensures.ok ∙ ap decimal c.minutes_before-minutes.ensures in
     record {
-      written = record-more (block_record c.args.timetable.now c.args.matrix.now c.args.prefix.now c.args.number c.args.block.now)
+      written = record-more
+          (block_record named.timetable.now named.matrix.now named.prefix.now c.args.number c.block-block.result.now)
           c.args.records.now c.loop-n.records c.push_record.new.records c.loop-n.n
           c.loop-n.invariant.written
-          (c.in_ok-push_record.ensures.written ∙ (λ i. c.loop-n.records ++ record_text (name i ∷ c.name.ensures i ∷ minutes i ∷ [])));
+          (c.in_ok-push_record.ensures.written ∙ (λ i. c.loop-n.records ++ record_text (name i ∷ c.name-trip.ensures i ∷ minutes i ∷ [])));
       text = λ text. c.in_ok-push_record.ensures.text (c.loop-n.invariant.text text);
     }

@@ -8,6 +8,7 @@ use Rattle.block_build.proofs.files.push_block.Given as goal
 abbrev pub invariant-loop-n : goal.invariant-loop-n
 invariant-loop-n l = record {
   written : l.records ≡ l.initial.records
-      ++ records_text (map (block_record l.timetable l.matrix l.prefix l.number l.block) (range_with_len 0 l.n));
+      ++ records_text (map (block_record l.named.timetable.now l.named.matrix.now l.named.prefix.now l.number l.block)
+      (range_with_len 0 l.n));
   text : IsUtf8 l.initial.records → IsUtf8 l.records;
 }

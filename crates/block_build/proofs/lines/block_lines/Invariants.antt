@@ -6,4 +6,6 @@ use Rattle.block_build.proofs.lines.block_lines.Given as goal
 
 abbrev pub invariant-loop-number : goal.invariant-loop-number
 invariant-loop-number l =
-    string_bytes l.text ≡ flat_map (λ n. block_line l.timetable l.matrix l.prefix n (get_or l.blocks n [])) (range_with_len 0 l.number)
+    string_bytes l.text
+    ≡ flat_map (λ n. block_line l.named.timetable.now l.named.matrix.now l.named.prefix.now n (get_or l.named.blocks.now n []))
+    (range_with_len 0 l.number)

@@ -5,4 +5,6 @@ use Rattle.block_build.specs.Lines.{price_line}
 use Rattle.block_build.proofs.lines.price_lines.Given as goal
 
 abbrev pub invariant-loop-slot : goal.invariant-loop-slot
-invariant-loop-slot l = string_bytes l.text ≡ flat_map (price_line l.timetable l.leave l.enter) (range_with_len 0 l.slot)
+invariant-loop-slot l =
+    string_bytes l.text
+    ≡ flat_map (price_line l.prices.timetable.now l.prices.leave.now l.prices.enter.now) (range_with_len 0 l.slot)

@@ -1,23 +1,26 @@
-use Rattle.std.proofs.Common.{◌≡◌, ◌++◌, ap, ◌∙◌}
+use Rattle.std.proofs.Common.{◌≡◌, ◌++◌, ap, subst, ◌∙◌}
 use Rattle.std.specs.Prelude.{string_bytes}
 use Rattle.deadhead_matrix.specs.Pulls.{pull_at}
 use Rattle.trip_model.specs.declared.trip.Trip.{Trip}
-use Rattle.block_build.specs.Lines.{pull_in, pull_in_text, pull_out, pull_out_text}
+use Rattle.block_build.specs.Lines.{block_line, pull_in, pull_in_text, pull_out, pull_out_text}
 use Rattle.block_build.proofs.LinesWritten.{line-written}
 use Rattle.block_build.proofs.lines.push_block.Goals as goal
 
 pub returns : goal.returns
 returns c =
-    let pulls = c.args.matrix.now.pulls in
-    let out : c.pull_out.result ≡ pull_out c.args.timetable.now pulls c.args.block.now =
-    c.pull_out.ensures.value ∙ ap (λ (trip : Trip). (pull_at pulls trip.from).pull_out) c.trip-first.ensures.value in
-    let home : c.pull_in.result ≡ pull_in c.args.timetable.now pulls c.args.block.now =
-    c.pull_in.ensures.value ∙ ap (λ (trip : Trip). (pull_at pulls trip.to).pull_in) c.trip-last.ensures.value in
-    line-written c.args.timetable.now c.args.matrix.now c.args.prefix.now c.args.block.now (string_bytes c.args.text.now)
-    (string_bytes c.write.new.self)
+    let t = c.args.named.now.timetable.now in
+    let m = c.args.named.now.matrix.now in
+    let prefix = c.args.named.now.prefix.now in
+    let block = c.block-block.result.now in
+    let out : c.pull_out.result ≡ pull_out t m.pulls block =
+    c.pull_out.ensures.value ∙ ap (λ (trip : Trip). (pull_at m.pulls trip.from).pull_out) c.trip-first.ensures.value in
+    let home : c.pull_in.result ≡ pull_in t m.pulls block =
+    c.pull_in.ensures.value ∙ ap (λ (trip : Trip). (pull_at m.pulls trip.to).pull_in) c.trip-last.ensures.value in
+    line-written t m prefix block (string_bytes c.args.text.now) (string_bytes c.write.new.self)
     (string_bytes c.push_pull_out.new.text) (string_bytes c.push_trips.new.text) (string_bytes c.push_pull_in.new.text)
     (string_bytes c.push_str.new.self) c.args.number
     c.in_ok-write.ensures.bytes (c.in_ok-push_pull_out.ensures
     ∙ ap (λ minutes. string_bytes c.write.new.self ++ pull_out_text minutes) out) c.in_ok-push_trips.ensures
     (c.in_ok-push_pull_in.ensures ∙ ap (λ minutes. string_bytes c.push_trips.new.text ++ pull_in_text minutes) home)
     c.in_ok-push_str.ensures.bytes
+    ∙ ap (λ block. string_bytes c.args.text.now ++ block_line t m prefix c.args.number block) c.block-block.ensures.block

@@ -11,17 +11,17 @@ pub returns-then-not-trip : goal.returns-then-not-trip
 returns-then-not-trip c =
     sym (append-nil (string_bytes c.args.text.now))
     ∙ ap (λ xs. string_bytes c.args.text.now ++ xs)
-    (sym (price-none c.args.timetable.now c.args.leave.now c.args.enter.now c.args.slot
+    (sym (price-none c.args.prices.now.timetable.now c.args.prices.now.leave.now c.args.prices.now.enter.now c.args.slot
     (ap (λ (trip : Trip). trip.live) (sym c.trip.ensures.value) ∙ not-true c.trip.result.live c.if-not-trip.true)))
 
 pub returns : goal.returns
 returns c =
-    let leave = c.args.leave.now in
-    let enter = c.args.enter.now in
+    let leave = c.args.prices.now.leave.now in
+    let enter = c.args.prices.now.enter.now in
     let live = ap (λ (trip : Trip). trip.live) (sym c.trip.ensures.value) ∙ not-false c.trip.result.live c.if-not-trip.false in
     c.in_ok-writeln.ensures.bytes
     ∙ (λ i. string_bytes c.args.text.now
     ++ (codes " price " ++ (c.name-name.ensures i
     ++ (codes " " ++ (decimal (get_or leave (c.from.ensures i) 0)
     ++ (codes " " ++ (decimal (get_or enter (c.from-2.ensures i) 0) ++ 10 ∷ [])))))))
-    ∙ ap (λ xs. string_bytes c.args.text.now ++ xs) (sym (price-one c.args.timetable.now leave enter c.args.slot live))
+    ∙ ap (λ xs. string_bytes c.args.text.now ++ xs) (sym (price-one c.args.prices.now.timetable.now leave enter c.args.slot live))

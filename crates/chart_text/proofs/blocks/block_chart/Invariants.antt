@@ -8,5 +8,5 @@ use Rattle.chart_text.proofs.blocks.block_chart.Given as goal
 abbrev pub invariant-loop-number : goal.invariant-loop-number
 invariant-loop-number l =
     string_bytes l.text ≡ string_bytes l.initial.text
-    ++ flat_map (λ block. block_line l.timetable (walk l.matrix) l.columns.items l.prefix block.0 block.1)
-    (enumerate_from 0 (take l.number l.blocks))
+    ++ flat_map (λ block. block_line l.named.timetable.now (walk l.named.matrix.now) l.columns.items l.named.prefix.now block.0 block.1)
+    (enumerate_from 0 (take l.number l.named.blocks.now))

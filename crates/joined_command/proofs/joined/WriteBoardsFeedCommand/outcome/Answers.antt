@@ -2,11 +2,9 @@ use Rattle.desk_feed.specs.Commands.{said_to}
 use Rattle.joined_command.proofs.Given.{drawn-blocking, joined-given}
 use Rattle.joined_command.proofs.joined.WriteBoardsFeedCommand.outcome.Goals as goal
 
-pub boarded-requires : goal.boarded-requires
-boarded-requires g c = record {
-  blocking = drawn-blocking c.args.said.timetable c.args.said.lines.now c.in_ok-matrix.matrix
-      c.in_ok-drawn.drawn c.in_ok-drawn.ensures.drawn;
-}
+pub boarded-requires-clause-blocking : goal.boarded-requires-clause-blocking
+boarded-requires-clause-blocking g c =
+    drawn-blocking c.args.said.timetable c.args.said.lines.now c.in_ok-matrix.matrix c.in_ok-drawn.drawn c.in_ok-drawn.ensures.drawn
 
 pub returns-clause-given : goal.returns-clause-given
 returns-clause-given g c =
