@@ -18,7 +18,7 @@ pub struct NamedBlocks<'a> {
 }
 
 impl<'a> NamedBlocks<'a> {
-    /// The slots of a block, in the order of its trips, of which it has one at least. Its name has the number and 1.
+    /// The slots of a block, in the order of its trips. It has at least one. Its name counts from 1.
     pub fn block(&self, number: usize) -> &[u16]
         requires { number < length self.now.blocks.now }
         ensures block { result.now ≡ slice_index_or self.now.blocks.now number [] }
