@@ -6,7 +6,7 @@ use desk_core::Desk;
 use desk_feed::{push_numbers_line, push_refusal};
 use desk_io::Memory;
 use edit_script::{Edit, Line};
-use feed_desk::{Answers, Step, blocks_now};
+use feed_desk::{Answers, ScriptRecord, blocks_now};
 use std::alloc::Global;
 use std::fmt::Write;
 
@@ -77,14 +77,19 @@ impl<'a> Answers for Numbers<'a> {
     ghost answer = { λ numbers matrix. answer_text matrix numbers.prefix.now };
 
     #[tactic(auto, unfolding(crate::specs::Answers::answer_text))]
-    fn push_answer(&self, text: &mut String, desk: &Desk, step: &Step) -> Result<(), Memory> {
-        let number = step.number;
-        match step.refused {
-            Some(refused) => push_refusal(self.alloc, text, number, step.line, refused),
+    fn push_answer(
+        &self,
+        text: &mut String,
+        desk: &Desk,
+        record: &ScriptRecord,
+    ) -> Result<(), Memory> {
+        let number = record.number;
+        match record.refused {
+            Some(refused) => push_refusal(self.alloc, text, number, record.line, refused),
             None => {
                 write!(text, "record {number}: ok, ")?;
                 push_numbers(text, desk)?;
-                push_shown(self.alloc, text, desk, step.line, self.prefix)
+                push_shown(self.alloc, text, desk, record.line, self.prefix)
             }
         }
     }

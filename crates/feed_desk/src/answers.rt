@@ -6,7 +6,7 @@ use std::alloc::Global;
 
 /// A record of a script that was followed: its number, its line, and why it is refused, if it is.
 #[derive(Drop)]
-pub struct Step<'a> {
+pub struct ScriptRecord<'a> {
     pub number: u32,
     pub line: &'a Line,
     pub refused: &'a Option<EditFault>,
@@ -22,10 +22,15 @@ pub trait Answers {
     ghost answer: { Self → MatrixView → Answer };
 
     /// Appends what is put of a record. The desk is that after the record.
-    fn push_answer(&self, text: &mut String, desk: &Desk, step: &Step) -> Result<(), Memory>
-        requires { step.now.refused.now ≢ Some EditFault.Memory }
-        ensures { OnOk result (string_bytes text.new ≡ string_bytes text.old ++ answer self.now desk.now.matrix step.now.number
-            step.now.line.now desk.now.script.timetable desk.now.plan step.now.refused.now) };
+    fn push_answer(
+        &self,
+        text: &mut String,
+        desk: &Desk,
+        record: &ScriptRecord,
+    ) -> Result<(), Memory>
+        requires { record.now.refused.now ≢ Some EditFault.Memory }
+        ensures { OnOk result (string_bytes text.new ≡ string_bytes text.old ++ answer self.now desk.now.matrix record.now.number
+            record.now.line.now desk.now.script.timetable desk.now.plan record.now.refused.now) };
 }
 
 /// The lines of refused records alone.
@@ -39,10 +44,15 @@ impl Answers for Refusals {
 
     ghost answer = { λ _ _. refusals };
 
-    fn push_answer(&self, text: &mut String, _desk: &Desk, step: &Step) -> Result<(), Memory> {
-        match step.refused {
+    fn push_answer(
+        &self,
+        text: &mut String,
+        _desk: &Desk,
+        record: &ScriptRecord,
+    ) -> Result<(), Memory> {
+        match record.refused {
             None => Ok(()),
-            Some(refused) => push_refusal(self.alloc, text, step.number, step.line, refused),
+            Some(refused) => push_refusal(self.alloc, text, record.number, record.line, refused),
         }
     }
 }

@@ -6,7 +6,7 @@ ghost use Rattle.feed_desk.specs.Drawn.{HasFollowed};
 ghost use Rattle.feed_desk.specs.Moments.{IsFollowed};
 ghost use Rattle.feed_desk.specs.Plans.{most_of, most_to};
 
-use crate::answers::{Answers, Step};
+use crate::answers::{Answers, ScriptRecord};
 use deadhead_matrix::Matrix;
 use deadhead_matrix::laws::plan_law;
 use desk_core::Desk;
@@ -92,12 +92,13 @@ impl<A: Answers, L: Ledger> Follower<Steps<L>> for Following<A> {
         // Their clauses say that the plan is certified, and that the timetable is valid.
         let _plan = self.desk.plan();
         let _slots = self.desk.timetable().slots();
-        let step = Step {
+        let record = ScriptRecord {
             number,
             line,
             refused: &refused,
         };
-        self.answers.push_answer(&mut self.text, &self.desk, &step)?;
+        self.answers
+            .push_answer(&mut self.text, &self.desk, &record)?;
         self.some |= refused.is_some();
         Ok(())
     }

@@ -18,6 +18,6 @@ mod answers;
 mod draw;
 mod follow;
 
-pub use answers::{Answers, Refusals, Step};
+pub use answers::{Answers, Refusals, ScriptRecord};
 pub use draw::{Drawn, blocks_now, draw_after};
 pub use follow::{Followed, follow_script};
