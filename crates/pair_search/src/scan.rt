@@ -64,7 +64,7 @@ fn cut(was: Seen, cost: u64, to: u16) -> u16
 }
 
 // What is seen of a group after its columns from a place on were approached at a cost.
-fn renewed(was: Seen, near: u64, cost: u64, from: u16, minute: u16) -> Seen
+fn renewed(was: Seen, near: u64, cost: u64, from: u16, minute: u32) -> Seen
     ensures near { (result.near ≤ was.near) × (result.near ≤ near) }
     ensures reached { ((result.cost ≡ was.cost) × (result.from ≡ was.from) × (result.minute ≡ was.minute))
         ⊎ ((cost < was.cost) × (result.cost ≡ cost) × (result.from ≡ from) × (result.minute ≡ minute)) }
@@ -156,7 +156,7 @@ impl Tree {
         let was = self.seen[group];
         let cost = start + GREATEST_PRICE - line.share.saved + u64::from(reach.walk);
         // Most looks end here: all columns that the row is in time for were reached at no more.
-        if cost >= was.cost && reach.minute >= was.minute {
+        if cost >= was.cost && u32::from(reach.minute) >= was.minute {
             steps.tick();
             return;
         }
@@ -177,7 +177,8 @@ impl Tree {
             &mut self.parent,
             steps,
         );
-        self.seen[group] = renewed(was, near, cost, first, reach.minute);
+        let missed = line.side.missed(group, first);
+        self.seen[group] = renewed(was, near, cost, first, missed);
     }
 
     // Looks at all columns from a place of the tree, which is so far with the price of its row.

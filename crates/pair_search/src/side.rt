@@ -1,4 +1,4 @@
-ghost use Rattle.std.specs.Prelude.{◌≡◌, ◌<◌, ◌≤◌, length};
+ghost use Rattle.std.specs.Prelude.{◌≡◌, ℕ, ◌<◌, ◌≤◌, length, slice_index_or};
 ghost use Rattle.assignment_model.specs.declared.limits.TheConstants.{MOST_DEADHEAD};
 ghost use Rattle.pair_search.specs.Arranged.{arranged, slots_of};
 ghost use Rattle.pair_search.specs.Assignment.{AreWeights};
@@ -118,6 +118,19 @@ impl<'a> Side<'a> {
             Some(post) => self.pairs.pull(self.turned, post),
             None => 0,
         }
+    }
+
+    /// From which minute on a row misses all columns of a group before a place.
+    pub(crate) fn missed(&self, group: usize, place: u16) -> u32
+        requires group { group < self.now.count }
+        requires place { place ≤ (group_at self.now.groups group).to }
+        ensures { (k : ℕ) (d : _) → (group_at self.now.groups group).from ≤ k → k < place
+            → (slice_index_or self.now.columns k d).minute < result }
+    {
+        if place <= self.group(group).from {
+            return 0;
+        }
+        u32::from(self.columns[place as usize - 1].minute) + 1
     }
 
     /// The slot of the column at a place.

@@ -8,13 +8,13 @@ use std::alloc::Global;
 use trip_model::MOST_SLOTS;
 
 /// What a search has seen of a group of columns. None that is not done is nearer than `near`. Those from a place on were reached
-/// at a cost, which leaves out the pull of their post. They are all that need a row no sooner than at a minute.
+/// at a cost, which leaves out the pull of their post. Those before it need a row sooner than at a minute.
 #[derive(Clone, Copy)]
 pub(crate) struct Seen {
     pub near: u64,
     pub cost: u64,
     pub from: u16,
-    pub minute: u16,
+    pub minute: u32,
 }
 
 /// What is seen of a group before a search: no column is near, and none was reached.
@@ -22,7 +22,7 @@ pub(crate) const UNSEEN: Seen = Seen {
     near: FAR,
     cost: UNREACHED,
     from: u16::MAX,
-    minute: u16::MAX,
+    minute: u32::MAX,
 };
 
 /// What a search grows. Of each group: what it has seen there. Of each column: how far it is, from which place of the tree it
@@ -65,7 +65,7 @@ impl Tree {
     pub(crate) fn clear(&mut self, groups: usize, slots: u16)
         requires groups { groups ≤ MOST_SLOTS }
         requires slots { slots ≤ MOST_SLOTS }
-        ensures seen { self.new.seen.items ≡ replicate groups (record { near = FAR; cost = UNREACHED; from = 65535; minute = 65535 }) }
+        ensures seen { self.new.seen.items ≡ replicate groups (record { near = FAR; cost = UNREACHED; from = 65535; minute = 4294967295 }) }
         ensures dist { self.new.dist.items ≡ replicate slots FAR }
         ensures done { self.new.done.items ≡ replicate slots false }
         ensures slots { vec_len self.new.dist ≡ slots }

@@ -41,7 +41,7 @@ look_from-requires-clause-seen g c =
     let n = side_slots side in
     let are = c.groups.ensures.groups in
     let was = c.clear.new.self in
-    let none : Seen = record { near = 67111745; cost = 18446744073709551615; from = 65535; minute = 65535 } in
+    let none : Seen = record { near = 67111745; cost = 18446744073709551615; from = 65535; minute = 4294967295 } in
     let dists : was.dist.items ≡ replicate n 67111745 = c.clear.ensures.dist ∙ ap (λ m. replicate m 67111745) c.slots.ensures.count in
     let at-none : (r : ℕ) → r < side.count
     → seen_at was.seen.items r ≡ none =

@@ -1,8 +1,9 @@
-use Rattle.std.proofs.Common.{◌≡◌, ◌+◌, ◌-◌, ◌<◌, ◌≤◌, length, sym, ap, subst, ◌∙◌, ⊎_elim, arith}
+use Rattle.std.proofs.Common.{◌≡◌, ◌+◌, ◌-◌, ◌<◌, ◌≤◌, ℕ, get_or, length, sym, ap, subst, ◌∙◌, ⊎_elim, arith}
 use Rattle.std.proofs.lemmas.Bool.{cases_lt}
 use Rattle.std.proofs.lemmas.List.{get_or_read}
 use Rattle.std.proofs.lemmas.Option.{none-some}
 use Rattle.pair_search.specs.declared.groups.Group.{Group}
+use Rattle.pair_search.specs.declared.order.Column.{Column}
 use Rattle.pair_search.specs.declared.tree.Seen.{Seen}
 use Rattle.pair_search.specs.Groups.{group_at, group_pull, seen_at, AreGroups}
 use Rattle.pair_search.specs.Search.{at}
@@ -21,11 +22,11 @@ returns-in_default-clause-visited g c =
     IsVisited-none (line_weight line) (group_at line.side.groups c.args.group) c.args.self.now.dist.items c.args.steps.now c.tick.new.self
     c.tick.ensures
 
-pub returns-then-reach-was-clause-visited : goal.returns-then-reach-was-clause-visited
-returns-then-reach-was-clause-visited g c =
+pub returns-then-from-was-clause-visited : goal.returns-then-from-was-clause-visited
+returns-then-from-was-clause-visited g c =
     let line : LineView = c.args.line.now in
     IsVisited-none (line_weight line) (group_at line.side.groups c.args.group) c.args.self.now.dist.items c.args.steps.now
-    c.tick-then-reach-was.new.self c.tick-then-reach-was.ensures
+    c.tick-then-from-was.new.self c.tick-then-from-was.ensures
 
 pub returns-then-first-upto-clause-visited : goal.returns-then-first-upto-clause-visited
 returns-then-first-upto-clause-visited g c =
@@ -33,8 +34,8 @@ returns-then-first-upto-clause-visited g c =
     IsVisited-none (line_weight line) (group_at line.side.groups c.args.group) c.args.self.now.dist.items c.args.steps.now
     c.tick-then-first-upto.new.self c.tick-then-first-upto.ensures
 
-pub returns-then-reach-was-clause-looked : goal.returns-then-reach-was-clause-looked
-returns-then-reach-was-clause-looked g c = λ before l.
+pub returns-then-from-was-clause-looked : goal.returns-then-from-was-clause-looked
+returns-then-from-was-clause-looked g c = λ before l.
     let line : LineView = c.args.line.now in
     let group : Group = group_at line.side.groups c.args.group in
     let was = c.args.self.now in
@@ -50,7 +51,8 @@ returns-then-reach-was-clause-looked g c = λ before l.
     (λ d. omega (
       arith,
       ready,
-      c.if-reach-was.true,
+      c.if-from-was.true,
+      c.from-then-cost-was.ensures,
       c.requires.seen.reached.sooner c.args.group j d c.requires.group from lt (omega (arith, early, start))
           (omega (
             arith,
@@ -226,6 +228,8 @@ returns-clause-seen g c =
     (written c.approach-near.new.dist was.dist.items was.dist.len (c.approach-near.auto.dist ∙ c.deref_mut.ensures.len))
     (written c.approach-near.new.parent was.parent.items was.parent.len (c.approach-near.auto.parent ∙ c.deref_mut-2.ensures.len))
     c.approach-near.ensures.approached in
+    let missed = subst (λ (l : LineView). (k : ℕ) (d : Column) → (group_at l.side.groups c.args.group).from ≤ k → k < first
+    → (get_or l.side.columns k d).minute < c.missed-missed.result) c.line.view_is c.missed-missed.ensures in
     let are = subst (λ (l : LineView). AreGroups (side_slots l.side) l.side.columns l.side.count l.side.groups) c.line.view_is
     c.group.ensures.groups in
     let after = fit.after c.if-first-upto.false in
@@ -270,7 +274,7 @@ returns-clause-seen g c =
             c.requires.seen.reached.sooner c.args.group j d c.requires.group from before (omega (arith, early, same.1, start))
                 (omega (arith, reached, same.0, dear)),
           ))
-          (λ cheaper. omega (arith, cheaper.3, fit.sooner j d from (omega (arith, early, cheaper.2))))
+          (λ cheaper. omega (arith, cheaper.3, missed j d from (omega (arith, early, cheaper.2))))
           c.renewed.ensures.reached)
           c.requires.seen.reached;
     }
