@@ -1,7 +1,7 @@
 ghost use Rattle.std.specs.Prelude.{◌≡◌, ◌+◌, ◌<◌, ◌≤◌, length, None, Some, IfSome, is_some};
 ghost use Rattle.assignment_model.specs.Prices.{weight, IsDay};
 ghost use Rattle.assignment_model.specs.declared.limits.TheConstants.{MOST_DEADHEAD};
-ghost use Rattle.trip_model.specs.declared.limits.TheConstants.{MOST_SLOTS};
+ghost use Rattle.trip_model.specs.declared.limits.TheConstants.{MOST_PLACES, MOST_SLOTS};
 ghost use Rattle.trip_model.specs.Network.{AreDepartures};
 ghost use Rattle.trip_model.specs.Order.{minute_left};
 ghost use Rattle.trip_model.specs.Plain.{move_at, AreMoves, IsMove};
@@ -72,6 +72,14 @@ impl<'a> Pairs<'a> {
         // Its clause says that no pull is longer than a day.
         let _places = self.matrix.places();
         self.timetable.slots()
+    }
+
+    /// How many places there are.
+    pub fn places(&self) -> u16
+        ensures count { result ≡ length self.now.matrix.walks }
+        ensures few { result ≤ MOST_PLACES }
+    {
+        self.timetable.places()
     }
 
     /// The move of the trip of a slot, where that runs.

@@ -47,7 +47,7 @@ standing pairs turned without slot p e = by (move_at pairs.moves slot) refl e
     by (Some m) is e = left m is (leads_to slot without) refl e
 
 -- nothing fits a trip that does not run
-idle : (pairs : PairsView) (i j : ℕ) → move_at pairs.moves i ≡ None
+pub idle : (pairs : PairsView) (i j : ℕ) → move_at pairs.moves i ≡ None
     → (weight (pairs_network pairs) i j ≡ None) × (weight (pairs_network pairs) j i ≡ None)
 idle pairs i j none = (
   ap (λ o. weighed (empty_between (walk pairs.matrix) o (move_at pairs.moves j))) none,

@@ -7,10 +7,12 @@ pub mod FrontLemmas
 pub mod GroupLemmas
 pub mod InverseLemmas
 pub mod LawLemmas
+pub mod LeadLemmas
 pub mod LentLemmas
 pub mod LookLemmas
 pub mod LooseLemmas
 pub mod OrderLemmas
+pub mod PassLemmas
 pub mod PlacedLemmas
 pub mod RelinkLemmas
 pub mod RenameLemmas

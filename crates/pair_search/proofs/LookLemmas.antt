@@ -174,6 +174,18 @@ AreLooked-spent w begin end from start place enter was now none seen l = record 
   reached = l.reached;
 }
 
+-- columns stay as they are where a row brings nothing nearer
+pub AreLooked-same : (w : ℕ → Option ℕ) (n from start : ℕ) (enter : List ℕ) (now : Columns)
+    → ((j k : ℕ) → j < n → is_done now.done j ≡ false → w j ≡ Some k → at now.dist j + k ≤ start + at enter j)
+    → AreLooked w n from start enter now now
+AreLooked-same w n from start enter now spent = record {
+  done = refl;
+  covered = spent;
+  nearer = λ j. omega arith;
+  same = λ j h. refl;
+  reached = λ j lt. absurd (omega (arith, lt));
+}
+
 -- what is said of columns is said of lists that are equal to theirs
 pub AreApproached-same : (first upto from cost near : ℕ) (enter : List ℕ) (done done1 : List Bool)
     (dist dist1 parent parent1 dist' dist1' parent' parent1' : List ℕ)

@@ -6,7 +6,7 @@ use Rattle.pair_search.specs.declared.groups.Group.{Group}
 use Rattle.pair_search.specs.declared.order.Column.{Column}
 use Rattle.pair_search.specs.Groups.{group_at, begins, AreGroups}
 use Rattle.pair_search.specs.Search.{at}
-use Rattle.pair_search.specs.Visits.{IsVisited, AreVisited, RowsVisit}
+use Rattle.pair_search.specs.Visits.{IsVisited, AreVisited, RowVisits, RowsVisit}
 use Rattle.pair_search.proofs.GroupLemmas.{begins-there, begins-past}
 
 -- a look at a group is at most as many steps as the group has columns
@@ -72,20 +72,20 @@ RowsVisit-same w groups count rows rows' (suc t) same dist dist' was now v = (
   v.0,
   v.1,
   RowsVisit-same w groups count rows rows' t (λ r lt. same r (omega (arith, lt))) dist v.0 was v.1 v.2,
-  subst (λ i. AreVisited (w i) groups count v.0 dist' v.1 now) (same t (omega arith)) v.3,
+  subst (λ i. RowVisits (w i) groups count v.0 dist' v.1 now) (same t (omega arith)) v.3,
 )
 
 -- the first row visits
 pub RowsVisit-first : (w : ℕ → ℕ → Option ℕ) (groups : List Group) (count : ℕ) (rows : List ℕ) (a : ℕ) (dist dist' : List ℕ) (was now : ℕ)
     → at rows 0 ≡ a
-    → AreVisited (w a) groups count dist dist' was now → RowsVisit w groups count rows 1 dist dist' was now
+    → RowVisits (w a) groups count dist dist' was now → RowsVisit w groups count rows 1 dist dist' was now
 RowsVisit-first w groups count rows a dist dist' was now is v =
-    (dist, was, (refl, refl), subst (λ i. AreVisited (w i) groups count dist dist' was now) (sym is) v)
+    (dist, was, (refl, refl), subst (λ i. RowVisits (w i) groups count dist dist' was now) (sym is) v)
 
 -- one more row visits
 pub RowsVisit-more : (w : ℕ → ℕ → Option ℕ) (groups : List Group) (count : ℕ) (rows : List ℕ) (size row : ℕ) (first dist dist' : List ℕ)
     (was mid now : ℕ) → size < length rows
-    → RowsVisit w groups count rows size first dist was mid → AreVisited (w row) groups count dist dist' mid now
+    → RowsVisit w groups count rows size first dist was mid → RowVisits (w row) groups count dist dist' mid now
     → RowsVisit w groups count (set rows size row) (size + 1) first dist' was now
 RowsVisit-more w groups count rows size row first dist dist' was mid now room v one =
     let e : suc size ≡ size + 1 = omega arith in
@@ -94,5 +94,5 @@ RowsVisit-more w groups count rows size row first dist dist' was mid now room v 
       mid,
       RowsVisit-same w groups count rows (set rows size row) size
           (λ r lt. sym (get_or-set_other rows size r row 0 (λ e. absurd (omega (arith, lt, e))))) first dist was mid v,
-      subst (λ i. AreVisited (w i) groups count dist dist' mid now) (sym (get_or-set_same rows size row 0 room)) one,
+      subst (λ i. RowVisits (w i) groups count dist dist' mid now) (sym (get_or-set_same rows size row 0 room)) one,
     )

@@ -12,7 +12,8 @@ use Rattle.pair_search.specs.Search.{at, is_done, Columns}
 use Rattle.pair_search.specs.declared.orders.Order.{Order}
 use Rattle.pair_search.specs.Arranged.{arranged, slots_of}
 use Rattle.pair_search.specs.Order.{IsOrder}
-use Rattle.pair_search.specs.Side.{SideView, pairs_minute, pairs_post, post_pull}
+use Rattle.pair_search.specs.Leads.{AreLed}
+use Rattle.pair_search.specs.Side.{LineView, SideView, line_weight, pairs_minute, pairs_post, post_pull}
 use Rattle.pair_graph.specs.Pairs.{PairsView}
 
 -- a group of a list; past its end one without columns
@@ -68,11 +69,18 @@ pub record AreReached (side : SideView) (enter : List ℕ) (done : List Bool) (d
   pub sooner : (r j : ℕ) (d : Column) → r < side.count → (group_at side.groups r).from ≤ j → j < (group_at side.groups r).to
       → j < (seen_at seen r).from → (seen_at seen r).cost < UNREACHED → (slice_index_or side.columns j d).minute < (seen_at seen r).minute
 
--- what a tree has seen of the groups of a side is so
+-- what a tree has seen of the groups of a side is so, and so are the leads of its posts
 pub record IsSeen (side : SideView) (enter : List ℕ) (tree : Tree) : Type 0 where
   pub room : side.count ≤ length tree.seen.items
   pub near : AreNear side.count side.groups tree.done.items tree.dist.items tree.seen.items
   pub reached : AreReached side enter tree.done.items tree.dist.items tree.seen.items
+  pub posts : length side.pairs.matrix.walks ≤ length tree.leads.items
+  pub led : AreLed side enter tree.done.items tree.dist.items tree.leads.items
+
+-- no column of a group that is not done comes nearer by a row
+abbrev pub IsSpent : LineView → Group → ℕ → List ℕ → Columns → Type 0
+IsSpent line group start enter now = (j k : ℕ) → group.from ≤ j → j < group.to → is_done now.done j ≡ false → line_weight line j ≡ Some k
+    → at now.dist j + k ≤ start + at enter j
 
 -- Columns between two places were approached at a cost from a place of the tree. Each that is not done is no farther than
 -- before and than the cost with its price. If it is nearer than before, it was reached so. None of these is nearer than `near`.

@@ -4,6 +4,7 @@ pub mod Determined
 pub mod Fronts
 pub mod Groups
 pub mod Inverse
+pub mod Leads
 pub mod Order
 pub mod Relinking
 pub mod Renamed

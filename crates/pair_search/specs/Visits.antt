@@ -24,12 +24,16 @@ AreVisited w groups zero dist dist' was now = (dist' ≡ dist) × (now ≡ was)
 AreVisited w groups (suc r) dist dist' was now =
     (mid : List ℕ) × (paid : ℕ) × AreVisited w groups r dist mid was paid × IsVisited w (group_at groups r) mid dist' paid now
 
+-- a row visits all groups, one after the other. Or it is led and visits none, which is a step
+abbrev pub RowVisits : (ℕ → Option ℕ) → List Group → ℕ → List ℕ → List ℕ → ℕ → ℕ → Type 0
+RowVisits w groups count dist dist' was now = AreVisited w groups count dist dist' was now ⊎ ((dist' ≡ dist) × (now ≡ was + 1))
+
 -- so many rows of a list visit all groups, one after the other
 abbrev pub RowsVisit : (ℕ → ℕ → Option ℕ) → List Group → ℕ → List ℕ → ℕ → List ℕ → List ℕ → ℕ → ℕ → Type 0
 RowsVisit w groups count rows zero dist dist' was now = (dist' ≡ dist) × (now ≡ was)
 RowsVisit w groups count rows (suc t) dist dist' was now =
     (mid : List ℕ) × (paid : ℕ) × RowsVisit w groups count rows t dist mid was paid
-    × AreVisited (w (at rows t)) groups count mid dist' paid now
+    × RowVisits (w (at rows t)) groups count mid dist' paid now
 
 -- The rows of a search visit all groups, one after the other. No two of them are alike, so no pair is visited twice.
 pub record VisitsOnce (w : ℕ → ℕ → Option ℕ) (groups : List Group) (count : ℕ) (rows dist dist' : List ℕ) (was now : ℕ) : Type 0 where

@@ -4,6 +4,9 @@ ghost use Rattle.trip_model.specs.declared.limits.TheConstants.{MOST_SLOTS};
 
 use crate::order::Column;
 
+// A group has at most so many columns, so the nearest of them is soon found again.
+const MOST_COLUMNS: usize = 128;
+
 /// Columns next to each other that stand at one post and in the order of their minutes: those from one place until before
 /// another. And the minute of the last of them.
 #[derive(Clone, Copy)]
@@ -26,6 +29,7 @@ fn group_end(columns: &[Column], from: usize) -> usize
 {
     let mut to = from + 1;
     while to < columns.len()
+        && to - from < MOST_COLUMNS
         && columns[to].post == columns[from].post
         && columns[to - 1].minute <= columns[to].minute
     {

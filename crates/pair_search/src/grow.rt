@@ -8,7 +8,7 @@ ghost use Rattle.pair_search.specs.Fronts.{Shows};
 ghost use Rattle.pair_search.specs.Groups.{IsSeen};
 ghost use Rattle.pair_search.specs.Search.{at, as_columns, problem_of, tree_of, AreLooked, IsGiven, IsTree, IsNext, IsGrown};
 ghost use Rattle.pair_search.specs.Side.{side_slots, place_weight};
-ghost use Rattle.pair_search.specs.Visits.{AreVisited, RowsVisit, VisitsOnce};
+ghost use Rattle.pair_search.specs.Visits.{RowVisits, RowsVisit, VisitsOnce};
 
 use crate::limits::GREATEST_PRICE;
 use crate::scan::nearest;
@@ -67,12 +67,12 @@ impl Tree {
         ensures tree { (before : List (Option ℕ)) → IsGiven (problem_of side.now a before leave.new enter.now)
             → IsTree (problem_of side.now a before leave.new enter.now) (tree_of self.new 1 0) }
         ensures shown { Shows self.new 0 None GREATEST_PRICE (first_front (place_weight side.now) a enter.now (side_slots side.now)) }
-        ensures visited { AreVisited (place_weight side.now a) side.now.groups side.now.count (replicate (side_slots side.now) FAR)
+        ensures visited { RowVisits (place_weight side.now a) side.now.groups side.now.count (replicate (side_slots side.now) FAR)
             self.new.dist.items steps.old steps.new }
         ensures counted { steps.new ≤ steps.old + side_slots side.now }
     {
         leave[a as usize] = GREATEST_PRICE;
-        self.clear(side.groups(), side.slots());
+        self.clear(side.groups(), side.slots(), side.posts());
         self.rows[0] = a;
         self.far[0] = 0;
         self.look_from(side, a, 0, GREATEST_PRICE, enter, steps);
@@ -113,7 +113,7 @@ impl Tree {
             (at self.old.dist.items column + at leave.now row) enter.now
             (as_columns self.old.dist.items self.old.parent.items (slice_set self.old.done.items column true))
             (as_columns self.new.dist.items self.new.parent.items (slice_set self.old.done.items column true)) }
-        ensures visited { AreVisited (place_weight side.now row) side.now.groups side.now.count self.old.dist.items self.new.dist.items
+        ensures visited { RowVisits (place_weight side.now row) side.now.groups side.now.count self.old.dist.items self.new.dist.items
             steps.old steps.new }
         ensures counted { steps.new ≤ steps.old + side_slots side.now }
     {

@@ -19,6 +19,7 @@ mod groups;
 mod grow;
 mod invert;
 pub mod laws;
+mod leads;
 mod limits;
 mod line;
 mod links;

@@ -1,10 +1,11 @@
-ghost use Rattle.std.specs.Prelude.{◌≡◌, ℕ, ◌+◌, ◌-◌, ◌*◌, ◌<◌, ◌≤◌, ◌⊎◌, false, List, length, vec_len, Some, IfSome, IfNone};
+ghost use Rattle.std.specs.Prelude.{◌≡◌, ℕ, ◌+◌, ◌-◌, ◌*◌, ◌<◌, ◌≤◌, ◌⊎◌, true, false, List, length, vec_len, Some, IfSome, IfNone};
 ghost use Rattle.pair_search.specs.Determined.{first_nearest};
-ghost use Rattle.pair_search.specs.Groups.{group_at, AreApproached, AreNear, AreReached, IsNearer, IsSeen};
+ghost use Rattle.pair_search.specs.Groups.{group_at, AreApproached, AreNear, AreReached, IsNearer, IsSeen, IsSpent};
 ghost use Rattle.pair_search.specs.Search.{at, is_done, as_columns, columns_of, AreLooked, Columns, IsNearest};
 ghost use Rattle.pair_search.specs.Side.{side_slots, line_weight, place_weight};
-ghost use Rattle.pair_search.specs.Visits.{AreVisited, IsVisited};
+ghost use Rattle.pair_search.specs.Visits.{AreVisited, IsVisited, RowVisits};
 
+use crate::leads::Lead;
 use crate::limits::{FAR, GREATEST_PRICE};
 use crate::line::Line;
 use crate::side::Side;
@@ -122,6 +123,50 @@ pub(crate) struct Nearby {
 }
 
 impl Tree {
+    // Whether no column of a group comes nearer by a row that is so far with its price. Most are told by two comparisons: the row
+    // is in time for none, or all that it is in time for were reached at no more.
+    fn is_spent(&self, line: &Line<'_>, group: usize, start: u64) -> bool
+        requires group { group < line.now.side.count }
+        requires room { line.now.side.count ≤ length self.now.seen.items }
+        requires start { start ≤ 2 * GREATEST_PRICE }
+        ensures { result ≡ true → (enter : List ℕ) → IsSeen line.now.side enter self.now
+            → IsSpent line.now (group_at line.now.side.groups group) start enter (columns_of self.now) }
+    {
+        let Some(reach) = line.reach_of(group) else {
+            return true;
+        };
+        let was = self.seen[group];
+        let cost = start + GREATEST_PRICE - line.share.saved + u64::from(reach.walk);
+        cost >= was.cost && u32::from(reach.minute) >= was.minute
+    }
+
+    // The first group from one on of which columns may come nearer by a row. For those before it the look is a step.
+    fn pass<L: Ledger>(
+        &self,
+        line: &Line<'_>,
+        group: usize,
+        start: u64,
+        steps: &mut Steps<L>,
+    ) -> usize
+        requires group { group ≤ line.now.side.count }
+        requires room { line.now.side.count ≤ length self.now.seen.items }
+        requires start { start ≤ 2 * GREATEST_PRICE }
+        ensures after { group ≤ result }
+        ensures within { result ≤ line.now.side.count }
+        ensures spent { (r : ℕ) (enter : List ℕ) → group ≤ r → r < result → IsSeen line.now.side enter self.now
+            → IsSpent line.now (group_at line.now.side.groups r) start enter (columns_of self.now) }
+        ensures counted { steps.new ≡ steps.old + (result - group) }
+    {
+        let count = line.side.groups();
+        for next in group..count {
+            if !self.is_spent(line, next, start) {
+                return next;
+            }
+            steps.tick();
+        }
+        count
+    }
+
     // Looks at a group of columns from a place of the tree, which is so far with the price of its row. Those that were reached at
     // no more from another place are not visited again. Where none is visited, the look is a step.
     fn look<L: Ledger>(
@@ -142,6 +187,7 @@ impl Tree {
         requires covers { (j k : ℕ) → line_weight line.now j ≡ Some k → k ≤ start + at enter.now j }
         ensures slots { vec_len self.new.dist ≡ vec_len self.old.dist }
         ensures rows { (self.new.rows.items ≡ self.old.rows.items) × (self.new.far.items ≡ self.old.far.items) }
+        ensures leads { self.new.leads.items ≡ self.old.leads.items }
         ensures looked { (was : Columns)
             → AreLooked (line_weight line.now) (group_at line.now.side.groups group).from from start enter.now was (columns_of self.old)
             → AreLooked (line_weight line.now) (group_at line.now.side.groups group).to from start enter.now was (columns_of self.new) }
@@ -155,11 +201,6 @@ impl Tree {
         };
         let was = self.seen[group];
         let cost = start + GREATEST_PRICE - line.share.saved + u64::from(reach.walk);
-        // Most looks end here: all columns that the row is in time for were reached at no more.
-        if cost >= was.cost && u32::from(reach.minute) >= was.minute {
-            steps.tick();
-            return;
-        }
         let upto = cut(was, cost, line.side.group(group).to);
         let first = line.first_fit(group, reach, upto);
         if first >= upto {
@@ -198,6 +239,7 @@ impl Tree {
         requires covers { (j k : ℕ) → line_weight line.now j ≡ Some k → k ≤ start + at enter.now j }
         ensures slots { vec_len self.new.dist ≡ vec_len self.old.dist }
         ensures rows { (self.new.rows.items ≡ self.old.rows.items) × (self.new.far.items ≡ self.old.far.items) }
+        ensures leads { self.new.leads.items ≡ self.old.leads.items }
         ensures looked { AreLooked (line_weight line.now) (side_slots line.now.side) from start enter.now (columns_of self.old)
             (columns_of self.new) }
         ensures seen { IsSeen line.now.side enter.now self.new }
@@ -206,13 +248,16 @@ impl Tree {
         ensures counted { steps.new ≤ steps.old + side_slots line.now.side }
     {
         let side = line.side;
-        for group in 0..side.groups() {
+        let count = side.groups();
+        let mut group = self.pass(line, 0, start, steps);
+        while group < count {
             self.look(line, group, from, start, enter, steps);
+            group = self.pass(line, group + 1, start, steps);
         }
     }
 
-    // Looks at all columns from a place of the tree, where a row is that is so far with its price. What the pairs of the row share
-    // stays at hand.
+    // Looks at all columns from a place of the tree, where a row is that is so far with its price. Where another row stands at
+    // the same post, no later, and is no farther, the row brings nothing nearer: that is a step.
     pub(crate) fn look_from<L: Ledger>(
         &mut self,
         side: &Side<'_>,
@@ -234,11 +279,26 @@ impl Tree {
         ensures looked { AreLooked (place_weight side.now row) (side_slots side.now) from start enter.now (columns_of self.old)
             (columns_of self.new) }
         ensures seen { IsSeen side.now enter.now self.new }
-        ensures visited { AreVisited (place_weight side.now row) side.now.groups side.now.count self.old.dist.items self.new.dist.items
+        ensures visited { RowVisits (place_weight side.now row) side.now.groups side.now.count self.old.dist.items self.new.dist.items
             steps.old steps.new }
         ensures counted { steps.new ≤ steps.old + side_slots side.now }
     {
+        // Its clauses say that moves are of one day.
+        let _slots = side.slots();
+        let Some(stand) = side.stand(row) else {
+            steps.tick();
+            return;
+        };
+        let lead = self.leads[stand.post as usize];
+        if start >= lead.start && stand.ready >= lead.ready {
+            steps.tick();
+            return;
+        }
         self.look_along(&side.line(row), from, start, enter, steps);
+        self.leads[stand.post as usize] = Lead {
+            ready: stand.ready,
+            start,
+        };
     }
 }
 

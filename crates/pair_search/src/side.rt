@@ -1,13 +1,17 @@
-ghost use Rattle.std.specs.Prelude.{◌≡◌, ℕ, ◌<◌, ◌≤◌, length, slice_index_or};
+ghost use Rattle.std.specs.Prelude.{◌≡◌, ℕ, ◌<◌, ◌≤◌, length, slice_index_or, IfSome};
+ghost use Rattle.std.specs.Option.{option_map};
 ghost use Rattle.assignment_model.specs.declared.limits.TheConstants.{MOST_DEADHEAD};
 ghost use Rattle.pair_search.specs.Arranged.{arranged, slots_of};
 ghost use Rattle.pair_search.specs.Assignment.{AreWeights};
 ghost use Rattle.pair_search.specs.Groups.{group_at, group_pull, AreGroups, IsOrderOf};
+ghost use Rattle.pair_search.specs.Leads.{stand_of};
 ghost use Rattle.pair_search.specs.Order.{IsRenaming};
 ghost use Rattle.pair_search.specs.Side.{side_slots, side_slot, side_place, side_weight, IsSideOf};
-ghost use Rattle.trip_model.specs.declared.limits.TheConstants.{MOST_SLOTS};
+ghost use Rattle.trip_model.specs.Plain.{move_at, AreMoves};
+ghost use Rattle.trip_model.specs.declared.limits.TheConstants.{MOST_PLACES, MOST_SLOTS};
 
 use crate::groups::Group;
+use crate::leads::{Stand, stand_of};
 use crate::line::Line;
 use crate::order::Column;
 use crate::orders::Order;
@@ -80,10 +84,19 @@ impl<'a> Side<'a> {
         ensures count { result ≡ side_slots self.now }
         ensures few { result ≤ MOST_SLOTS }
         ensures sound { AreWeights (side_weight self.now) result }
+        ensures moves { AreMoves (length self.now.pairs.matrix.walks) self.now.pairs.moves }
         ensures renaming { IsRenaming (side_slots self.now) (side_slot self.now) (side_place self.now) }
         ensures lengths { (length self.now.columns ≡ side_slots self.now) × (length self.now.places ≡ side_slots self.now) }
     {
         self.pairs.slots()
+    }
+
+    /// How many posts there are.
+    pub(crate) fn posts(&self) -> u16
+        ensures count { result ≡ length self.now.pairs.matrix.walks }
+        ensures few { result ≤ MOST_PLACES }
+    {
+        self.pairs.places()
     }
 
     /// How many groups of columns there are.
@@ -149,6 +162,17 @@ impl<'a> Side<'a> {
         ensures within { result < side_slots self.now }
     {
         self.places[slot as usize]
+    }
+
+    /// Where the vehicle of a row stands, where its trip runs.
+    pub(crate) fn stand(&self, row: u16) -> Option<Stand>
+        requires { row < side_slots self.now }
+        ensures stand { result ≡ option_map (stand_of self.now.turned) (move_at self.now.pairs.moves row) }
+        ensures within { IfSome result (λ stand. stand.post < length self.now.pairs.matrix.walks) }
+    {
+        let pairs = self.pairs;
+        let made = pairs.move_at(row)?;
+        Some(stand_of(self.turned, made))
     }
 
     /// A row with each column.

@@ -1,11 +1,12 @@
 ghost use Rattle.std.specs.Prelude.{◌≡◌, ◌+◌, ◌≤◌, vec_len, vec_capacity, replicate, false};
-ghost use Rattle.trip_model.specs.declared.limits.TheConstants.{MOST_SLOTS};
+ghost use Rattle.trip_model.specs.declared.limits.TheConstants.{MOST_PLACES, MOST_SLOTS};
 ghost use Rattle.pair_search.specs.declared.limits.TheConstants.{FAR, UNREACHED};
 
+use crate::leads::{Lead, UNLED};
 use crate::limits::{FAR, UNREACHED};
 use desk_io::Memory;
 use std::alloc::Global;
-use trip_model::MOST_SLOTS;
+use trip_model::{MOST_PLACES, MOST_SLOTS};
 
 /// What a search has seen of a group of columns. None that is not done is nearer than `near`. Those from a place on were reached
 /// at a cost, which leaves out the pull of their post. Those before it need a row sooner than at a minute.
@@ -26,7 +27,7 @@ pub(crate) const UNSEEN: Seen = Seen {
 };
 
 /// What a search grows. Of each group: what it has seen there. Of each column: how far it is, from which place of the tree it
-/// was reached, and whether it is done. Of each place of the tree: its row, and how far that is.
+/// was reached, and whether it is done. Of each place of the tree: its row, and how far that is. Of each post of rows: its lead.
 #[derive(Drop)]
 pub(crate) struct Tree {
     pub(crate) seen: Vec<Seen>,
@@ -35,6 +36,7 @@ pub(crate) struct Tree {
     pub(crate) done: Vec<bool>,
     pub(crate) rows: Vec<u16>,
     pub(crate) far: Vec<u64>,
+    pub(crate) leads: Vec<Lead>,
     ghost parents: { vec_len parent ≡ vec_len dist },
     ghost marks: { vec_len done ≡ vec_len dist },
     ghost row_places: { vec_len rows ≡ vec_len dist + 1 },
@@ -45,6 +47,7 @@ pub(crate) struct Tree {
     ghost room_done: { MOST_SLOTS ≤ vec_capacity done },
     ghost room_rows: { MOST_SLOTS + 1 ≤ vec_capacity rows },
     ghost room_far: { MOST_SLOTS + 1 ≤ vec_capacity far },
+    ghost room_leads: { MOST_PLACES ≤ vec_capacity leads },
 }
 
 impl Tree {
@@ -58,16 +61,19 @@ impl Tree {
             done: vec![in alloc; false; slots]?,
             rows: vec![in alloc; 0; slots + 1]?,
             far: vec![in alloc; 0; slots + 1]?,
+            leads: vec![in alloc; UNLED; usize::from(MOST_PLACES)]?,
         })
     }
 
-    /// Cuts the tree down: of so many groups nothing is seen, and of so many columns none is near or done.
-    pub(crate) fn clear(&mut self, groups: usize, slots: u16)
+    /// Cuts the tree down: of so many groups nothing is seen, of so many columns none is near or done, and so many posts have no lead.
+    pub(crate) fn clear(&mut self, groups: usize, slots: u16, posts: u16)
         requires groups { groups ≤ MOST_SLOTS }
         requires slots { slots ≤ MOST_SLOTS }
+        requires posts { posts ≤ MOST_PLACES }
         ensures seen { self.new.seen.items ≡ replicate groups (record { near = FAR; cost = UNREACHED; from = 65535; minute = 4294967295 }) }
         ensures dist { self.new.dist.items ≡ replicate slots FAR }
         ensures done { self.new.done.items ≡ replicate slots false }
+        ensures leads { self.new.leads.items ≡ replicate posts (record { ready = 65535; start = 0 }) }
         ensures slots { vec_len self.new.dist ≡ slots }
     {
         let slots = usize::from(slots);
@@ -80,5 +86,7 @@ impl Tree {
         let _ = self.parent.resize(slots, 0);
         let _ = self.rows.resize(slots + 1, 0);
         let _ = self.far.resize(slots + 1, 0);
+        self.leads.clear();
+        let _ = self.leads.resize(usize::from(posts), UNLED);
     }
 }

@@ -1,6 +1,7 @@
 use Rattle.std.proofs.Common.{◌≡◌, ◌∙◌, ◌<◌, ◌≤◌, ℕ, Bool, List, length, set, replicate, false, None, sym, ap, subst, arith}
 use Rattle.std.proofs.lemmas.List.{get_or-set_same, length-replicate}
 use Rattle.std.specs.Prelude.{vec_len}
+use Rattle.pair_search.specs.declared.leads.Lead.{Lead}
 use Rattle.pair_search.specs.declared.tree.Seen.{Seen}
 use Rattle.pair_search.specs.Determined.{Front, first_front}
 use Rattle.pair_search.specs.Fronts.{IsShown}
@@ -8,6 +9,7 @@ use Rattle.pair_search.specs.Groups.{seen_at, AreNear, AreReached}
 use Rattle.pair_search.specs.Search.{at, as_columns, columns_of, problem_of, AreLooked, IsTree}
 use Rattle.pair_search.specs.Side.{SideView, side_slots, place_weight}
 use Rattle.pair_search.proofs.GroupLemmas.{AreNear-none, AreReached-none, seen-none}
+use Rattle.pair_search.proofs.LeadLemmas.{AreLed-none}
 use Rattle.pair_search.proofs.ShownLemmas.{IsShown-begun}
 use Rattle.pair_search.proofs.TreeLemmas.{tree_with, IsTree-begun}
 use Rattle.pair_search.proofs.tree.Tree.begin.Goals as goal
@@ -54,7 +56,20 @@ look_from-requires-clause-seen g c =
     let reached : AreReached side c.args.enter.now was.done.items was.dist.items was.seen.items =
     AreReached-none side c.args.enter.now was.done.items was.dist.items was.seen.items c.requires.few are.within
     (λ r lt. let e = at-none r lt in (omega (arith, ap (λ (s : Seen). s.from) e), omega (arith, ap (λ (s : Seen). s.cost) e))) in
-    record { room = room; near = near; reached = reached }
+    record {
+      room = room;
+      near = near;
+      reached = reached;
+      posts = omega (
+        arith,
+        ap length c.clear.ensures.leads,
+        length-replicate {A = Lead} c.posts.result (record { ready = 65535; start = 0 }),
+        c.posts.ensures.count,
+      );
+      led =
+          AreLed-none side c.args.enter.now was.done.items was.dist.items was.leads.items c.posts.result c.slots.ensures.moves
+          c.clear.ensures.leads;
+    }
 
 pub returns-clause-shown : goal.returns-clause-shown
 returns-clause-shown g c =

@@ -35,6 +35,8 @@ visit-requires-clause-seen g c =
           (c.nearest.ensures.reached c.args.enter.now
           (AreReached-same side c.args.enter.now was.done.items _ was.dist.items _ was.seen.items _
           (sym c.deref.ensures.value) (sym c.deref-in-loop-column.ensures.value) (sym c.deref_mut.ensures.value) seen.reached));
+      posts = seen.posts;
+      led = seen.led;
     }
 
 pub visit-requires-clause-enter_low : goal.visit-requires-clause-enter_low

@@ -10,6 +10,7 @@ use Rattle.pair_search.specs.Search.{at}
 use Rattle.pair_search.specs.Side.{LineView, side_slots, line_weight, reach_weight}
 use Rattle.pair_search.specs.Visits.{IsVisited}
 use Rattle.pair_search.proofs.FitLemmas.{too-soon, weighs-same}
+use Rattle.pair_search.proofs.LeadLemmas.{AreLed-nearer}
 use Rattle.pair_search.proofs.LentLemmas.{written}
 use Rattle.pair_search.proofs.LookLemmas.{AreApproached-same, AreLooked-group, AreLooked-spent}
 use Rattle.pair_search.proofs.GroupLemmas.{AreNear-look, AreReached-look, length-seen}
@@ -22,59 +23,11 @@ returns-in_default-clause-visited g c =
     IsVisited-none (line_weight line) (group_at line.side.groups c.args.group) c.args.self.now.dist.items c.args.steps.now c.tick.new.self
     c.tick.ensures
 
-pub returns-then-from-was-clause-visited : goal.returns-then-from-was-clause-visited
-returns-then-from-was-clause-visited g c =
-    let line : LineView = c.args.line.now in
-    IsVisited-none (line_weight line) (group_at line.side.groups c.args.group) c.args.self.now.dist.items c.args.steps.now
-    c.tick-then-from-was.new.self c.tick-then-from-was.ensures
-
 pub returns-then-first-upto-clause-visited : goal.returns-then-first-upto-clause-visited
 returns-then-first-upto-clause-visited g c =
     let line : LineView = c.args.line.now in
     IsVisited-none (line_weight line) (group_at line.side.groups c.args.group) c.args.self.now.dist.items c.args.steps.now
     c.tick-then-first-upto.new.self c.tick-then-first-upto.ensures
-
-pub returns-then-from-was-clause-looked : goal.returns-then-from-was-clause-looked
-returns-then-from-was-clause-looked g c = λ before l.
-    let line : LineView = c.args.line.now in
-    let group : Group = group_at line.side.groups c.args.group in
-    let was = c.args.self.now in
-    let read : c.index-was.result.now ≡ seen_at was.seen.items c.args.group =
-    get_or_read was.seen.items c.args.group c.index-was.result.now (omega (arith, c.requires.seen.room, c.requires.group))
-    c.index-was.ensures (record { near = 0; cost = 0; from = 0; minute = 0 }) in
-    let dear = ap (λ (s : Seen). s.cost) read in
-    let start = ap (λ (s : Seen). s.from) read in
-    let saved = ap (λ (l : LineView). l.share.saved) c.line.view_is in
-    let ready = ap (λ (s : Seen). s.minute) read in
-    AreLooked-spent (line_weight line) group.from group.to c.args.from c.args.start c.index-was.result.now.from c.args.enter.now before _
-    (λ j from lt early. too-soon line group c.in-Some.reach c.in-Some.ensures j from lt
-    (λ d. omega (
-      arith,
-      ready,
-      c.if-from-was.true,
-      c.from-then-cost-was.ensures,
-      c.requires.seen.reached.sooner c.args.group j d c.requires.group from lt (omega (arith, early, start))
-          (omega (
-            arith,
-            dear,
-            c.if-cost-was.true,
-            c.from.ensures,
-            c.in-Some.ensures.walk,
-            c.requires.start,
-          )),
-    )))
-    (λ j k from lt late undone is. omega (
-      arith,
-      weighs-same line group c.in-Some.reach c.in-Some.ensures j k from lt is,
-      c.requires.seen.reached.covered c.args.group j c.requires.group (omega (arith, late, start)) from lt undone,
-      dear,
-      saved,
-      c.if-cost-was.true,
-      c.from.ensures,
-      c.in-Some.ensures.walk,
-      c.line.invariant.1.least,
-      c.line.invariant.1.most,
-    )) l
 
 pub returns-then-first-upto-clause-looked : goal.returns-then-first-upto-clause-looked
 returns-then-first-upto-clause-looked g c = λ before l.
@@ -277,6 +230,10 @@ returns-clause-seen g c =
           (λ cheaper. omega (arith, cheaper.3, missed j d from (omega (arith, early, cheaper.2))))
           c.renewed.ensures.reached)
           c.requires.seen.reached;
+      posts = c.requires.seen.posts;
+      led =
+          AreLed-nearer line.side c.args.enter.now was.done.items was.done.items was.dist.items _ was.leads.items a.nearer (λ j e. e)
+          c.requires.seen.led;
     }
 
 pub returns-clause-visited : goal.returns-clause-visited

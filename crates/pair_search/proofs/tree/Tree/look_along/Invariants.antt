@@ -1,4 +1,4 @@
-use Rattle.std.proofs.Common.{◌≡◌}
+use Rattle.std.proofs.Common.{◌≡◌, ◌-◌, ◌≤◌}
 use Rattle.std.specs.Prelude.{vec_len}
 use Rattle.pair_search.specs.Groups.{begins, IsSeen}
 use Rattle.pair_search.specs.Search.{columns_of, AreLooked}
@@ -8,10 +8,15 @@ use Rattle.pair_search.proofs.tree.Tree.look_along.Given as goal
 
 abbrev pub invariant-loop-group : goal.invariant-loop-group
 invariant-loop-group g l = record {
-  slots : vec_len l.self.dist ≡ vec_len l.initial.self.dist;
-  rows : (l.self.rows.items ≡ l.initial.self.rows.items) × (l.self.far.items ≡ l.initial.self.far.items);
+  within : l.group ≤ l.line.side.count;
+  slots : vec_len l.self.dist ≡ vec_len l.fn.self.dist;
+  rows : (l.self.rows.items ≡ l.fn.self.rows.items) × (l.self.far.items ≡ l.fn.self.far.items);
+  leads : l.self.leads.items ≡ l.fn.self.leads.items;
   looked : AreLooked (line_weight l.line) (begins (side_slots l.line.side) l.line.side.count l.line.side.groups l.group) l.from l.start
-      l.enter (columns_of l.initial.self) (columns_of l.self);
+      l.enter (columns_of l.fn.self) (columns_of l.self);
   seen : IsSeen l.line.side l.enter l.self;
-  visited : AreVisited (line_weight l.line) l.line.side.groups l.group l.initial.self.dist.items l.self.dist.items l.initial.steps l.steps;
+  visited : AreVisited (line_weight l.line) l.line.side.groups l.group l.fn.self.dist.items l.self.dist.items l.fn.steps l.steps;
 }
+
+abbrev pub decreases-loop-group : goal.decreases-loop-group
+decreases-loop-group g l = l.count - l.group
