@@ -13,8 +13,15 @@ use crate::tree::{Seen, Tree};
 use desk_io::Steps;
 use std::sync::ledger::Ledger;
 
-// Approaches the columns between two places at a cost, from a place of the tree: each is visited once, which is a step. It
-// answers how far the nearest is that came nearer by this.
+/// What was found of columns that were approached: how far the nearest is that came nearer by this, and whether one of them is not
+/// done.
+#[derive(Clone, Copy)]
+struct Found {
+    near: u64,
+    undone: bool,
+}
+
+// Approaches the columns between two places at a cost, from a place of the tree: each is visited once, which is a step.
 fn approach<L: Ledger>(
     first: u16,
     upto: u16,
@@ -25,7 +32,7 @@ fn approach<L: Ledger>(
     dist: &mut [u64],
     parent: &mut [u16],
     visits: &mut Steps<L>,
-) -> u64
+) -> Found
     requires enter { length enter.now ≡ length dist.old }
     requires done { length done.now ≡ length dist.old }
     requires parent { length parent.old ≡ length dist.old }
@@ -35,13 +42,16 @@ fn approach<L: Ledger>(
     requires low { (j : ℕ) → first ≤ j → j < upto → at enter.now j ≤ GREATEST_PRICE }
     requires enough { (j : ℕ) → first ≤ j → j < upto → GREATEST_PRICE ≤ cost + at enter.now j }
     ensures approached { AreApproached first upto from cost enter.now (as_columns dist.old parent.old done.now)
-        (as_columns dist.new parent.new done.now) result }
+        (as_columns dist.new parent.new done.now) result.near }
+    ensures undone { result.undone ≡ false → (j : ℕ) → first ≤ j → j < upto → is_done done.now j ≡ true }
     ensures counted { visits.new ≡ visits.old + (upto - first) }
 {
     let mut near = FAR;
+    let mut undone = false;
     for column in first..upto {
         visits.tick();
         let place = column as usize;
+        undone = undone | !done[place];
         let along = cost + enter[place] - GREATEST_PRICE;
         if along < dist[place] && !done[place] {
             dist[place] = along;
@@ -49,7 +59,7 @@ fn approach<L: Ledger>(
             near = near.min(along);
         }
     }
-    near
+    Found { near, undone }
 }
 
 // The place before which the columns of a group may come nearer at a cost: from it on they were reached at no more.
@@ -64,22 +74,23 @@ fn cut(was: Seen, cost: u64, to: u16) -> u16
     to.min(was.from)
 }
 
-// What is seen of a group after its columns from a place on were approached at a cost.
-fn renewed(was: Seen, near: u64, cost: u64, from: u16, minute: u32) -> Seen
-    ensures near { (result.near ≤ was.near) × (result.near ≤ near) }
-    ensures reached { ((result.cost ≡ was.cost) × (result.from ≡ was.from) × (result.minute ≡ was.minute))
-        ⊎ ((cost < was.cost) × (result.cost ≡ cost) × (result.from ≡ from) × (result.minute ≡ minute)) }
+// What is seen of a group after its columns from a place on were approached at a cost, or had been reached at no more. Where all that
+// were approached are done, the lower cost holds.
+fn renewed(was: Seen, found: Found, cost: u64, from: u16, minute: u32) -> Seen
+    ensures near { (result.near ≤ was.near) × (result.near ≤ found.near) }
+    ensures place { (result.from ≡ from) × (result.minute ≡ minute) }
+    ensures reached { (result.cost ≡ cost) ⊎ ((found.undone ≡ false) × (result.cost ≡ was.cost) × (was.cost ≤ cost)) }
 {
-    let near = near.min(was.near);
-    if cost < was.cost {
-        return Seen {
-            near,
-            cost,
-            from,
-            minute,
-        };
+    Seen {
+        near: found.near.min(was.near),
+        cost: if found.undone {
+            cost
+        } else {
+            cost.min(was.cost)
+        },
+        from,
+        minute,
     }
-    Seen { near, ..was }
 }
 
 // The nearest column between two places that is not done, if one is near.
@@ -207,7 +218,7 @@ impl Tree {
             steps.tick();
             return;
         }
-        let near = approach(
+        let found = approach(
             first,
             upto,
             from,
@@ -219,7 +230,7 @@ impl Tree {
             steps,
         );
         let missed = line.side.missed(group, first);
-        self.seen[group] = renewed(was, near, cost, first, missed);
+        self.seen[group] = renewed(was, found, cost, first, missed);
     }
 
     // Looks at all columns from a place of the tree, which is so far with the price of its row.

@@ -1,12 +1,12 @@
-use Rattle.std.proofs.Common.{◌≡◌, ◌+◌, ◌-◌, ◌<◌, ◌≤◌, ℕ, get_or, length, sym, ap, subst, ◌∙◌, ⊎_elim, arith}
-use Rattle.std.proofs.lemmas.Bool.{cases_lt}
+use Rattle.std.proofs.Common.{◌≡◌, ◌+◌, ◌-◌, ◌<◌, ◌≤◌, ℕ, get_or, length, true, refl, sym, ap, subst, ◌∙◌, ⊎_elim, arith}
+use Rattle.std.proofs.lemmas.Bool.{both_ways, cases_lt}
 use Rattle.std.proofs.lemmas.List.{get_or_read}
 use Rattle.std.proofs.lemmas.Option.{none-some}
 use Rattle.pair_search.specs.declared.groups.Group.{Group}
 use Rattle.pair_search.specs.declared.order.Column.{Column}
 use Rattle.pair_search.specs.declared.tree.Seen.{Seen}
 use Rattle.pair_search.specs.Groups.{group_at, group_pull, seen_at, AreGroups}
-use Rattle.pair_search.specs.Search.{at}
+use Rattle.pair_search.specs.Search.{at, is_done}
 use Rattle.pair_search.specs.Side.{LineView, side_slots, line_weight, reach_weight}
 use Rattle.pair_search.specs.Visits.{IsVisited}
 use Rattle.pair_search.proofs.FitLemmas.{too-soon, weighs-same}
@@ -60,20 +60,20 @@ returns-then-first-upto-clause-looked g c = λ before l.
       c.line.invariant.1.most,
     )) l
 
-pub approach-near-requires-clause-cost : goal.approach-near-requires-clause-cost
-approach-near-requires-clause-cost g c =
+pub approach-found-requires-clause-cost : goal.approach-found-requires-clause-cost
+approach-found-requires-clause-cost g c =
     omega (arith, c.requires.start, c.from.ensures, c.in-Some.ensures.walk, c.line.invariant.1.least)
 
-pub approach-near-requires-clause-low : goal.approach-near-requires-clause-low
-approach-near-requires-clause-low g c = λ j past lt.
+pub approach-found-requires-clause-low : goal.approach-found-requires-clause-low
+approach-found-requires-clause-low g c = λ j past lt.
     let line : LineView = c.args.line.now in
     let group : Group = group_at line.side.groups c.args.group in
     let fit = c.first_fit-first.ensures in
     c.requires.low j (reach_weight line group.post c.in-Some.reach)
     (fit.fits j (omega (arith, past, fit.after c.if-first-upto.false)) past lt)
 
-pub approach-near-requires-clause-enough : goal.approach-near-requires-clause-enough
-approach-near-requires-clause-enough g c = λ j past lt.
+pub approach-found-requires-clause-enough : goal.approach-found-requires-clause-enough
+approach-found-requires-clause-enough g c = λ j past lt.
     let line : LineView = c.args.line.now in
     let group : Group = group_at line.side.groups c.args.group in
     let saved = ap (λ (l : LineView). l.share.saved) c.line.view_is in
@@ -112,14 +112,14 @@ returns-clause-looked g c = λ before l.
     let pulled = c.pull.ensures.pull ∙ ap (λ (l : LineView). group_pull l.side c.args.group) c.line.view_is in
     let cost = c.args.start + 67111744 - c.line.inside.share.saved + c.from.result - c.from-2.result in
     let a =
-    AreApproached-same first upto c.args.from cost c.approach-near.result c.args.enter.now was.done.items _ was.dist.items _
-    was.parent.items _ _ c.approach-near.new.dist _ c.approach-near.new.parent
+    AreApproached-same first upto c.args.from cost c.approach-found.result.near c.args.enter.now was.done.items _ was.dist.items _
+    was.parent.items _ _ c.approach-found.new.dist _ c.approach-found.new.parent
     c.deref.ensures.value c.deref_mut.ensures.value c.deref_mut-2.ensures.value
-    (written c.approach-near.new.dist was.dist.items was.dist.len (c.approach-near.auto.dist ∙ c.deref_mut.ensures.len))
-    (written c.approach-near.new.parent was.parent.items was.parent.len (c.approach-near.auto.parent ∙ c.deref_mut-2.ensures.len))
-    c.approach-near.ensures.approached in
+    (written c.approach-found.new.dist was.dist.items was.dist.len (c.approach-found.auto.dist ∙ c.deref_mut.ensures.len))
+    (written c.approach-found.new.parent was.parent.items was.parent.len (c.approach-found.auto.parent ∙ c.deref_mut-2.ensures.len))
+    c.approach-found.ensures.approached in
     AreLooked-group (line_weight line) group.from first upto group.to c.args.from c.args.start
-    (reach_weight line group.post c.in-Some.reach) cost c.approach-near.result
+    (reach_weight line group.post c.in-Some.reach) cost c.approach-found.result.near
     c.args.enter.now before was.done.items was.dist.items was.parent.items _ _ fit.after (omega (arith, c.cut-upto.ensures.within, end))
     (λ j k from lt is.
     let same = weighs-same line group c.in-Some.reach c.in-Some.ensures j k from lt is in (
@@ -168,19 +168,18 @@ returns-clause-seen g c =
     let start = ap (λ (s : Seen). s.from) read in
     let saved = ap (λ (l : LineView). l.share.saved) c.line.view_is in
     let near = ap (λ (s : Seen). s.near) read in
-    let ready = ap (λ (s : Seen). s.minute) read in
     let fit = c.first_fit-first.ensures in
     let first = c.first_fit-first.result in
     let upto = c.cut-upto.result in
     let pulled = c.pull.ensures.pull ∙ ap (λ (l : LineView). group_pull l.side c.args.group) c.line.view_is in
     let cost = c.args.start + 67111744 - c.line.inside.share.saved + c.from.result - c.from-2.result in
     let a =
-    AreApproached-same first upto c.args.from cost c.approach-near.result c.args.enter.now was.done.items _ was.dist.items _
-    was.parent.items _ _ c.approach-near.new.dist _ c.approach-near.new.parent
+    AreApproached-same first upto c.args.from cost c.approach-found.result.near c.args.enter.now was.done.items _ was.dist.items _
+    was.parent.items _ _ c.approach-found.new.dist _ c.approach-found.new.parent
     c.deref.ensures.value c.deref_mut.ensures.value c.deref_mut-2.ensures.value
-    (written c.approach-near.new.dist was.dist.items was.dist.len (c.approach-near.auto.dist ∙ c.deref_mut.ensures.len))
-    (written c.approach-near.new.parent was.parent.items was.parent.len (c.approach-near.auto.parent ∙ c.deref_mut-2.ensures.len))
-    c.approach-near.ensures.approached in
+    (written c.approach-found.new.dist was.dist.items was.dist.len (c.approach-found.auto.dist ∙ c.deref_mut.ensures.len))
+    (written c.approach-found.new.parent was.parent.items was.parent.len (c.approach-found.auto.parent ∙ c.deref_mut-2.ensures.len))
+    c.approach-found.ensures.approached in
     let missed = subst (λ (l : LineView). (k : ℕ) (d : Column) → (group_at l.side.groups c.args.group).from ≤ k → k < first
     → (get_or l.side.columns k d).minute < c.missed-missed.result) c.line.view_is c.missed-missed.ensures in
     let are = subst (λ (l : LineView). AreGroups (side_slots l.side) l.side.columns l.side.count l.side.groups) c.line.view_is
@@ -191,44 +190,42 @@ returns-clause-seen g c =
     record {
       room = omega (arith, c.requires.seen.room, length-seen was.seen.items c.args.group c.renewed.result);
       near =
-          AreNear-look line.side are c.args.group first upto c.args.from cost c.approach-near.result
+          AreNear-look line.side are c.args.group first upto c.args.from cost c.approach-found.result.near
           c.args.enter.now was.done.items was.dist.items was.parent.items _ _ a was.seen.items c.renewed.result c.requires.group room after
           within (omega (arith, c.renewed.ensures.near.0, near)) c.renewed.ensures.near.1 c.requires.seen.near;
       reached =
-          AreReached-look line.side are c.args.group first upto c.args.from cost c.approach-near.result
+          AreReached-look line.side are c.args.group first upto c.args.from cost c.approach-found.result.near
           c.args.enter.now was.done.items was.dist.items was.parent.items _ _ a was.seen.items c.renewed.result c.requires.group room after
           within
           (λ j past from before undone. ⊎_elim
-          (λ same. omega (
+          (λ (here : j < upto). ⊎_elim
+          (λ is. omega (
             arith,
-            same.0,
-            dear,
-            a.nearer j,
-            c.requires.seen.reached.covered c.args.group j c.requires.group
-                (omega (arith, past, same.1, start)) from before undone,
-          ))
-          (λ cheaper. omega (
-            arith,
-            cheaper.1,
+            is,
             pulled,
             saved,
             c.from-2.ensures,
             c.pull.ensures.bound,
             c.line.invariant.1.most,
-            a.covered j (omega (arith, past, cheaper.2))
-                (omega (arith, before, end, c.cut-upto.ensures.cheaper cheaper.0)) undone,
+            a.covered j (omega (arith, past, c.renewed.ensures.place.0)) here undone,
           ))
+          (λ kept. absurd (both_ways true
+          (sym (c.approach-found.ensures.undone kept.0 j (omega (arith, past, c.renewed.ensures.place.0)) here)
+          ∙ ap (λ xs. is_done xs j) c.deref.ensures.value ∙ undone) refl))
           c.renewed.ensures.reached)
-          (λ j d from before early reached. ⊎_elim
-          (λ same. omega (
+          (λ (rest : upto ≤ j).
+          let left = c.cut-upto.ensures.rest j rest (omega (arith, before, end)) in
+          let old = c.requires.seen.reached.covered c.args.group j c.requires.group (omega (arith, left.1, start)) from before undone in
+          ⊎_elim
+          (λ is. omega (arith, is, left.0, dear, a.nearer j, old))
+          (λ kept. omega (arith, kept.1, kept.2, dear, a.nearer j, old))
+          c.renewed.ensures.reached)
+          (cases_lt j upto))
+          (λ j d from before early reached. omega (
             arith,
-            same.2,
-            ready,
-            c.requires.seen.reached.sooner c.args.group j d c.requires.group from before (omega (arith, early, same.1, start))
-                (omega (arith, reached, same.0, dear)),
+            c.renewed.ensures.place.1,
+            missed j d from (omega (arith, early, c.renewed.ensures.place.0)),
           ))
-          (λ cheaper. omega (arith, cheaper.3, missed j d from (omega (arith, early, cheaper.2))))
-          c.renewed.ensures.reached)
           c.requires.seen.reached;
       posts = c.requires.seen.posts;
       led =
@@ -245,9 +242,9 @@ returns-clause-visited g c =
     let fit = c.first_fit-first.ensures in
     let after = fit.after c.if-first-upto.false in
     let was = c.args.self.now in
-    let dists = written c.approach-near.new.dist was.dist.items was.dist.len (c.approach-near.auto.dist ∙ c.deref_mut.ensures.len) in
-    let a = c.approach-near.ensures.approached in
-    subst (λ dist'. IsVisited (line_weight line) group was.dist.items dist' c.args.steps.now c.approach-near.new.visits) (sym dists)
+    let dists = written c.approach-found.new.dist was.dist.items was.dist.len (c.approach-found.auto.dist ∙ c.deref_mut.ensures.len) in
+    let a = c.approach-found.ensures.approached in
+    subst (λ dist'. IsVisited (line_weight line) group was.dist.items dist' c.args.steps.now c.approach-found.new.visits) (sym dists)
     (record {
       first = c.first_fit-first.result;
       upto = c.cut-upto.result;
@@ -256,11 +253,11 @@ returns-clause-visited g c =
       fits = λ j past lt none. none-some (reach_weight line group.post c.in-Some.reach)
           (sym none ∙ fit.fits j (omega (arith, past, after)) past lt);
       others = λ j out. ⊎_elim
-          (λ (nearer : at c.approach-near.new.dist j < at c.deref_mut.result.now j).
+          (λ (nearer : at c.approach-found.new.dist j < at c.deref_mut.result.now j).
           let b = a.between j nearer in
           absurd (⊎_elim (λ before. omega (arith, before, b.0)) (λ past. omega (arith, past, b.1)) out))
-          (λ (far : at c.deref_mut.result.now j ≤ at c.approach-near.new.dist j). omega
+          (λ (far : at c.deref_mut.result.now j ≤ at c.approach-found.new.dist j). omega
           (arith, far, a.nearer j, ap (λ xs. at xs j) c.deref_mut.ensures.value))
-          (cases_lt (at c.approach-near.new.dist j) (at c.deref_mut.result.now j));
-      steps = omega (arith, c.approach-near.ensures.counted, c.if-first-upto.false);
+          (cases_lt (at c.approach-found.new.dist j) (at c.deref_mut.result.now j));
+      steps = omega (arith, c.approach-found.ensures.counted, c.if-first-upto.false);
     })
