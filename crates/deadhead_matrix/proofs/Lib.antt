@@ -1,14 +1,14 @@
 pub mod ClassLemmas
-pub mod Closed
+pub mod ClosedRow
 pub mod Days
 pub mod LeftLemmas
 pub mod MatrixLemmas
 pub mod NamedLemmas
 pub mod OneClass
 pub mod PlanLemmas
-pub mod SearchLemmas
 pub mod Standing
 pub mod TerminalWalks
 pub mod TimelyLinks
+pub mod TurnLemmas
 pub mod UnplacedLemmas
 pub mod WaysLemmas

@@ -11,7 +11,7 @@ use Rattle.deadhead_matrix.specs.declared.entry.Entry.{Entry}
 use Rattle.deadhead_matrix.specs.declared.pulls.Pull.{Pull}
 use Rattle.deadhead_matrix.specs.declared.pulls.TheConstants.{NO_PULL}
 use Rattle.deadhead_matrix.specs.Walks.{IsWalk, walk_minutes, IsLeastWalk}
-use Rattle.deadhead_matrix.specs.Search.{far, dist_at, found_at, walks_in, AreLeastRows}
+use Rattle.deadhead_matrix.specs.Rows.{far, dist_at, found_at, walks_in, AreLeastRows}
 use Rattle.deadhead_matrix.specs.Matrix.{MatrixView, walk, standing, empty_matrix, matrix_from, AreLeastWalks, IsSquare}
 
 -- as many walks as rows

@@ -10,7 +10,7 @@ use Rattle.std.proofs.lemmas.List.Elements.{Contains-append_left, Contains-push,
 use Rattle.std.proofs.lemmas.List.Folds.{Any-from_list_any, list_any_at}
 use Rattle.deadhead_matrix.specs.declared.entry.Entry.{Entry}
 use Rattle.deadhead_matrix.specs.Deadheads.{has_entry}
-use Rattle.deadhead_matrix.specs.Search.{way, AreRows, AreTold}
+use Rattle.deadhead_matrix.specs.Rows.{way, AreRows, AreTold}
 
 -- rows of nothing but zeros
 pub AreRows-zeros : (n : ℕ) → AreRows n (replicate n (replicate n 0))

@@ -7,6 +7,6 @@ pub mod Named
 pub mod Plans
 pub mod Posts
 pub mod Pulls
-pub mod Search
+pub mod Rows
 pub mod Terminals
 pub mod Walks

@@ -4,7 +4,7 @@ use Rattle.std.specs.List.{range_with_len}
 use Rattle.deadhead_matrix.specs.declared.entry.Entry.{Entry}
 use Rattle.deadhead_matrix.specs.declared.pulls.Pull.{Pull}
 use Rattle.deadhead_matrix.specs.declared.pulls.TheConstants.{NO_PULL}
-use Rattle.deadhead_matrix.specs.Search.{walks_in}
+use Rattle.deadhead_matrix.specs.Rows.{walks_in}
 use Rattle.deadhead_matrix.specs.Walks.{IsLeastWalk}
 
 -- the entries of the planner, the minutes of a least walk from each place to each, and the pulls of each place

@@ -6,12 +6,12 @@ ghost use Rattle.gtfs_tables.specs.Papers.{IsWithinLimit};
 ghost use Rattle.deadhead_matrix.specs.Deadheads.{deadheads_of, has_entry, with_entries, with_entry};
 ghost use Rattle.deadhead_matrix.specs.Left.{timetable_left};
 ghost use Rattle.deadhead_matrix.specs.Named.{HasGained, IsNamed};
-ghost use Rattle.deadhead_matrix.specs.Search.{way, AreRows, AreLeastRows};
+ghost use Rattle.deadhead_matrix.specs.Rows.{way, AreRows, AreLeastRows};
 
 use crate::distances::Distances;
 use crate::entry::Entry;
 use crate::read::read_deadheads;
-use crate::search::search;
+use crate::through::least_rows;
 use crate::ways::Ways;
 use desk_io::{Found, Memory};
 use gtfs_tables::{FeedFault, Paper};
@@ -38,7 +38,7 @@ impl Drop for Deadheads {
 impl Model for Deadheads {
     ghost use Rattle.std.specs.Prelude.{List};
     ghost use Rattle.deadhead_matrix.specs.declared.entry.Entry.{Entry};
-    ghost use Rattle.deadhead_matrix.specs.Search.{AreTold};
+    ghost use Rattle.deadhead_matrix.specs.Rows.{AreTold};
 
     ghost Value = { List Entry };
 
@@ -144,12 +144,7 @@ impl Deadheads {
         ensures count { IfOk result (λ rows. length rows.items ≡ places) }
         ensures least { IfOk result (λ rows. AreLeastRows self.now rows.items) }
     {
-        let mut rows: Vec<Distances> = Vec::new(alloc);
-        for place in 0..places {
-            let row = Distances::of(search(alloc, &self.ways, usize::from(place))?);
-            rows.push(row)?;
-        }
-        Ok(rows)
+        least_rows(alloc, &self.entries, &self.ways, places)
     }
 
     /// A copy of the entries.

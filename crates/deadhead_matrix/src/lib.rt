@@ -23,7 +23,7 @@
 //! - `Fitting`: which trips a vehicle can make one after the other
 //! - `Plans`: plans for a timetable and a matrix
 //!
-//! `Search` has the terms of the search from one place for proofs alone.
+//! `Rows` has the terms of rows of minutes, and of the turns that make them least, for proofs alone.
 #![tactic(auto)]
 
 mod deadheads;
@@ -36,7 +36,7 @@ mod matrix;
 mod posts;
 mod pulls;
 mod read;
-mod search;
+mod through;
 mod unplaced;
 mod walks;
 mod ways;

@@ -44,7 +44,7 @@ impl Drop for Matrix {
 
 impl Model for Matrix {
     ghost use Rattle.std.specs.Prelude.{◌≡◌, length};
-    ghost use Rattle.deadhead_matrix.specs.Search.{AreLeastRows};
+    ghost use Rattle.deadhead_matrix.specs.Rows.{AreLeastRows};
     ghost use Rattle.deadhead_matrix.specs.Matrix.{MatrixView, matrix_from};
 
     ghost Value = { MatrixView };
@@ -55,7 +55,7 @@ impl Model for Matrix {
 }
 
 impl Matrix {
-    /// The matrix of entries between so many places, without pulls: one search from each of them.
+    /// The matrix of entries between so many places, without pulls. Its minutes are made in a turn of each place.
     pub fn of(alloc: Global, deadheads: &Deadheads, places: u16) -> Result<Matrix, Memory>
         requires { places ≤ MOST_PLACES }
         ensures entries { IfOk result (λ matrix. matrix.entries ≡ deadheads.now) }

@@ -13,7 +13,7 @@ pub struct Walks<'a> {
 
 impl<'a> Model for Walks<'a> {
     ghost use Rattle.std.specs.Prelude.{List, Option, ℕ, ◌≤◌, length};
-    ghost use Rattle.deadhead_matrix.specs.Search.{walks_in, IsBounded};
+    ghost use Rattle.deadhead_matrix.specs.Rows.{walks_in, IsBounded};
 
     ghost Value = { List (Option ℕ) };
 

@@ -1,5 +1,5 @@
 use Rattle.std.proofs.Common.{◌≡◌, List, ℕ, replicate, subst, sym, ap, ◌∙◌, arith}
-use Rattle.deadhead_matrix.specs.Search.{AreRows, way}
+use Rattle.deadhead_matrix.specs.Rows.{AreRows, way}
 use Rattle.deadhead_matrix.proofs.WaysLemmas.{AreRows-zeros, way-zeros}
 use Rattle.deadhead_matrix.proofs.deadheads.no_ways.Goals as goal
 

@@ -2,7 +2,7 @@ use Rattle.std.proofs.Common.{◌≡◌, ℕ, List, [], ◌∷◌, ◌++◌, len
 use Rattle.std.proofs.lemmas.List.{length-set}
 use Rattle.deadhead_matrix.specs.declared.entry.Entry.{Entry}
 use Rattle.deadhead_matrix.specs.Deadheads.{has_entry}
-use Rattle.deadhead_matrix.specs.Search.{AreTold}
+use Rattle.deadhead_matrix.specs.Rows.{AreTold}
 use Rattle.deadhead_matrix.proofs.WaysLemmas.{AreTold-push, given-back}
 use Rattle.deadhead_matrix.proofs.deadheads.Deadheads.add.Goals as goal
 

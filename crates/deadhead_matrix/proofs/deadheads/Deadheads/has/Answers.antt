@@ -1,7 +1,7 @@
 use Rattle.std.proofs.Common.{◌≡◌, [], get_or, not, ◌==◌, ap, ◌∙◌, arith}
 use Rattle.std.proofs.lemmas.List.{get_or_default}
 use Rattle.deadhead_matrix.specs.Deadheads.{has_entry}
-use Rattle.deadhead_matrix.specs.Search.{way}
+use Rattle.deadhead_matrix.specs.Rows.{way}
 use Rattle.deadhead_matrix.proofs.WaysLemmas.{has_entry-told}
 use Rattle.deadhead_matrix.proofs.deadheads.Deadheads.has.Goals as goal
 

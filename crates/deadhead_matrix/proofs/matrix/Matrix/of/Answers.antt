@@ -2,7 +2,7 @@ use Rattle.std.proofs.Common.{List, replicate, ap, subst, sym, ◌∙◌}
 use Rattle.deadhead_matrix.specs.declared.entry.Entry.{Entry}
 use Rattle.deadhead_matrix.specs.declared.pulls.TheConstants.{NO_PULL}
 use Rattle.deadhead_matrix.specs.Matrix.{empty_matrix}
-use Rattle.deadhead_matrix.specs.Search.{AreLeastRows}
+use Rattle.deadhead_matrix.specs.Rows.{AreLeastRows}
 use Rattle.deadhead_matrix.proofs.MatrixLemmas.{AreLeastWalks-from, IsSquare-from, matrix-standing}
 use Rattle.deadhead_matrix.proofs.matrix.Matrix.of.Goals as goal
 

@@ -1,7 +1,7 @@
 use Rattle.std.proofs.Common.{subst, ◌∙◌}
 use Rattle.std.proofs.lemmas.List.FromFn.{length-map-range_with_len}
 use Rattle.deadhead_matrix.specs.Matrix.{AreLeastWalks}
-use Rattle.deadhead_matrix.specs.Search.{found_at}
+use Rattle.deadhead_matrix.specs.Rows.{found_at}
 use Rattle.deadhead_matrix.proofs.MatrixLemmas.{AreLeastWalks-from}
 use Rattle.deadhead_matrix.proofs.matrix.Matrix.walks_from.Goals as goal
 

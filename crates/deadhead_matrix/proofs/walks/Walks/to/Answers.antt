@@ -1,6 +1,6 @@
 use Rattle.std.proofs.Common.{◌<◌, List, length, get_or, Option, None, ℕ, sym, ap, ◌∙◌, arith}
 use Rattle.std.proofs.lemmas.List.FromFn.{get_or-map-range_with_len, length-map-range_with_len}
-use Rattle.deadhead_matrix.specs.Search.{found_at}
+use Rattle.deadhead_matrix.specs.Rows.{found_at}
 use Rattle.deadhead_matrix.proofs.walks.Walks.to.Goals as goal
 
 -- the place is one of those to which there are walks
