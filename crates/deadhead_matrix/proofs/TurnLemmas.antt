@@ -50,7 +50,8 @@ through-one n k before after are lt turn = record {
         omega (arith, is, are.low a b, turn.nearer a b))
         (cases_lt a n)
 
-pub AreDistances-turn : (n k : ℕ) (before after : List (List ℕ)) → AreDistances n before → k < n → IsTurn (get_or before k []) k n before after
+pub AreDistances-turn : (n k : ℕ) (before after : List (List ℕ)) → AreDistances n before → k < n
+    → IsTurn (get_or before k []) k n before after
     → AreDistances n after
 AreDistances-turn n k before after are lt turn = record {
   count = turn.count ∙ are.count;

@@ -97,9 +97,9 @@ fn turn_in(rows: &mut [Distances], via: usize, row: &[u32], start: usize)
     requires start { start < length rows.old }
     requires via { via < length row.now }
     requires columns { length (slice_index_or rows.old start []) ≡ length row.now }
-    requires from { between rows.old start via ≤ far }
+    requires far { (b : ℕ) → between rows.old start b ≤ far }
     requires low { (j : ℕ) → dist_at row.now j ≤ far }
-    ensures { (before : List (List ℕ)) → ((a b : ℕ) → between before a b ≤ far) → IsTurn row.now via start before rows.old → IsTurn row.now via (start + 1) before rows.new }
+    ensures { (before : List (List ℕ)) → IsTurn row.now via start before rows.old → IsTurn row.now via (start + 1) before rows.new }
 {
     let dist = &mut rows[start];
     let from = dist.minutes()[via];
