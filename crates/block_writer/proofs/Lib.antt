@@ -1,5 +1,7 @@
 pub mod BlockNamed
+pub mod CopiedLines
 pub mod FieldsWritten
+pub mod LinesJudged
 pub mod Numbered
 pub mod ReadAgain
 pub mod Rewritten

@@ -1,5 +1,5 @@
 -- The records of `stop_times.txt`, written with the times of shifted trips moved.
-use Rattle.std.specs.Prelude.{◌≡◌, ℕ, ◌+◌, ◌-◌, ◌*◌, ◌/◌, ◌%◌, ◌==◌, ◌&&◌, ℤ, pos, int_lt, unsigned_abs, List, [], ◌∷◌, ◌++◌, map, nat_lt}
+use Rattle.std.specs.Prelude.{◌≡◌, ◌≢◌, ℕ, ◌+◌, ◌-◌, ◌*◌, ◌/◌, ◌%◌, ◌==◌, ◌&&◌, ℤ, pos, int_lt, unsigned_abs, List, [], ◌∷◌, ◌++◌, map, nat_lt}
 use Rattle.std.specs.Prelude.{slice_set, Option, None, Some, Result, Ok, if◌then◌else◌}
 use Rattle.gtfs_tables.specs.Reading.{◌>>=◌, place_of, field_at}
 use Rattle.gtfs_tables.specs.Table.{TableView}
@@ -42,6 +42,10 @@ offset_of timetable base (Some s) = if nat_lt s base && (slot_at timetable s).tr
 -- no rows are moved, whatever slot they are of
 abbrev pub MovesNone : TimetableView → ℕ → Type 0
 MovesNone timetable base = (slot : Option ℕ) → offset_of timetable base slot ≡ pos 0
+
+-- the rows of some slot are moved
+abbrev pub MovesSome : TimetableView → ℕ → Type 0
+MovesSome timetable base = (slot : Option ℕ) × (offset_of timetable base slot ≢ pos 0)
 
 -- a record with its times moved; where its trip is not shifted, as it came
 abbrev pub moved_by : ℤ → ℕ → ℕ → List (List ℕ) → List (List ℕ)

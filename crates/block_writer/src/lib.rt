@@ -20,6 +20,7 @@
 
 mod fields;
 pub mod laws;
+mod plain;
 mod stop_times;
 mod texts;
 mod trips;

@@ -1,4 +1,5 @@
-ghost use Rattle.std.specs.Prelude.{◌≡◌, ◌≢◌, ◌<◌, ◌≤◌, ◌++◌, false, All, Err, IfErr, IfOk, IsUtf8, OnOk, Some, length, map, slice_set};
+ghost use Rattle.std.specs.Prelude.{◌≡◌, ◌≢◌, ◌<◌, ◌≤◌, ◌++◌, false, true, All, Err, IfErr, IfOk, IsUtf8, OnOk, Some};
+ghost use Rattle.std.specs.Prelude.{length, map, slice_set};
 ghost use Rattle.std.proofs.Props.{props};
 ghost use Rattle.gtfs_tables.specs.declared.fault.FeedFault.{FeedFault};
 ghost use Rattle.gtfs_tables.specs.declared.paper.Paper.{Paper};
@@ -10,9 +11,10 @@ ghost use Rattle.trip_model.specs.Timetable.{number_of, slot_names};
 ghost use Rattle.block_writer.specs.Texts.{IsRefusedPaper, IsTextPaper};
 ghost use Rattle.block_writer.specs.Fields.{slot_in};
 ghost use Rattle.block_writer.specs.StopTimes as spec;
-ghost use Rattle.block_writer.specs.StopTimes.{MovesNone};
+ghost use Rattle.block_writer.specs.StopTimes.{MovesNone, MovesSome};
 
 use crate::fields::text_of;
+use crate::plain::plain_bytes;
 use crate::texts::judge_texts;
 use desk_io::{Bytes, Found, Memory, Text};
 use gtfs_tables::{
@@ -79,7 +81,8 @@ fn offset_at(timetable: &Timetable, base: u16, slot: u16) -> i8
 
 // Whether the rows of some trip are moved.
 fn moves_some(timetable: &Timetable, base: u16) -> bool
-    ensures { result ≡ false → MovesNone timetable.now base }
+    ensures none { result ≡ false → MovesNone timetable.now base }
+    ensures some { result ≡ true → MovesSome timetable.now base }
 {
     for slot in 0..timetable.slots() {
         if offset_at(timetable, base, slot) != 0 {
@@ -276,7 +279,8 @@ impl<'a> RecordReader for StopTimes<'a> {
 /// The text of `stop_times_blocks.txt`, made in one pass over `stop_times.txt` that keeps no record. It has the records in
 /// their order, each with as many fields as the header. Times of arrival and departure are moved where a trip in one of the
 /// first `base` slots runs and is shifted. They are moved by its offset, and not below midnight. A field without a time stays
-/// as it is. All other fields are as they were. All fields must be UTF-8, and the first that is not is refused.
+/// as it is. All other fields are as they were. All fields must be UTF-8, and the first that is not is refused. Where no trip
+/// is shifted and the file is plain, its text is its bytes, and they are copied.
 pub fn stop_times_text(
     alloc: Global,
     found: &Found,
@@ -290,13 +294,19 @@ pub fn stop_times_text(
         → IsRefusedPaper Paper.StopTimes spec.stop_time_columns (table_in Paper.StopTimes found.now) refused) }
 {
     let header = read_header(alloc, Paper::StopTimes, found)?;
+    let some = moves_some(timetable, base);
+    if !some {
+        if let Some(bytes) = plain_bytes(header.len(), found) {
+            return Ok(Bytes::of(alloc, bytes)?);
+        }
+    }
     let mut records = RecordWriter::new(alloc);
     records.push_row(alloc, &header)?;
     let begun = StopTimes {
         alloc,
         timetable,
         base,
-        some: moves_some(timetable, base),
+        some,
         header: &header,
         records,
     };

@@ -2,6 +2,7 @@ use Rattle.std.proofs.lemmas.Result.{err_from_is_err_and}
 use Rattle.gtfs_tables.specs.Reading.{table_in}
 use Rattle.gtfs_tables.proofs.ReadingLemmas.{header-table}
 use Rattle.gtfs_tables.specs.declared.paper.Paper.TheVariants as paper
+use Rattle.block_writer.proofs.CopiedLines.{plain-copied}
 use Rattle.block_writer.proofs.Rewritten.{started, stop-times-made, stop-times-refused}
 use Rattle.block_writer.proofs.stop_times.stop_times_text.Goals as goal
 
@@ -26,3 +27,9 @@ returns-clause-written c =
     (stop-times-made c.args.timetable.now c.args.base c.in_ok-header.header c.push_row.new.self
     (table_in paper.StopTimes c.args.found.now) _
     (header-table paper.StopTimes c.args.found.now c.in_ok-header.header c.in_ok-header.ensures) begins c.in_ok-written.ensures)
+
+pub returns-in-Some-clause-written : goal.returns-in-Some-clause-written
+returns-in-Some-clause-written c =
+    rw c.in_ok-of.ensures
+    (plain-copied c.args.timetable.now c.args.base (c.moves_some-some.ensures.none c.if-not-some.true) c.len.result c.args.found.now
+    c.in-Some.bytes.now c.in-Some.ensures)
