@@ -12,7 +12,8 @@
 //!
 //! The contracts cite `Side` (the pairs, seen from one side), `Order` and `Groups` (how columns stand), `Assignment` and `Turned`
 //! (links and prices that are matched), and `Visits` (which pairs a search visits). `Determined` and `Arranged` say what a search
-//! finds, computed from its start. `Search`, `Relinking`, `Renamed`, `Fronts` and `Inverse` have terms for proofs alone.
+//! finds, computed from its start. `Search`, `Leads`, `Relinking`, `Renamed`, `Fronts` and `Inverse` have terms
+//! for proofs alone.
 #![tactic(auto)]
 
 mod groups;
