@@ -16,7 +16,7 @@ use std::sync::ledger::Ledger;
 /// What was found of columns that were approached: how far the nearest is that came nearer by this, and whether one of them is not
 /// done.
 #[derive(Clone, Copy)]
-struct Found {
+struct Approached {
     near: u64,
     undone: bool,
 }
@@ -32,7 +32,7 @@ fn approach<L: Ledger>(
     dist: &mut [u64],
     parent: &mut [u16],
     visits: &mut Steps<L>,
-) -> Found
+) -> Approached
     requires enter { length enter.now ≡ length dist.old }
     requires done { length done.now ≡ length dist.old }
     requires parent { length parent.old ≡ length dist.old }
@@ -59,7 +59,7 @@ fn approach<L: Ledger>(
             near = near.min(along);
         }
     }
-    Found { near, undone }
+    Approached { near, undone }
 }
 
 // The place before which the columns of a group may come nearer at a cost: from it on they were reached at no more.
@@ -76,7 +76,7 @@ fn cut(was: Seen, cost: u64, to: u16) -> u16
 
 // What is seen of a group after its columns from a place on were approached at a cost, or had been reached at no more. Where all that
 // were approached are done, the lower cost holds.
-fn renewed(was: Seen, found: Found, cost: u64, from: u16, minute: u32) -> Seen
+fn renewed(was: Seen, found: Approached, cost: u64, from: u16, minute: u32) -> Seen
     ensures near { (result.near ≤ was.near) × (result.near ≤ found.near) }
     ensures place { (result.from ≡ from) × (result.minute ≡ minute) }
     ensures reached { (result.cost ≡ cost) ⊎ ((found.undone ≡ false) × (result.cost ≡ was.cost) × (was.cost ≤ cost)) }
