@@ -21,7 +21,11 @@ field-byte b feed comma bare = by (nat_lt b 128) (b == 34) (b == 13) refl refl r
     by false quote return l q r is = absurd (cc)
     by true true return l q r is = absurd (cc)
     by true false true l q r is = absurd (cc)
-    by true false false l q r is = record { ascii = ltb-true b 128 l; no_feed = eqb-false b 10 feed; unquoted = rw (comma, q, r, feed) refl }
+    by true false false l q r is = record {
+      ascii = ltb-true b 128 l;
+      no_feed = eqb-false b 10 feed;
+      unquoted = rw (comma, q, r, feed) refl;
+    }
 
 -- what a byte is after which a line has so many fields
 abbrev pub After : ℕ → ℕ → ℕ → ℕ → Type 0
@@ -32,7 +36,8 @@ pub after : (columns fields b now : ℕ) → fields_after columns fields b ≡ S
 after columns fields b now is = by (b == 10) (fields == columns) (b == 44) (is_bare b) refl refl refl refl is
   where
     by : (feed full comma bare : Bool) → (b == 10) ≡ feed → (fields == columns) ≡ full → (b == 44) ≡ comma → is_bare b ≡ bare
-        → (if feed then (if full then Some 1 else None) else if comma then Some (fields + 1) else if bare then Some fields else None) ≡ Some now
+        → (if feed then (if full then Some 1 else None) else if comma then Some (fields + 1) else if bare then Some fields else None)
+        ≡ Some now
         → After columns fields b now
     by true true comma bare e f c p is = inl (eqb-true b 10 e, eqb-true fields columns f, cc)
     by true false comma bare e f c p is = absurd (cc)

@@ -1,6 +1,6 @@
 -- The records of `stop_times.txt`, written with the times of shifted trips moved.
-use Rattle.std.specs.Prelude.{◌≡◌, ◌≢◌, ℕ, ◌+◌, ◌-◌, ◌*◌, ◌/◌, ◌%◌, ◌==◌, ◌&&◌, ℤ, pos, int_lt, unsigned_abs, List, [], ◌∷◌, ◌++◌, map, nat_lt}
-use Rattle.std.specs.Prelude.{slice_set, Option, None, Some, Result, Ok, if◌then◌else◌}
+use Rattle.std.specs.Prelude.{◌≡◌, ◌≢◌, ℕ, ◌+◌, ◌-◌, ◌*◌, ◌/◌, ◌%◌, ◌==◌, ◌&&◌, ℤ, pos, int_lt, unsigned_abs, List, [], ◌∷◌, ◌++◌, map}
+use Rattle.std.specs.Prelude.{nat_lt, slice_set, Option, None, Some, Result, Ok, if◌then◌else◌}
 use Rattle.gtfs_tables.specs.Reading.{◌>>=◌, place_of, field_at}
 use Rattle.gtfs_tables.specs.Table.{TableView}
 use Rattle.gtfs_tables.specs.Times.{seconds_of, two_digits}
