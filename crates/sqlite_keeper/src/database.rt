@@ -1,5 +1,7 @@
 use desk_io::Text;
-use sqlite::{Alter, Connection, Error, ErrorCode, File, FileStore, Transaction, params};
+use sqlite::{
+    Alter, Connection, Error, ErrorCode, File, FileStore, Row, Statement, Transaction, params,
+};
 use std::alloc::Global;
 use std::path::Path;
 
@@ -10,44 +12,70 @@ const INSERT_LINE: &str = "INSERT INTO journal(line) VALUES (?1)";
 
 const FIRST_LINES: &str = "SELECT line FROM journal ORDER BY seq LIMIT ?1";
 
-/// An open database that has the table of the journal. No other program opens it until it is dropped. Then its log is
-/// copied into its file, which holds the whole journal from there on.
+/// What is asked of a database.
+#[derive(Clone, Copy)]
+pub(crate) enum Ask<'a> {
+    /// The first lines of the journal, at most so many.
+    FirstLines(i64),
+    /// That all lines are appended in one transaction, or none.
+    Append(&'a [Text]),
+}
+
+/// An open database. No other program opens it until it is dropped. Then its log is copied into its file, which holds the
+/// whole journal from there on.
 pub(crate) struct Database {
     connection: Connection<FileStore<File>>,
+    // Whether an earlier call made the table of the journal, where it was not there.
+    has_table: bool,
 }
 
 impl Drop for Database {
     fn drop(self) {
-        let Database { connection } = self;
+        let Database {
+            connection,
+            has_table: _,
+        } = self;
         // What was committed stays in the log where it cannot be copied.
         let _ = connection.close();
     }
 }
 
 impl Database {
-    /// Opens `journal.db` in a folder. The file and its table are made where they are not there.
+    /// Opens `journal.db` in a folder. The file is made where it is not there.
     pub fn open(rt: &HostRuntime, folder: &str) -> Result<Database, Error> {
         let path = Path::new(folder).join(rt.alloc(), "journal.db")?;
-        let mut database = Database {
+        Ok(Database {
             connection: Connection::open(rt, path.as_str())?,
-        };
-        make_table(&mut database.connection)?;
-        Ok(database)
+            has_table: false,
+        })
     }
 
-    /// The first lines of the journal, at most so many.
-    pub fn first_lines(&mut self, alloc: Global, most: i64) -> Result<Vec<Text>, Error> {
-        first_lines(alloc, &mut self.connection, most)
-    }
-
-    /// Appends all lines in one transaction, or none.
-    pub fn append(&mut self, lines: &[Text]) -> Result<(), Error> {
-        append(&mut self.connection, lines)
+    /// Does what is asked, and answers the lines that were asked for. An append answers none. The first call makes the table
+    /// of the journal where it is not there.
+    pub fn answer(&mut self, alloc: Global, ask: Ask) -> Result<Vec<Text>, Error> {
+        let has_table = self.has_table;
+        self.has_table = true;
+        answer(alloc, &mut self.connection, has_table, ask)
     }
 }
 
-fn make_table<S: Alter>(connection: &mut Connection<S>) -> Result<(), Error> {
-    connection.execute_batch(MAKE_TABLE)
+// Does what is asked. It reaches every statement, so that the store of a database is put in at a single call.
+fn answer<S: Alter>(
+    alloc: Global,
+    connection: &mut Connection<S>,
+    has_table: bool,
+    ask: Ask,
+) -> Result<Vec<Text>, Error> {
+    if !has_table {
+        connection.execute_batch(MAKE_TABLE)?;
+    }
+    match ask {
+        Ask::FirstLines(most) => first_lines(alloc, connection, most),
+        Ask::Append(lines) => {
+            append(connection, lines)?;
+            Ok(Vec::new(alloc))
+        }
+    }
 }
 
 fn first_lines<S: Alter>(
@@ -55,18 +83,40 @@ fn first_lines<S: Alter>(
     connection: &mut Connection<S>,
     most: i64,
 ) -> Result<Vec<Text>, Error> {
+    let rows = connection.query_all(FIRST_LINES, params![most])?;
     let mut lines = Vec::new(alloc);
-    for row in connection.query_all(FIRST_LINES, params![most])? {
-        lines.push(Text::wrap(row.get(0)?))?;
-    }
+    push_lines(rows, &mut lines)?;
     Ok(lines)
+}
+
+// The lines of rows, behind those that are there.
+fn push_lines(rows: Vec<Row>, lines: &mut Vec<Text>) -> Result<(), Error> {
+    for row in rows {
+        push_line(&row, lines)?;
+    }
+    Ok(())
+}
+
+// The line of a row, behind those that are there.
+fn push_line(row: &Row, lines: &mut Vec<Text>) -> Result<(), Error> {
+    lines.push(Text::wrap(row.get(0)?))?;
+    Ok(())
 }
 
 // Inserts line after line by one prepared statement. Nothing of it stays until the transaction commits.
 fn insert<S: Alter>(transaction: &mut Transaction<'_, S>, lines: &[Text]) -> Result<(), Error> {
     let insert_line = transaction.prepare(INSERT_LINE)?;
+    insert_each(transaction, &insert_line, lines)
+}
+
+// Inserts line after line by a statement.
+fn insert_each<S: Alter>(
+    transaction: &mut Transaction<'_, S>,
+    insert_line: &Statement,
+    lines: &[Text],
+) -> Result<(), Error> {
     for line in lines {
-        transaction.execute_prepared(&insert_line, params![line.as_str()])?;
+        transaction.execute_prepared(insert_line, params![line.as_str()])?;
     }
     Ok(())
 }

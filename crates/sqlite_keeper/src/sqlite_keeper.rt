@@ -1,6 +1,6 @@
 ghost use Rattle.std.specs.Prelude.{◌≡◌, ◌+◌, length, nat_le, if◌then◌else◌, pos, Ok, Err};
 
-use crate::database::Database;
+use crate::database::{Ask, Database};
 use desk_io::{History, Request, Text};
 use desk_keeper::{Keeper, KeeperFault, Lines};
 use sqlite::{Error, ErrorCode};
@@ -49,36 +49,27 @@ impl<'a> SqliteKeeper<'a> {
         }
     }
 
-    fn first_lines(&mut self, alloc: Global, most: i64) -> Result<Vec<Text>, Error>
+    // Does what is asked of the database, which is closed where that fails.
+    fn ask(&mut self, alloc: Global, ask: Ask) -> Result<Vec<Text>, Error>
         ensures state { keeper_state_of self.new ≡ keeper_state_of self.old }
         ensures history { keeper_history_of self.new ≡ keeper_history_of self.old }
     {
         let mut database = self.open()?;
-        let lines = database.first_lines(alloc, most)?;
+        let lines = database.answer(alloc, ask)?;
         self.database = Some(database);
         Ok(lines)
     }
 
-    fn append(&mut self, lines: &[Text]) -> Result<(), Error>
-        ensures state { keeper_state_of self.new ≡ keeper_state_of self.old }
-        ensures history { keeper_history_of self.new ≡ keeper_history_of self.old }
-    {
-        let mut database = self.open()?;
-        database.append(lines)?;
-        self.database = Some(database);
-        Ok(())
-    }
-
     // What a call answers to what the database answered. An error that says lack of memory is answered as that. Every other one
     // is counted.
-    fn answer<T: Drop>(&mut self, answered: Result<T, Error>) -> Result<T, KeeperFault>
-        ensures done { IfOk answered (λ value. result ≡ Ok value) }
+    fn answer(&mut self, answered: Result<Vec<Text>, Error>) -> Result<Vec<Text>, KeeperFault>
+        ensures done { IfOk answered (λ lines. result ≡ Ok lines) }
         ensures refused { IfErr answered (λ error. result ≡ Err (refusal_of error)) }
         ensures state { Loads result (keeper_state_of self.old) (keeper_state_of self.new) }
         ensures history { keeper_history_of self.new ≡ keeper_history_of self.old }
     {
         match answered {
-            Ok(value) => Ok(value),
+            Ok(lines) => Ok(lines),
             Err(
                 Error::SqliteFailure(ErrorCode::OutOfMemory)
                 | Error::SqlInputError(CompileError::OutOfMemory),
@@ -132,13 +123,14 @@ impl<'a> Keeper for SqliteKeeper<'a> {
 
     fn load(&mut self, alloc: Global, limit: u32) -> Result<Lines, KeeperFault> {
         self.history = self.history.then(&Request::Load);
-        let found = self.first_lines(alloc, asked(limit));
+        let found = self.ask(alloc, Ask::FirstLines(asked(limit)));
         self.answer_load(found, limit)
     }
 
-    fn append_all(&mut self, _: Global, lines: &[Text]) -> Result<(), KeeperFault> {
+    fn append_all(&mut self, alloc: Global, lines: &[Text]) -> Result<(), KeeperFault> {
         self.history = self.history.then(&Request::Append(lines));
-        let appended = self.append(lines);
-        self.answer(appended)
+        let appended = self.ask(alloc, Ask::Append(lines));
+        self.answer(appended)?;
+        Ok(())
     }
 }
