@@ -27,10 +27,18 @@ fn names_of(alloc: Global, set: BTreeSet<Text>) -> Result<Vec<Text>, Memory>
 }
 
 // The services of the two files.
-#[derive(Drop)]
 struct Services {
     calendar: Calendar,
     dates: CalendarDates,
+}
+
+impl Drop for Services {
+    fn drop(self) {
+        let Self {
+            calendar: _,
+            dates: _,
+        } = self;
+    }
 }
 
 impl Model for Services {
