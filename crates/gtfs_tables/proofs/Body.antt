@@ -8,8 +8,7 @@ use Rattle.std.proofs.lemmas.List.Folds.{list_any-append}
 use Rattle.std.proofs.lemmas.Bool.{le-ltb, lt-ltb, ltb-false, or_parts}
 use Rattle.gtfs_tables.proofs.Fields.{length-padded}
 use Rattle.gtfs_tables.specs.Rows.{padded}
-use Rattle.gtfs_tables.specs.Table.{body_of, is_longer, table_of, unless_too_long, IsFaultOf}
-use Rattle.gtfs_tables.specs.Records.{records}
+use Rattle.gtfs_tables.specs.Table.{body_of, is_longer, table_from, unless_too_long, IsFaultOf}
 use Rattle.gtfs_tables.specs.declared.table.TableFault.{TableFault}
 use Rattle.gtfs_tables.specs.declared.table.TableFault.TheVariants.{Memory, NoHeader, RowTooLong}
 
@@ -85,9 +84,8 @@ body-rows width all rows e =
     by (Some r) e = cc e
 
 -- a fault of the rows is one of the table
-pub table-fault : (bytes : List ℕ) (header : List (List ℕ)) (left : List (List (List ℕ))) (fault : TableFault)
-    → records bytes ≡ header ∷ left
-    → IsFaultOf (body_of (length header) left) fault → IsFaultOf (table_of bytes) fault
-table-fault bytes header left NoHeader split due = rw (split, due) refl
-table-fault bytes header left (RowTooLong r) split due = rw (split, due) refl
-table-fault bytes header left Memory split due = tt
+pub table-fault : (all : List (List (List ℕ))) (header : List (List ℕ)) (left : List (List (List ℕ))) (fault : TableFault)
+    → all ≡ header ∷ left → IsFaultOf (body_of (length header) left) fault → IsFaultOf (table_from all) fault
+table-fault all header left NoHeader split due = rw (split, due) refl
+table-fault all header left (RowTooLong r) split due = rw (split, due) refl
+table-fault all header left Memory split due = tt

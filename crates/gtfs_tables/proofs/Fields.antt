@@ -1,6 +1,6 @@
 -- The fields of a record with empty ones at its end.
 use Rattle.std.proofs.Common.{◌≡◌, ℕ, zero, suc, ◌+◌, ◌-◌, ◌<◌, ◌≤◌, List, [], ◌∷◌, ◌++◌, add-one, drop, length, get_or, replicate, take}
-use Rattle.std.proofs.Common.{unwrap_or, All, get_or-drop, refl, sym, subst, ap, arith}
+use Rattle.std.proofs.Common.{unwrap_or, All, get_or-drop, refl, sym, arith}
 use Rattle.std.specs.Str.{IsAscii, IsUtf8}
 use Rattle.std.proofs.lemmas.List.{append-nil, get_or_append_left, length-append, length-replicate}
 use Rattle.std.proofs.lemmas.List.Elements.{All-append, All-cons, All-nil, All-replicate}

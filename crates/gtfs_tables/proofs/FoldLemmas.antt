@@ -5,13 +5,12 @@ use Rattle.std.proofs.lemmas.Bool.{le-ltb, lt-ltb}
 use Rattle.std.proofs.lemmas.List.{append-nil}
 use Rattle.gtfs_tables.proofs.Fields.{padded-length}
 use Rattle.gtfs_tables.proofs.ReadingLemmas.{Fails->>=, Fails-due, Fails-equal}
-use Rattle.gtfs_tables.specs.Fold.{bytes_read, due, longer_from, paper_read, rest_read, table_read, unless_longer, AreChanged, AreLeft}
+use Rattle.gtfs_tables.specs.Fold.{due, longer_from, paper_read, rest_read, table_read, unless_longer, AreChanged, AreLeft}
 use Rattle.gtfs_tables.specs.Fold.{Change, ColumnsIn, IsTableChanged, IsTableLeft, LeftBy, Leaving, Step}
 use Rattle.desk_io.specs.declared.shelf.Found.{Found}
 use Rattle.gtfs_tables.specs.Reading.{◌>>=◌, each_record, judged, nothing, or_refused, table_in, Fails}
 use Rattle.gtfs_tables.specs.Rows.{padded}
-use Rattle.gtfs_tables.specs.Records.{records}
-use Rattle.gtfs_tables.specs.Table.{TableView, table_from, table_of, unless_too_long, with_header}
+use Rattle.gtfs_tables.specs.Table.{TableView, table_from, unless_too_long, with_header}
 use Rattle.gtfs_tables.specs.declared.fault.FeedFault.{FeedFault}
 use Rattle.gtfs_tables.specs.declared.fault.FeedFault.TheVariants as fault
 use Rattle.gtfs_tables.specs.declared.paper.Paper.{Paper}
@@ -166,14 +165,16 @@ module _ {A : Type 0} (changes : Change A) where
     changed-record rest fields row more next is change =
         changed-more rest fields row more next is change more (unchanged more (map (padded width) rest))
 
--- the records of a file are the header, as it was read, and those that are left
-pub header-split : (bytes : List ℕ) (all left : List Fields) (fields row : Fields) → all ≡ records bytes → all ≡ fields ∷ left
-    → row ≡ padded 0 fields
-    → records bytes ≡ row ∷ left
-header-split bytes all left fields row are split is =
+-- a header that was read is its record, since nothing is put at its end
+pub header-split : (all left : List Fields) (fields row : Fields) → all ≡ fields ∷ left → row ≡ padded 0 fields → all ≡ row ∷ left
+header-split all left fields row split is =
     let none : 0 - length fields ≡ 0 = omega arith in
     let same : row ≡ fields = is ∙ rw none (append-nil fields) in
-    sym are ∙ split ∙ ap (λ header. header ∷ left) (sym same)
+    split ∙ ap (λ header. header ∷ left) (sym same)
+
+-- what the records of a paper give, the first of which is the header
+abbrev pub records_read : {C A : Type 0} → Paper → ColumnsIn C → (C → Step A) → A → List Fields → Result A FeedFault
+records_read paper columns_in step start all = or_refused paper (table_from all) >>= table_read columns_in step start
 
 -- what a table of records is: its header and its records, none of them longer
 table-parts : (header : Fields) (left : List Fields) (table : TableView) → table_from (header ∷ left) ≡ Ok table
@@ -186,12 +187,12 @@ table-parts header left table is = by (longer_from (length header) 1 left) is
     by (Some n) is = cc is
 
 module _ {C A : Type 0} (paper : Paper) (columns_in : ColumnsIn C) (step : C → Step A) (start : A)
-    (bytes : List ℕ) (header : Fields) (left : List Fields) (split : records bytes ≡ header ∷ left) where
-  -- what the bytes give is what their columns give and then their records, none of them longer
-  bytes-give : bytes_read paper columns_in step start bytes
+    (all : List Fields) (header : Fields) (left : List Fields) (split : all ≡ header ∷ left) where
+  -- what the records give is what their columns give and then their records, none of them longer
+  records-give : records_read paper columns_in step start all
       ≡ unless_longer paper (longer_from (length header) 1 left)
       (columns_in header >>= λ columns. each_record (step columns) 1 start (map (padded (length header)) left))
-  bytes-give = ap (λ rows. or_refused paper (table_from rows) >>= table_read columns_in step start) split
+  records-give = ap (λ rows. or_refused paper (table_from rows) >>= table_read columns_in step start) split
       ∙ by (longer_from (length header) 1 left)
     where
       by : (longer : Option ℕ) → (or_refused paper (with_header header (unless_too_long longer (map (padded (length header)) left))) >>=
@@ -202,11 +203,11 @@ module _ {C A : Type 0} (paper : Paper) (columns_in : ColumnsIn C) (step : C →
       by (Some n) = refl
 
   module _ (columns : C) (gives : columns_in header ≡ Ok columns) where
-    pub columns-give : bytes_read paper columns_in step start bytes ≡ rest_read paper (length header) (step columns) 1 start left
-    columns-give = bytes-give ∙ ap (λ read. unless_longer paper (longer_from (length header) 1 left)
+    pub columns-give : records_read paper columns_in step start all ≡ rest_read paper (length header) (step columns) 1 start left
+    columns-give = records-give ∙ ap (λ read. unless_longer paper (longer_from (length header) 1 left)
         (read >>= λ columns. each_record (step columns) 1 start (map (padded (length header)) left))) gives
 
-    pub columns-leave : (leaving : C → Leaving A) (table : TableView) (after : A) → table_of bytes ≡ Ok table
+    pub columns-leave : (leaving : C → Leaving A) (table : TableView) (after : A) → table_from all ≡ Ok table
         → (longer_from (length header) 1 left ≡ None
         → AreLeft (step columns) (leaving columns) 1 start (map (padded (length header)) left) after)
         → IsTableLeft columns_in step leaving start table after
@@ -217,7 +218,7 @@ module _ {C A : Type 0} (paper : Paper) (columns_in : ColumnsIn C) (step : C →
         (λ columns. AreLeft (step columns) (leaving columns) 1 start (map (padded (length header)) left) after)) (sym gives)
         (leaves parts.0))
 
-    pub columns-change : (changes : C → Change A) (table : TableView) (after : A) → table_of bytes ≡ Ok table
+    pub columns-change : (changes : C → Change A) (table : TableView) (after : A) → table_from all ≡ Ok table
         → AreChanged (changes columns) start (map (padded (length header)) left) after → IsTableChanged columns_in changes start table after
     columns-change changes table after is are =
         let parts = table-parts header left table (subst (λ rows. table_from rows ≡ Ok table) split is) in
@@ -225,12 +226,12 @@ module _ {C A : Type 0} (paper : Paper) (columns_in : ColumnsIn C) (step : C →
 
   module _ (refused told : FeedFault) (fails : Fails refused (columns_in header))
       (tells : told ≡ due paper (longer_from (length header) 1 left) refused) where
-    pub header-refused : Fails told (bytes_read paper columns_in step start bytes)
-    header-refused = Fails-equal told _ _ (sym bytes-give)
+    pub header-refused : Fails told (records_read paper columns_in step start all)
+    header-refused = Fails-equal told _ _ (sym records-give)
         (Fails-told told (due paper (longer_from (length header) 1 left) refused) _ tells
         (due-fails paper (longer_from (length header) 1 left) refused _ _ fails))
 
-    pub header-leaves : (leaving : C → Leaving A) (table : TableView) → table_of bytes ≡ Ok table → told ≢ fault.Memory
+    pub header-leaves : (leaving : C → Leaving A) (table : TableView) → table_from all ≡ Ok table → told ≢ fault.Memory
         → IsTableLeft columns_in step leaving start table start
     header-leaves leaving table is other =
         let parts = table-parts header left table (subst (λ rows. table_from rows ≡ Ok table) split is) in

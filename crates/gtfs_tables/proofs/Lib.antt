@@ -1,3 +1,4 @@
+pub mod TimeLemmas
 pub mod TwoDigits
 pub mod CsvRecords
 pub mod Fields

@@ -1,5 +1,6 @@
-ghost use Rattle.std.specs.Prelude.{◌≡◌, ◌≢◌, IfOk, string_bytes};
+ghost use Rattle.std.specs.Prelude.{◌≡◌, ◌≢◌, ◌++◌, IfOk, codes, string_bytes};
 ghost use Rattle.gtfs_tables.specs.Faults.{record_text_of, trip_text_of, fault_text_of, feed_line_of};
+ghost use Rattle.gtfs_tables.specs.Papers.{file_name_of};
 ghost use Rattle.gtfs_tables.specs.declared.fault.FeedFault.TheVariants as feed_fault;
 
 use crate::{Column, Paper};
@@ -53,11 +54,24 @@ pub enum FeedFault {
     Memory,
 }
 
-// What is printed of a record.
-fn record_text(alloc: Global, paper: Paper, number: u32, what: &str) -> Result<String, AllocError>
-    ensures { IfOk result (λ text. string_bytes text ≡ record_text_of paper number what.now) }
+// What is printed of a file: its name, and what is refused in two parts.
+fn file_text(alloc: Global, paper: Paper, what: &str, more: &str) -> Result<String, AllocError>
+    ensures { IfOk result (λ text. string_bytes text ≡ file_name_of paper ++ (codes ": " ++ (what.now ++ more.now))) }
 {
-    format!(in alloc; "{} record {number}: {what}", paper.file_name())
+    format!(in alloc; "{}: {what}{more}", paper.file_name())
+}
+
+// What is printed of a record: its file and number, and what is refused in two parts.
+fn record_text(
+    alloc: Global,
+    paper: Paper,
+    number: u32,
+    what: &str,
+    more: &str,
+) -> Result<String, AllocError>
+    ensures { IfOk result (λ text. string_bytes text ≡ record_text_of paper number (what.now ++ more.now)) }
+{
+    format!(in alloc; "{} record {number}: {what}{more}", paper.file_name())
 }
 
 // What is printed of a trip.
@@ -73,65 +87,38 @@ fn fault_text(alloc: Global, fault: &FeedFault) -> Result<String, AllocError>
     ensures { IfOk result (λ text. string_bytes text ≡ fault_text_of fault.now) }
 {
     match fault {
-        FeedFault::Missing(paper) => format!(in alloc; "{}: missing", paper.file_name()),
-        FeedFault::TooLong(paper) => format!(in alloc; "{}: too long", paper.file_name()),
-        FeedFault::NoHeader(paper) => format!(in alloc; "{}: no header", paper.file_name()),
-        FeedFault::NoColumn(paper, column) => {
-            format!(in alloc; "{}: no column {}", paper.file_name(), column.name())
-        }
-        FeedFault::TooManyPlaces(paper) => format!(in alloc;
-            "{}: too many places",
-            paper.file_name()
-        ),
-        FeedFault::TooManyRecords(paper) => format!(in alloc;
-            "{}: too many records",
-            paper.file_name()
-        ),
-        FeedFault::NotToml => format!(in alloc; "desk.toml: not TOML"),
-        FeedFault::BadSettings(key) => format!(in alloc; "desk.toml: bad {}", key.as_str()),
+        FeedFault::Missing(paper) => file_text(alloc, *paper, "missing", ""),
+        FeedFault::TooLong(paper) => file_text(alloc, *paper, "too long", ""),
+        FeedFault::NoHeader(paper) => file_text(alloc, *paper, "no header", ""),
+        FeedFault::NoColumn(paper, column) => file_text(alloc, *paper, "no column ", column.name()),
+        FeedFault::TooManyPlaces(paper) => file_text(alloc, *paper, "too many places", ""),
+        FeedFault::TooManyRecords(paper) => file_text(alloc, *paper, "too many records", ""),
+        FeedFault::NotToml => file_text(alloc, Paper::Settings, "not TOML", ""),
+        FeedFault::BadSettings(key) => file_text(alloc, Paper::Settings, "bad ", key.as_str()),
         FeedFault::TooFewStops(trip) => trip_text(alloc, trip, "has too few stops"),
         FeedFault::DuplicateSequence(trip) => trip_text(alloc, trip, "has a sequence twice"),
         FeedFault::NoTime(trip) => trip_text(alloc, trip, "has no time at an end"),
         FeedFault::NotForward(trip) => trip_text(alloc, trip, "not forward"),
-        FeedFault::RowTooLong(paper, number) => record_text(
-            alloc,
-            *paper,
-            *number,
-            "too many fields",
-        ),
-        FeedFault::DuplicateRow(paper, number) => record_text(alloc, *paper, *number, "duplicate"),
-        FeedFault::SameTerminal(number) => record_text(
-            alloc,
-            Paper::Deadheads,
-            *number,
-            "same terminal",
-        ),
-        FeedFault::TooManyTrips(number) => record_text(
-            alloc,
-            Paper::Trips,
-            *number,
-            "too many trips",
-        ),
+        FeedFault::RowTooLong(paper, number) => {
+            record_text(alloc, *paper, *number, "too many fields", "")
+        }
+        FeedFault::DuplicateRow(paper, number) => {
+            record_text(alloc, *paper, *number, "duplicate", "")
+        }
+        FeedFault::SameTerminal(number) => {
+            record_text(alloc, Paper::Deadheads, *number, "same terminal", "")
+        }
+        FeedFault::TooManyTrips(number) => {
+            record_text(alloc, Paper::Trips, *number, "too many trips", "")
+        }
         FeedFault::NotUtf8(paper, number, column) => {
-            format!(in alloc;
-                "{} record {number}: {} not UTF-8",
-                paper.file_name(),
-                column.name()
-            )
+            record_text(alloc, *paper, *number, column.name(), " not UTF-8")
         }
         FeedFault::EmptyField(paper, number, column) => {
-            format!(in alloc;
-                "{} record {number}: empty {}",
-                paper.file_name(),
-                column.name()
-            )
+            record_text(alloc, *paper, *number, "empty ", column.name())
         }
         FeedFault::BadNumber(paper, number, column) | FeedFault::BadTime(paper, number, column) => {
-            format!(in alloc;
-                "{} record {number}: bad {}",
-                paper.file_name(),
-                column.name()
-            )
+            record_text(alloc, *paper, *number, "bad ", column.name())
         }
         FeedFault::Memory => unreachable!(),
     }

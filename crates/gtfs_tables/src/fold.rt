@@ -1,13 +1,13 @@
 ghost use Rattle.std.specs.Prelude.{◌≡◌, ◌≢◌, ℕ, ◌+◌, ◌<◌, ◌≤◌, IfErr, IfOk, List, Ok, Err, None, Result, length, map};
 ghost use Rattle.gtfs_tables.specs.declared.fault.FeedFault.{FeedFault};
 ghost use Rattle.gtfs_tables.specs.declared.paper.TheConstants.{MOST_BYTES};
-ghost use Rattle.gtfs_tables.specs.Fold.{due, longer_from, bytes_read, optional_read, paper_read, rest_read};
+ghost use Rattle.gtfs_tables.specs.Fold.{due, longer_from, bytes_read, optional_read, paper_read, rest_read, table_read};
 ghost use Rattle.gtfs_tables.specs.Fold.{AreChanged, AreLeft, IsTableChanged, IsTableLeft};
 ghost use Rattle.gtfs_tables.specs.Papers.{IsWithinLimit};
-ghost use Rattle.gtfs_tables.specs.Reading.{Gives, header_in, judged, table_in};
+ghost use Rattle.gtfs_tables.specs.Reading.{◌>>=◌ as followed_by, Gives, header_in, judged, or_refused, table_in};
 ghost use Rattle.gtfs_tables.specs.Records.{records_left, IsReading};
 ghost use Rattle.gtfs_tables.specs.Rows.{padded};
-ghost use Rattle.gtfs_tables.specs.Table.{TableView, table_of};
+ghost use Rattle.gtfs_tables.specs.Table.{TableView, table_from, table_of};
 
 use crate::records::reader_over;
 use crate::{FeedFault, Paper, Row};
@@ -133,6 +133,35 @@ fn read_rest<R: TracedReader>(
     Ok(())
 }
 
+// Takes in the header and the records of a paper, which a reader is before.
+fn read_from<R: TracedReader>(
+    paper: Paper,
+    reader: &mut Reader<&[u8]>,
+    row: &mut Row,
+    records: &mut R,
+) -> Result<(), FeedFault>
+    requires reading { IsReading reader.old }
+    requires count { length (records_left reader.old) ≤ MOST_BYTES }
+    ensures gives { Gives (λ _. R.state records.new) result
+        (followed_by (or_refused paper (table_from (records_left reader.old)))
+        (table_read R.columns_in (R.step (R.kept records.old)) (R.state records.old))) }
+    ensures left { (table : TableView) → table_from (records_left reader.old) ≡ Ok table → result ≢ Err FeedFault.Memory
+        → IsTableLeft R.columns_in (R.step (R.kept records.old)) (R.Leaves (R.kept records.old)) (R.state records.old) table
+        (R.state records.new) }
+    ensures changed { (table : TableView) → table_from (records_left reader.old) ≡ Ok table
+        → IsTableChanged R.columns_in (R.Changes (R.kept records.old)) (R.state records.old) table (R.state records.new) }
+    ensures kept { R.kept records.new ≡ R.kept records.old }
+{
+    if !row.read(reader, 0)? {
+        return Err(FeedFault::NoHeader(paper));
+    }
+    let width = row.len();
+    match records.columns(row) {
+        Ok(columns) => read_rest(paper, width, &columns, reader, row, records),
+        Err(refused) => Err(due_of(paper, width, 0, reader, row, refused)?),
+    }
+}
+
 // Takes in the records of the bytes of a paper.
 fn read_bytes<R: TracedReader>(
     alloc: Global,
@@ -152,14 +181,7 @@ fn read_bytes<R: TracedReader>(
 {
     let mut reader = reader_over(alloc, bytes);
     let mut row = Row::new(alloc);
-    if !row.read(&mut reader, 0)? {
-        return Err(FeedFault::NoHeader(paper));
-    }
-    let width = row.len();
-    match records.columns(&row) {
-        Ok(columns) => read_rest(paper, width, &columns, &mut reader, &mut row, records),
-        Err(refused) => Err(due_of(paper, width, 0, &mut reader, &mut row, refused)?),
-    }
+    read_from(paper, &mut reader, &mut row, records)
 }
 
 /// Takes in the records of a paper that must be there, in one pass that keeps none of them; or answers the first refusal. A

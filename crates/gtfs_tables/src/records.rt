@@ -36,6 +36,22 @@ pub(crate) fn next_record(
     }
 }
 
+// The records that are left.
+fn rows_left(
+    alloc: Global,
+    reader: &mut Reader<&[u8]>,
+    fields: &mut ByteRecord,
+) -> Result<Vec<Row>, Memory>
+    requires { IsReading reader.old }
+    ensures { IfOk result (λ rows. rows.items ≡ records_left reader.old) }
+{
+    let mut rows = Vec::new(alloc);
+    'records: while next_record(reader, fields)? {
+        rows.push(Row::of(fields, fields.len())?)?;
+    }
+    Ok(rows)
+}
+
 /// The records of a file, in order: comma-separated, with fields in double quotes where they need them, and of any
 /// lengths. One leading byte-order mark is taken off.
 pub fn read_rows(alloc: Global, bytes: &[u8]) -> Result<Vec<Row>, Memory>
@@ -43,9 +59,5 @@ pub fn read_rows(alloc: Global, bytes: &[u8]) -> Result<Vec<Row>, Memory>
 {
     let mut reader = reader_over(alloc, bytes);
     let mut fields = ByteRecord::new(alloc);
-    let mut rows = Vec::new(alloc);
-    'records: while next_record(&mut reader, &mut fields)? {
-        rows.push(Row::of(&fields, fields.len())?)?;
-    }
-    Ok(rows)
+    rows_left(alloc, &mut reader, &mut fields)
 }

@@ -1,7 +1,7 @@
 ghost use Rattle.std.specs.Prelude.{◌≡◌, ◌+◌, ◌-◌, ◌<◌, ◌≤◌, IfErr, IfOk, IfSome, [], Ok, length, slice_index_or};
 ghost use Rattle.gtfs_tables.specs.declared.paper.TheConstants.{MOST_BYTES};
 ghost use Rattle.gtfs_tables.specs.Records.{records_left, IsReading};
-ghost use Rattle.gtfs_tables.specs.Table.{body_of, column_of, table_of, IsFaultOf};
+ghost use Rattle.gtfs_tables.specs.Table.{body_of, column_of, table_from, table_of, IsFaultOf};
 ghost use Rattle.gtfs_tables.specs.declared.table.TableFault.TheVariants as table_fault;
 
 use crate::Row;
@@ -90,6 +90,25 @@ fn read_body(
     Ok(rows)
 }
 
+// The table of the records that are left, the first of which is the header.
+fn read_table(
+    alloc: Global,
+    reader: &mut Reader<&[u8]>,
+    fields: &mut ByteRecord,
+) -> Result<Table, TableFault>
+    requires reading { IsReading reader.old }
+    requires count { length (records_left reader.old) ≤ MOST_BYTES }
+    ensures table { IfOk result (λ table. table_from (records_left reader.old) ≡ Ok table) }
+    ensures fault { IfErr result (λ fault. IsFaultOf (table_from (records_left reader.old)) fault) }
+{
+    if !next_record(reader, fields)? {
+        return Err(TableFault::NoHeader);
+    }
+    let header = Row::of(fields, fields.len())?;
+    let rows = read_body(alloc, reader, fields, header.len())?;
+    Ok(Table { header, rows })
+}
+
 impl Table {
     /// The table of a file of at most [`MOST_BYTES`](crate::MOST_BYTES) bytes. The first record is the header.
     pub fn read(alloc: Global, bytes: &[u8]) -> Result<Table, TableFault>
@@ -99,12 +118,7 @@ impl Table {
     {
         let mut reader = reader_over(alloc, bytes);
         let mut fields = ByteRecord::new(alloc);
-        if !next_record(&mut reader, &mut fields)? {
-            return Err(TableFault::NoHeader);
-        }
-        let header = Row::of(&fields, fields.len())?;
-        let rows = read_body(alloc, &mut reader, &mut fields, header.len())?;
-        Ok(Table { header, rows })
+        read_table(alloc, &mut reader, &mut fields)
     }
 
     /// The first column whose name, without spaces at both ends, equals the name; columns count from 0.

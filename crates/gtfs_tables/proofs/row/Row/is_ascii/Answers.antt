@@ -1,7 +1,6 @@
 use Rattle.std.proofs.Common.{subst}
 use Rattle.std.specs.Bool.{MatchBool}
 use Rattle.std.specs.Str.{IsAscii, IsNotAscii}
-use Rattle.csv.specs.Records.{text_of}
 use Rattle.gtfs_tables.proofs.Fields.{padded-texts}
 use Rattle.gtfs_tables.proofs.row.Row.is_ascii.Goals as goal
 

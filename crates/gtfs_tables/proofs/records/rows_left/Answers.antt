@@ -2,7 +2,7 @@ use Rattle.std.proofs.Common.{◌≡◌, ◌++◌, ◌∷◌, [], append_assoc}
 use Rattle.csv.specs.Records.{fields_of}
 use Rattle.gtfs_tables.specs.Records.{records_left}
 use Rattle.gtfs_tables.proofs.Fields.{padded-full}
-use Rattle.gtfs_tables.proofs.records.read_rows.Goals as goal
+use Rattle.gtfs_tables.proofs.records.rows_left.Goals as goal
 
 pub records-preserved : goal.records-preserved
 records-preserved c =
