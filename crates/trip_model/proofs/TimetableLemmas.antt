@@ -40,6 +40,15 @@ pub names-slots_of : {Y : Type 0} (es : List (String Y × Trip)) → map (λ s. 
 names-slots_of [] = refl
 names-slots_of (e ∷ es) = ap (λ ns. string_bytes e.0 ∷ ns) (names-slots_of es)
 
+-- a timetable has as many places and slots as its maps have entries
+pub places-count : {Y : Type 0} (classed : Bool) (es : List (String Y × Post)) (ts : List (String Y × Trip)) (early late : ℕ)
+    (t : TimetableView) → timetable_of classed es ts early late ≡ t → length es ≡ length t.places
+places-count classed es ts early late t view = sym (length-map es place_from) ∙ ap (λ (u : TimetableView). length u.places) view
+
+pub slots-count : {Y : Type 0} (classed : Bool) (es : List (String Y × Post)) (ts : List (String Y × Trip)) (early late : ℕ)
+    (t : TimetableView) → timetable_of classed es ts early late ≡ t → length ts ≡ length t.slots
+slots-count classed es ts early late t view = sym (length-map ts _) ∙ ap (λ (u : TimetableView). length u.slots) view
+
 -- a name's number is the index of its key
 pub number_of-keys : {Y : Type 0} (names : List (List ℕ)) (ks : List (String Y)) (name : List ℕ) → names ≡ map string_bytes ks
     → position (λ k. bytes_eq name (string_bytes k)) ks ≡ number_of names name
