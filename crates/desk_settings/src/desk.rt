@@ -167,6 +167,7 @@ impl DeskTable {
     fn standard(alloc: Global) -> Result<DeskTable, Memory>
         ensures { IfOk result (λ desk. desk ≡ spec.standard_desk) }
     {
+        let prefix = Text::of(alloc, "B")?;
         Ok(DeskTable {
             services: None,
             date: None,
@@ -175,7 +176,7 @@ impl DeskTable {
             layovers: Entries::new(alloc),
             early: Tolerance::of(0),
             late: Tolerance::of(0),
-            prefix: Text::of(alloc, "B")?,
+            prefix,
         })
     }
 
