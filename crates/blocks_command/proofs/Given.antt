@@ -20,7 +20,7 @@ use Rattle.blocks_command.specs.Answers.{answer_text, numbers_text}
 use Rattle.blocks_command.specs.Blocks.{IsPlanned, blocks_does, plan_files}
 
 -- what is written and put of a desk that has followed a script is that of its plans
-pub planned-of : {E : Type 0} (base : TimetableView) (lines : List Line) (matrix : MatrixView) (prefix : List ℕ) (followed : Followed)
+pub planned-of : {D E : Type 0} (base : TimetableView) (lines : List Line) (matrix : MatrixView) (prefix : List ℕ) (followed : Followed D)
     → HasFollowed (answer_text matrix prefix) base lines matrix followed → IsUtf8 prefix → (result : Result OutcomeView E)
     → IfOk result (λ outcome. outcome ≡ record {
       writes = plan_files followed.desk.script.timetable followed.desk.matrix prefix followed.desk.plan;

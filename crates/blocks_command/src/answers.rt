@@ -2,6 +2,7 @@ ghost use Rattle.std.specs.Prelude.{◌≡◌, ◌++◌, OnOk, string_bytes};
 ghost use Rattle.blocks_command.specs.Answers as spec;
 
 use block_build::{NamedBlocks, SlotPrices, block_lines, price_lines};
+use deficit_steps::Deficits;
 use desk_core::Desk;
 use desk_feed::{push_numbers_line, push_refusal};
 use desk_io::Memory;
@@ -71,7 +72,7 @@ pub(crate) struct Numbers<'a> {
     pub(crate) prefix: &'a str,
 }
 
-impl<'a> Answers for Numbers<'a> {
+impl<'a> Answers<Deficits> for Numbers<'a> {
     ghost use Rattle.blocks_command.specs.Answers.{answer_text};
 
     ghost answer = { λ numbers matrix. answer_text matrix numbers.prefix.now };

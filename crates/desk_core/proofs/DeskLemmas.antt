@@ -10,7 +10,6 @@ use Rattle.deadhead_matrix.specs.Matrix.{MatrixView}
 use Rattle.assignment_model.specs.Paths.{IsAdded, IsTaken, with_slot}
 use Rattle.assignment_model.specs.Prices.{Plan, IsCertified}
 use Rattle.deadhead_matrix.specs.Plans.{IsPlanFor}
-use Rattle.deficit_steps.specs.Holds.{Holds}
 use Rattle.edit_script.specs.Changes.{IsSlotNamed, IsSlotOf, edited, provided, is_within, with_live, with_extra, extra_trip, shifted_at}
 use Rattle.edit_script.specs.Changes.{cancelled_at, restored_at, extra_to, extra_from, extra_new}
 use Rattle.edit_script.specs.Edits.{EditsTrip}
@@ -24,7 +23,6 @@ use Rattle.plan_history.specs.History.{HistoryView, IsReplaced}
 use Rattle.price_repair.specs.Without.{IsCertifiedWith, IsCertifiedWithout}
 use Rattle.price_repair.proofs.EditLemmas.{IsCertifiedWith-left_out, IsCertifiedWith-cancelled, IsCertifiedWithout-replaced}
 use Rattle.price_repair.proofs.EditLemmas.{IsCertifiedWithout-restored, IsCertifiedWithout-appended}
-use Rattle.trip_model.specs.Deficit.{live_moves}
 use Rattle.trip_model.specs.Place.{class_of}
 use Rattle.trip_model.specs.Plain.{move_of_slot, trip_moves}
 use Rattle.trip_model.specs.Timetable.{Slot, TimetableView, IsTimetable, number_of, place_names, slot_at, slot_names, with_trip}
@@ -306,10 +304,9 @@ module _ (s next : ScriptView) (m : MatrixView) (h reserved new : HistoryView) (
   keeps : new.earlier ≡ latest_items (h.earlier ++ h.plan ∷ [])
   keeps = earlier ∙ ap (λ (k : HistoryView). latest_items (k.earlier ++ k.plan ∷ [])) same
 
-  pub IsDesk-edited : (deficits followed : List (List ℤ)) → IsDesk (desk_seen s m h) deficits → IsPlanFor next.timetable m new.plan
-      → Holds followed (live_moves next.timetable.slots) → length followed ≡ length deficits
-      → length next.timetable.places ≡ length s.timetable.places → IsDesk (desk_seen next m new) followed
-  IsDesk-edited deficits followed desk plan held rows places =
+  pub IsDesk-edited : IsDesk (desk_seen s m h) → IsPlanFor next.timetable m new.plan
+      → length next.timetable.places ≡ length s.timetable.places → IsDesk (desk_seen next m new)
+  IsDesk-edited desk plan places =
       let to = edited-trip s next number edit trips accepted in
       record {
         places = places ∙ desk.places;
@@ -319,8 +316,6 @@ module _ (s next : ScriptView) (m : MatrixView) (h reserved new : HistoryView) (
             (plans-latest m s.earlier h.earlier s.timetable h.plan desk.earlier desk.plan));
         later = subst (λ ts. ArePlansFor m ts new.later) (sym (ap (λ (n : ScriptView). n.later) to.is))
             (subst (λ ps. ArePlansFor m [] ps) (sym later) tt);
-        held = held;
-        rows = rows ∙ (desk.rows ∙ sym places);
       }
 
   pub IsDone-edited : (slot : ℕ) → IsSlotOf edit s.timetable (Some slot) → IsRepairedIn edit slot reserved.plan.next new.plan.next
@@ -372,22 +367,21 @@ stepped-forth s next (Some t) last e =
 pub stepped-redo : (s next : ScriptView) (number : ℕ) (edit : Edit) → edit ≡ Redo → stepped s number edit ≡ Ok next → IsStepForth s next
 stepped-redo s next number edit is e = stepped-forth s next (last_item s.later) refl (ap (stepped s number) (sym is) ∙ e)
 
-pub undo-there : (s next : ScriptView) (m : MatrixView) (h : HistoryView) (deficits : List (List ℤ)) (number : ℕ)
-    → IsDesk (desk_seen s m h) deficits → stepped s number Undo ≡ Ok next → h.earlier ≡ [] → ⊥
-undo-there s next m h deficits number desk e none = let back = stepped-undo s next number e in
+pub undo-there : (s next : ScriptView) (m : MatrixView) (h : HistoryView) (number : ℕ)
+    → IsDesk (desk_seen s m h) → stepped s number Undo ≡ Ok next → h.earlier ≡ [] → ⊥
+undo-there s next m h number desk e none = let back = stepped-undo s next number e in
     plans-some m s.earlier h.earlier back.timetable desk.earlier back.last none
 
-pub redo-there : (s next : ScriptView) (m : MatrixView) (h : HistoryView) (deficits : List (List ℤ)) (number : ℕ) (edit : Edit)
-    → IsDesk (desk_seen s m h) deficits → edit ≡ Redo → stepped s number edit ≡ Ok next → h.later ≡ [] → ⊥
-redo-there s next m h deficits number edit desk is e none = let forth = stepped-redo s next number edit is e in
+pub redo-there : (s next : ScriptView) (m : MatrixView) (h : HistoryView) (number : ℕ) (edit : Edit)
+    → IsDesk (desk_seen s m h) → edit ≡ Redo → stepped s number edit ≡ Ok next → h.later ≡ [] → ⊥
+redo-there s next m h number edit desk is e none = let forth = stepped-redo s next number edit is e in
     plans-some m s.later h.later forth.timetable desk.later forth.last none
 
-pub IsDesk-undone : (s next : ScriptView) (m : MatrixView) (h new : HistoryView) (deficits followed : List (List ℤ)) (number : ℕ)
-    → IsDesk (desk_seen s m h) deficits → stepped s number Undo ≡ Ok next
-    → Holds followed (live_moves next.timetable.slots) → length followed ≡ length deficits
+pub IsDesk-undone : (s next : ScriptView) (m : MatrixView) (h new : HistoryView) (number : ℕ)
+    → IsDesk (desk_seen s m h) → stepped s number Undo ≡ Ok next
     → length next.timetable.places ≡ length s.timetable.places
-    → h.earlier ≡ new.earlier ++ new.plan ∷ [] → new.later ≡ h.later ++ h.plan ∷ [] → IsDesk (desk_seen next m new) followed
-IsDesk-undone s next m h new deficits followed number desk e held rows places earlier later =
+    → h.earlier ≡ new.earlier ++ new.plan ∷ [] → new.later ≡ h.later ++ h.plan ∷ [] → IsDesk (desk_seen next m new)
+IsDesk-undone s next m h new number desk e places earlier later =
     let back = stepped-undo s next number e in
     let last = plans-last m s.earlier h.earlier new.earlier back.timetable new.plan desk.earlier back.last earlier in
     record {
@@ -397,16 +391,13 @@ IsDesk-undone s next m h new deficits followed number desk e held rows places ea
       later = subst (λ ts. ArePlansFor m ts new.later) (sym back.later)
           (subst (λ ps. ArePlansFor m (s.later ++ s.timetable ∷ []) ps) (sym later)
           (plans-push m s.later h.later s.timetable h.plan desk.later desk.plan));
-      held = held;
-      rows = rows ∙ (desk.rows ∙ sym places);
     }
 
-pub IsDesk-redone : (s next : ScriptView) (m : MatrixView) (h new : HistoryView) (deficits followed : List (List ℤ)) (number : ℕ)
-    (edit : Edit) → IsDesk (desk_seen s m h) deficits → edit ≡ Redo → stepped s number edit ≡ Ok next
-    → Holds followed (live_moves next.timetable.slots) → length followed ≡ length deficits
+pub IsDesk-redone : (s next : ScriptView) (m : MatrixView) (h new : HistoryView) (number : ℕ) (edit : Edit)
+    → IsDesk (desk_seen s m h) → edit ≡ Redo → stepped s number edit ≡ Ok next
     → length next.timetable.places ≡ length s.timetable.places
-    → h.later ≡ new.later ++ new.plan ∷ [] → new.earlier ≡ h.earlier ++ h.plan ∷ [] → IsDesk (desk_seen next m new) followed
-IsDesk-redone s next m h new deficits followed number edit desk is e held rows places later earlier =
+    → h.later ≡ new.later ++ new.plan ∷ [] → new.earlier ≡ h.earlier ++ h.plan ∷ [] → IsDesk (desk_seen next m new)
+IsDesk-redone s next m h new number edit desk is e places later earlier =
     let forth = stepped-redo s next number edit is e in
     let last = plans-last m s.later h.later new.later forth.timetable new.plan desk.later forth.last later in
     record {
@@ -416,8 +407,6 @@ IsDesk-redone s next m h new deficits followed number edit desk is e held rows p
           (subst (λ ps. ArePlansFor m (s.earlier ++ s.timetable ∷ []) ps) (sym earlier)
           (plans-push m s.earlier h.earlier s.timetable h.plan desk.earlier desk.plan));
       later = subst (λ ts. ArePlansFor m ts new.later) (sym forth.later) last.1;
-      held = held;
-      rows = rows ∙ (desk.rows ∙ sym places);
     }
 
 -- an undo, by its edit

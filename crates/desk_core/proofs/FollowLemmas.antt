@@ -337,3 +337,14 @@ total-few t total valid is =
     let most = maxima-few (live_moves t.slots) (length t.places) few in
     let bound : pos total ≤ℤ pos (4096 * length t.places) = subst (λ s. s ≤ℤ pos (4096 * length t.places)) (sym is) most in
     omega (arith, ints, bound, valid.places)
+
+-- a step keeps the places of its timetable
+pub places-touched : (slot : Option ℕ) (before after : Option Trip) (old new : TimetableView) → IsTouchedIn slot before after old new
+    → length new.places ≡ length old.places
+places-touched (Some s) (Some before) (Some after) old new is = ap (λ (t : TimetableView). length t.places) is.timetable
+places-touched (Some s) None (Some after) old new is = ap (λ (t : TimetableView). length t.places) is.timetable.1
+places-touched (Some s) (Some before) None old new is = sym (ap (λ (t : TimetableView). length t.places) is.timetable.1)
+places-touched (Some s) None None old new is = absurd is
+places-touched None None None old new is = ap (λ (t : TimetableView). length t.places) is
+places-touched None (Some before) after old new is = absurd is
+places-touched None None (Some after) old new is = absurd is

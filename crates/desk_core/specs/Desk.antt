@@ -1,11 +1,10 @@
 -- What a desk is seen as, what holds of each one, and what an edit does to it.
-use Rattle.std.specs.Prelude.{◌≡◌, ℕ, ◌+◌, ◌*◌, List, length, Option, IfSome, Ok, Err, Result, ℤ, ⊤}
+use Rattle.std.specs.Prelude.{◌≡◌, ℕ, ◌+◌, ◌*◌, List, length, Option, IfSome, Ok, Err, Result, ⊤}
 use Rattle.std.specs.List.{AllZip}
 use Rattle.deadhead_matrix.specs.Matrix.{MatrixView}
 use Rattle.assignment_model.specs.Paths.{IsTaken, IsAdded}
 use Rattle.assignment_model.specs.Prices.{Plan}
 use Rattle.deadhead_matrix.specs.Plans.{IsPlanFor}
-use Rattle.deficit_steps.specs.Holds.{Holds}
 use Rattle.edit_script.specs.Script.{ScriptView, TakesMemory, stepped}
 use Rattle.edit_script.specs.declared.edit.Edit.{Edit}
 use Rattle.edit_script.specs.declared.edit.Edit.TheVariants.{Shift, Cancel, Restore, Extra, Undo, Redo, Show}
@@ -13,7 +12,6 @@ use Rattle.edit_script.specs.declared.fault.EditFault.{EditFault}
 use Rattle.edit_script.specs.declared.fault.EditFault.TheVariants as fault
 use Rattle.plan_history.specs.History.{HistoryView, IsReplaced}
 use Rattle.desk_core.specs.Computed.{PlansView, plans_after}
-use Rattle.trip_model.specs.Deficit.{live_moves}
 use Rattle.trip_model.specs.Timetable.{TimetableView, number_of, slot_names}
 
 -- a desk: the script, the matrix and the plan. Then the plan before each edit that can be undone, and the plan after each that
@@ -34,15 +32,13 @@ desk_seen script matrix history =
 abbrev pub ArePlansFor : MatrixView → List TimetableView → List Plan → Type 0
 ArePlansFor matrix timetables plans = AllZip (λ (timetable : TimetableView) (plan : Plan). IsPlanFor timetable matrix plan) timetables plans
 
--- script, deficits and plans in lockstep. The matrix has the places of the timetable, and the plan is one for both. So is each
--- plan that can be undone or redone, for its timetable. The deficits hold the moves of the trips that run, and no others
-pub record IsDesk (desk : DeskView) (deficits : List (List ℤ)) : Type 0 where
+-- Script and plans in lockstep. The matrix has the places of the timetable, and the plan is one for both. So is each plan that
+-- can be undone or redone, for its timetable.
+pub record IsDesk (desk : DeskView) : Type 0 where
   pub places : length desk.script.timetable.places ≡ length desk.matrix.walks
   pub plan : IsPlanFor desk.script.timetable desk.matrix desk.plan
   pub earlier : ArePlansFor desk.matrix desk.script.earlier desk.earlier
   pub later : ArePlansFor desk.matrix desk.script.later desk.later
-  pub held : Holds deficits (live_moves desk.script.timetable.slots)
-  pub rows : length deficits ≡ length desk.script.timetable.places
 
 -- along which paths an edit changes the links of a plan: those of a trip that is taken, added, or taken and added. Its slot is
 -- that of its name, or a new last one. A show changes none.

@@ -1,6 +1,10 @@
 -- What deficits hold as a trip is taken out and put in.
-use Rattle.std.specs.Prelude.{◌<◌, ◌≤◌, List, [], ◌∷◌, ◌++◌, length, All, Option, None, Some, ℤ, if◌then◌else◌}
+use Rattle.std.specs.Prelude.{◌≡◌, ◌<◌, ◌≤◌, List, [], ◌∷◌, ◌++◌, length, All, Option, None, Some, ℤ, if◌then◌else◌}
 use Rattle.deficit_steps.specs.Holds.{Holds}
+use Rattle.edit_script.specs.Script.{IsTouched}
+use Rattle.edit_script.specs.declared.touched.Touched.{Touched}
+use Rattle.trip_model.specs.Deficit.{live_moves}
+use Rattle.trip_model.specs.Timetable.{TimetableView, IsTimetable}
 use Rattle.trip_model.specs.Trip.{move_of}
 use Rattle.trip_model.specs.declared.limits.TheConstants.{MOST_SLOTS}
 use Rattle.trip_model.specs.declared.trip.Move.{Move}
@@ -10,6 +14,17 @@ use Rattle.trip_model.specs.declared.trip.Trip.{Trip}
 abbrev pub moves_of : Option Trip → List Move
 moves_of None = []
 moves_of (Some trip) = if trip.live then move_of trip ∷ [] else []
+
+-- deficits hold the moves of the trips of a timetable that run, for its places
+pub record AreDeficitsOf (deficits : List (List ℤ)) (timetable : TimetableView) : Type 0 where
+  pub held : Holds deficits (live_moves timetable.slots)
+  pub rows : length deficits ≡ length timetable.places
+
+-- a step of a script from a valid timetable to another touched this trip
+pub record IsStep (touched : Touched) (old new : TimetableView) : Type 0 where
+  pub before : IsTimetable old
+  pub after : IsTimetable new
+  pub touches : IsTouched touched old new
 
 -- no more moves than there may be slots are held, which take time, and among them these
 pub record HoldsAmong (deficits : List (List ℤ)) (moves : List Move) : Type 0 where

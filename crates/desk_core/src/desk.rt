@@ -13,11 +13,11 @@ ghost use Rattle.trip_model.specs.Maximum.{sum_of_maxima};
 ghost use Rattle.undo_log.specs.Log.{last_item};
 
 use crate::counts::{block_count, block_minutes};
-use crate::follow::step;
+use crate::follow::{InStep, step};
 use crate::repair::repair;
 use deadhead_matrix::Matrix;
+use deficit_steps::Deficits;
 use deficit_steps::laws::held_law;
-use deficit_steps::{Deficits, deficits_of};
 use desk_io::{Memory, Steps};
 use edit_script::{Edit, EditFault, Script};
 use pair_graph::Pairs;
@@ -28,36 +28,36 @@ use std::marker::Model;
 use std::sync::ledger::Ledger;
 use trip_model::Timetable;
 
-/// A timetable under edits, with the deficits of its trips and a plan that is certified for it.
-pub struct Desk {
+/// A timetable under edits, with a plan that is certified for it, and the deficits of its trips where they are asked for.
+pub struct Desk<D: InStep = Deficits> {
     script: Script,
     matrix: Matrix,
-    deficits: Deficits,
+    kept: D,
     history: PlanHistory,
 }
 
-impl Drop for Desk {
+impl<D: InStep> Drop for Desk<D> {
     fn drop(self) {
         let Self {
             script: _,
             matrix: _,
-            deficits: _,
+            kept: _,
             history: _,
         } = self;
     }
 }
 
-impl Model for Desk {
+impl<D: InStep> Model for Desk<D> {
     ghost use Rattle.desk_core.specs.Desk.{DeskView, IsDesk, desk_seen};
 
     ghost Value = { DeskView };
 
     ghost view = { λ d. desk_seen d.script d.matrix d.history };
 
-    ghost invariant = { λ d. IsDesk (desk_seen d.script d.matrix d.history) d.deficits };
+    ghost invariant = { λ d. IsDesk (desk_seen d.script d.matrix d.history) × D.IsWith d.kept d.script.timetable };
 }
 
-impl Desk {
+impl<D: InStep> Desk<D> {
     /// The desk of a script to which nothing was done, and of the matrix of its places, with a first plan. At most
     /// n^3 + n^2 + 28n steps for n slots.
     pub fn open<L: Ledger>(
@@ -65,7 +65,7 @@ impl Desk {
         script: Script,
         matrix: Matrix,
         steps: &mut Steps<L>,
-    ) -> Result<Desk, Memory>
+    ) -> Result<Desk<D>, Memory>
         requires places { length script.timetable.places ≡ length matrix.walks }
         requires earlier { script.earlier ≡ [] }
         requires later { script.later ≡ [] }
@@ -77,13 +77,13 @@ impl Desk {
         ensures later { IfOk result (λ desk. desk.later ≡ []) }
         ensures counted { let n = length script.timetable.slots in steps.new ≤ steps.old + (n * n * n + n * n + 28 * n) }
     {
-        let deficits = deficits_of(alloc, script.timetable(), steps)?;
+        let kept = D::begin(alloc, script.timetable(), steps)?;
         let mut history = PlanHistory::open(alloc)?;
         history.solve(&Pairs::of(script.timetable(), &matrix), steps);
         Ok(Desk {
             script,
             matrix,
-            deficits,
+            kept,
             history,
         })
     }
@@ -104,14 +104,6 @@ impl Desk {
         &self.matrix
     }
 
-    /// The deficits of the trips that run.
-    pub fn deficits(&self) -> &Deficits
-        ensures held { Holds result.now (live_moves self.now.script.timetable.slots) }
-        ensures rows { length result.now ≡ length self.now.script.timetable.places }
-    {
-        &self.deficits
-    }
-
     /// The plan, certified for the timetable and the matrix. Each that can be undone or redone is so for its own timetable.
     pub fn plan(&self) -> &Plan
         ensures plan { result.now ≡ self.now.plan }
@@ -127,18 +119,6 @@ impl Desk {
         ensures { result.now ≡ self.now.script.standing }
     {
         self.script.standing()
-    }
-
-    /// The sum of the greatest deficits of all places: the vehicles that suffice where none runs empty.
-    pub fn fixed(&self) -> u32
-        ensures { pos result ≡ sum_of_maxima (deficit (live_moves self.now.script.timetable.slots))
-            (length self.now.script.timetable.places) }
-    {
-        held_law();
-        // Their clauses say that the timetable and the deficits are valid.
-        let _places = self.script.timetable().places();
-        let _rows = self.deficits.places();
-        self.deficits.total() as u32
     }
 
     /// How many vehicles the plan has: how many blocks its links make.
@@ -186,7 +166,7 @@ impl Desk {
         self.history.reserve()?;
         // Its clause says that the timetable is valid.
         let _slots = self.script.timetable().slots();
-        let touched = step(&mut self.script, &mut self.deficits, number, edit, steps)?;
+        let touched = step(&mut self.script, &mut self.kept, number, edit, steps)?;
         let Some(slot) = touched.slot else {
             unreachable!();
         };
@@ -211,7 +191,7 @@ impl Desk {
         ensures counted { OnOk result (steps.new ≤ steps.old + 56) }
         ensures uncounted { OnErr result (steps.new ≡ steps.old) }
     {
-        step(&mut self.script, &mut self.deficits, 0, &Edit::Undo, steps)?;
+        step(&mut self.script, &mut self.kept, 0, &Edit::Undo, steps)?;
         self.history.undo();
         Ok(())
     }
@@ -230,7 +210,7 @@ impl Desk {
         ensures counted { OnOk result (steps.new ≤ steps.old + most_steps edit.now (length self.new.script.timetable.slots)) }
         ensures uncounted { OnErr result (steps.new ≡ steps.old) }
     {
-        step(&mut self.script, &mut self.deficits, number, edit, steps)?;
+        step(&mut self.script, &mut self.kept, number, edit, steps)?;
         self.history.redo();
         Ok(())
     }
@@ -269,5 +249,27 @@ impl Desk {
             Edit::Show => self.show(number, edit),
             _ => self.edit(number, edit, steps),
         }
+    }
+}
+
+impl Desk<Deficits> {
+    /// The deficits of the trips that run.
+    pub fn deficits(&self) -> &Deficits
+        ensures held { Holds result.now (live_moves self.now.script.timetable.slots) }
+        ensures rows { length result.now ≡ length self.now.script.timetable.places }
+    {
+        &self.kept
+    }
+
+    /// The sum of the greatest deficits of all places: the vehicles that suffice where none runs empty.
+    pub fn fixed(&self) -> u32
+        ensures { pos result ≡ sum_of_maxima (deficit (live_moves self.now.script.timetable.slots))
+            (length self.now.script.timetable.places) }
+    {
+        held_law();
+        // Their clauses say that the timetable and the deficits are valid.
+        let _places = self.script.timetable().places();
+        let _rows = self.kept.places();
+        self.kept.total() as u32
     }
 }

@@ -1,8 +1,9 @@
 //! The desk: a timetable under edits, with its deficits and its plan in lockstep.
 //!
-//! A [`Desk`] holds a script, a matrix of least walks, the deficits of the trips that run, and a plan with its prices.
-//! [`Desk::apply`] does an edit. The script makes its step, and the deficits follow the trip that it touched. The plan is
-//! repaired; an undo and a redo restore it. [`Desk::undo`] undoes without memory.
+//! A [`Desk`] holds a script, a matrix of least walks, a plan with its prices, and what is kept in step with the timetable
+//! ([`InStep`]): the deficits of the trips that run, or [`NoDeficits`] where they are not asked for. [`Desk::apply`] does an
+//! edit. The script makes its step, and the deficits follow the trip that it touched. The plan is repaired; an undo and a redo
+//! restore it. [`Desk::undo`] undoes without memory.
 //!
 //! The contract that the crates above use:
 //!
@@ -18,12 +19,13 @@
 //! The contracts cite:
 //!
 //! - `Desk`: what a desk is seen as, and what an edit does to it
+//! - `Follow`: steps of a script, which what is kept follows
 //! - `Counts`: its blocks and their empty minutes
 //! - `Standing`: moments
 //! - of `edit_script` `Script`; of `assignment_model` `Prices` and `Paths`
 //! - of `plan_history` `History` and `Stands`
 //!
-//! `Follow` and `Repair` have terms for proofs alone.
+//! `Repair` has terms for proofs alone.
 #![tactic(auto)]
 
 mod counts;
@@ -33,3 +35,4 @@ pub mod laws;
 mod repair;
 
 pub use desk::Desk;
+pub use follow::{InStep, NoDeficits};

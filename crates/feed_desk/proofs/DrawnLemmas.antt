@@ -30,7 +30,7 @@ module _ (base : TimetableView) (lines : List Line) (matrix : MatrixView) (plan 
   drawn-scheduled = subst (IsScheduled (standing_after base lines) matrix plan) (sym drawn.along) last-planned.scheduled
 
 -- the blocks of the desk that has followed a script are drawn
-pub has-drawn : (base : TimetableView) (lines : List Line) (matrix : MatrixView) (followed : Followed) (drawn : Drawn)
+pub has-drawn : {D : Type 0} (base : TimetableView) (lines : List Line) (matrix : MatrixView) (followed : Followed D) (drawn : Drawn D)
     → HasFollowed refusals base lines matrix followed
     → drawn.desk ≡ followed.desk → drawn.blocks ≡ blocks_in followed.desk.script.timetable followed.desk.plan
     → drawn.refused ≡ string_bytes followed.text → drawn.ending ≡ followed.ending

@@ -398,7 +398,7 @@ module _ (restores : AreRestored) (proves : AreProved) (makes : MakesMoves) (are
   }
 
   -- a desk has followed the script with these plans
-  pub has-followed : (answer : Answer) (followed : Followed) → n ≡ length lines → followed.desk ≡ last
+  pub has-followed : {D : Type 0} (answer : Answer) (followed : Followed D) → n ≡ length lines → followed.desk ≡ last
       → string_bytes followed.text ≡ answers_by answer base lines (λ k. (desks k).plan) n → followed.ending ≡ ending_after base lines
       → HasFollowed answer base lines first.matrix followed
   has-followed answer followed all is put end_is =

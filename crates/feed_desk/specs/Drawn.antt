@@ -13,8 +13,8 @@ use Rattle.feed_desk.specs.declared.follow.Followed.{Followed}
 use Rattle.feed_desk.specs.declared.draw.Drawn.{Drawn}
 
 -- A desk has followed a script. It is where the script ends, with the last of its plans. This was put of the records.
-pub record HasFollowed (answer : Answer) (base : TimetableView) (lines : List Line) (matrix : MatrixView)
-    (followed : Followed) : Type 0 where
+pub record HasFollowed {D : Type 0} (answer : Answer) (base : TimetableView) (lines : List Line) (matrix : MatrixView)
+    (followed : Followed D) : Type 0 where
   pub are : ArePlanned base lines matrix
   pub pulls : All IsPull matrix.pulls
   pub timetable : followed.desk.script.timetable ≡ standing_after base lines
@@ -30,7 +30,7 @@ pub record IsDrawn (base : TimetableView) (lines : List Line) (matrix : MatrixVi
   pub along : blocks ≡ blocks_in (standing_after base lines) plan
 
 -- the desk after a script, its plan drawn, with the lines of refused records
-pub record HasDrawn (base : TimetableView) (lines : List Line) (matrix : MatrixView) (drawn : Drawn) : Type 0 where
+pub record HasDrawn {D : Type 0} (base : TimetableView) (lines : List Line) (matrix : MatrixView) (drawn : Drawn D) : Type 0 where
   pub plan : IsDrawn base lines matrix drawn.desk.plan drawn.blocks
   pub timetable : drawn.desk.script.timetable ≡ standing_after base lines
   pub matrix_is : drawn.desk.matrix ≡ matrix

@@ -1,4 +1,4 @@
-use desk_core::Desk;
+use desk_core::{Desk, InStep};
 use desk_feed::push_refusal;
 use desk_io::Memory;
 use edit_script::{EditFault, Line};
@@ -13,7 +13,7 @@ pub struct ScriptRecord<'a> {
 }
 
 /// What is put of each record of a script.
-pub trait Answers {
+pub trait Answers<D: InStep> {
     ghost use Rattle.std.specs.Prelude.{◌≡◌, ◌≢◌, ◌++◌, OnOk, Some, string_bytes};
     ghost use Rattle.deadhead_matrix.specs.Matrix.{MatrixView};
     ghost use Rattle.feed_desk.specs.Answers.{Answer};
@@ -25,7 +25,7 @@ pub trait Answers {
     fn push_answer(
         &self,
         text: &mut String,
-        desk: &Desk,
+        desk: &Desk<D>,
         record: &ScriptRecord,
     ) -> Result<(), Memory>
         requires { record.now.refused.now ≢ Some EditFault.Memory }
@@ -39,7 +39,7 @@ pub struct Refusals {
     pub alloc: Global,
 }
 
-impl Answers for Refusals {
+impl<D: InStep> Answers<D> for Refusals {
     ghost use Rattle.feed_desk.specs.Answers.{refusals};
 
     ghost answer = { λ _ _. refusals };
@@ -47,7 +47,7 @@ impl Answers for Refusals {
     fn push_answer(
         &self,
         text: &mut String,
-        _desk: &Desk,
+        _desk: &Desk<D>,
         record: &ScriptRecord,
     ) -> Result<(), Memory> {
         match record.refused {

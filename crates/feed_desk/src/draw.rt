@@ -9,7 +9,8 @@ use crate::answers::Refusals;
 use crate::follow::follow_script;
 use block_build::{Blocks, blocks_of};
 use deadhead_matrix::Matrix;
-use desk_core::Desk;
+use deficit_steps::Deficits;
+use desk_core::{Desk, InStep};
 use desk_io::{Memory, Steps, Text};
 use desk_run::Ending;
 use edit_script::Line;
@@ -18,14 +19,14 @@ use std::sync::ledger::Ledger;
 use trip_model::Timetable;
 
 /// A desk after the script of its feed, the blocks of its plan, the lines of refused records, and how a run ends by them.
-pub struct Drawn {
-    pub desk: Desk,
+pub struct Drawn<D: InStep = Deficits> {
+    pub desk: Desk<D>,
     pub blocks: Blocks,
     pub refused: Text,
     pub ending: Ending,
 }
 
-impl Drop for Drawn {
+impl<D: InStep> Drop for Drawn<D> {
     fn drop(self) {
         let Self {
             desk: _,
@@ -37,7 +38,7 @@ impl Drop for Drawn {
 }
 
 /// The blocks of the plan of a desk.
-pub fn blocks_now(alloc: Global, desk: &Desk) -> Result<Blocks, Memory>
+pub fn blocks_now<D: InStep>(alloc: Global, desk: &Desk<D>) -> Result<Blocks, Memory>
     ensures are { IfOk result (λ blocks. blocks ≡ blocks_in desk.now.script.timetable desk.now.plan) }
     ensures within { IfOk result (All (All (λ s. s < length desk.now.script.timetable.slots))) }
 {
@@ -45,13 +46,13 @@ pub fn blocks_now(alloc: Global, desk: &Desk) -> Result<Blocks, Memory>
 }
 
 /// The desk after the script of a feed, with the blocks of its plan.
-pub fn draw_after<L: Ledger>(
+pub fn draw_after<D: InStep, L: Ledger>(
     alloc: Global,
     timetable: Timetable,
     lines: &[Line],
     matrix: Matrix,
     steps: &mut Steps<L>,
-) -> Result<Drawn, Memory>
+) -> Result<Drawn<D>, Memory>
     requires script { IsScript lines.now }
     requires places { length timetable.places ≡ length matrix.walks }
     ensures drawn { IfOk result (HasDrawn timetable lines.now matrix) }

@@ -9,8 +9,9 @@ ghost use Rattle.feed_desk.specs.Plans.{most_of, most_to};
 use crate::answers::{Answers, ScriptRecord};
 use deadhead_matrix::Matrix;
 use deadhead_matrix::laws::plan_law;
-use desk_core::Desk;
+use deficit_steps::Deficits;
 use desk_core::laws::same_edits_law;
+use desk_core::{Desk, InStep};
 use desk_feed::ending_by;
 use desk_io::{Memory, Steps};
 use desk_run::Ending;
@@ -24,24 +25,24 @@ use trip_model::laws::plain_law;
 
 /// A desk after the script of its feed, what was put of the records, and how a run ends by them.
 #[derive(Drop)]
-pub struct Followed {
-    pub desk: Desk,
+pub struct Followed<D: InStep = Deficits> {
+    pub desk: Desk<D>,
     pub text: String,
     pub ending: Ending,
 }
 
 // A desk that follows records, what is put of these, and whether one was refused.
 #[derive(Drop)]
-struct Following<A> {
+struct Following<A, D: InStep> {
     answers: A,
-    desk: Desk,
+    desk: Desk<D>,
     text: String,
     some: bool,
 }
 
 // Does what a record says: why it is refused, if it is.
-fn step_desk<L: Ledger>(
-    desk: &mut Desk,
+fn step_desk<D: InStep, L: Ledger>(
+    desk: &mut Desk<D>,
     number: u32,
     line: &Line,
     steps: &mut Steps<L>,
@@ -69,7 +70,7 @@ fn step_desk<L: Ledger>(
     Ok(Some(refused))
 }
 
-impl<A: Answers, L: Ledger> Follower<Steps<L>> for Following<A> {
+impl<A: Answers<D>, D: InStep, L: Ledger> Follower<Steps<L>> for Following<A, D> {
     ghost use Rattle.std.specs.Prelude.{◌≡◌, ◌+◌, ◌<◌, ◌≤◌, length, string_bytes};
     ghost use Rattle.edit_script.specs.Edits.{IsLineInForm};
     ghost use Rattle.feed_desk.specs.Moments.{IsAnswered};
@@ -105,14 +106,14 @@ impl<A: Answers, L: Ledger> Follower<Steps<L>> for Following<A> {
 }
 
 /// Schedules the base timetable of a feed, and follows its script with a desk.
-pub fn follow_script<A: Answers + Drop, L: Ledger>(
+pub fn follow_script<A: Answers<D> + Drop, D: InStep, L: Ledger>(
     alloc: Global,
     timetable: Timetable,
     lines: &[Line],
     matrix: Matrix,
     answers: A,
     steps: &mut Steps<L>,
-) -> Result<Followed, Memory>
+) -> Result<Followed<D>, Memory>
     requires script { IsScript lines.now }
     requires places { length timetable.places ≡ length matrix.walks }
     ensures followed { IfOk result (HasFollowed (A.answer answers matrix) timetable lines.now matrix) }

@@ -72,14 +72,14 @@ entries-said law found said e =
     (law (found paper.Deadheads) base.0 entries.0.0 entries.0.1 entries.1)
 
 -- what is drawn is a blocking of the trips that run
-pub drawn-blocking : (base : TimetableView) (lines : List Line) (matrix : MatrixView) (drawn : Drawn) → HasDrawn base lines matrix drawn
+pub drawn-blocking : {D : Type 0} (base : TimetableView) (lines : List Line) (matrix : MatrixView) (drawn : Drawn D) → HasDrawn base lines matrix drawn
     → IsBlocking (network_of drawn.desk.script.timetable drawn.desk.matrix) drawn.blocks
 drawn-blocking base lines matrix drawn has =
     subst (λ (t : TimetableView). IsBlocking (network_of t drawn.desk.matrix) drawn.blocks) (sym has.timetable)
     (subst (λ matrix. IsBlocking (network_of (standing_after base lines) matrix) drawn.blocks) (sym has.matrix_is)
     (drawn-scheduled base lines matrix drawn.desk.plan drawn.blocks has.plan).least.fewest.blocking)
 
-pub joined-given : {E : Type 0} (read : ReadView) (said : FeedView) (matrix : MatrixView) (drawn : Drawn) → JoinedIsLeast → EntriesTakeTime
+pub joined-given : {D E : Type 0} (read : ReadView) (said : FeedView) (matrix : MatrixView) (drawn : Drawn D) → JoinedIsLeast → EntriesTakeTime
     → said_in read ≡ Ok said
     → IsMatrixFor said matrix → HasDrawn said.base said.lines matrix drawn
     → (result : Result OutcomeView E)

@@ -12,7 +12,7 @@ use Rattle.feed_desk.specs.Drawn.{HasDrawn}
 use Rattle.feed_desk.specs.declared.draw.Drawn.{Drawn}
 use Rattle.plan_commands.specs.Chart.{chart_does, chart_text}
 
-pub chart-given : {E : Type 0} (read : ReadView) (said : FeedView) (matrix : MatrixView) (drawn : Drawn) (text prefix : List ℕ)
+pub chart-given : {D E : Type 0} (read : ReadView) (said : FeedView) (matrix : MatrixView) (drawn : Drawn D) (text prefix : List ℕ)
     → IsMatrixFor said matrix → HasDrawn said.base said.lines matrix drawn
     → text ≡ chart_text drawn.desk.script.timetable drawn.desk.matrix prefix drawn.blocks → prefix ≡ said.settings.prefix
     → (result : Result OutcomeView E) → IfOk result (λ outcome. outcome ≡ refusing_first drawn.refused text drawn.ending)

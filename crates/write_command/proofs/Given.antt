@@ -135,7 +135,7 @@ both-by said timetable base (Ok first) (Err due) table text outcome one other do
 both-by said timetable base (Err due) stop_times table text outcome one other does = absurd one
 
 -- of the plan after the script
-pub written-given : {E : Type 0} (read : ReadView) (said : FeedView) (matrix : MatrixView) (drawn : Drawn) (timetable : TimetableView)
+pub written-given : {D E : Type 0} (read : ReadView) (said : FeedView) (matrix : MatrixView) (drawn : Drawn D) (timetable : TimetableView)
     (base : ℕ) (table : TableView) (text : List ℕ)
     → IsMatrixFor said matrix → HasDrawn said.base said.lines matrix drawn → timetable ≡ drawn.desk.script.timetable
     → base ≡ length said.base.slots

@@ -24,7 +24,7 @@ IsWritable settings timetable base trips stop_times (Refused outcome) =
     ⊎ IsTextPaper (λ first. IsRefusal paper.StopTimes stop_time_columns stop_times outcome) trips
 
 -- the outcome of the plan after a script, with a prefix that is text
-pub record IsWrittenOf (settings : SettingsView) (drawn : Drawn) (trips : TableView) (stop_times : List ℕ)
+pub record IsWrittenOf {D : Type 0} (settings : SettingsView) (drawn : Drawn D) (trips : TableView) (stop_times : List ℕ)
     (outcome : OutcomeView) : Type 0 where
   pub text : IsUtf8 settings.prefix
   pub done : outcome ≡ record {

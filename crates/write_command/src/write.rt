@@ -12,6 +12,7 @@ ghost use Rattle.write_command.specs.Writable.{IsWritable, IsWrittenOf};
 use crate::judging::trip_columns;
 use block_build::Blocks;
 use block_writer::{read_texts, stop_times_text, trips_text};
+use desk_core::NoDeficits;
 use desk_feed::{FeedCommand, OnFeed, Said, matrix_of, refuse};
 use desk_io::{Bytes, Memory, Shelf, Sink, Steps, Text};
 use desk_keeper::Keeper;
@@ -90,7 +91,7 @@ fn files(
 fn written(
     alloc: Global,
     settings: &Settings,
-    drawn: &Drawn,
+    drawn: &Drawn<NoDeficits>,
     trips: &Table,
     stop_times: Bytes,
 ) -> Result<Outcome, Memory>

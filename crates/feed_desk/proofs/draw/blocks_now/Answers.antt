@@ -7,7 +7,7 @@ use Rattle.deadhead_matrix.proofs.TimelyLinks.{timely-links}
 use Rattle.feed_desk.proofs.draw.blocks_now.Goals as goal
 
 pub blocks_of-requires-clause-links : goal.blocks_of-requires-clause-links
-blocks_of-requires-clause-links c =
+blocks_of-requires-clause-links g c =
     let desk = c.args.desk.now in
     let moves = trip_moves desk.script.timetable.slots in
     subst (λ (t : TimetableView). AreLinks (timely_network (trip_moves t.slots)) c.links.result.now) (sym c.timetable.ensures.timetable)

@@ -52,7 +52,7 @@ returns-clause-followed g c =
     let pulls = subst (λ (m : MatrixView). All IsPull m.pulls) (sym c.in_ok-desk.ensures.matrix) c.places-places.ensures.valid in
     let answered = c.in_ok-follow_records.ensures.stands.1 in
     let done = c.follow_records.new.follower in
-    let followed : Followed = record { desk = done.desk; text = done.text; ending = c.ending_by.result } in
+    let followed : Followed _ = record { desk = done.desk; text = done.text; ending = c.ending_by.result } in
     subst (λ (t : TimetableView). HasFollowed (answer c.args.matrix) t lines c.args.matrix followed)
     (ap (λ (s : ScriptView). s.timetable) script)
     (subst (λ (m : MatrixView). HasFollowed (answer m) desk.script.timetable lines m followed) c.in_ok-desk.ensures.matrix

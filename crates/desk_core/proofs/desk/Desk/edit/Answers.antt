@@ -17,19 +17,20 @@ repair-requires-clause-may g c =
     subst (λ (t : TimetableView). MayRepair c.args.edit.now c.in-Some.slot t m c.reserve.new.self.plan) (sym c.timetable-timetable.ensures)
     (subst (λ (h : HistoryView). MayRepair c.args.edit.now c.in-Some.slot c.step.new.script.timetable m h.plan)
     (sym c.in_ok-reserve.ensures.seen)
-    (may-repair s c.step.new.script m c.self.inside.history.plan c.args.number c.in-Some.slot c.self.invariant.plan c.self.invariant.places
+    (may-repair s c.step.new.script m c.self.inside.history.plan c.args.number c.in-Some.slot c.self.invariant.0.plan c.self.invariant.0.places
     (subst IsTimetable c.timetable.ensures c.slots-slots.ensures.valid)
     c.args.edit.now c.requires.trip told c.in_ok-touched.ensures.accepted))
 
 pub invariant_of-self-2 : goal.invariant_of-self-2
-invariant_of-self-2 g c =
-    IsDesk-edited c.self.inside.script c.step.new.script c.self.inside.matrix c.self.inside.history c.reserve.new.self c.repair.new.history
-    c.args.number c.args.edit.now c.in_ok-reserve.ensures.seen
-    c.requires.trip c.in_ok-touched.ensures.accepted c.repair.ensures.earlier c.repair.ensures.later c.self.inside.deficits
-    c.step.new.deficits c.self.invariant
-    (subst (λ (t : TimetableView). IsPlanFor t c.self.inside.matrix c.repair.new.history.plan) c.timetable-timetable.ensures
-    c.repair.ensures.plan)
-    c.in_ok-touched.ensures.held c.in_ok-touched.ensures.rows c.in_ok-touched.ensures.places
+invariant_of-self-2 g c = (
+  IsDesk-edited c.self.inside.script c.step.new.script c.self.inside.matrix c.self.inside.history c.reserve.new.self c.repair.new.history
+      c.args.number c.args.edit.now c.in_ok-reserve.ensures.seen
+      c.requires.trip c.in_ok-touched.ensures.accepted c.repair.ensures.earlier c.repair.ensures.later c.self.invariant.0
+      (subst (λ (t : TimetableView). IsPlanFor t c.self.inside.matrix c.repair.new.history.plan) c.timetable-timetable.ensures
+      c.repair.ensures.plan)
+      c.in_ok-touched.ensures.places,
+  c.in_ok-touched.ensures.with,
+)
 
 pub returns-clause-done : goal.returns-clause-done
 returns-clause-done g c =

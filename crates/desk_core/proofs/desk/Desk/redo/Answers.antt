@@ -1,6 +1,5 @@
 use Rattle.std.proofs.Common.{◌≡◌, Ok, refl, subst, sym}
 use Rattle.edit_script.specs.Script.{stepped}
-use Rattle.edit_script.specs.declared.edit.Edit.TheVariants as edit
 use Rattle.desk_core.specs.Desk.{DeskView, IsDone, desk_seen, plans_of}
 use Rattle.desk_core.proofs.PlansLemmas.{plans-redone}
 use Rattle.desk_core.proofs.DeskLemmas.{redo-there, IsDesk-redone}
@@ -8,15 +7,16 @@ use Rattle.desk_core.proofs.desk.Desk.redo.Goals as goal
 
 pub redo-requires : goal.redo-requires
 redo-requires g c =
-    redo-there c.self.inside.script c.step.new.script c.self.inside.matrix c.self.inside.history c.self.inside.deficits c.args.number
-    c.args.edit.now c.self.invariant c.requires.is c.in_ok-step.ensures.accepted
+    redo-there c.self.inside.script c.step.new.script c.self.inside.matrix c.self.inside.history c.args.number
+    c.args.edit.now c.self.invariant.0 c.requires.is c.in_ok-step.ensures.accepted
 
 pub invariant_of-self-2 : goal.invariant_of-self-2
-invariant_of-self-2 g c =
-    IsDesk-redone c.self.inside.script c.step.new.script c.self.inside.matrix c.self.inside.history c.redo.new.self c.self.inside.deficits
-    c.step.new.deficits c.args.number c.args.edit.now c.self.invariant c.requires.is
-    c.in_ok-step.ensures.accepted c.in_ok-step.ensures.held c.in_ok-step.ensures.rows c.in_ok-step.ensures.places c.redo.ensures.later
-    c.redo.ensures.earlier
+invariant_of-self-2 g c = (
+  IsDesk-redone c.self.inside.script c.step.new.script c.self.inside.matrix c.self.inside.history c.redo.new.self c.args.number
+      c.args.edit.now c.self.invariant.0 c.requires.is c.in_ok-step.ensures.accepted c.in_ok-step.ensures.places c.redo.ensures.later
+      c.redo.ensures.earlier,
+  c.in_ok-step.ensures.with,
+)
 
 pub returns-clause-done : goal.returns-clause-done
 returns-clause-done g c =
