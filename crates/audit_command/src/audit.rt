@@ -34,7 +34,7 @@ use trip_model::Timetable;
 #[derive(Drop)]
 enum Auditable {
     Trips(Table, Vec<bool>),
-    Refused(Outcome),
+    Refused(Outcome<'static>),
 }
 
 // The trips of what was read, where the `block_id` of each selected record is UTF-8.
@@ -64,7 +64,7 @@ fn judged<L: Ledger>(
     matrix: &Matrix,
     stated: &Stated,
     steps: &mut Steps<L>,
-) -> Result<Outcome, Memory>
+) -> Result<Outcome<'static>, Memory>
     requires places { length timetable.now.places ≡ length matrix.now.walks }
     requires runs { All (All (Runs timetable.now)) (slots_by stated.now) }
     requires blocking { misfits_in timetable.now matrix.now stated.now ≡ []
@@ -97,7 +97,7 @@ fn audited<L: Ledger>(
     trips: &Table,
     chosen: &[bool],
     steps: &mut Steps<L>,
-) -> Result<Outcome, Memory>
+) -> Result<Outcome<'static>, Memory>
     requires places { length edited.now.script.timetable.places ≡ length matrix.now.walks }
     requires chosen { length chosen.now ≡ length trips.now.rows }
     requires names { AreNames trips.now chosen.now }
@@ -126,7 +126,11 @@ impl FeedCommand for AuditFeed {
 
     ghost asks = { λ _. audit_does };
 
-    fn outcome<L: Ledger>(&self, said: Said, steps: &mut Steps<L>) -> Result<Outcome, Memory> {
+    fn outcome<'a, L: Ledger>(
+        &self,
+        said: Said<'a, '_>,
+        steps: &mut Steps<L>,
+    ) -> Result<Outcome<'a>, Memory> {
         let (trips, chosen) = match read_trips(said.alloc, said.settings, said.read)? {
             Auditable::Refused(outcome) => return Ok(outcome),
             Auditable::Trips(trips, chosen) => (trips, chosen),

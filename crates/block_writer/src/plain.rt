@@ -1,7 +1,7 @@
 ghost use Rattle.std.specs.Prelude.{◌≡◌, ◌+◌, ◌<◌, ◌^◌, option_map};
 ghost use Rattle.block_writer.specs.Plain as spec;
 
-use desk_io::Found;
+use desk_io::{Bytes, Found};
 
 // The number of fields of the line at hand after one byte more. None where a line ends that has not as many fields as it
 // should, or where the byte is one that a plain text has not. Most bytes are above the comma, so these are told first.
@@ -43,11 +43,11 @@ fn is_plain(columns: usize, text: &[u8]) -> bool
 }
 
 /// The bytes of a file whose text is plain: lines of that many fields, which are two or more. A writer writes them as they came.
-pub(crate) fn plain_bytes(columns: usize, found: &Found) -> Option<&[u8]>
+pub(crate) fn plain_bytes(columns: usize, found: &Found) -> Option<&Bytes>
     ensures { option_map (λ bytes. bytes.now) result ≡ spec.plain_bytes columns found.now }
 {
     match found {
-        Found::File(bytes) if is_plain(columns, bytes.as_slice()) => Some(bytes.as_slice()),
+        Found::File(bytes) if is_plain(columns, bytes.as_slice()) => Some(bytes),
         _ => None,
     }
 }

@@ -1,5 +1,6 @@
 ghost use Rattle.std.specs.Prelude.{◌≡◌, ◌≢◌, ◌<◌, ◌≤◌, ◌++◌, false, true, All, Err, IfErr, IfOk, IsUtf8, OnOk, Some};
 ghost use Rattle.std.specs.Prelude.{length, map, slice_set};
+ghost use Rattle.std.specs.Cow.{cow_value};
 ghost use Rattle.std.proofs.Props.{props};
 ghost use Rattle.gtfs_tables.specs.declared.fault.FeedFault.{FeedFault};
 ghost use Rattle.gtfs_tables.specs.declared.paper.Paper.{Paper};
@@ -22,6 +23,7 @@ use gtfs_tables::{
     read_time,
 };
 use std::alloc::Global;
+use std::borrow::Cow;
 use trip_model::Timetable;
 
 /// The columns of `stop_times.txt` that are known by their names.
@@ -280,15 +282,15 @@ impl<'a> RecordReader for StopTimes<'a> {
 /// their order, each with as many fields as the header. Times of arrival and departure are moved where a trip in one of the
 /// first `base` slots runs and is shifted. They are moved by its offset, and not below midnight. A field without a time stays
 /// as it is. All other fields are as they were. All fields must be UTF-8, and the first that is not is refused. Where no trip
-/// is shifted and the file is plain, its text is its bytes, and they are copied.
-pub fn stop_times_text(
+/// is shifted and the file is plain, its text is its bytes, and they are lent.
+pub fn stop_times_text<'a>(
     alloc: Global,
-    found: &Found,
+    found: &'a Found,
     timetable: &Timetable,
     base: u16,
-) -> Result<Bytes, FeedFault>
+) -> Result<Cow<'a, Bytes>, FeedFault>
     requires { IsWithinLimit found.now }
-    ensures written { IfOk result (λ text. IsTextPaper (λ table. text ≡ spec.stop_times_written table timetable.now base)
+    ensures written { IfOk result (λ text. IsTextPaper (λ table. cow_value text ≡ spec.stop_times_written table timetable.now base)
         (table_in Paper.StopTimes found.now)) }
     ensures refused { IfErr result (λ refused. refused ≢ FeedFault.Memory
         → IsRefusedPaper Paper.StopTimes spec.stop_time_columns (table_in Paper.StopTimes found.now) refused) }
@@ -297,7 +299,7 @@ pub fn stop_times_text(
     let some = moves_some(timetable, base);
     if !some {
         if let Some(bytes) = plain_bytes(header.len(), found) {
-            return Ok(Bytes::of(alloc, bytes)?);
+            return Ok(Cow::Borrowed(bytes));
         }
     }
     let mut records = RecordWriter::new(alloc);
@@ -311,5 +313,5 @@ pub fn stop_times_text(
         records,
     };
     let written = read_records(alloc, Paper::StopTimes, found, begun)?;
-    Ok(written.records.into_bytes()?)
+    Ok(Cow::Owned(written.records.into_bytes()?))
 }

@@ -25,7 +25,7 @@ use std::sync::ledger::Ledger;
 use trip_model::Timetable;
 
 // The two files of the plan of a desk.
-fn files_of(alloc: Global, desk: &Desk, prefix: &str) -> Result<Vec<Writing>, Memory>
+fn files_of(alloc: Global, desk: &Desk, prefix: &str) -> Result<Vec<Writing<'static>>, Memory>
     ensures { IfOk result (λ writes. writes.items ≡ plan_files desk.now.script.timetable desk.now.matrix prefix.now desk.now.plan) }
 {
     let timetable = desk.timetable();
@@ -50,7 +50,7 @@ fn files_of(alloc: Global, desk: &Desk, prefix: &str) -> Result<Vec<Writing>, Me
 }
 
 // The files of the last plan, and behind what was put of the records the numbers after them all.
-fn finished(alloc: Global, followed: Followed, prefix: &str) -> Result<Outcome, Memory>
+fn finished(alloc: Global, followed: Followed, prefix: &str) -> Result<Outcome<'static>, Memory>
     ensures { IfOk result (λ outcome. outcome ≡ record {
       writes = plan_files followed.desk.script.timetable followed.desk.matrix prefix.now followed.desk.plan;
       lines = None;
@@ -76,7 +76,7 @@ fn planned<L: Ledger>(
     matrix: Matrix,
     prefix: &str,
     steps: &mut Steps<L>,
-) -> Result<Outcome, Memory>
+) -> Result<Outcome<'static>, Memory>
     requires script { IsScript lines.now }
     requires places { length timetable.places ≡ length matrix.walks }
     ensures planned { IfOk result (IsPlanned timetable lines.now matrix prefix.now) }
@@ -95,7 +95,11 @@ impl FeedCommand for WriteBlocks {
 
     ghost asks = { λ _. blocks_does };
 
-    fn outcome<L: Ledger>(&self, said: Said, steps: &mut Steps<L>) -> Result<Outcome, Memory> {
+    fn outcome<'a, L: Ledger>(
+        &self,
+        said: Said<'a, '_>,
+        steps: &mut Steps<L>,
+    ) -> Result<Outcome<'a>, Memory> {
         accepted_law();
         names_law();
         let alloc = said.alloc;

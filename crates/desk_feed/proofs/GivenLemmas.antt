@@ -1,5 +1,5 @@
 -- What a command gives of an accepted feed is what it asks of a run.
-use Rattle.std.proofs.Common.{◌≡◌, List, Result, Ok, Err, sym, ap, subst, ◌∙◌}
+use Rattle.std.proofs.Common.{◌≡◌, Result, Ok, Err, sym, ap, subst, ◌∙◌}
 use Rattle.std.specs.Prelude.{IfOk}
 use Rattle.trip_model.specs.Timetable.{TimetableView}
 use Rattle.desk_run.specs.Commands.{IsGiven}

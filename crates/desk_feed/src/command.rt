@@ -22,18 +22,18 @@ use trip_model::Timetable;
 
 /// What a command has of an accepted feed: what was read, and what that says. The parts that no command uses up are lent.
 #[derive(Drop)]
-pub struct Said<'a> {
+pub struct Said<'a, 'f> {
     pub alloc: Global,
     /// What was read.
     pub read: &'a Read,
-    pub settings: &'a Settings,
+    pub settings: &'f Settings,
     /// The timetable before the script.
     pub timetable: Timetable,
-    pub deadheads: &'a Deadheads,
+    pub deadheads: &'f Deadheads,
     /// The pulls of the depot.
     pub pulls: Pulls,
     /// The lines of the script.
-    pub lines: &'a [Line],
+    pub lines: &'f [Line],
 }
 
 /// What a command brings that works on a feed: what it asks, and the outcome that it gives of what an accepted feed says.
@@ -49,7 +49,11 @@ pub trait FeedCommand {
     ghost asks: { Self → FeedAsked };
 
     /// What it does of what the feed says.
-    fn outcome<L: Ledger>(&self, said: Said, steps: &mut Steps<L>) -> Result<Outcome, Memory>
+    fn outcome<'a, L: Ledger>(
+        &self,
+        said: Said<'a, '_>,
+        steps: &mut Steps<L>,
+    ) -> Result<Outcome<'a>, Memory>
         requires papers { papers_of said.read.now.pages ≡ feed_papers ++ (asks self.now).further }
         requires says { said_in said.read.now ≡ Ok (said_to said) }
         requires pulls { length said.pulls ≡ length said.timetable.places }
@@ -59,13 +63,13 @@ pub trait FeedCommand {
 }
 
 // What a command does of an accepted feed, which is taken apart here and nowhere else.
-fn outcome_of<C: FeedCommand, L: Ledger>(
+fn outcome_of<'a, C: FeedCommand, L: Ledger>(
     command: &C,
     alloc: Global,
-    read: &Read,
+    read: &'a Read,
     feed: Feed,
     steps: &mut Steps<L>,
-) -> Result<Outcome, Memory>
+) -> Result<Outcome<'a>, Memory>
     requires papers { papers_of read.now.pages ≡ feed_papers ++ (C.asks command.now).further }
     requires says { said_in read.now ≡ Ok (said_of feed) }
     requires pulls { HavePulls feed }
@@ -170,12 +174,12 @@ impl<'a, C: FeedCommand> Command for OnFeed<'a, C> {
         self.keeps
     }
 
-    fn outcome<L: Ledger>(
+    fn outcome<'r, L: Ledger>(
         &self,
         alloc: Global,
-        read: &Read,
+        read: &'r Read,
         steps: &mut Steps<L>,
-    ) -> Result<Outcome, Memory> {
+    ) -> Result<Outcome<'r>, Memory> {
         match judge_feed(alloc, read)? {
             Judged::Refused(outcome) => Ok(outcome),
             Judged::Accepted(feed) => outcome_of(&self.command, alloc, read, feed, steps),
@@ -217,7 +221,7 @@ fn put_edited<C: TextCommand, L: Ledger>(
     stands: Stands,
     edited: &Edited,
     steps: &mut Steps<L>,
-) -> Result<Outcome, Memory>
+) -> Result<Outcome<'static>, Memory>
     requires { length stands.pulls ≡ length stands.timetable.now.places }
     ensures put { IfOk result (PutsBehind (C.asks command.now) edited.now.refused edited.now.ending (stands_for stands.entry)) }
     ensures counted { steps.new ≤ steps.old + (C.asks command.now).most stands.entry.timetable.now }
@@ -236,7 +240,11 @@ impl<C: TextCommand> FeedCommand for AfterScript<C> {
 
     ghost asks = { λ c. showing (C.asks c.0) };
 
-    fn outcome<L: Ledger>(&self, said: Said, steps: &mut Steps<L>) -> Result<Outcome, Memory> {
+    fn outcome<'a, L: Ledger>(
+        &self,
+        said: Said<'a, '_>,
+        steps: &mut Steps<L>,
+    ) -> Result<Outcome<'a>, Memory> {
         let edited = after_script(said.alloc, said.timetable, said.lines)?;
         let timetable = edited.script.timetable();
         let stands = Stands {

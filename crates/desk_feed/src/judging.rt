@@ -35,11 +35,11 @@ pub const FEED_PAPERS: [Paper; 10] = feed_papers!();
 #[derive(Drop)]
 pub enum Judged {
     Accepted(Feed),
-    Refused(Outcome),
+    Refused(Outcome<'static>),
 }
 
 /// What is done where a file is refused: the line of the refusal is put.
-pub fn refuse(alloc: Global, refused: &FeedFault) -> Result<Outcome, Memory>
+pub fn refuse(alloc: Global, refused: &FeedFault) -> Result<Outcome<'static>, Memory>
     requires { refused.now ≢ FeedFault.Memory }
     ensures { IfOk result (λ outcome. outcome ≡ refusing refused.now) }
 {

@@ -191,7 +191,7 @@ pub fn putting_after(
     refused: &Text,
     text: &Text,
     ending: Ending,
-) -> Result<Outcome, Memory>
+) -> Result<Outcome<'static>, Memory>
     ensures { IfOk result (λ outcome. outcome ≡ refusing_first refused.now text.now ending) }
 {
     let all = format!(in alloc; "{}{}", refused.as_str(), text.as_str())?;

@@ -23,12 +23,12 @@ pub trait Command {
         ensures { result ≡ (asked self.now).keeps };
 
     /// What it does after what it has read.
-    fn outcome<L: Ledger>(
+    fn outcome<'a, L: Ledger>(
         &self,
         alloc: Global,
-        read: &Read,
+        read: &'a Read,
         steps: &mut Steps<L>,
-    ) -> Result<Outcome, Memory>
+    ) -> Result<Outcome<'a>, Memory>
         requires { papers_of read.now.pages ≡ (asked self.now).papers }
         ensures given { IfOk result (IsGiven (asked self.now) read.now) }
         ensures counted { steps.new ≤ steps.old + (asked self.now).most read.now };

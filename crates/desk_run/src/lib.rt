@@ -2,7 +2,7 @@
 //!
 //! A [`Command`] says which papers it reads, whether it reads the journal, and what outcome it gives of what it has read. An
 //! [`Outcome`] is what it asks of the world. It has files to write in their order, lines to append to the journal or none, a
-//! text to put, and an ending. [`perform`] reads, asks the command, and carries the outcome out, over any shelf, sink and
+//! text to put, and an ending. The bytes of a file are made for it, or lent by a paper that was read ([`Content`]). [`perform`] reads, asks the command, and carries the outcome out, over any shelf, sink and
 //! keeper, up to the first call that is refused. It answers the status. The contract of [`perform`] has all that is promised of
 //! a run, by what the command asks. So a new command proves nothing but its own outcome.
 //!
@@ -29,7 +29,7 @@ mod status;
 pub use carrying::carry_out;
 pub use command::Command;
 pub use fault::RunFault;
-pub use outcome::{Outcome, Writing};
+pub use outcome::{Content, Outcome, Writing};
 pub use reading::{Loaded, Page, Read};
 pub use running::perform;
 pub use status::{

@@ -4,39 +4,77 @@ use crate::Ending;
 use desk_io::{Bytes, Memory, Text};
 use desk_keeper::Lines;
 use std::alloc::Global;
+use std::borrow::Cow;
 use std::marker::Model;
+
+/// The bytes of a file: those that were made for it, or those of a paper that was read, which are lent and not copied.
+pub struct Content<'a> {
+    bytes: Cow<'a, Bytes>,
+}
+
+impl<'a> Drop for Content<'a> {
+    fn drop(self) {
+        let Self { bytes: _ } = self;
+    }
+}
+
+impl<'a> Model for Content<'a> {
+    ghost use Rattle.std.specs.Prelude.{List, ℕ};
+    ghost use Rattle.std.specs.Cow.{cow_value};
+
+    ghost Value = { List ℕ };
+
+    ghost view = { λ c. cow_value c.bytes };
+}
+
+impl<'a> Content<'a> {
+    ghost use Rattle.std.specs.Cow.{cow_value};
+
+    /// These bytes.
+    pub fn of(bytes: Cow<'a, Bytes>) -> Content<'a>
+        ensures { result ≡ cow_value bytes.entry }
+    {
+        Content { bytes }
+    }
+
+    pub fn as_slice(&self) -> &[u8]
+        ensures { result.now ≡ self.now }
+    {
+        self.bytes.as_ref().as_slice()
+    }
+}
 
 /// A file that a run writes.
 #[derive(Drop)]
-pub struct Writing {
+pub struct Writing<'a> {
     pub name: Text,
-    pub bytes: Bytes,
+    pub bytes: Content<'a>,
 }
 
-impl Writing {
+impl<'a> Writing<'a> {
     ghost use Rattle.std.specs.Prelude.{IfOk};
 
     /// The file of that name with a text, which is taken over.
-    pub fn of(alloc: Global, name: &str, text: Text) -> Result<Writing, Memory>
+    pub fn of(alloc: Global, name: &str, text: Text) -> Result<Writing<'a>, Memory>
         ensures { IfOk result (λ writing. writing ≡ record { name = name.now; bytes = text }) }
     {
         Ok(Writing {
             name: Text::of(alloc, name)?,
-            bytes: text.into_bytes(),
+            bytes: Content::of(Cow::Owned(text.into_bytes())),
         })
     }
 }
 
 /// What a run that comes to its end does. It writes files in their order, appends lines to the journal if there are any, puts a
 /// text, and ends with a status.
-pub struct Outcome {
-    pub(crate) writes: Vec<Writing>,
+pub struct Outcome<'a> {
+    pub(crate) writes: Vec<Writing<'a>>,
     pub(crate) lines: Option<Lines>,
     pub(crate) text: Text,
     pub(crate) ending: Ending,
 }
 
-impl Drop for Outcome {
+impl<'a> Drop for Outcome<'a> {
     fn drop(self) {
         let Self {
             writes: _,
@@ -47,7 +85,7 @@ impl Drop for Outcome {
     }
 }
 
-impl Model for Outcome {
+impl<'a> Model for Outcome<'a> {
     ghost use Rattle.desk_run.specs.Outcome.{OutcomeView};
 
     ghost Value = { OutcomeView };
@@ -55,12 +93,17 @@ impl Model for Outcome {
     ghost view = { λ o. record { writes = o.writes.items; lines = o.lines; text = o.text; ending = o.ending } };
 }
 
-impl Outcome {
+impl<'a> Outcome<'a> {
     ghost use Rattle.desk_run.specs.Outcome.{putting};
 
     /// The outcome of these parts.
-    pub fn of(writes: Vec<Writing>, lines: Option<Lines>, text: Text, ending: Ending) -> Outcome
-        ensures { result ≡ record { writes = writes.items; lines = lines; text = text; ending = ending } }
+    pub fn of(
+        writes: Vec<Writing<'a>>,
+        lines: Option<Lines>,
+        text: Text,
+        ending: Ending,
+    ) -> Outcome<'a>
+        ensures { result ≡ record { writes = writes.entry.items; lines = lines; text = text; ending = ending } }
     {
         Outcome {
             writes,
@@ -70,8 +113,23 @@ impl Outcome {
         }
     }
 
+    /// The same outcome, which lends nothing, since it writes no file.
+    pub fn lending_nothing(self) -> Outcome<'static>
+        requires { self.writes ≡ [] }
+        ensures { result ≡ self.entry }
+    {
+        let alloc = *self.writes.allocator();
+        let Self {
+            writes: _,
+            lines,
+            text,
+            ending,
+        } = self;
+        Outcome::of(Vec::new(alloc), lines, text, ending)
+    }
+
     /// A text alone.
-    pub fn putting(alloc: Global, text: Text, ending: Ending) -> Outcome
+    pub fn putting(alloc: Global, text: Text, ending: Ending) -> Outcome<'a>
         ensures { result ≡ putting text ending }
     {
         Outcome::of(Vec::new(alloc), None, text, ending)

@@ -46,7 +46,7 @@ fn boarded<L: Ledger>(
     settings: &Settings,
     drawn: &Drawn,
     steps: &mut Steps<L>,
-) -> Result<Outcome, Memory>
+) -> Result<Outcome<'static>, Memory>
     requires slots { All (All (λ s. s < length drawn.now.desk.script.timetable.slots)) drawn.now.blocks }
     requires blocking { IsBlocking (network_of drawn.now.desk.script.timetable drawn.now.desk.matrix) drawn.now.blocks }
     ensures boarded { IfOk result (λ outcome.
@@ -76,7 +76,11 @@ impl FeedCommand for WriteBoards {
 
     ghost asks = { λ _. joined_does };
 
-    fn outcome<L: Ledger>(&self, said: Said, steps: &mut Steps<L>) -> Result<Outcome, Memory> {
+    fn outcome<'a, L: Ledger>(
+        &self,
+        said: Said<'a, '_>,
+        steps: &mut Steps<L>,
+    ) -> Result<Outcome<'a>, Memory> {
         entries_law();
         joined_law();
         let pulls = said.pulls;

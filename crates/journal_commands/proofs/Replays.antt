@@ -23,8 +23,8 @@ use Rattle.edit_script.specs.Laws.{EditReadsBack}
 use Rattle.edit_script.specs.Machine.{Numbered, State, begun, machine, or_stays, state_after, with_record}
 use Rattle.desk_feed.specs.Script.{line_at, numbered, refusal_in}
 use Rattle.journal_commands.specs.declared.replay.Source.TheVariants as source
-use Rattle.journal_commands.specs.Journal.{canonical_line, journal_text, script_with}
-use Rattle.journal_commands.specs.Keep.{IsWritten, IsWrittenLine, Replays, kept_lines, standing_after, standing_after_both}
+use Rattle.journal_commands.specs.Journal.{canonical_line, journal_text}
+use Rattle.journal_commands.specs.Keep.{IsWritten, IsWrittenLine, Replays, kept_lines}
 use Rattle.journal_commands.specs.Replay.{all_records, kept_line, kept_to, records_from, refusal_at}
 use Rattle.journal_commands.proofs.Canonical.{script-canonical}
 use Rattle.journal_commands.proofs.Dropped.{AreSame, due, lines_of, same-refl, same-timetable, show-same, step-same}

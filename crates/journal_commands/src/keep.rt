@@ -33,7 +33,7 @@ fn script_with(alloc: Global, stored: &[Text], kept: &[Text]) -> Result<Vec<Line
 }
 
 // What is done after all records.
-fn appended(alloc: Global, stored: &[Text], replay: Replay) -> Result<Outcome, Memory>
+fn appended(alloc: Global, stored: &[Text], replay: Replay) -> Result<Outcome<'static>, Memory>
     ensures { IfOk result (λ outcome. outcome ≡ spec.appending (string_bytes replay.text) replay.kept.items (ending_by replay.some)
         (journal_spec.script_with stored.now replay.kept.items)) }
 {
@@ -57,7 +57,7 @@ fn kept_lines(
     stored: &[Text],
     journal: &[Line],
     lines: &[Line],
-) -> Result<Outcome, Memory>
+) -> Result<Outcome<'static>, Memory>
     requires journal { IsScript journal.now }
     requires lines { IsScript lines.now }
     ensures { IfOk result (λ outcome. outcome ≡ spec.keeping_lines timetable stored.now journal.now lines.now) }
@@ -87,7 +87,7 @@ fn kept(
     timetable: Timetable,
     loaded: &Loaded,
     lines: &[Line],
-) -> Result<Outcome, Memory>
+) -> Result<Outcome<'static>, Memory>
     requires { IsScript lines.now }
     ensures { IfOk result (λ outcome. outcome
         ≡ spec.keeping_by timetable (journal_spec.lines_loaded loaded.now) lines.now (journal_spec.script_loaded loaded.now)) }
@@ -107,7 +107,11 @@ impl FeedCommand for KeepEdits {
 
     ghost asks = { λ _. keep_does };
 
-    fn outcome<L: Ledger>(&self, said: Said, _steps: &mut Steps<L>) -> Result<Outcome, Memory> {
+    fn outcome<'a, L: Ledger>(
+        &self,
+        said: Said<'a, '_>,
+        _steps: &mut Steps<L>,
+    ) -> Result<Outcome<'a>, Memory> {
         read_back_law();
         kept(said.alloc, said.timetable, said.read.journal(), said.lines)
     }

@@ -1,4 +1,5 @@
 ghost use Rattle.std.specs.Prelude.{◌≡◌, IfOk};
+ghost use Rattle.desk_run.specs.Commands.{IsGiven};
 ghost use Rattle.desk_run.specs.Outside.{outside};
 ghost use Rattle.desk_run.specs.Performs.{Performs};
 ghost use Rattle.journal_commands.specs.Journal as journal_spec;
@@ -15,7 +16,7 @@ use std::alloc::Global;
 use std::sync::ledger::Ledger;
 
 // What is done of a journal with so many records.
-fn written(alloc: Global, lines: &[Text], records: usize) -> Result<Outcome, Memory>
+fn written(alloc: Global, lines: &[Text], records: usize) -> Result<Outcome<'static>, Memory>
     ensures { IfOk result (λ outcome. outcome ≡ spec.writing_lines lines.now records) }
 {
     let text = journal_text(alloc, lines, &[])?;
@@ -23,6 +24,18 @@ fn written(alloc: Global, lines: &[Text], records: usize) -> Result<Outcome, Mem
     let writes = vec![in alloc; writing]?;
     let line = format!(in alloc; "kept {records} records\n")?;
     Ok(Outcome::of(writes, None, Text::wrap(line), Ending::Done))
+}
+
+// What is done of the journal that was read.
+fn journal_written(alloc: Global, read: &Read) -> Result<Outcome<'static>, Memory>
+    ensures { IfOk result (IsGiven kept_asked read.now) }
+{
+    let loaded = read.journal();
+    match script_loaded(alloc, loaded) {
+        Ok(script) => written(alloc, lines_loaded(loaded), script.len()),
+        Err(FeedFault::Memory) => Err(Memory),
+        Err(refused) => refuse(alloc, &refused),
+    }
 }
 
 struct WriteJournal;
@@ -40,18 +53,13 @@ impl Command for WriteJournal {
         true
     }
 
-    fn outcome<L: Ledger>(
+    fn outcome<'a, L: Ledger>(
         &self,
         alloc: Global,
-        read: &Read,
+        read: &'a Read,
         _steps: &mut Steps<L>,
-    ) -> Result<Outcome, Memory> {
-        let loaded = read.journal();
-        match script_loaded(alloc, loaded) {
-            Ok(script) => written(alloc, lines_loaded(loaded), script.len()),
-            Err(FeedFault::Memory) => Err(Memory),
-            Err(refused) => refuse(alloc, &refused),
-        }
+    ) -> Result<Outcome<'a>, Memory> {
+        journal_written(alloc, read)
     }
 }
 

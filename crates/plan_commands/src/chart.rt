@@ -38,7 +38,11 @@ impl FeedCommand for ShowChart {
 
     ghost asks = { λ _. chart_does };
 
-    fn outcome<L: Ledger>(&self, said: Said, steps: &mut Steps<L>) -> Result<Outcome, Memory> {
+    fn outcome<'a, L: Ledger>(
+        &self,
+        said: Said<'a, '_>,
+        steps: &mut Steps<L>,
+    ) -> Result<Outcome<'a>, Memory> {
         let pulls = said.pulls;
         let matrix = matrix_of(said.alloc, &said.timetable, said.deadheads, pulls)?;
         let drawn = draw_after(said.alloc, said.timetable, said.lines, matrix, steps)?;

@@ -28,7 +28,7 @@ fn checked(
     matrix: &Matrix,
     blocks: &Found,
     prices: &Found,
-) -> Result<Outcome, Memory>
+) -> Result<Outcome<'static>, Memory>
     requires places { length timetable.now.places ≡ length matrix.now.walks }
     requires blocks { IsWithinLimit blocks.now }
     requires prices { IsWithinLimit prices.now }
@@ -72,7 +72,11 @@ impl FeedCommand for CheckClaim {
 
     ghost asks = { λ _. check_does };
 
-    fn outcome<L: Ledger>(&self, said: Said, _steps: &mut Steps<L>) -> Result<Outcome, Memory> {
+    fn outcome<'a, L: Ledger>(
+        &self,
+        said: Said<'a, '_>,
+        _steps: &mut Steps<L>,
+    ) -> Result<Outcome<'a>, Memory> {
         let blocks = said.read.found(Paper::Blocks);
         let prices = said.read.found(Paper::Prices);
         let alloc = said.alloc;

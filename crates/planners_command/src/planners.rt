@@ -44,7 +44,7 @@ fn planned<L: Ledger>(
     matrix: &Matrix,
     lines: &[PlannerLine],
     steps: &mut Steps<L>,
-) -> Result<Outcome, Memory>
+) -> Result<Outcome<'static>, Memory>
     requires places { length edited.now.script.timetable.places ≡ length matrix.now.walks }
     requires script { IsPlannerScript lines.now }
     ensures planned { IfOk result (IsPlanned edited.now.refused edited.now.ending edited.now.script.timetable matrix.now lines.now) }
@@ -67,7 +67,7 @@ fn planned_on<L: Ledger>(
     said: Said,
     lines: &[PlannerLine],
     steps: &mut Steps<L>,
-) -> Result<Outcome, Memory>
+) -> Result<Outcome<'static>, Memory>
     requires pulls { length said.pulls ≡ length said.timetable.places }
     requires script { IsScript said.lines.now }
     requires lines { IsPlannerScript lines.now }
@@ -91,7 +91,11 @@ impl FeedCommand for FollowPlanners {
 
     ghost asks = { λ _. planners_does };
 
-    fn outcome<L: Ledger>(&self, said: Said, steps: &mut Steps<L>) -> Result<Outcome, Memory> {
+    fn outcome<'a, L: Ledger>(
+        &self,
+        said: Said<'a, '_>,
+        steps: &mut Steps<L>,
+    ) -> Result<Outcome<'a>, Memory> {
         match read_lines(said.alloc, said.read) {
             Ok(lines) => planned_on(said, &lines, steps),
             Err(FeedFault::Memory) => Err(Memory),

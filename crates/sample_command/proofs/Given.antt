@@ -1,5 +1,5 @@
 -- What `sample` gives of an accepted feed is what it asks.
-use Rattle.std.proofs.Common.{◌≡◌, ℕ, List, Result, Ok, Err, ap, subst, ◌∙◌}
+use Rattle.std.proofs.Common.{◌≡◌, ℕ, List, [], Result, Ok, Err, ap, subst, ◌∙◌}
 use Rattle.std.specs.Prelude.{IfOk}
 use Rattle.deadhead_matrix.specs.Matrix.{MatrixView}
 use Rattle.trip_model.specs.Timetable.{TimetableView}
@@ -9,9 +9,10 @@ use Rattle.desk_run.specs.Reading.{ReadView}
 use Rattle.desk_feed.specs.declared.script.Edited.{Edited}
 use Rattle.desk_feed.specs.Edited.{IsEdited, refusing_first}
 use Rattle.desk_feed.specs.Feed.{FeedView}
-use Rattle.desk_feed.specs.Judging.{IsGivenOf, ending_of, of_feed, refused_of}
+use Rattle.desk_feed.specs.Judging.{Does, IsGivenOf, ending_of, of_feed, refused_of, said_in}
+use Rattle.gtfs_tables.specs.declared.fault.FeedFault.{FeedFault}
 use Rattle.desk_feed.specs.Schedule.{IsMatrixFor}
-use Rattle.sample_command.specs.Sample.{HasSummary, sample_asked, sample_read, summary_does, summary_line}
+use Rattle.sample_command.specs.Sample.{HasSummary, IsSummed, sample_asked, sample_read, summary_does, summary_line}
 use Rattle.sample_command.specs.Summed.{IsSummedOf}
 
 pub summary-given : {E : Type 0} (trips : ℕ) (read : ReadView) (said : FeedView) (edited : Edited) (matrix : MatrixView)
@@ -39,11 +40,19 @@ summary-given trips read said edited matrix is matrix_is (Ok outcome) prefix pre
       unkept = λ _. ap (λ (o : OutcomeView). o.lines) here;
     }
 
+-- and no file is written
+pub sample-unwritten : (trips : ℕ) (sample : ReadView) (outcome : OutcomeView)
+    → IsGiven (of_feed (summary_does trips)) sample outcome → outcome.writes ≡ []
+sample-unwritten trips sample outcome given = by (said_in sample) given.gives
+  where
+    by : (said : Result FeedView FeedFault) → Does (IsSummed trips) said outcome → outcome.writes ≡ []
+    by (Ok said) is = ap (λ (o : OutcomeView). o.writes) is.done
+    by (Err refused) is = ap (λ (o : OutcomeView). o.writes) is
+
 -- and of what was read of the sample is what is asked of a run, whatever that has read
-pub sample-given : {E : Type 0} (trips : ℕ) (read sample : ReadView) → sample ≡ sample_read trips → (result : Result OutcomeView E)
-    → IfOk result (IsGiven (of_feed (summary_does trips)) sample) → IfOk result (IsGiven (sample_asked trips) read)
-sample-given trips read sample is (Err e) given = tt
-sample-given trips read sample is (Ok outcome) given = record {
+pub sample-given : (trips : ℕ) (read sample : ReadView) → sample ≡ sample_read trips → (outcome : OutcomeView)
+    → IsGiven (of_feed (summary_does trips)) sample outcome → IsGiven (sample_asked trips) read outcome
+sample-given trips read sample is outcome given = record {
   gives = subst (λ (r : ReadView). (of_feed (summary_does trips)).Gives r outcome) is given.gives;
   ends = subst (λ (r : ReadView). (of_feed (summary_does trips)).Ends r outcome.ending) is given.ends;
   unkept = given.unkept;

@@ -45,14 +45,16 @@ impl Command for Sample {
         false
     }
 
-    fn outcome<L: Ledger>(
+    fn outcome<'a, L: Ledger>(
         &self,
         alloc: Global,
-        _read: &Read,
+        _read: &'a Read,
         steps: &mut Steps<L>,
-    ) -> Result<Outcome, Memory> {
+    ) -> Result<Outcome<'a>, Memory> {
         let read = read_sample(alloc, self.trips)?;
-        OnFeed::of(Summarize { trips: self.trips }).outcome(alloc, &read, steps)
+        let command = OnFeed::of(Summarize { trips: self.trips });
+        let outcome = command.outcome(alloc, &read, steps)?;
+        Ok(outcome.lending_nothing())
     }
 }
 

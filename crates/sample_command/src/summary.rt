@@ -114,7 +114,7 @@ fn summed<L: Ledger>(
     edited: &Edited,
     matrix: &Matrix,
     steps: &mut Steps<L>,
-) -> Result<Outcome, Memory>
+) -> Result<Outcome<'static>, Memory>
     requires places { length edited.now.script.timetable.places ≡ length matrix.now.walks }
     requires names { All (λ slot. IsName slot.name) edited.now.script.timetable.slots }
     ensures summed { IfOk result (IsSummedOf trips edited.now matrix.now prefix.now) }
@@ -144,7 +144,11 @@ impl FeedCommand for Summarize {
 
     ghost asks = { λ c. summary_does c.trips };
 
-    fn outcome<L: Ledger>(&self, said: Said, steps: &mut Steps<L>) -> Result<Outcome, Memory> {
+    fn outcome<'a, L: Ledger>(
+        &self,
+        said: Said<'a, '_>,
+        steps: &mut Steps<L>,
+    ) -> Result<Outcome<'a>, Memory> {
         names_law();
         let alloc = said.alloc;
         let prefix = said.settings.prefix();

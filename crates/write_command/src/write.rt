@@ -14,32 +14,33 @@ use block_build::Blocks;
 use block_writer::{read_texts, stop_times_text, trips_text};
 use desk_core::NoDeficits;
 use desk_feed::{FeedCommand, OnFeed, Said, matrix_of, refuse};
-use desk_io::{Bytes, Memory, Shelf, Sink, Steps, Text};
+use desk_io::{Memory, Shelf, Sink, Steps, Text};
 use desk_keeper::Keeper;
-use desk_run::{Outcome, Read, Writing, perform};
+use desk_run::{Content, Outcome, Read, Writing, perform};
 use desk_settings::{Settings, chosen_in};
 use feed_desk::{Drawn, draw_after};
 use gtfs_tables::{FeedFault, Paper, Table};
 use std::alloc::Global;
+use std::borrow::Cow;
 use std::sync::ledger::Ledger;
 use trip_model::Timetable;
 
 // What is written again of a feed: the table of its trips and the text of its stop times. Or what is done where one of the two
 // papers is refused.
 #[derive(Drop)]
-enum Writable {
-    Texts(Table, Bytes),
-    Refused(Outcome),
+enum Writable<'a> {
+    Texts(Table, Content<'a>),
+    Refused(Outcome<'a>),
 }
 
 // What is written again of the two papers, for a timetable and the number of its slots that have records.
-fn writable_of(
+fn writable_of<'a>(
     alloc: Global,
     settings: &Settings,
-    read: &Read,
+    read: &'a Read,
     timetable: &Timetable,
     base: u16,
-) -> Result<Writable, Memory>
+) -> Result<Writable<'a>, Memory>
     requires { HasPapers read.now.pages }
     ensures { IfOk result (IsWritable settings.now timetable.now base (trips_in read.now) (stop_times_in read.now)) }
 {
@@ -51,15 +52,15 @@ fn writable_of(
         Err(fault) => return Ok(Writable::Refused(refuse(alloc, &fault)?)),
     };
     match stop_times_text(alloc, stop_times, timetable, base) {
-        Ok(text) => Ok(Writable::Texts(trips, text)),
+        Ok(text) => Ok(Writable::Texts(trips, Content::of(text))),
         Err(FeedFault::Memory) => Err(Memory),
         Err(fault) => Ok(Writable::Refused(refuse(alloc, &fault)?)),
     }
 }
 
 // A file of these bytes.
-fn file(alloc: Global, name: &str, bytes: Bytes) -> Result<Writing, Memory>
-    ensures { IfOk result (λ file. file ≡ record { name = name.now; bytes = bytes }) }
+fn file<'a>(alloc: Global, name: &str, bytes: Content<'a>) -> Result<Writing<'a>, Memory>
+    ensures { IfOk result (λ file. file ≡ record { name = name.now; bytes = bytes.entry }) }
 {
     let name = Text::of(alloc, name)?;
     Ok(Writing { name, bytes })
@@ -67,37 +68,38 @@ fn file(alloc: Global, name: &str, bytes: Bytes) -> Result<Writing, Memory>
 
 // The two files of blocks for a timetable.
 #[tactic(auto, unfolding(crate::specs::Write::files_of))]
-fn files(
+fn files<'a>(
     alloc: Global,
     settings: &Settings,
     timetable: &Timetable,
     blocks: &Blocks,
     trips: &Table,
-    stop_times: Bytes,
-) -> Result<Vec<Writing>, Memory>
+    stop_times: Content<'a>,
+) -> Result<Vec<Writing<'a>>, Memory>
     requires slots { All (All (λ s. s < length timetable.now.slots)) blocks.now }
     requires trips { AreTexts trips.now }
-    ensures { IfOk result (λ writes. writes.items ≡ files_of settings.now timetable.now blocks.now trips.now stop_times) }
+    ensures { IfOk result (λ writes. writes.items ≡ files_of settings.now timetable.now blocks.now trips.now stop_times.entry) }
 {
     let chosen = chosen_in(alloc, settings, trips)?;
     let prefix = settings.prefix();
     let first = trips_text(alloc, trips, timetable, &chosen, blocks, prefix)?;
+    let first = Content::of(Cow::Owned(first));
     let first = file(alloc, "trips_blocks.txt", first)?;
     let second = file(alloc, "stop_times_blocks.txt", stop_times)?;
     Ok(vec![in alloc; first, second]?)
 }
 
 // What is written and put of the plan after a script.
-fn written(
+fn written<'a>(
     alloc: Global,
     settings: &Settings,
     drawn: &Drawn<NoDeficits>,
     trips: &Table,
-    stop_times: Bytes,
-) -> Result<Outcome, Memory>
+    stop_times: Content<'a>,
+) -> Result<Outcome<'a>, Memory>
     requires slots { All (All (λ s. s < length drawn.now.desk.script.timetable.slots)) drawn.now.blocks }
     requires trips { AreTexts trips.now }
-    ensures { IfOk result (IsWrittenOf settings.now drawn.now trips.now stop_times) }
+    ensures { IfOk result (IsWrittenOf settings.now drawn.now trips.now stop_times.entry) }
 {
     let timetable = drawn.desk.timetable();
     // Its clause says that the prefix is text.
@@ -109,7 +111,10 @@ fn written(
 }
 
 // What is written and put of what a feed says.
-fn written_of<L: Ledger>(said: Said, steps: &mut Steps<L>) -> Result<Outcome, Memory>
+fn written_of<'a, L: Ledger>(
+    said: Said<'a, '_>,
+    steps: &mut Steps<L>,
+) -> Result<Outcome<'a>, Memory>
     requires papers { HasPapers said.read.now.pages }
     requires pulls { length said.pulls ≡ length said.timetable.places }
     requires script { IsScript said.lines.now }
@@ -138,7 +143,11 @@ impl FeedCommand for WriteFeed {
 
     ghost asks = { λ _. write_does };
 
-    fn outcome<L: Ledger>(&self, said: Said, steps: &mut Steps<L>) -> Result<Outcome, Memory> {
+    fn outcome<'a, L: Ledger>(
+        &self,
+        said: Said<'a, '_>,
+        steps: &mut Steps<L>,
+    ) -> Result<Outcome<'a>, Memory> {
         written_of(said, steps)
     }
 }

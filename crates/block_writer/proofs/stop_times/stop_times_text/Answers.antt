@@ -30,6 +30,5 @@ returns-clause-written c =
 
 pub returns-in-Some-clause-written : goal.returns-in-Some-clause-written
 returns-in-Some-clause-written c =
-    rw c.in_ok-of.ensures
     (plain-copied c.args.timetable.now c.args.base (c.moves_some-some.ensures.none c.if-not-some.true) c.len.result c.args.found.now
     c.in-Some.bytes.now c.in-Some.ensures)
