@@ -11,7 +11,7 @@ use Rattle.csv.specs.declared.parser.State.{State}
 use Rattle.csv.specs.declared.parser.State.TheVariants as st
 use Rattle.csv.specs.declared.parser.Action.{Action}
 use Rattle.csv.specs.declared.parser.Action.TheVariants as act
-use Rattle.gtfs_tables.specs.Records.{IsReading, records, unread}
+use Rattle.gtfs_tables.specs.Records.{IsReader, records, records_in, unread}
 use Rattle.gtfs_tables.specs.Records as words
 
 -- where a byte ends a record, the machine then stands between two records
@@ -184,9 +184,9 @@ known s t (Some bytes) (Some rest) true fields some between r =
 known s t (Some bytes) (Some rest) false fields some between r = after-none s bytes (found-none _ fields t rest r)
 
 -- a reader's read of a record
-pub reads-next : (a b : Reader (Bor (List ℕ))) (found : Bool) (fields : List (List ℕ)) → IsReading a → took_first b ≡ true
+pub reads-next : (a b : Reader (Bor (List ℕ))) (found : Bool) (fields : List (List ℕ)) → IsReader a → took_first b ≡ true
     → is_flexible b ≡ is_flexible a → ReadRecord (λ (bytes : Bor (List ℕ)). Some bytes.now) a b found fields
-    → words.ReadsNext a found fields b
+    → words.ReadsQuoted a found fields b
 reads-next a b found fields reading first flexible r =
     by found (known a.state b.state (source_of rem a) (pending_of (rem b.rdr) b) found fields reading.source reading.between
     (rw reading.config at r.0))
@@ -196,7 +196,7 @@ reads-next a b found fields reading first flexible r =
 
     by : (f : Bool) → MatchBool f ((after a.state (unread a) ≡ fields ∷ after b.state (unwrap_or (pending_of (Some b.rdr.now) b) []))
         × IsSome (pending_of (Some b.rdr.now) b) × (ends_at_end b.state ≡ false)) (after a.state (unread a) ≡ [])
-        → words.ReadsNext a f fields b
+        → words.ReadsQuoted a f fields b
     by true h = (
       rw r.1 h.0,
       record {

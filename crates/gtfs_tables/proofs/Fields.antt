@@ -9,17 +9,29 @@ use Rattle.std.proofs.Math.Seq.{take-suc}
 use Rattle.csv.specs.Records.{cut_from, field_at}
 use Rattle.gtfs_tables.specs.Rows.{padded}
 
+-- the field at a place, and an empty one past those that the record has
+pub field_at-plain : (fields : List (List ℕ)) (n : ℕ) → unwrap_or (field_at fields n) [] ≡ get_or fields n []
+unfolding field_at
+field_at-plain [] n = refl
+field_at-plain (f ∷ fields) zero = refl
+field_at-plain (f ∷ fields) (suc n) = field_at-plain fields n
+
 empty-at : (k n : ℕ) → get_or {A = List ℕ} (replicate k []) n [] ≡ []
 empty-at zero n = refl
 empty-at (suc k) zero = refl
 empty-at (suc k) (suc n) = empty-at k n
 
--- the field at a place, and an empty one past those that the record has
-pub field_at-padded : (fields : List (List ℕ)) (k n : ℕ) → unwrap_or (field_at fields n) [] ≡ get_or (fields ++ replicate k []) n []
-unfolding field_at
-field_at-padded [] k n = sym (empty-at k n)
-field_at-padded (f ∷ fields) k zero = refl
-field_at-padded (f ∷ fields) k (suc n) = field_at-padded fields k n
+-- empty fields at the end of a record are as none
+pub padded-at : (fields : List (List ℕ)) (k n : ℕ) → get_or fields n [] ≡ get_or (fields ++ replicate k []) n []
+padded-at [] k n = sym (empty-at k n)
+padded-at (f ∷ fields) k zero = refl
+padded-at (f ∷ fields) k (suc n) = padded-at fields k n
+
+-- a padded record has empty fields behind its own
+pub padded-end : (fields : List (List ℕ)) (k n : ℕ) → length fields ≤ n → get_or (fields ++ replicate k []) n [] ≡ []
+padded-end [] k n behind = empty-at k n
+padded-end (f ∷ fields) k zero behind = absurd (omega arith)
+padded-end (f ∷ fields) k (suc n) behind = padded-end fields k n (omega arith)
 
 -- as many fields as there are leave a record as it is
 pub padded-full : (fields : List (List ℕ)) → padded (length fields) fields ≡ fields
@@ -49,8 +61,8 @@ ascii-take (suc n) [] ascii i = omega arith
 ascii-take (suc n) (b ∷ text) ascii zero = ascii 0
 ascii-take (suc n) (b ∷ text) ascii (suc i) = ascii-take n text (λ k. ascii (suc k)) i
 
--- each part of a text of ASCII is UTF-8
-cut-texts : (start : ℕ) (ends bytes : List ℕ) → IsAscii bytes → All IsUtf8 (cut_from start ends bytes)
+-- the fields of a record whose bytes are ASCII are UTF-8
+pub cut-texts : (start : ℕ) (ends bytes : List ℕ) → IsAscii bytes → All IsUtf8 (cut_from start ends bytes)
 unfolding cut_from
 cut-texts start [] bytes ascii = All-nil IsUtf8
 cut-texts start (end ∷ ends) bytes ascii =
@@ -58,12 +70,10 @@ cut-texts start (end ∷ ends) bytes ascii =
     All-cons IsUtf8 (take (end - start) (drop start bytes)) (cut_from end ends bytes)
     (IsUtf8-from_ascii _ (ascii-take (end - start) _ rest)) (cut-texts end ends bytes ascii)
 
--- the fields of a record whose bytes are ASCII are UTF-8, and so are empty ones at its end
-pub padded-texts : (width : ℕ) (ends bytes : List ℕ) → IsAscii bytes → All IsUtf8 (padded width (cut_from 0 ends bytes))
-padded-texts width ends bytes ascii =
-    let fields = cut_from 0 ends bytes in
-    All-append IsUtf8 fields (replicate (width - length fields) []) (cut-texts 0 ends bytes ascii)
-    (All-replicate IsUtf8 (width - length fields) [] IsUtf8-nil)
+-- where the fields of a record are UTF-8, so are empty ones at its end
+pub padded-texts : (width : ℕ) (fields : List (List ℕ)) → All IsUtf8 fields → All IsUtf8 (padded width fields)
+padded-texts width fields texts =
+    All-append IsUtf8 fields (replicate (width - length fields) []) texts (All-replicate IsUtf8 (width - length fields) [] IsUtf8-nil)
 
 -- a record that has the fields of its width already
 pub padded-whole : (width : ℕ) (fields : List (List ℕ)) → length fields ≤ width → width ≤ length fields → fields ≡ padded width fields

@@ -9,3 +9,4 @@ pub mod FoldLemmas
 pub mod Written
 pub mod Minutes
 pub mod EntriesLemmas
+pub mod PartLemmas

@@ -6,6 +6,7 @@ pub mod Entries
 pub mod Fold
 pub mod Writing
 pub mod Laws
+pub mod Parts
 pub mod Records
 pub mod Rows
 pub mod Table

@@ -9,9 +9,8 @@ ghost use Rattle.gtfs_tables.specs.Records.{records_left, IsReading};
 ghost use Rattle.gtfs_tables.specs.Rows.{padded};
 ghost use Rattle.gtfs_tables.specs.Table.{TableView, table_from, table_of};
 
-use crate::records::reader_over;
+use crate::records::{Records, records_of};
 use crate::{FeedFault, Paper, Row};
-use csv::Reader;
 use desk_io::{Found, Memory};
 use std::alloc::Global;
 
@@ -82,7 +81,7 @@ fn due_of(
     paper: Paper,
     width: usize,
     before: u32,
-    reader: &mut Reader<&[u8]>,
+    reader: &mut Records<'_>,
     row: &mut Row,
     refused: FeedFault,
 ) -> Result<FeedFault, Memory>
@@ -105,7 +104,7 @@ fn read_rest<R: TracedReader>(
     paper: Paper,
     width: usize,
     columns: &R::Columns,
-    reader: &mut Reader<&[u8]>,
+    reader: &mut Records<'_>,
     row: &mut Row,
     records: &mut R,
 ) -> Result<(), FeedFault>
@@ -136,7 +135,7 @@ fn read_rest<R: TracedReader>(
 // Takes in the header and the records of a paper, which a reader is before.
 fn read_from<R: TracedReader>(
     paper: Paper,
-    reader: &mut Reader<&[u8]>,
+    reader: &mut Records<'_>,
     row: &mut Row,
     records: &mut R,
 ) -> Result<(), FeedFault>
@@ -179,7 +178,7 @@ fn read_bytes<R: TracedReader>(
         → IsTableChanged R.columns_in (R.Changes (R.kept records.old)) (R.state records.old) table (R.state records.new) }
     ensures kept { R.kept records.new ≡ R.kept records.old }
 {
-    let mut reader = reader_over(alloc, bytes);
+    let mut reader = records_of(alloc, bytes);
     let mut row = Row::new(alloc);
     read_from(paper, &mut reader, &mut row, records)
 }
@@ -283,7 +282,7 @@ pub fn read_header(alloc: Global, paper: Paper, found: &Found) -> Result<Row, Fe
         Found::TooLong => return Err(FeedFault::TooLong(paper)),
         Found::File(bytes) => bytes,
     };
-    let mut reader = reader_over(alloc, bytes.as_slice());
+    let mut reader = records_of(alloc, bytes.as_slice());
     let mut header = Row::new(alloc);
     if !header.read(&mut reader, 0)? {
         return Err(FeedFault::NoHeader(paper));

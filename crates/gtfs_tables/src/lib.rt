@@ -22,6 +22,7 @@
 //! The contracts cite:
 //!
 //! - `Records`: the records of a file
+//! - `Parts`: how line ends and commas part a file that has no double quote
 //! - `Rows`, `Table`: padding, the table or its fault, the place of a column
 //! - `Times`, `Numbers`, `Spaces`: the grammars, and the rounding to minutes
 //! - `Papers`, `Faults`: the printed names and lines
@@ -34,10 +35,12 @@
 
 mod entries;
 mod fault;
+mod field_list;
 mod fold;
 pub mod laws;
 mod numbers;
 mod paper;
+mod parts;
 mod reading;
 mod records;
 mod row;

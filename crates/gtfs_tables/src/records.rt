@@ -1,16 +1,28 @@
 ghost use Rattle.std.specs.Prelude.{◌≡◌, IfOk};
-ghost use Rattle.csv.specs.Records.{fields_of};
-ghost use Rattle.gtfs_tables.specs.Records.{records, records_left, IsReading, ReadsNext};
+ghost use Rattle.csv.specs.Reading.{is_bom, strip_bom};
+ghost use Rattle.gtfs_tables.specs.Records.{records, records_left, reader_left, IsReader, IsReading, ReadsNext};
 
 use crate::Row;
-use csv::{ByteRecord, ErrorKind, Reader, ReaderBuilder};
+use crate::field_list::Fields;
+use crate::parts::first_line;
+use csv::{Reader, ReaderBuilder};
 use desk_io::Memory;
+use memchr::memchr;
 use std::alloc::Global;
 
+/// The records of a file that are left.
+#[derive(Drop)]
+pub(crate) enum Records<'a> {
+    /// Those of bytes without a double quote.
+    Lines(&'a [u8]),
+    /// Those that `csv` reads.
+    Quoted(Reader<&'a [u8]>),
+}
+
 // A reader of records of any lengths, with comma and double quote.
-pub(crate) fn reader_over(alloc: Global, bytes: &[u8]) -> Reader<&[u8]>
-    ensures reading { IsReading result }
-    ensures left { records_left result ≡ records bytes.now }
+fn reader_over(alloc: Global, bytes: &[u8]) -> Reader<&[u8]>
+    ensures reading { IsReader result }
+    ensures left { reader_left result ≡ records bytes.now }
 {
     ReaderBuilder::new()
         .has_headers(false)
@@ -18,36 +30,68 @@ pub(crate) fn reader_over(alloc: Global, bytes: &[u8]) -> Reader<&[u8]>
         .from_reader(alloc, bytes)
 }
 
-// Reads the next record, and says whether there was one. A slice refuses no read, records of any lengths are
-// taken, and no field has to be text: so what can fail is memory.
-pub(crate) fn next_record(
-    reader: &mut Reader<&[u8]>,
-    fields: &mut ByteRecord,
-) -> Result<bool, Memory>
-    requires { IsReading reader.old }
-    ensures { IfOk result (λ found. ReadsNext reader.old found (fields_of fields.new) reader.new) }
+// Whether three bytes are a byte-order mark.
+fn is_mark(a: u8, b: u8, c: u8) -> bool
+    ensures { result ≡ is_bom a b c }
 {
-    match reader.read_byte_record(fields) {
-        Ok(found) => Ok(found),
-        Err(error) => match error.kind() {
-            ErrorKind::Io(_) | ErrorKind::OutOfMemory => Err(Memory),
-            _ => unreachable!(),
-        },
+    a == 0xef && b == 0xbb && c == 0xbf
+}
+
+// The bytes without a byte-order mark at their front.
+fn without_mark(bytes: &[u8]) -> &[u8]
+    ensures { result.now ≡ strip_bom bytes.now }
+{
+    if bytes.len() < 3 {
+        return bytes;
+    }
+    if is_mark(bytes[0], bytes[1], bytes[2]) {
+        &bytes[3..]
+    } else {
+        bytes
+    }
+}
+
+/// The records of a file. `csv` reads them where the file has a double quote.
+pub(crate) fn records_of(alloc: Global, bytes: &[u8]) -> Records<'_>
+    ensures reading { IsReading result }
+    ensures left { records_left result ≡ records bytes.now }
+{
+    match memchr(b'"', bytes) {
+        Some(_) => Records::Quoted(reader_over(alloc, bytes)),
+        None => Records::Lines(without_mark(bytes)),
+    }
+}
+
+/// Reads the next record, and says whether there was one.
+pub(crate) fn next_record(reader: &mut Records<'_>, fields: &mut Fields) -> Result<bool, Memory>
+    requires { IsReading reader.old }
+    ensures { IfOk result (λ found. ReadsNext reader.old found fields.new reader.new) }
+{
+    match reader {
+        Records::Quoted(reader) => fields.read_quoted(reader),
+        Records::Lines(bytes) => {
+            let Some((line, left)) = first_line(bytes) else {
+                return Ok(false);
+            };
+            *bytes = left;
+            fields.part_line(line)?;
+            Ok(true)
+        }
     }
 }
 
 // The records that are left.
 fn rows_left(
     alloc: Global,
-    reader: &mut Reader<&[u8]>,
-    fields: &mut ByteRecord,
+    reader: &mut Records<'_>,
+    fields: &mut Fields,
 ) -> Result<Vec<Row>, Memory>
     requires { IsReading reader.old }
     ensures { IfOk result (λ rows. rows.items ≡ records_left reader.old) }
 {
     let mut rows = Vec::new(alloc);
     'records: while next_record(reader, fields)? {
-        rows.push(Row::of(fields, fields.len())?)?;
+        rows.push(Row::of(alloc, fields, fields.len())?)?;
     }
     Ok(rows)
 }
@@ -57,7 +101,7 @@ fn rows_left(
 pub fn read_rows(alloc: Global, bytes: &[u8]) -> Result<Vec<Row>, Memory>
     ensures { IfOk result (λ rows. rows.items ≡ records bytes.now) }
 {
-    let mut reader = reader_over(alloc, bytes);
-    let mut fields = ByteRecord::new(alloc);
+    let mut reader = records_of(alloc, bytes);
+    let mut fields = Fields::new(alloc);
     rows_left(alloc, &mut reader, &mut fields)
 }

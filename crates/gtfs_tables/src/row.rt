@@ -5,24 +5,18 @@ ghost use Rattle.gtfs_tables.specs.Records.{IsReading, ReadsRow};
 ghost use Rattle.gtfs_tables.specs.Rows.{padded};
 ghost use Rattle.gtfs_tables.specs.Table.{column_of};
 
-use crate::records::next_record;
+use crate::field_list::Fields;
+use crate::parts::push_field;
+use crate::records::{Records, next_record};
 use crate::spaces::without_spaces;
-use csv::{ByteRecord, Reader};
+use csv::ByteRecord;
 use desk_io::Memory;
 use std::alloc::{AllocError, Global};
 use std::marker::Model;
 
-// Appends a field.
-fn push_field<'a>(fields: &mut Vec<&'a [u8]>, field: &'a [u8]) -> Result<(), Memory>
-    ensures { OnOk result (map (λ field. field.now) fields.new.items ≡ map (λ field. field.now) fields.old.items ++ field.now ∷ []) }
-{
-    fields.push(field)?;
-    Ok(())
-}
-
 /// One record of a file, seen as the list of its fields, each a list of bytes.
 pub struct Row {
-    fields: ByteRecord,
+    fields: Fields,
     width: usize,
 }
 
@@ -37,14 +31,13 @@ impl Drop for Row {
 
 impl Model for Row {
     ghost use Rattle.std.specs.Prelude.{List, ℕ, ◌≤◌, length};
-    ghost use Rattle.csv.specs.Records.{fields_of};
     ghost use Rattle.gtfs_tables.specs.Rows.{padded};
 
     ghost Value = { List (List ℕ) };
 
-    ghost view = { λ r. padded r.width (fields_of r.fields) };
+    ghost view = { λ r. padded r.width r.fields };
 
-    ghost invariant = { λ r. length (fields_of r.fields) ≤ r.width };
+    ghost invariant = { λ r. length r.fields ≤ r.width };
 }
 
 impl Row {
@@ -53,24 +46,24 @@ impl Row {
         ensures { result ≡ [] }
     {
         Row {
-            fields: ByteRecord::new(alloc),
+            fields: Fields::new(alloc),
             width: 0,
         }
     }
 
     /// A copy of the record, with empty fields at its end up to so many.
-    pub(crate) fn of(fields: &ByteRecord, width: usize) -> Result<Row, AllocError>
-        requires { length (fields_of fields.now) ≤ width }
-        ensures { IfOk result (λ row. row ≡ padded width (fields_of fields.now)) }
+    pub(crate) fn of(alloc: Global, fields: &Fields, width: usize) -> Result<Row, AllocError>
+        requires { length fields.now ≤ width }
+        ensures { IfOk result (λ row. row ≡ padded width fields.now) }
     {
         Ok(Row {
-            fields: fields.clone()?,
+            fields: fields.copy(alloc)?,
             width,
         })
     }
 
     /// Becomes the next record, with empty fields at its end up to so many, and says whether there was one.
-    pub(crate) fn read(&mut self, reader: &mut Reader<&[u8]>, width: usize) -> Result<bool, Memory>
+    pub(crate) fn read(&mut self, reader: &mut Records<'_>, width: usize) -> Result<bool, Memory>
         requires { IsReading reader.old }
         ensures { IfOk result (λ found. ReadsRow width reader.old found self.new reader.new) }
     {
@@ -90,17 +83,14 @@ impl Row {
     pub fn field(&self, n: usize) -> &[u8]
         ensures { result.now ≡ slice_index_or self.now n [] }
     {
-        match self.fields.get(n) {
-            Some(field) => field,
-            None => &[],
-        }
+        self.fields.get(n)
     }
 
     /// Whether all bytes of its fields are ASCII, so that each field is UTF-8. It looks at all of them at once.
     pub fn is_ascii(&self) -> bool
         ensures { result ≡ true → All IsUtf8 self.now }
     {
-        self.fields.as_slice().is_ascii()
+        self.fields.bytes().is_ascii()
     }
 
     /// Its fields.
@@ -108,8 +98,9 @@ impl Row {
         ensures { IfOk result (λ fields. map (λ field. field.now) fields.items ≡ self.now) }
     {
         let mut fields = Vec::with_capacity(alloc, self.len())?;
-        for place in 0..self.len() {
-            push_field(&mut fields, self.field(place))?;
+        self.fields.push_onto(&mut fields)?;
+        for place in self.fields.len()..self.len() {
+            push_field(&mut fields, &[])?;
         }
         Ok(fields)
     }
@@ -121,7 +112,7 @@ impl Row {
         if self.fields.len() < self.width {
             return None;
         }
-        Some(&self.fields)
+        self.fields.held()
     }
 
     /// The first field that, without spaces at both ends, equals the name; the fields count from 0.
@@ -145,11 +136,11 @@ impl Row {
         ensures { IfOk result (λ row. row ≡ drop 1 self.now) }
     {
         let mut fields = ByteRecord::new(alloc);
-        for place in 1..self.fields.len() {
+        for place in 1..self.len() {
             fields.push_field(self.field(place))?;
         }
         Ok(Row {
-            fields,
+            fields: Fields::of(alloc, fields),
             width: self.width - 1,
         })
     }

@@ -5,8 +5,8 @@ ghost use Rattle.gtfs_tables.specs.Table.{body_of, column_of, table_from, table_
 ghost use Rattle.gtfs_tables.specs.declared.table.TableFault.TheVariants as table_fault;
 
 use crate::Row;
-use crate::records::{next_record, reader_over};
-use csv::{ByteRecord, Reader};
+use crate::field_list::Fields;
+use crate::records::{Records, next_record, records_of};
 use desk_io::Memory;
 use std::alloc::{AllocError, AllocFailed, Global};
 use std::marker::Model;
@@ -71,8 +71,8 @@ impl Model for Table {
 // The records that are left, each padded to the width.
 fn read_body(
     alloc: Global,
-    reader: &mut Reader<&[u8]>,
-    fields: &mut ByteRecord,
+    reader: &mut Records<'_>,
+    fields: &mut Fields,
     width: usize,
 ) -> Result<Vec<Row>, TableFault>
     requires reading { IsReading reader.old }
@@ -85,7 +85,7 @@ fn read_body(
         if fields.len() > width {
             return Err(TableFault::RowTooLong(rows.len() as u32 + 1));
         }
-        rows.push(Row::of(fields, width)?)?;
+        rows.push(Row::of(alloc, fields, width)?)?;
     }
     Ok(rows)
 }
@@ -93,8 +93,8 @@ fn read_body(
 // The table of the records that are left, the first of which is the header.
 fn read_table(
     alloc: Global,
-    reader: &mut Reader<&[u8]>,
-    fields: &mut ByteRecord,
+    reader: &mut Records<'_>,
+    fields: &mut Fields,
 ) -> Result<Table, TableFault>
     requires reading { IsReading reader.old }
     requires count { length (records_left reader.old) ≤ MOST_BYTES }
@@ -104,7 +104,7 @@ fn read_table(
     if !next_record(reader, fields)? {
         return Err(TableFault::NoHeader);
     }
-    let header = Row::of(fields, fields.len())?;
+    let header = Row::of(alloc, fields, fields.len())?;
     let rows = read_body(alloc, reader, fields, header.len())?;
     Ok(Table { header, rows })
 }
@@ -116,8 +116,8 @@ impl Table {
         ensures table { IfOk result (λ table. table_of bytes.now ≡ Ok table) }
         ensures fault { IfErr result (λ fault. IsFaultOf (table_of bytes.now) fault) }
     {
-        let mut reader = reader_over(alloc, bytes);
-        let mut fields = ByteRecord::new(alloc);
+        let mut reader = records_of(alloc, bytes);
+        let mut fields = Fields::new(alloc);
         read_table(alloc, &mut reader, &mut fields)
     }
 

@@ -4,4 +4,4 @@ use Rattle.gtfs_tables.proofs.fold.read_bytes.Goals as goal
 
 pub read_from-requires-clause-count : goal.read_from-requires-clause-count
 read_from-requires-clause-count g c =
-    omega (arith, ap length c.reader_over-reader.ensures.left, length-records-le c.args.bytes.now, c.requires)
+    omega (arith, ap length c.records_of-reader.ensures.left, length-records-le c.args.bytes.now, c.requires)

@@ -1,6 +1,5 @@
 use Rattle.std.proofs.Common.{◌≡◌, length, arith, ◌∙◌, ap, refl}
 use Rattle.std.proofs.lemmas.Result.{err_from_is_err_and}
-use Rattle.csv.specs.Records.{fields_of}
 use Rattle.gtfs_tables.specs.Records.{records_left}
 use Rattle.gtfs_tables.proofs.Fields.{padded-full}
 use Rattle.gtfs_tables.proofs.Body.{body-rows, table-fault}
@@ -15,7 +14,7 @@ pub returns-in_err-rows-clause-fault : goal.returns-in_err-rows-clause-fault
 returns-in_err-rows-clause-fault c =
     let next = rw c.if-not-branch.false at c.in_ok-next_record.ensures in
     let left = records_left c.next_record.new.reader in
-    let fields = fields_of c.next_record.new.fields in
+    let fields = c.next_record.new.fields in
     let header : c.in_ok-header.header ≡ fields = rw (c.in_ok-header.ensures, c.len.ensures) (padded-full fields) in
     let width : c.len-2.result ≡ length fields = rw (c.len-2.ensures, header) refl in
     let gives = err_from_is_err_and c.from_residual-in_err-rows.result c.from_residual-in_err-rows.ensures.1 in

@@ -6,6 +6,6 @@ use Rattle.gtfs_tables.proofs.row.Row.is_ascii.Goals as goal
 
 pub returns : goal.returns
 returns c all =
-    let row = c.self.inside.fields in
-    let ascii = subst (λ b. MatchBool b (IsAscii c.as_slice.result.now) (IsNotAscii c.as_slice.result.now)) all c.is_ascii.ensures.cases in
-    rw (← c.self.view_is) (padded-texts c.self.inside.width row.ends row.bytes (subst IsAscii c.as_slice.ensures ascii))
+    let row = c.self.inside in
+    let ascii = subst (λ b. MatchBool b (IsAscii c.bytes.result.now) (IsNotAscii c.bytes.result.now)) all c.is_ascii.ensures.cases in
+    rw (← c.self.view_is) (padded-texts row.width row.fields (c.bytes.ensures ascii))

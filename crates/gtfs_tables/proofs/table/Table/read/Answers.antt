@@ -4,4 +4,4 @@ use Rattle.gtfs_tables.proofs.table.Table.read.Goals as goal
 
 pub read_table-requires-clause-count : goal.read_table-requires-clause-count
 read_table-requires-clause-count c =
-    omega (arith, ap length c.reader_over-reader.ensures.left, length-records-le c.args.bytes.now, c.requires)
+    omega (arith, ap length c.records_of-reader.ensures.left, length-records-le c.args.bytes.now, c.requires)

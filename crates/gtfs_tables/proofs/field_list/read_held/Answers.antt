@@ -1,5 +1,5 @@
 use Rattle.gtfs_tables.proofs.CsvRecords.{reads-next}
-use Rattle.gtfs_tables.proofs.records.next_record.Goals as goal
+use Rattle.gtfs_tables.proofs.field_list.read_held.Goals as goal
 
 pub returns-in-Ok : goal.returns-in-Ok
 returns-in-Ok c =
