@@ -3,12 +3,11 @@ use Rattle.std.proofs.Common.{◌≡◌, ℕ, zero, suc, ◌+◌, ◌-◌, ◌<�
 use Rattle.std.proofs.Common.{get_or, fold, Option, None, if◌then◌else◌, refl, sym, ap, subst, ◌∙◌, ⊎_elim, arith}
 use Rattle.std.specs.Prelude.{⊤, slice_index_or}
 use Rattle.std.specs.List.{AllByRecursion, range_with_len}
-use Rattle.std.specs.List.Sorted.{IsNonDecreasingBy}
 use Rattle.std.proofs.lemmas.Bool.{cases_lt, leb-true, leb-false}
 use Rattle.std.proofs.Math.ListN.{get_or-map}
 use Rattle.std.proofs.lemmas.List.{length-map}
 use Rattle.trip_model.specs.Order.{placed_by, by_key}
-use Rattle.pair_search.specs.Arranged.{post_key, slots_of, StandsBefore, AreInOrder, IsRanked}
+use Rattle.pair_search.specs.Arranged.{post_key, slots_of, StandsBefore, AreInOrder}
 use Rattle.pair_search.specs.Order.{no_column, slot_at, place_of, IsOrder, IsRenaming}
 use Rattle.pair_search.specs.declared.order.Column.{Column}
 
@@ -338,30 +337,3 @@ AreInOrder-next n columns next h k lt within = by (k - h - 1) k (omega (arith, l
         (by gap (h + gap + 1) refl (omega (arith, near, within)))
         (subst (λ (i : ℕ). StandsBefore (slice_index_or columns (h + gap + 1) (no_column n)) (slice_index_or columns i (no_column n)))
         (sym near) (next (h + gap + 1) (omega (arith, near, within))))
-
--- a column that ranks no lower than one of another slot stands behind it
-stands-behind : (c d : Column) → IsRanked c → IsRanked d → (c.slot ≡ d.slot → ⊥) → c.rank ≤ d.rank → StandsBefore c d
-stands-behind c d rc rd ne le = ⊎_elim
-    (λ (less : post_key c.post < post_key d.post). inl less)
-    (λ (no-less : post_key d.post ≤ post_key c.post).
-    let same : post_key c.post ≡ post_key d.post = omega (arith, no-less, le, rc.rank, rd.rank, rc.minute, rd.minute, rc.slot, rd.slot) in
-    inr (
-      same,
-      ⊎_elim
-          (λ (sooner : c.minute < d.minute). inl sooner)
-          (λ (no-sooner : d.minute ≤ c.minute).
-          let even : c.minute ≡ d.minute = omega (arith, same, no-sooner, le, rc.rank, rd.rank, rc.slot, rd.slot) in
-          inr (even, omega (arith, same, even, le, rc.rank, rd.rank, ne)))
-          (cases_lt c.minute d.minute),
-    ))
-    (cases_lt (post_key c.post) (post_key d.post))
-
--- columns that were sorted, of which no two have one slot, are in order
-pub AreInOrder-sorted : (n : ℕ) (columns : List Column) → length columns ≡ n
-    → ((h k : ℕ) → h < n → k < n → slot_at n columns h ≡ slot_at n columns k → h ≡ k)
-    → ((k : ℕ) → k < n → IsRanked (get_or columns k (no_column n))) → IsNonDecreasingBy (λ c. c.rank) columns → AreInOrder n columns
-AreInOrder-sorted n columns len apart ranked sorted = AreInOrder-next n columns
-    (λ k lt. stands-behind (slice_index_or columns k (no_column n)) (slice_index_or columns (k + 1) (no_column n))
-    (ranked k (omega (arith, lt))) (ranked (k + 1) lt)
-    (λ e. absurd (omega (arith, apart k (k + 1) (omega (arith, lt)) lt e)))
-    (sorted k (k + 1) (no_column n) (omega arith) (omega (arith, lt, len))))

@@ -14,6 +14,7 @@ pub mod LooseLemmas
 pub mod OrderLemmas
 pub mod PassLemmas
 pub mod PlacedLemmas
+pub mod RankLemmas
 pub mod RelinkLemmas
 pub mod RenameLemmas
 pub mod ShiftLemmas

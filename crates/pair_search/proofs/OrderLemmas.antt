@@ -1,12 +1,11 @@
 -- Columns that were sorted and numbered are in order.
-use Rattle.std.proofs.Common.{◌≡◌, ◌≢◌, ℕ, ◌<◌, ◌==◌, cond, List, length, get_or, Option, refl, sym, ap, subst, ◌∙◌, ⊎_elim, arith}
+use Rattle.std.proofs.Common.{◌≡◌, ◌≢◌, ℕ, ◌<◌, ◌==◌, cond, List, length, get_or, Option, refl, sym, ap, ◌∙◌, ⊎_elim, arith}
 use Rattle.std.specs.List.{swap}
 use Rattle.std.specs.List.Sorted.{IsPermutation}
 use Rattle.std.proofs.lemmas.Bool.{cases_eq, eq-eqb, ne_eqb}
-use Rattle.std.proofs.lemmas.List.{get_or_past, get_or_default}
+use Rattle.std.proofs.lemmas.List.{get_or_past}
 use Rattle.std.proofs.lemmas.List.Edits.{swapped_from_swap}
 use Rattle.std.proofs.lemmas.List.Sorted.{IsPermutation-keeps, IsPermutation-swap, length_permutation}
-use Rattle.pair_search.specs.Arranged.{IsRanked}
 use Rattle.pair_search.specs.Order.{no_column, slot_at, place_of, IsOrder}
 use Rattle.pair_search.specs.declared.order.Column.{Column}
 
@@ -60,13 +59,12 @@ at-swapped d xs ys i j li lj is m =
     (cases_eq m j))
     (cases_eq m i)
 
--- each of so many columns stands once, with its minute, its post and its rank
+-- each of so many columns stands once, with its minute and its post
 pub record AreColumns (n : ℕ) (minute : ℕ → ℕ) (post : ℕ → Option ℕ) (columns : List Column) : Type 0 where
   pub count : length columns ≡ n
   pub within : (k : ℕ) → k < n → slot_at n columns k < n
   pub minutes : (k : ℕ) → k < n → (get_or columns k (no_column n)).minute ≡ minute (slot_at n columns k)
   pub posts : (k : ℕ) → k < n → (get_or columns k (no_column n)).post ≡ post (slot_at n columns k)
-  pub ranked : (k : ℕ) → k < n → IsRanked (get_or columns k (no_column n))
   pub apart : (h k : ℕ) → h < n → k < n → slot_at n columns h ≡ slot_at n columns k → h ≡ k
   pub found : (j : ℕ) → j < n → (k : ℕ) × (k < n) × (slot_at n columns k ≡ j)
 
@@ -77,7 +75,6 @@ AreColumns-swap n minute post xs i j li lj are = record {
   within = λ k lt. omega (arith, slots k, are.within (swapped i j k) (inside k lt));
   minutes = λ k lt. ap (λ (c : Column). c.minute) (here k) ∙ are.minutes (swapped i j k) (inside k lt) ∙ ap minute (sym (slots k));
   posts = λ k lt. ap (λ (c : Column). c.post) (here k) ∙ are.posts (swapped i j k) (inside k lt) ∙ ap post (sym (slots k));
-  ranked = λ k lt. subst IsRanked (sym (here k)) (are.ranked (swapped i j k) (inside k lt));
   apart = λ h k lh lk e.
       let same = are.apart (swapped i j h) (swapped i j k) (inside h lh) (inside k lk) (sym (slots h) ∙ e ∙ slots k) in
       sym (swapped-twice i j h) ∙ ap (swapped i j) same ∙ swapped-twice i j k;
@@ -95,37 +92,7 @@ AreColumns-swap n minute post xs i j li lj are = record {
     inside : (k : ℕ) → k < n → swapped i j k < n
     inside k lt = swapped-within n i j k (omega (arith, li, are.count)) (omega (arith, lj, are.count)) lt
 
--- the columns by their slots
-pub AreColumns-listed : (n : ℕ) (minute : ℕ → ℕ) (post : ℕ → Option ℕ) (columns : List Column) → length columns ≡ n
-    → ((j : ℕ) (d : Column) → j < n → (get_or columns j d).slot ≡ j)
-    → ((j : ℕ) (d : Column) → j < n → (get_or columns j d).minute ≡ minute j)
-    → ((j : ℕ) (d : Column) → j < n → (get_or columns j d).post ≡ post j) → ((j : ℕ) (d : Column) → j < n → IsRanked (get_or columns j d))
-    → AreColumns n minute post columns
-AreColumns-listed n minute post columns count slots minutes posts ranked = record {
-  count = count;
-  within = λ k lt. omega (arith, here k lt, lt);
-  minutes = λ k lt. minutes k (no_column n) lt ∙ ap minute (sym (here k lt));
-  posts = λ k lt. posts k (no_column n) lt ∙ ap post (sym (here k lt));
-  ranked = λ k lt. ranked k (no_column n) lt;
-  apart = λ h k lh lk e. sym (here h lh) ∙ e ∙ here k lk;
-  found = λ j lt. (j, lt, here j lt);
-}
-  where
-    here : (k : ℕ) → k < n → slot_at n columns k ≡ k
-    here k lt = slots k (no_column n) lt
-
--- columns that stand by their slots, with what they are
-pub AreColumns-own : (columns : List Column) → ((j : ℕ) (d : Column) → j < length columns → (get_or columns j d).slot ≡ j)
-    → ((j : ℕ) (d : Column) → j < length columns → IsRanked (get_or columns j d))
-    → AreColumns (length columns) (λ j. (get_or columns j (no_column (length columns))).minute)
-    (λ j. (get_or columns j (no_column (length columns))).post) columns
-AreColumns-own columns slots ranked =
-    AreColumns-listed (length columns) (λ j. (get_or columns j (no_column (length columns))).minute)
-    (λ j. (get_or columns j (no_column (length columns))).post) columns refl slots
-    (λ j d lt. ap (λ (c : Column). c.minute) (get_or_default columns j d (no_column (length columns)) lt))
-    (λ j d lt. ap (λ (c : Column). c.post) (get_or_default columns j d (no_column (length columns)) lt)) ranked
-
--- and in another order
+-- the columns in another order
 pub AreColumns-sorted : (n : ℕ) (minute : ℕ → ℕ) (post : ℕ → Option ℕ) (xs ys : List Column) → IsPermutation xs ys
     → AreColumns n minute post xs → AreColumns n minute post ys
 AreColumns-sorted n minute post xs ys permutation are =

@@ -1,6 +1,6 @@
 -- Searches over columns in their order, and from the entering side.
-use Rattle.std.specs.Prelude.{◌≡◌, ℕ, suc, ◌+◌, ◌*◌, ◌<◌, ◌⊎◌, ◌==◌, Bool, false, List, map, position, unwrap_or, replicate, length}
-use Rattle.std.specs.Prelude.{slice_index_or, Option, None, Some, if◌then◌else◌}
+use Rattle.std.specs.Prelude.{◌≡◌, ℕ, suc, ◌+◌, ◌-◌, ◌*◌, ◌/◌, ◌%◌, ◌<◌, ◌≤◌, ◌⊎◌, ◌==◌, Bool, false, List, map, position, unwrap_or}
+use Rattle.std.specs.Prelude.{replicate, length, slice_index_or, Option, None, Some, if◌then◌else◌}
 use Rattle.std.specs.List.{range_with_len}
 use Rattle.std.specs.Option.{option_map}
 use Rattle.assignment_model.specs.Prices.{Plan, price, weight}
@@ -21,11 +21,17 @@ post_key (Some post) = suc post
 abbrev pub column_rank : Option ℕ → ℕ → ℕ → ℕ
 column_rank post minute slot = post_key post * 4294967296 + minute * 65536 + slot
 
--- a column has its rank
-pub record IsRanked (c : Column) : Type 0 where
-  pub rank : c.rank ≡ column_rank c.post c.minute c.slot
-  pub minute : c.minute < 65536
-  pub slot : c.slot < 65536
+-- a number that may be the rank of a column: no post has a greater number than 65,535
+abbrev pub IsRank : ℕ → Type 0
+IsRank rank = rank / 4294967296 ≤ 65536
+
+-- the post of a key
+abbrev pub post_of_key : ℕ → Option ℕ
+post_of_key key = if key == 0 then None else Some (key - 1)
+
+-- the column that has a rank
+abbrev pub column_of : ℕ → Column
+column_of rank = record { post = post_of_key (rank / 4294967296); minute = rank / 65536 % 65536; slot = rank % 65536 }
 
 -- the slots of columns by post, those of one post by minute, and those of one minute by number
 unfoldable pub arranged : PairsView → Bool → Option ℕ → List ℕ

@@ -19,7 +19,7 @@ column_post turned without slot (Some m) = if leads_to slot without then None el
 
 -- a column past the last of so many
 abbrev pub no_column : ℕ → Column
-no_column n = record { post = None; minute = 0; slot = n; rank = 0 }
+no_column n = record { post = None; minute = 0; slot = n }
 
 -- the slot of the column at a place of so many; none past the last
 abbrev pub slot_at : ℕ → List Column → ℕ → ℕ

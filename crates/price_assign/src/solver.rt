@@ -19,7 +19,9 @@ use std::sync::ledger::Ledger;
 pub struct Solver {
     plan: Plan,
     departures: Departures,
+    // Of each side the order of the last search, with which the next one begins.
     order: Order,
+    turned: Order,
     lists: Lists,
 }
 
@@ -29,6 +31,7 @@ impl Drop for Solver {
             plan: _,
             departures: _,
             order: _,
+            turned: _,
             lists: _,
         } = self;
     }
@@ -51,6 +54,7 @@ impl Solver {
             plan: Plan::open(alloc)?,
             departures: Departures::open(alloc)?,
             order: Order::open(alloc)?,
+            turned: Order::open(alloc)?,
             lists: Lists::open(alloc)?,
         })
     }
@@ -134,6 +138,6 @@ impl Solver {
         ensures counted { let n = length pairs.now.moves in steps.new ≤ steps.old + n * n + n }
     {
         self.plan
-            .search_right(pairs, b, a, &mut self.order, &mut self.lists, steps);
+            .search_right(pairs, b, a, &mut self.turned, &mut self.lists, steps);
     }
 }

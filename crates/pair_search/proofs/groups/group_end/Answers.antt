@@ -10,7 +10,7 @@ loop-to-preserved c =
     let to = c.loop-to.to in
     let from = c.args.from in
     let columns = c.args.columns.now in
-    let none : Column = record { post = None; minute = 0; slot = 0; rank = 0 } in
+    let none : Column = record { post = None; minute = 0; slot = 0 } in
     let start : from < length columns = omega (arith, c.requires) in
     let same : (get_or columns to none).post ≡ (get_or columns from none).post =
     same-post (get_or columns to none).post (get_or columns from none).post c.if-eq.ensures in

@@ -7,19 +7,17 @@ use Rattle.pair_search.proofs.order.arrange_departures.Goals as goal
 
 pub returns-clause-renaming : goal.returns-clause-renaming
 returns-clause-renaming c =
-    subst (λ n. IsRenaming n (slot_at n c.sort.new.columns) (place_of n c.sort.new.places))
-    (omega (arith, c.requires.columns, c.list_departures.auto.columns))
-    (c.sort.ensures.numbered (pairs_minute c.args.pairs.now false) (λ _. None)
-    (λ j d lt. c.list_departures.ensures.minutes j d (omega (arith, lt, c.list_departures.auto.columns)))
-    (λ j d lt. c.list_departures.ensures.posts j d (omega (arith, lt, c.list_departures.auto.columns)))).renaming
+    subst (λ n. IsRenaming n (slot_at n c.put_in_order.new.columns) (place_of n c.put_in_order.new.places))
+    (omega (arith, c.requires.ranks, c.list_departures.auto.ranks))
+    (c.put_in_order.ensures.numbered (pairs_minute c.args.pairs.now false) (λ _. None)
+    (λ j d lt. c.list_departures.ensures.columns j d (omega (arith, lt, c.list_departures.auto.ranks)))).renaming
 
 pub returns-clause-slots : goal.returns-clause-slots
 returns-clause-slots c =
-    let len : length c.list_departures.new.columns ≡ length c.args.pairs.now.moves =
-    omega (arith, c.requires.columns, c.list_departures.auto.columns) in
-    departing-is c.args.pairs.now c.sort.new.columns c.sort.new.places
-    (subst (λ n. IsOrder n (pairs_minute c.args.pairs.now false) (λ _. None) c.sort.new.columns c.sort.new.places) len
-    (c.sort.ensures.numbered (pairs_minute c.args.pairs.now false) (λ _. None)
-    (λ j d lt. c.list_departures.ensures.minutes j d (omega (arith, lt, c.list_departures.auto.columns)))
-    (λ j d lt. c.list_departures.ensures.posts j d (omega (arith, lt, c.list_departures.auto.columns)))))
-    (subst (λ n. AreInOrder n c.sort.new.columns) len c.sort.ensures.sorted)
+    let len : length c.list_departures.new.ranks ≡ length c.args.pairs.now.moves =
+    omega (arith, c.requires.ranks, c.list_departures.auto.ranks) in
+    departing-is c.args.pairs.now c.put_in_order.new.columns c.put_in_order.new.places
+    (subst (λ n. IsOrder n (pairs_minute c.args.pairs.now false) (λ _. None) c.put_in_order.new.columns c.put_in_order.new.places) len
+    (c.put_in_order.ensures.numbered (pairs_minute c.args.pairs.now false) (λ _. None)
+    (λ j d lt. c.list_departures.ensures.columns j d (omega (arith, lt, c.list_departures.auto.ranks)))))
+    (subst (λ n. AreInOrder n c.put_in_order.new.columns) len c.put_in_order.ensures.sorted)

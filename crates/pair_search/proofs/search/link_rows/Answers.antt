@@ -38,7 +38,7 @@ pub search-requires-clause-begins : goal.search-requires-clause-begins
 search-requires-clause-begins g c =
     let side = c.args.side.now in
     let loop = c.loop-added in
-    let none : Column = record { post = None; minute = 0; slot = 0; rank = 0 } in (
+    let none : Column = record { post = None; minute = 0; slot = 0 } in (
       stands_before loop.invariant.turn (side_slots side - (loop.added + 1)),
       None,
       MayBegin-added (place_weight side) (side_slots side) c.args.departures.now none loop.invariant.turn loop.added
@@ -51,7 +51,7 @@ pub loop-added-preserved : goal.loop-added-preserved
 loop-added-preserved g c =
     let side = c.args.side.now in
     let loop = c.loop-added in
-    let none : Column = record { post = None; minute = 0; slot = 0; rank = 0 } in
+    let none : Column = record { post = None; minute = 0; slot = 0 } in
     let begins =
     MayBegin-added (place_weight side) (side_slots side) c.args.departures.now none loop.invariant.turn loop.added
     (c.slots-slots.result - 1 - loop.added) loop.next loop.leave loop.enter

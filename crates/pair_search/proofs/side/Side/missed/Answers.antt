@@ -22,7 +22,7 @@ returns c = λ k d after before.
       c.self.invariant.1.within c.args.group some,
       c.self.invariant.0.count,
     ) in
-    let none : Column = record { post = None; minute = 0; slot = 0; rank = 0 } in
+    let none : Column = record { post = None; minute = 0; slot = 0 } in
     omega (
       arith,
       c.from.ensures,
