@@ -25,16 +25,11 @@ pub(crate) enum Ask<'a> {
 /// whole journal from there on.
 pub(crate) struct Database {
     connection: Connection<FileStore<File>>,
-    // Whether an earlier call made the table of the journal, where it was not there.
-    has_table: bool,
 }
 
 impl Drop for Database {
     fn drop(self) {
-        let Database {
-            connection,
-            has_table: _,
-        } = self;
+        let Database { connection } = self;
         // What was committed stays in the log where it cannot be copied.
         let _ = connection.close();
     }
@@ -46,16 +41,13 @@ impl Database {
         let path = Path::new(folder).join(rt.alloc(), "journal.db")?;
         Ok(Database {
             connection: Connection::open(rt, path.as_str())?,
-            has_table: false,
         })
     }
 
-    /// Does what is asked, and answers the lines that were asked for. An append answers none. The first call makes the table
-    /// of the journal where it is not there.
+    /// Does what is asked, and answers the lines that were asked for. An append answers none. The table of the journal is made
+    /// where it is not there.
     pub fn answer(&mut self, alloc: Global, ask: Ask) -> Result<Vec<Text>, Error> {
-        let has_table = self.has_table;
-        self.has_table = true;
-        answer(alloc, &mut self.connection, has_table, ask)
+        answer(alloc, &mut self.connection, ask)
     }
 }
 
@@ -63,12 +55,9 @@ impl Database {
 fn answer<S: Alter>(
     alloc: Global,
     connection: &mut Connection<S>,
-    has_table: bool,
     ask: Ask,
 ) -> Result<Vec<Text>, Error> {
-    if !has_table {
-        connection.execute_batch(MAKE_TABLE)?;
-    }
+    connection.execute_batch(MAKE_TABLE)?;
     match ask {
         Ask::FirstLines(most) => first_lines(alloc, connection, most),
         Ask::Append(lines) => {
