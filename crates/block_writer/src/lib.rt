@@ -1,6 +1,7 @@
 //! The agency's trips and stop times written again, with the block of each trip and the times of shifted trips moved.
 //!
-//! [`stop_times_text`] makes the text of `stop_times_blocks.txt` in one pass over `stop_times.txt` that keeps no record.
+//! [`stop_times_text`] gives the bytes of `stop_times_blocks.txt`. Where no time changes and `stop_times.txt` has the form in which
+//! it would be written, it lends the bytes of that file. Elsewhere it makes a text in one pass that keeps no record.
 //! [`trips_text`] makes that of `trips_blocks.txt` of the table of `trips.txt`, which [`read_texts`] reads. All fields of both
 //! files must be UTF-8, and the first that is not is refused. [`text_of`] is for those who read such fields.
 //!

@@ -1,4 +1,4 @@
--- What deficits hold as a trip is taken out and put in.
+-- Which deficits those of a timetable are, what a step of a script is for them, and what they hold as a trip is taken out and put in.
 use Rattle.std.specs.Prelude.{◌≡◌, ◌<◌, ◌≤◌, List, [], ◌∷◌, ◌++◌, length, All, Option, None, Some, ℤ, if◌then◌else◌}
 use Rattle.deficit_steps.specs.Holds.{Holds}
 use Rattle.edit_script.specs.Script.{IsTouched}

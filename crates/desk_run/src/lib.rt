@@ -2,9 +2,10 @@
 //!
 //! A [`Command`] says which papers it reads, whether it reads the journal, and what outcome it gives of what it has read. An
 //! [`Outcome`] is what it asks of the world. It has files to write in their order, lines to append to the journal or none, a
-//! text to put, and an ending. The bytes of a file are made for it, or lent by a paper that was read ([`Content`]). [`perform`] reads, asks the command, and carries the outcome out, over any shelf, sink and
-//! keeper, up to the first call that is refused. It answers the status. The contract of [`perform`] has all that is promised of
-//! a run, by what the command asks. So a new command proves nothing but its own outcome.
+//! text to put, and an ending. The bytes of a file are made for it, or lent by a paper that was read ([`Content`]). [`perform`]
+//! reads, asks the command, and carries the outcome out, over any shelf, sink and keeper, up to the first call that is refused.
+//! It answers the status. The contract of [`perform`] has all that is promised of a run, by what the command asks. So a new
+//! command proves nothing but its own outcome.
 //!
 //! The contract that the crates above use is `Performs`: by the status, the one outcome that was carried out, whole or in part
 //! (`RunsAs`); the cause of each status (`HasCause`); which status comes where no fault was counted (`IsComplete`); in which order

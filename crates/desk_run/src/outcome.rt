@@ -37,6 +37,7 @@ impl<'a> Content<'a> {
         Content { bytes }
     }
 
+    /// The bytes, wherever they are.
     pub fn as_slice(&self) -> &[u8]
         ensures { result.now ≡ self.now }
     {
@@ -54,14 +55,19 @@ pub struct Writing<'a> {
 impl<'a> Writing<'a> {
     ghost use Rattle.std.specs.Prelude.{IfOk};
 
+    /// The file of that name with these bytes.
+    pub fn holding(alloc: Global, name: &str, bytes: Content<'a>) -> Result<Writing<'a>, Memory>
+        ensures { IfOk result (λ writing. writing ≡ record { name = name.now; bytes = bytes.entry }) }
+    {
+        let name = Text::of(alloc, name)?;
+        Ok(Writing { name, bytes })
+    }
+
     /// The file of that name with a text, which is taken over.
     pub fn of(alloc: Global, name: &str, text: Text) -> Result<Writing<'a>, Memory>
         ensures { IfOk result (λ writing. writing ≡ record { name = name.now; bytes = text }) }
     {
-        Ok(Writing {
-            name: Text::of(alloc, name)?,
-            bytes: Content::of(Cow::Owned(text.into_bytes())),
-        })
+        Writing::holding(alloc, name, Content::of(Cow::Owned(text.into_bytes())))
     }
 }
 

@@ -58,14 +58,6 @@ fn writable_of<'a>(
     }
 }
 
-// A file of these bytes.
-fn file<'a>(alloc: Global, name: &str, bytes: Content<'a>) -> Result<Writing<'a>, Memory>
-    ensures { IfOk result (λ file. file ≡ record { name = name.now; bytes = bytes.entry }) }
-{
-    let name = Text::of(alloc, name)?;
-    Ok(Writing { name, bytes })
-}
-
 // The two files of blocks for a timetable.
 #[tactic(auto, unfolding(crate::specs::Write::files_of))]
 fn files<'a>(
@@ -84,8 +76,8 @@ fn files<'a>(
     let prefix = settings.prefix();
     let first = trips_text(alloc, trips, timetable, &chosen, blocks, prefix)?;
     let first = Content::of(Cow::Owned(first));
-    let first = file(alloc, "trips_blocks.txt", first)?;
-    let second = file(alloc, "stop_times_blocks.txt", stop_times)?;
+    let first = Writing::holding(alloc, "trips_blocks.txt", first)?;
+    let second = Writing::holding(alloc, "stop_times_blocks.txt", stop_times)?;
     Ok(vec![in alloc; first, second]?)
 }
 
