@@ -16,6 +16,11 @@ overflow_cast-count g c =
     c.in_ok-schedule.schedule.blocks c.in_ok-schedule.ensures.scheduled (c.requires.blocking none) c.len-stated.ensures.valid in
     grind (arith, few)
 
+pub stated_cost-cost-requires-clause-blocking : goal.stated_cost-cost-requires-clause-blocking
+stated_cost-cost-requires-clause-blocking g c =
+    let empty : length c.in_ok-misfits.misfits.items ≡ 0 = grind (arith, nat_tests) in
+    c.requires.blocking (sym c.in_ok-misfits.ensures.misfits ∙ nil_from_length c.in_ok-misfits.misfits.items empty)
+
 pub returns-clause-judged : goal.returns-clause-judged
 returns-clause-judged g c =
     let stated = c.args.stated.now in
