@@ -1,11 +1,10 @@
 -- The fields of a record with empty ones at its end.
-use Rattle.std.proofs.Common.{◌≡◌, ℕ, zero, suc, ◌+◌, ◌-◌, ◌<◌, ◌≤◌, List, [], ◌∷◌, ◌++◌, add-one, drop, length, get_or, replicate, take}
+use Rattle.std.proofs.Common.{◌≡◌, ℕ, zero, suc, ◌+◌, ◌-◌, ◌≤◌, List, [], ◌∷◌, ◌++◌, drop, length, get_or, replicate, take}
 use Rattle.std.proofs.Common.{unwrap_or, All, get_or-drop, refl, sym, arith}
 use Rattle.std.specs.Str.{IsAscii, IsUtf8}
-use Rattle.std.proofs.lemmas.List.{append-nil, get_or_append_left, length-append, length-replicate}
+use Rattle.std.proofs.lemmas.List.{append-nil, length-append, length-replicate}
 use Rattle.std.proofs.lemmas.List.Elements.{All-append, All-cons, All-nil, All-replicate}
 use Rattle.std.proofs.lemmas.Str.{IsUtf8-from_ascii, IsUtf8-nil}
-use Rattle.std.proofs.Math.Seq.{take-suc}
 use Rattle.csv.specs.Records.{cut_from, field_at}
 use Rattle.gtfs_tables.specs.Rows.{padded}
 
@@ -40,15 +39,6 @@ padded-full fields = let none : length fields - length fields ≡ 0 = omega arit
 -- a padded record has the fields of its width
 pub length-padded : (width : ℕ) (fields : List (List ℕ)) → length fields ≤ width → length (padded width fields) ≡ width
 length-padded width fields fits = simp (length-append, length-replicate) (omega arith)
-
--- one more field of a record without its first
-pub next_field : (fields rest : List (List ℕ)) (n : ℕ) → 1 ≤ n → n < length fields
-    → drop 1 (take (n + 1) fields) ≡ drop 1 (take n fields) ++ get_or (fields ++ rest) n [] ∷ []
-next_field [] rest n first within = absurd (omega arith)
-next_field (f ∷ fields) rest zero first within = absurd (omega arith)
-next_field (f ∷ fields) rest (suc n) first within =
-    let inside : n < length fields = omega arith in
-    rw (add-one (suc n), get_or_append_left fields rest [] n inside) (take-suc fields n [] inside)
 
 -- a record has at least the fields of the width that it is padded to
 pub padded-length : (width : ℕ) (fields : List (List ℕ)) → length (padded width fields) ≡ length fields + (width - length fields)

@@ -46,6 +46,16 @@ pub(crate) fn first_line(bytes: &[u8]) -> Option<(&[u8], &[u8])>
     }
 }
 
+/// Whether the first line that has a byte has more parts than so many. No clause says so, since it matters for speed alone.
+pub(crate) fn is_wide(bytes: &[u8], most: usize) -> bool {
+    let first = from_line(bytes);
+    let line = match memchr2(b'\r', b'\n', first) {
+        Some(end) => &first[..end],
+        None => first,
+    };
+    count_parts(line) > most
+}
+
 // How many commas a byte is.
 fn comma_count(byte: u8) -> usize
     ensures { result ≡ if byte == comma then 1 else 0 }

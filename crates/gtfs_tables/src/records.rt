@@ -4,7 +4,7 @@ ghost use Rattle.gtfs_tables.specs.Records.{records, records_left, reader_left, 
 
 use crate::Row;
 use crate::field_list::Fields;
-use crate::parts::first_line;
+use crate::parts::{first_line, is_wide};
 use csv::{Reader, ReaderBuilder};
 use desk_io::Memory;
 use memchr::memchr;
@@ -51,11 +51,17 @@ fn without_mark(bytes: &[u8]) -> &[u8]
     }
 }
 
-/// The records of a file. `csv` reads them where the file has a double quote.
+// In a line a field is found behind those before it. So where there are more columns than these, `csv` reads the file.
+const MOST_PARTS: usize = 32;
+
+/// The records of a file. `csv` reads them where the file has a double quote, or many columns.
 pub(crate) fn records_of(alloc: Global, bytes: &[u8]) -> Records<'_>
     ensures reading { IsReading result }
     ensures left { records_left result ≡ records bytes.now }
 {
+    if is_wide(bytes, MOST_PARTS) {
+        return Records::Quoted(reader_over(alloc, bytes));
+    }
     match memchr(b'"', bytes) {
         Some(_) => Records::Quoted(reader_over(alloc, bytes)),
         None => Records::Lines(without_mark(bytes)),

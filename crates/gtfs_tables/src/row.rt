@@ -130,15 +130,12 @@ impl Row {
     }
 
     /// The record without its first field.
-    #[tactic(auto, using(crate::proofs::Fields::next_field))]
     pub fn without_first(&self, alloc: Global) -> Result<Row, Memory>
         requires { 0 < length self.now }
         ensures { IfOk result (λ row. row ≡ drop 1 self.now) }
     {
-        let mut fields = ByteRecord::new(alloc);
-        for place in 1..self.len() {
-            fields.push_field(self.field(place))?;
-        }
+        let own = self.fields(alloc)?;
+        let fields = ByteRecord::from_fields(alloc, &own[1..])?;
         Ok(Row {
             fields: Fields::of(alloc, fields),
             width: self.width - 1,
