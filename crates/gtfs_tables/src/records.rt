@@ -103,11 +103,12 @@ fn rows_left(
 }
 
 /// The records of a file, in order: comma-separated, with fields in double quotes where they need them, and of any
-/// lengths. One leading byte-order mark is taken off.
+/// lengths. One leading byte-order mark is taken off. `csv` reads them, since whoever takes a record without a header may
+/// look at each of its fields, however many there are.
 pub fn read_rows(alloc: Global, bytes: &[u8]) -> Result<Vec<Row>, Memory>
     ensures { IfOk result (λ rows. rows.items ≡ records bytes.now) }
 {
-    let mut reader = records_of(alloc, bytes);
+    let mut reader = Records::Quoted(reader_over(alloc, bytes));
     let mut fields = Fields::new(alloc);
     rows_left(alloc, &mut reader, &mut fields)
 }
