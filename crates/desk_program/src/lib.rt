@@ -19,6 +19,3 @@ pub use command::{CommandName, command_of, folder_of};
 pub use status::status_line;
 pub use top::run;
 pub use usage::put_usage;
-
-#[cfg(test)]
-mod fault_tests;

@@ -1,4 +1,4 @@
-use Rattle.desk_program.proofs.fault_tests.stands.Given as goal
+use Rattle.uses.proofs.fault_tests.stands.Given as goal
 
 abbrev pub ghosts-counted : goal.ghosts-counted
 ghosts-counted a = record { name = a.blank.name; parts = a.blank.parts }

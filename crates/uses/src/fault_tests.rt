@@ -1,8 +1,8 @@
 ghost use Rattle.std.specs.Prelude.{◌≡◌, ◌<◌};
 
-use crate::run;
 use desk_io::{Memory, MemoryShelf, MemorySink, Steps, Text};
 use desk_keeper::MemoryKeeper;
+use desk_program::run;
 use std::alloc::Global;
 use std::marker::Brand;
 use std::sync::ledger::{Blank, Ledger};
