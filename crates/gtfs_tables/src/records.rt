@@ -86,17 +86,17 @@ pub(crate) fn next_record(reader: &mut Records<'_>, fields: &mut Fields) -> Resu
     }
 }
 
-// The records that are left.
+// The records that `csv` has yet to read.
 fn rows_left(
     alloc: Global,
-    reader: &mut Records<'_>,
+    reader: &mut Reader<&[u8]>,
     fields: &mut Fields,
 ) -> Result<Vec<Row>, Memory>
-    requires { IsReading reader.old }
-    ensures { IfOk result (λ rows. rows.items ≡ records_left reader.old) }
+    requires { IsReader reader.old }
+    ensures { IfOk result (λ rows. rows.items ≡ reader_left reader.old) }
 {
     let mut rows = Vec::new(alloc);
-    'records: while next_record(reader, fields)? {
+    'records: while fields.read_quoted(reader)? {
         rows.push(Row::of(alloc, fields, fields.len())?)?;
     }
     Ok(rows)
@@ -108,7 +108,7 @@ fn rows_left(
 pub fn read_rows(alloc: Global, bytes: &[u8]) -> Result<Vec<Row>, Memory>
     ensures { IfOk result (λ rows. rows.items ≡ records bytes.now) }
 {
-    let mut reader = Records::Quoted(reader_over(alloc, bytes));
+    let mut reader = reader_over(alloc, bytes);
     let mut fields = Fields::new(alloc);
     rows_left(alloc, &mut reader, &mut fields)
 }

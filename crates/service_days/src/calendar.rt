@@ -14,17 +14,22 @@ use gtfs_tables::{
 use std::alloc::Global;
 use std::marker::Model;
 
-/// Where the required columns of `calendar.txt` are.
+// The columns of the weekdays, from Monday.
+const WEEKDAYS: [Column; 7] = [
+    Column::Monday,
+    Column::Tuesday,
+    Column::Wednesday,
+    Column::Thursday,
+    Column::Friday,
+    Column::Saturday,
+    Column::Sunday,
+];
+
+/// Where the required columns of `calendar.txt` are, those of the weekdays from Monday.
 #[derive(Clone, Copy)]
 pub(crate) struct Columns {
     service: usize,
-    monday: usize,
-    tuesday: usize,
-    wednesday: usize,
-    thursday: usize,
-    friday: usize,
-    saturday: usize,
-    sunday: usize,
+    weekdays: [usize; 7],
     start: usize,
     end: usize,
 }
@@ -47,19 +52,30 @@ impl ServicePeriod {
     }
 }
 
+// The texts of the weekdays of a record, from Monday.
+#[derive(Clone, Copy)]
+struct Weekdays<'a> {
+    texts: [&'a str; 7],
+}
+
 // The texts of a record.
 #[derive(Clone, Copy)]
 struct Texts<'a> {
     service: &'a str,
-    monday: &'a str,
-    tuesday: &'a str,
-    wednesday: &'a str,
-    thursday: &'a str,
-    friday: &'a str,
-    saturday: &'a str,
-    sunday: &'a str,
+    weekdays: Weekdays<'a>,
     start: &'a str,
     end: &'a str,
+}
+
+// Where the columns of the weekdays are, from Monday.
+fn weekday_columns(header: &Row) -> Result<[usize; 7], FeedFault>
+    ensures { Gives (λ places. places) result (spec.weekday_columns header.now) }
+{
+    let mut places = [0; 7];
+    for day in 0..7 {
+        places[day] = column_in(Paper::Calendar, WEEKDAYS[day], header)?;
+    }
+    Ok(places)
 }
 
 // The text of a field.
@@ -69,49 +85,54 @@ fn text_at(number: u32, column: Column, place: usize, row: &Row) -> Result<&str,
     text_in(Paper::Calendar, number, column, row.field(place))
 }
 
+// The texts of the weekdays, from Monday.
+fn weekday_texts<'a>(
+    row: &'a Row,
+    columns: &Columns,
+    number: u32,
+) -> Result<Weekdays<'a>, FeedFault>
+    ensures { Gives spec.days_seen result (spec.weekday_texts columns.now number row.now) }
+{
+    let mut texts = [""; 7];
+    for day in 0..7 {
+        texts[day] = text_at(number, WEEKDAYS[day], columns.weekdays[day], row)?;
+    }
+    Ok(Weekdays { texts })
+}
+
 // The texts of a record.
-#[tactic(auto, unfolding(crate::specs::Calendar::texts_in))]
 fn texts_in<'a>(row: &'a Row, columns: &Columns, number: u32) -> Result<Texts<'a>, FeedFault>
     ensures { Gives spec.seen result (spec.texts_in columns.now number row.now) }
 {
     let service = text_at(number, Column::ServiceId, columns.service, row)?;
-    let monday = text_at(number, Column::Monday, columns.monday, row)?;
-    let tuesday = text_at(number, Column::Tuesday, columns.tuesday, row)?;
-    let wednesday = text_at(number, Column::Wednesday, columns.wednesday, row)?;
-    let thursday = text_at(number, Column::Thursday, columns.thursday, row)?;
-    let friday = text_at(number, Column::Friday, columns.friday, row)?;
-    let saturday = text_at(number, Column::Saturday, columns.saturday, row)?;
-    let sunday = text_at(number, Column::Sunday, columns.sunday, row)?;
+    let weekdays = weekday_texts(row, columns, number)?;
     let start = text_at(number, Column::StartDate, columns.start, row)?;
     let end = text_at(number, Column::EndDate, columns.end, row)?;
     Ok(Texts {
         service,
-        monday,
-        tuesday,
-        wednesday,
-        thursday,
-        friday,
-        saturday,
-        sunday,
+        weekdays,
         start,
         end,
     })
 }
 
+// Whether the text of each weekday is filled.
+fn weekdays_filled(weekdays: &Weekdays, number: u32) -> Result<(), FeedFault>
+    ensures { Gives (λ done. done) result (spec.weekdays_filled number (spec.days_seen weekdays.now)) }
+{
+    for day in 0..7 {
+        filled_in(Paper::Calendar, number, WEEKDAYS[day], weekdays.texts[day])?;
+    }
+    Ok(())
+}
+
 // Whether each text of a record is filled.
-#[tactic(auto, unfolding(crate::specs::Calendar::filled))]
 fn filled(texts: &Texts, number: u32) -> Result<(), FeedFault>
     ensures { Gives (λ done. done) result (spec.filled number (spec.seen texts.now)) }
 {
     let paper = Paper::Calendar;
     filled_in(paper, number, Column::ServiceId, texts.service)?;
-    filled_in(paper, number, Column::Monday, texts.monday)?;
-    filled_in(paper, number, Column::Tuesday, texts.tuesday)?;
-    filled_in(paper, number, Column::Wednesday, texts.wednesday)?;
-    filled_in(paper, number, Column::Thursday, texts.thursday)?;
-    filled_in(paper, number, Column::Friday, texts.friday)?;
-    filled_in(paper, number, Column::Saturday, texts.saturday)?;
-    filled_in(paper, number, Column::Sunday, texts.sunday)?;
+    weekdays_filled(&texts.weekdays, number)?;
     filled_in(paper, number, Column::StartDate, texts.start)?;
     filled_in(paper, number, Column::EndDate, texts.end)?;
     Ok(())
@@ -125,24 +146,17 @@ fn runs_in(number: u32, column: Column, text: &str) -> Result<bool, FeedFault>
 }
 
 // On which weekdays a service runs, from Monday.
-#[tactic(auto, unfolding(crate::specs::Calendar::weekdays_in))]
-fn weekdays_in(texts: &Texts, number: u32) -> Result<[bool; 7], FeedFault>
-    ensures { Gives (λ weekdays. weekdays) result (spec.weekdays_in number (spec.seen texts.now)) }
+fn weekdays_in(weekdays: &Weekdays, number: u32) -> Result<[bool; 7], FeedFault>
+    ensures { Gives (λ runs. runs) result (spec.weekdays_in number (spec.days_seen weekdays.now)) }
 {
-    let monday = runs_in(number, Column::Monday, texts.monday)?;
-    let tuesday = runs_in(number, Column::Tuesday, texts.tuesday)?;
-    let wednesday = runs_in(number, Column::Wednesday, texts.wednesday)?;
-    let thursday = runs_in(number, Column::Thursday, texts.thursday)?;
-    let friday = runs_in(number, Column::Friday, texts.friday)?;
-    let saturday = runs_in(number, Column::Saturday, texts.saturday)?;
-    let sunday = runs_in(number, Column::Sunday, texts.sunday)?;
-    Ok([
-        monday, tuesday, wednesday, thursday, friday, saturday, sunday,
-    ])
+    let mut runs = [false; 7];
+    for day in 0..7 {
+        runs[day] = runs_in(number, WEEKDAYS[day], weekdays.texts[day])?;
+    }
+    Ok(runs)
 }
 
 // The service of a record and its schedule.
-#[tactic(auto, unfolding(crate::specs::Calendar::schedule_in))]
 fn schedule_in<'a>(
     row: &'a Row,
     columns: &Columns,
@@ -153,7 +167,7 @@ fn schedule_in<'a>(
     let paper = Paper::Calendar;
     let texts = texts_in(row, columns, number)?;
     filled(&texts, number)?;
-    let weekdays = weekdays_in(&texts, number)?;
+    let weekdays = weekdays_in(&texts.weekdays, number)?;
     let start = date_in(paper, number, Column::StartDate, texts.start)?;
     let end = date_in(paper, number, Column::EndDate, texts.end)?;
     let schedule = ServicePeriod {
@@ -194,18 +208,11 @@ impl RecordReader for Calendar {
 
     ghost step = { λ _. spec.with_schedule };
 
-    #[tactic(auto, unfolding(crate::specs::Calendar::columns_in))]
     fn columns(&self, header: &Row) -> Result<Columns, FeedFault> {
         let paper = Paper::Calendar;
         Ok(Columns {
             service: column_in(paper, Column::ServiceId, header)?,
-            monday: column_in(paper, Column::Monday, header)?,
-            tuesday: column_in(paper, Column::Tuesday, header)?,
-            wednesday: column_in(paper, Column::Wednesday, header)?,
-            thursday: column_in(paper, Column::Thursday, header)?,
-            friday: column_in(paper, Column::Friday, header)?,
-            saturday: column_in(paper, Column::Saturday, header)?,
-            sunday: column_in(paper, Column::Sunday, header)?,
+            weekdays: weekday_columns(header)?,
             start: column_in(paper, Column::StartDate, header)?,
             end: column_in(paper, Column::EndDate, header)?,
         })
