@@ -1,10 +1,20 @@
-use Rattle.std.proofs.Common.{◌≡◌, ◌+◌, ◌-◌, length, suc, take, drop, sym, ap, subst, ◌∙◌}
+use Rattle.std.proofs.Common.{◌≡◌, ◌+◌, ◌-◌, All, length, suc, take, drop, sym, ap, subst, ◌∙◌}
+use Rattle.std.proofs.lemmas.List.Elements.{All-drop, All-take}
 use Rattle.std.proofs.lemmas.List.Sums.{fold-append}
 use Rattle.edit_script.specs.Script.{ScriptView}
+use Rattle.planner_desk.specs.Planners.{IsOfTrip}
 use Rattle.planner_desk.specs.Standing.{Folds, after_standing, timetable_of}
 use Rattle.planner_desk.proofs.Folding.{folds-back, folds-front}
 use Rattle.planner_desk.proofs.Under.{all-of_rest}
 use Rattle.planner_desk.proofs.planners.folded_without.Goals as goal
+
+pub do_all-requires-clause-trips : goal.do_all-requires-clause-trips
+do_all-requires-clause-trips c = All-take IsOfTrip c.args.place c.args.standing.now c.requires.trips
+
+pub do_all-requires-2-clause-trips : goal.do_all-requires-2-clause-trips
+do_all-requires-2-clause-trips c =
+    let standing = c.args.standing.now in
+    subst (All IsOfTrip) (sym (all-of_rest standing c.args.place)) (All-drop IsOfTrip (suc c.args.place) standing c.requires.trips)
 
 pub do_all-requires-clause-folds : goal.do_all-requires-clause-folds
 do_all-requires-clause-folds c =
