@@ -1,6 +1,6 @@
 -- The tree of a search keeps its invariant as a row comes in.
 use Rattle.std.proofs.Common.{◌≡◌, ◌≢◌, ℕ, ◌+◌, ◌<◌, ◌≤◌, Bool, true, false, not, cond, List, length, set, replicate, count_by, None, Some}
-use Rattle.std.proofs.Common.{refl, sym, ap, ◌∙◌, ⊎_elim, inr, ◌⊎◌, arith}
+use Rattle.std.proofs.Common.{refl, sym, ap, subst, ◌∙◌, ⊎_elim, inr, ◌⊎◌, arith}
 use Rattle.std.proofs.lemmas.Bool.{both_ways, cases_Bool, cases_eq, cases_lt}
 use Rattle.std.proofs.lemmas.List.{get_or-set_same, get_or-set_other, get_or-replicate}
 use Rattle.std.proofs.lemmas.List.Folds.{sum_by-replicate}
@@ -9,7 +9,7 @@ use Rattle.std.proofs.Math.Nat.{le_antisymm}
 use Rattle.trip_model.specs.Links.{next_of}
 use Rattle.pair_search.specs.declared.grow.End.{End}
 use Rattle.pair_search.specs.Search.{at, is_done, as_columns, AreLooked, Problem, IsInside, IsGiven, TreeView, IsVia, IsIn, IsFrom, IsTree}
-use Rattle.pair_search.specs.Search.{IsNext, IsBest}
+use Rattle.pair_search.specs.Search.{IsNext, IsBest, HasEnded}
 
 -- a tree of these lists
 abbrev pub tree_with : List ℕ → List ℕ → List Bool → List ℕ → List ℕ → ℕ → ℕ → TreeView
@@ -274,6 +274,51 @@ IsTree-visit p s row column dist parent given tree v = record {
   done = visit-done p s row column dist parent tree v;
   reached = visit-reached p s row column dist parent tree v;
   count = omega (arith, tree.count, count-done s.done column (omega (arith, v.next.within, v.done)) v.next.undone);
+}
+
+-- the first row is the best end of a tree that has no other
+pub IsBest-first : (p : Problem) (s : TreeView) (fall : ℕ) → IsGiven p → IsTree p s → s.size ≡ 1 → s.reach ≡ 0
+    → fall ≡ at p.leave (at s.rows 0) → IsBest p s (record { from = 0; to = None; fall = fall })
+IsBest-first p s fall given tree size reach is = record {
+  alone = refl;
+  within = tree.root.0;
+  least = λ t lt.
+      let first : t ≡ 0 = omega (arith, lt, size) in
+      omega (arith, is, ap (λ i. at p.leave (at s.rows i)) first);
+  exact = omega (arith, is, tree.root.2);
+  later = omega (arith, reach);
+  low = omega (arith, is, given.leave_low (at s.rows 0));
+}
+
+-- where no column is nearer than the best end, the search has ended there
+pub HasEnded-row : (p : Problem) (s : TreeView) (best : End) → IsBest p s best
+    → ((j : ℕ) → j < p.n → is_done s.done j ≡ false → best.fall ≤ at s.dist j) → HasEnded p s best
+HasEnded-row p s best is columns = record {
+  within = is.within;
+  later = is.later;
+  low = is.low;
+  columns = columns;
+  rows = is.least;
+  alone = λ none. is.exact;
+  column = λ j some. absurd (cc (is.alone, some));
+}
+
+-- and where the nearest column is linked to none, there
+pub HasEnded-column : (p : Problem) (s : TreeView) (best : End) (column : ℕ) → IsTree p s → IsBest p s best → column < p.n
+    → is_done s.done column ≡ false → at s.dist column < best.fall
+    → ((j : ℕ) → j < p.n → is_done s.done j ≡ false → at s.dist column ≤ at s.dist j) → next_of p.before column ≡ None
+    → HasEnded p s (record { from = at s.parent column; to = Some column; fall = at s.dist column })
+HasEnded-column p s best column tree is inside undone nearer least free = record {
+  within = (tree.reached column inside (omega (arith, nearer, is.low))).within;
+  later = tree.later column inside undone;
+  low = omega (arith, nearer, is.low);
+  columns = least;
+  rows = λ t lt. omega (arith, nearer, is.least t lt);
+  alone = λ none. absurd (cc none);
+  column = λ j some.
+      let same : column ≡ j = cc some in
+      subst (λ k. (k < p.n) × (at s.dist k ≡ at s.dist column) × (at s.parent k ≡ at s.parent column) × (next_of p.before k ≡ None)) same
+      (inside, refl, refl, free);
 }
 
 -- of the best row and the one that came in the sooner is the best

@@ -1,23 +1,157 @@
-use Rattle.std.proofs.Common.{◌≡◌, ◌∙◌, ◌<◌, ◌≤◌, ◌+◌, ◌⊎◌, ℕ, min, nat_lt, true, length, set, None, Some, if◌then◌else◌, inr, refl, sym}
-use Rattle.std.proofs.Common.{ap, subst, arith}
+use Rattle.std.proofs.Common.{◌≡◌, ◌∙◌, ◌<◌, ◌≤◌, ◌+◌, ◌⊎◌, ℕ, min, nat_lt, true, false, length, set, None, Some, if◌then◌else◌, inr}
+use Rattle.std.proofs.Common.{refl, sym, ap, subst, arith}
 use Rattle.std.proofs.Math.Nat.{mul-le-mul_left}
 use Rattle.std.proofs.lemmas.List.{get_or_read}
 use Rattle.assignment_model.specs.Prices.{Plan}
 use Rattle.pair_search.specs.Determined.{first_nearest, grown, visited}
-use Rattle.pair_search.specs.Fronts.{IsShown}
-use Rattle.pair_search.specs.Search.{at, as_columns, problem_of, Problem, TreeView, tree_of, AreLooked, IsNearest, IsNext}
+use Rattle.pair_search.specs.Fronts.{IsShown, IsOnWay}
+use Rattle.pair_search.specs.Search.{at, is_done, as_columns, problem_of, Problem, TreeView, tree_of, AreLooked, HasEnded}
+use Rattle.pair_search.specs.Search.{IsNearest, IsNext}
 use Rattle.pair_search.specs.Side.{side_slots, place_weight}
 use Rattle.pair_search.specs.Visits.{RowsVisit}
-use Rattle.pair_search.proofs.FrontLemmas.{IsOnWay-row, IsShown-none, IsShown-column}
+use Rattle.pair_search.proofs.FrontLemmas.{IsOnWay-first, IsOnWay-row, IsShown-none, IsShown-column}
 use Rattle.pair_search.proofs.GroupLemmas.{AreNear-same, AreReached-same}
 use Rattle.pair_search.proofs.LentLemmas.{written}
 use Rattle.pair_search.proofs.ShownLemmas.{IsShown-come, IsShown-same}
 use Rattle.pair_search.proofs.VisitLemmas.{RowsVisit-more}
-use Rattle.pair_search.proofs.TreeLemmas.{tree-room, IsBest-more}
+use Rattle.pair_search.proofs.TreeLemmas.{tree-room, IsBest-first, IsBest-more, HasEnded-row, HasEnded-column}
 use Rattle.pair_search.proofs.tree.Tree.grow.Goals as goal
+
+pub loop-column-init : goal.loop-column-init
+loop-column-init g c =
+    let side = c.args.side.now in
+    let was = c.args.self.now in
+    let leave = c.args.leave.now in
+    let p : Problem = problem_of side (at was.rows.items 0) c.args.before.now leave c.args.enter.now in
+    let w = place_weight side in
+    let fall = at leave c.index.result.now in
+    let root : c.index.result.now ≡ at was.rows.items 0 =
+    get_or_read was.rows.items 0 c.index.result.now (omega (arith, was.rows.ok.0, was.row_places)) c.index.ensures 0 in
+    let slots : length was.dist.items ≡ side_slots side = omega (arith, was.dist.ok.0, c.requires.slots) in
+    record {
+      slots = refl;
+      reach = 0;
+      tree = c.requires.begun;
+      best = IsBest-first p (tree_of was 1 0) fall c.requires.given c.requires.begun refl refl (ap (at leave) root);
+      shown = λ start front befores begun.
+          let plan : Plan = record { next = start; leave = leave; enter = c.args.enter.now } in
+          subst (λ (n : ℕ). IsOnWay w plan (grown w plan n front) 1 was.dist.items was.parent.items was.done.items was.rows.items 0 None
+          fall) slots
+          (IsOnWay-first w plan front was.dist.items was.parent.items was.done.items was.rows.items 0 None fall
+          (subst (λ (d : ℕ). IsShown was.dist.items was.parent.items was.done.items was.rows.items 0 None d front)
+          (sym (ap (at leave) root)) begun));
+      seen = record {
+        room = c.requires.seen.room;
+        near = c.requires.seen.near;
+        reached = c.requires.seen.reached;
+        posts = c.requires.seen.posts;
+        led = c.requires.seen.led;
+      };
+      visited = λ first steps begun. begun;
+      counted = omega arith;
+    }
 
 pub nearest-requires-clause-room : goal.nearest-requires-clause-room
 nearest-requires-clause-room g c = omega (arith, c.loop-column.invariant.seen.room, ap length c.deref_mut.ensures.value)
+
+pub nearest-requires-clause-near : goal.nearest-requires-clause-near
+nearest-requires-clause-near g c =
+    let side = c.args.side.now in
+    let was = c.loop-column.self in
+    AreNear-same side.count side.groups was.done.items _ was.dist.items _ was.seen.items _ (sym c.deref.ensures.value)
+    (sym c.deref-in-loop-column.ensures.value) (sym c.deref_mut.ensures.value) c.loop-column.invariant.seen.near
+
+pub returns-in_default-before-clause-grown : goal.returns-in_default-before-clause-grown
+returns-in_default-before-clause-grown g c =
+    let side = c.args.side.now in
+    let loop = c.loop-column in
+    let was = loop.self in
+    let p : Problem = problem_of side (at c.args.self.now.rows.items 0) c.args.before.now c.args.leave.now c.args.enter.now in
+    let s : TreeView = tree_of was loop.size loop.invariant.reach in
+    let column = c.in-Some.column in
+    let nearest : IsNearest was.done.items was.dist.items loop.best.fall column =
+    subst (λ xs. IsNearest xs was.dist.items loop.best.fall column) c.deref.ensures.value
+    (subst (λ xs. IsNearest c.deref.result.now xs loop.best.fall column) c.deref-in-loop-column.ensures.value c.in-Some.ensures.some) in
+    let slots : length was.dist.items ≡ side_slots side = omega (arith, was.dist.ok.0, loop.invariant.slots, c.requires.slots) in
+    let read : c.index-distance.result.now ≡ at was.dist.items column =
+    get_or_read was.dist.items column c.index-distance.result.now nearest.within c.index-distance.ensures 0 in
+    let reader : c.index-in_default-before.result.now ≡ at was.parent.items column =
+    get_or_read was.parent.items column c.index-in_default-before.result.now
+    (omega (arith, nearest.within, was.dist.ok.0, was.parent.ok.0, was.parents)) c.index-in_default-before.ensures 0 in
+    record {
+      size = loop.size;
+      reach = loop.invariant.reach;
+      tree = loop.invariant.tree;
+      ended =
+          subst (λ (d : ℕ). HasEnded p s (record { from = c.index-in_default-before.result.now; to = Some column; fall = d })) (sym read)
+          (subst (λ (i : ℕ). HasEnded p s (record { from = i; to = Some column; fall = at was.dist.items column })) (sym reader)
+          (HasEnded-column p s loop.best column loop.invariant.tree loop.invariant.best (omega (arith, nearest.within, slots))
+          nearest.undone nearest.below (λ j lt undone. nearest.least j (omega (arith, lt, slots)) undone) c.in_default-before.is));
+    }
+
+pub returns-in_default-before-clause-shown : goal.returns-in_default-before-clause-shown
+returns-in_default-before-clause-shown g c = λ start front befores begun.
+    let side = c.args.side.now in
+    let loop = c.loop-column in
+    let was = loop.self in
+    let w = place_weight side in
+    let plan : Plan = record { next = start; leave = c.args.leave.now; enter = c.args.enter.now } in
+    let p : Problem = problem_of side (at c.args.self.now.rows.items 0) c.args.before.now c.args.leave.now c.args.enter.now in
+    let s : TreeView = tree_of was loop.size loop.invariant.reach in
+    let column = c.in-Some.column in
+    let nearest : IsNearest was.done.items was.dist.items loop.best.fall column =
+    subst (λ xs. IsNearest xs was.dist.items loop.best.fall column) c.deref.ensures.value
+    (subst (λ xs. IsNearest c.deref.result.now xs loop.best.fall column) c.deref-in-loop-column.ensures.value c.in-Some.ensures.some) in
+    let picked : first_nearest (length was.dist.items) was.done.items was.dist.items loop.best.fall ≡ Some column =
+    sym (subst (λ xs. Some column ≡ first_nearest (length was.dist.items) xs was.dist.items loop.best.fall) c.deref.ensures.value
+    (subst (λ xs. Some column ≡ first_nearest (length xs) c.deref.result.now xs loop.best.fall) c.deref-in-loop-column.ensures.value
+    c.in-Some.ensures.picked)) in
+    let slots : length was.dist.items ≡ side_slots side = omega (arith, was.dist.ok.0, loop.invariant.slots, c.requires.slots) in
+    let room = tree-room p s column loop.invariant.tree (omega (arith, nearest.within, was.dist.ok.0, was.done.ok.0, was.marks))
+    nearest.undone in
+    let read : c.index-distance.result.now ≡ at was.dist.items column =
+    get_or_read was.dist.items column c.index-distance.result.now nearest.within c.index-distance.ensures 0 in
+    let reader : c.index-in_default-before.result.now ≡ at was.parent.items column =
+    get_or_read was.parent.items column c.index-in_default-before.result.now
+    (omega (arith, nearest.within, was.dist.ok.0, was.parent.ok.0, was.parents)) c.index-in_default-before.ensures 0 in
+    let over = grown w plan (side_slots side) front in
+    subst (λ (d : ℕ). IsShown was.dist.items was.parent.items was.done.items was.rows.items c.index-in_default-before.result.now
+    (Some column) d over) (sym read)
+    (subst (λ (d : ℕ). IsShown was.dist.items was.parent.items was.done.items was.rows.items d (Some column) (at was.dist.items column)
+    over) (sym reader)
+    (IsShown-column w plan over loop.size column was.dist.items was.parent.items was.done.items was.rows.items loop.best.from loop.best.to
+    loop.best.fall
+    (loop.invariant.shown start front befores begun) picked (befores column ∙ c.in_default-before.is) (omega (arith, room, slots))
+    nearest.within
+    (omega (arith, nearest.below, loop.invariant.best.low))))
+
+pub returns-in_default-before-clause-visited : goal.returns-in_default-before-clause-visited
+returns-in_default-before-clause-visited g c = λ first steps begun.
+    let loop = c.loop-column in
+    record { size = loop.size; apart = loop.invariant.tree.apart; visits = loop.invariant.visited first steps begun }
+
+pub returns-in_default-before-clause-counted : goal.returns-in_default-before-clause-counted
+returns-in_default-before-clause-counted g c =
+    let n = side_slots c.args.side.now in
+    let most : c.loop-column.size ≤ n + 1 = omega (arith, c.loop-column.invariant.tree.count) in
+    omega (arith, c.loop-column.invariant.counted, mul-le-mul_left n most)
+
+pub visit-requires-clause-row : goal.visit-requires-clause-row
+visit-requires-clause-row g c = (c.requires.given.rows c.in-Some-before.row c.in-Some.column c.in-Some-before.is).0
+
+pub visit-requires-clause-column : goal.visit-requires-clause-column
+visit-requires-clause-column g c = (c.requires.given.rows c.in-Some-before.row c.in-Some.column c.in-Some-before.is).1
+
+pub visit-requires-clause-place : goal.visit-requires-clause-place
+visit-requires-clause-place g c =
+    let loop = c.loop-column in
+    let was = loop.self in
+    let column = c.in-Some.column in
+    let p : Problem = problem_of c.args.side.now (at c.args.self.now.rows.items 0) c.args.before.now c.args.leave.now c.args.enter.now in
+    let undone = subst (λ xs. is_done xs column ≡ false) c.deref.ensures.value c.in-Some.ensures.some.undone in
+    let within = (c.requires.given.rows c.in-Some-before.row column c.in-Some-before.is).1 in
+    tree-room p (tree_of was loop.size loop.invariant.reach) column loop.invariant.tree
+    (omega (arith, within, was.dist.ok.0, was.done.ok.0, was.marks, loop.invariant.slots, c.requires.slots)) undone
 
 pub visit-requires-clause-seen : goal.visit-requires-clause-seen
 visit-requires-clause-seen g c =
@@ -39,12 +173,53 @@ visit-requires-clause-seen g c =
       led = seen.led;
     }
 
+pub visit-requires-clause-close : goal.visit-requires-clause-close
+visit-requires-clause-close g c =
+    let same = ap (λ xs. at xs c.in-Some.column) c.deref-in-loop-column.ensures.value in
+    omega (arith, same, c.in-Some.ensures.some.below, c.loop-column.invariant.best.low)
+
+pub visit-requires-clause-leave_low : goal.visit-requires-clause-leave_low
+visit-requires-clause-leave_low g c = c.requires.given.leave_low c.in-Some-before.row
+
 pub visit-requires-clause-enter_low : goal.visit-requires-clause-enter_low
 visit-requires-clause-enter_low g c = λ j k fits. c.requires.given.enter_low c.in-Some-before.row j k fits
 
 pub visit-requires-clause-covers : goal.visit-requires-clause-covers
 visit-requires-clause-covers g c =
     λ j k fits. c.requires.given.covers c.in-Some-before.row j k (inr (c.in-Some.column, c.in-Some-before.is)) fits
+
+pub bounds-leave-row : goal.bounds-leave-row
+bounds-leave-row g c =
+    omega (arith, (c.requires.given.rows c.in-Some-before.row c.in-Some.column c.in-Some-before.is).0, c.requires.leave)
+
+pub overflow_add-distance : goal.overflow_add-distance
+overflow_add-distance g c =
+    let was = c.loop-column.self in
+    let column = c.in-Some.column in
+    let same = ap (λ xs. at xs column) c.deref-in-loop-column.ensures.value in
+    let within = (c.requires.given.rows c.in-Some-before.row column c.in-Some-before.is).1 in
+    let read : c.index-distance.result.now ≡ at was.dist.items column =
+    get_or_read was.dist.items column c.index-distance.result.now
+    (omega (arith, within, was.dist.ok.0, c.loop-column.invariant.slots, c.requires.slots)) c.index-distance.ensures 0 in
+    let price = c.requires.given.leave_low c.in-Some-before.row in
+    omega (arith, read, same, c.in-Some.ensures.some.below, c.loop-column.invariant.best.low, price)
+
+pub overflow_add-size : goal.overflow_add-size
+overflow_add-size g c = omega (arith, c.loop-column.invariant.tree.count, c.requires.given.few)
+
+pub loop-column-smaller : goal.loop-column-smaller
+loop-column-smaller g c =
+    let loop = c.loop-column in
+    let was = loop.self in
+    let column = c.in-Some.column in
+    let p : Problem = problem_of c.args.side.now (at c.args.self.now.rows.items 0) c.args.before.now c.args.leave.now c.args.enter.now in
+    let undone = subst (λ xs. is_done xs column ≡ false) c.deref.ensures.value c.in-Some.ensures.some.undone in
+    let within = (c.requires.given.rows c.in-Some-before.row column c.in-Some-before.is).1 in
+    omega (
+      arith,
+      tree-room p (tree_of was loop.size loop.invariant.reach) column loop.invariant.tree
+          (omega (arith, within, was.dist.ok.0, was.done.ok.0, was.marks, loop.invariant.slots, c.requires.slots)) undone,
+    )
 
 pub loop-column-preserved : goal.loop-column-preserved
 loop-column-preserved g c =
@@ -126,47 +301,26 @@ loop-column-preserved g c =
       counted = omega (arith, loop.invariant.counted, c.visit.ensures.counted);
     }
 
-pub returns-clause-counted : goal.returns-clause-counted
-returns-clause-counted g c =
-    let n = side_slots c.args.side.now in
-    let most : c.loop-column.size ≤ n + 1 = omega (arith, c.loop-column.invariant.tree.count) in
-    omega (arith, c.loop-column.invariant.counted, mul-le-mul_left n most)
-
-pub returns-in_default-before-clause-shown : goal.returns-in_default-before-clause-shown
-returns-in_default-before-clause-shown g c = λ start front befores begun.
+pub returns-clause-grown : goal.returns-clause-grown
+returns-clause-grown g c =
     let side = c.args.side.now in
     let loop = c.loop-column in
     let was = loop.self in
-    let w = place_weight side in
-    let plan : Plan = record { next = start; leave = c.args.leave.now; enter = c.args.enter.now } in
     let p : Problem = problem_of side (at c.args.self.now.rows.items 0) c.args.before.now c.args.leave.now c.args.enter.now in
-    let s : TreeView = tree_of was loop.size loop.invariant.reach in
-    let column = c.in-Some.column in
-    let nearest : IsNearest was.done.items was.dist.items loop.best.fall column =
-    subst (λ xs. IsNearest xs was.dist.items loop.best.fall column) c.deref.ensures.value
-    (subst (λ xs. IsNearest c.deref.result.now xs loop.best.fall column) c.deref-in-loop-column.ensures.value c.in-Some.ensures.some) in
-    let picked : first_nearest (length was.dist.items) was.done.items was.dist.items loop.best.fall ≡ Some column =
-    sym (subst (λ xs. Some column ≡ first_nearest (length was.dist.items) xs was.dist.items loop.best.fall) c.deref.ensures.value
-    (subst (λ xs. Some column ≡ first_nearest (length xs) c.deref.result.now xs loop.best.fall) c.deref-in-loop-column.ensures.value
-    c.in-Some.ensures.picked)) in
     let slots : length was.dist.items ≡ side_slots side = omega (arith, was.dist.ok.0, loop.invariant.slots, c.requires.slots) in
-    let room = tree-room p s column loop.invariant.tree (omega (arith, nearest.within, was.dist.ok.0, was.done.ok.0, was.marks))
-    nearest.undone in
-    let read : c.index-distance.result.now ≡ at was.dist.items column =
-    get_or_read was.dist.items column c.index-distance.result.now nearest.within c.index-distance.ensures 0 in
-    let reader : c.index-in_default-before.result.now ≡ at was.parent.items column =
-    get_or_read was.parent.items column c.index-in_default-before.result.now
-    (omega (arith, nearest.within, was.dist.ok.0, was.parent.ok.0, was.parents)) c.index-in_default-before.ensures 0 in
-    let over = grown w plan (side_slots side) front in
-    subst (λ (d : ℕ). IsShown was.dist.items was.parent.items was.done.items was.rows.items c.index-in_default-before.result.now
-    (Some column) d over) (sym read)
-    (subst (λ (d : ℕ). IsShown was.dist.items was.parent.items was.done.items was.rows.items d (Some column) (at was.dist.items column)
-    over) (sym reader)
-    (IsShown-column w plan over loop.size column was.dist.items was.parent.items was.done.items was.rows.items loop.best.from loop.best.to
-    loop.best.fall
-    (loop.invariant.shown start front befores begun) picked (befores column ∙ c.in_default-before.is) (omega (arith, room, slots))
-    nearest.within
-    (omega (arith, nearest.below, loop.invariant.best.low))))
+    let none : (j : ℕ) → j < length was.dist.items → is_done was.done.items j ≡ false → loop.best.fall ≤ at was.dist.items j =
+    subst (λ xs. (j : ℕ) → j < length was.dist.items → is_done xs j ≡ false → loop.best.fall ≤ at was.dist.items j)
+    c.deref.ensures.value
+    (subst (λ xs. (j : ℕ) → j < length xs → is_done c.deref.result.now j ≡ false → loop.best.fall ≤ at xs j)
+    c.deref-in-loop-column.ensures.value c.in_default.ensures.none) in
+    record {
+      size = loop.size;
+      reach = loop.invariant.reach;
+      tree = loop.invariant.tree;
+      ended =
+          HasEnded-row p (tree_of was loop.size loop.invariant.reach) loop.best loop.invariant.best
+          (λ j lt undone. none j (omega (arith, lt, slots)) undone);
+    }
 
 pub returns-clause-shown : goal.returns-clause-shown
 returns-clause-shown g c = λ start front befores begun.
@@ -181,3 +335,14 @@ returns-clause-shown g c = λ start front befores begun.
     (sym (subst (λ xs. None ≡ first_nearest (length was.dist.items) xs was.dist.items loop.best.fall) c.deref.ensures.value
     (subst (λ xs. None ≡ first_nearest (length xs) c.deref.result.now xs loop.best.fall) c.deref-in-loop-column.ensures.value
     c.in_default.ensures.picked)))
+
+pub returns-clause-visited : goal.returns-clause-visited
+returns-clause-visited g c = λ first steps begun.
+    let loop = c.loop-column in
+    record { size = loop.size; apart = loop.invariant.tree.apart; visits = loop.invariant.visited first steps begun }
+
+pub returns-clause-counted : goal.returns-clause-counted
+returns-clause-counted g c =
+    let n = side_slots c.args.side.now in
+    let most : c.loop-column.size ≤ n + 1 = omega (arith, c.loop-column.invariant.tree.count) in
+    omega (arith, c.loop-column.invariant.counted, mul-le-mul_left n most)
