@@ -40,13 +40,16 @@ settings_with desk terminals tolerances = record {
   tolerances = tolerances;
 }
 
--- the settings of `desk.toml`, `terminals.csv` and `tolerances.csv`, judged in this order
-unfoldable pub settings_of : Found → Found → Found → Result SettingsView FeedFault
-settings_of desk_found terminals_found tolerances_found = do
-  desk ← desk_of desk_found
+-- the settings of a desk with what `terminals.csv` and `tolerances.csv` say, judged in this order
+abbrev pub with_tables : Found → Found → DeskTable → Result SettingsView FeedFault
+with_tables terminals_found tolerances_found desk = do
   terminals ← terminals_of terminals_found
   tolerances ← tolerances_of tolerances_found
   Ok (settings_with desk terminals tolerances)
+
+-- the settings of `desk.toml`, and then of the two tables
+unfoldable pub settings_of : Found → Found → Found → Result SettingsView FeedFault
+settings_of desk_found terminals_found tolerances_found = desk_of desk_found >>= with_tables terminals_found tolerances_found
 
 -- whether a service is one of those named
 abbrev pub is_in : Option (List Name) → Name → Bool

@@ -1,4 +1,4 @@
-ghost use Rattle.std.specs.Prelude.{◌≡◌, ◌≤◌, [], IfOk, IfSome, option_map};
+ghost use Rattle.std.specs.Prelude.{◌≡◌, [], IfOk, Some, None, is_some, unwrap_or, if◌then◌else◌};
 ghost use Rattle.std.specs.Option.{ok_or};
 ghost use Rattle.gtfs_tables.specs.Reading.{Gives};
 ghost use Rattle.toml.specs.View.{view, items_view, table_view};
@@ -6,7 +6,7 @@ ghost use Rattle.desk_settings.specs.Desk as spec;
 
 use crate::class::Class;
 use crate::date::Date;
-use crate::minutes::{Layover, TOLERANCE, Tolerance};
+use crate::minutes::{Layover, Minutes, Tolerance};
 use crate::names::Names;
 use desk_io::{Found, Memory, Text};
 use gtfs_tables::{Entries, FeedFault, Paper, optional_bytes};
@@ -22,7 +22,6 @@ pub const MOST_PREFIX: usize = 32;
 pub const MOST_CLASS: usize = 16;
 
 /// What `desk.toml` says.
-#[derive(Drop)]
 pub(crate) struct DeskTable {
     /// The services whose trips are selected; None where all are.
     pub(crate) services: Option<Names>,
@@ -42,24 +41,40 @@ pub(crate) struct DeskTable {
     pub(crate) prefix: Text,
 }
 
-// An integer from 0 to `most`.
-fn minutes_in(value: &Value, most: u16) -> Option<u16>
-    ensures value { result ≡ spec.minutes_in most (view value.now) }
-    ensures within { IfSome result (λ minutes. minutes ≤ most) }
+impl Drop for DeskTable {
+    fn drop(self) {
+        let Self {
+            services: _,
+            date: _,
+            classes: _,
+            layover: _,
+            layovers: _,
+            early: _,
+            late: _,
+            prefix: _,
+        } = self;
+    }
+}
+
+// An integer from 0 to `MOST`.
+fn minutes_in<const MOST: u16>(value: &Value) -> Option<Minutes<MOST>>
+    ensures { result ≡ spec.minutes_in MOST (view value.now) }
 {
     match value.as_integer() {
-        Some(minutes) if minutes >= 0 && minutes <= i64::from(most) => Some(minutes as u16),
+        Some(minutes) if minutes >= 0 && minutes <= i64::from(MOST) => {
+            Some(Minutes::of(minutes as u16))
+        }
         _ => None,
     }
 }
 
 // A string of at most 32 bytes.
-fn prefix_in(value: &Value) -> Option<&str>
-    ensures { option_map (λ text. text.now) result ≡ spec.prefix_in (view value.now) }
+fn prefix_in(alloc: Global, value: &Value) -> Result<Option<Text>, Memory>
+    ensures { IfOk result (λ prefix. prefix ≡ spec.prefix_in (view value.now)) }
 {
     match value.as_str() {
-        Some(text) if text.len() <= MOST_PREFIX => Some(text),
-        _ => None,
+        Some(text) if text.len() <= MOST_PREFIX => Ok(Some(Text::of(alloc, text)?)),
+        _ => Ok(None),
     }
 }
 
@@ -93,10 +108,10 @@ fn layovers_from(alloc: Global, table: &Table) -> Result<Option<Entries<Layover>
 {
     let mut layovers = Entries::new(alloc);
     for (place, value) in table.iter() {
-        let Some(minutes) = minutes_in(value, MOST_LAYOVER) else {
+        let Some(layover) = minutes_in(value) else {
             return Ok(None);
         };
-        layovers.push(place.as_str(), Layover::of(minutes))?;
+        layovers.push(place.as_str(), layover)?;
     }
     Ok(Some(layovers))
 }
@@ -162,6 +177,20 @@ fn date_in(value: &Value) -> Option<Date>
     }
 }
 
+// Puts a value in its place, if there is one, and answers whether there is.
+fn put<T: Drop>(place: &mut T, value: Option<T>) -> bool
+    ensures put { place.new ≡ unwrap_or value place.old }
+    ensures is { result ≡ is_some value }
+{
+    match value {
+        Some(value) => {
+            *place = value;
+            true
+        }
+        None => false,
+    }
+}
+
 impl DeskTable {
     // What holds where `desk.toml` does not say otherwise.
     fn standard(alloc: Global) -> Result<DeskTable, Memory>
@@ -180,24 +209,33 @@ impl DeskTable {
         })
     }
 
-    // Puts the value of a key in its place.
+    // Puts the value of a key in its place. False where the key is unknown or its value of another form.
     #[tactic(auto, unfolding(crate::specs::Desk::with_key))]
+    fn put_value(&mut self, alloc: Global, key: &str, value: &Value) -> Result<bool, Memory>
+        ensures { IfOk result (λ is_put. (if is_put then Some self.new else None) ≡ spec.with_key self.old key.now (view value.now)) }
+    {
+        Ok(match key {
+            "services" => put(&mut self.services, names_in(alloc, value)?.map(Some)),
+            "date" => put(&mut self.date, date_in(value).map(Some)),
+            "classes" => put(&mut self.classes, classes_in(alloc, value)?),
+            "layover" => put(&mut self.layover, minutes_in(value)),
+            "layovers" => put(&mut self.layovers, layovers_in(alloc, value)?),
+            "early" => put(&mut self.early, minutes_in(value)),
+            "late" => put(&mut self.late, minutes_in(value)),
+            "block_prefix" => put(&mut self.prefix, prefix_in(alloc, value)?),
+            _ => false,
+        })
+    }
+
+    // Puts the value of a key in its place.
     fn set(&mut self, alloc: Global, key: &str, value: &Value) -> Result<(), FeedFault>
         ensures { Gives (λ _. self.new) result (ok_or (spec.with_key self.old key.now (view value.now)) (FeedFault.BadSettings key.now)) }
     {
-        let bad = FeedFault::BadSettings(Text::of(alloc, key)?);
-        match key {
-            "services" => self.services = Some(names_in(alloc, value)?.ok_or(bad)?),
-            "date" => self.date = Some(date_in(value).ok_or(bad)?),
-            "classes" => self.classes = classes_in(alloc, value)?.ok_or(bad)?,
-            "layover" => self.layover = Layover::of(minutes_in(value, MOST_LAYOVER).ok_or(bad)?),
-            "layovers" => self.layovers = layovers_in(alloc, value)?.ok_or(bad)?,
-            "early" => self.early = Tolerance::of(minutes_in(value, TOLERANCE).ok_or(bad)?),
-            "late" => self.late = Tolerance::of(minutes_in(value, TOLERANCE).ok_or(bad)?),
-            "block_prefix" => self.prefix = Text::of(alloc, prefix_in(value).ok_or(bad)?)?,
-            _ => return Err(bad),
+        if self.put_value(alloc, key, value)? {
+            Ok(())
+        } else {
+            Err(FeedFault::BadSettings(Text::of(alloc, key)?))
         }
-        Ok(())
     }
 
     // Puts the values of all keys in their places, key after key in byte order.

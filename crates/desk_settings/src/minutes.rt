@@ -36,7 +36,7 @@ impl<const MOST: u16> Minutes<MOST> {
 }
 
 /// The most minutes of a tolerance, as wide as those of a layover.
-pub(crate) const TOLERANCE: u16 = MOST_TOLERANCE as u16;
+const TOLERANCE: u16 = MOST_TOLERANCE as u16;
 
 /// How long a vehicle stays at a place after a trip: at most 240 minutes.
 pub(crate) type Layover = Minutes<MOST_LAYOVER>;

@@ -5,6 +5,7 @@ ghost use Rattle.trip_model.specs.declared.limits.TheConstants.{MOST_LAYOVER, MO
 ghost use Rattle.gtfs_tables.specs.Papers.{IsWithinLimit};
 ghost use Rattle.gtfs_tables.specs.Reading.{Gives};
 ghost use Rattle.toml.specs.Data.{Members};
+ghost use Rattle.desk_settings.specs.declared.desk.DeskTable.{DeskTable};
 ghost use Rattle.desk_settings.specs.Desk.{Ascend, document_in};
 ghost use Rattle.desk_settings.specs.Names.{is_among};
 ghost use Rattle.desk_settings.specs.Settings as spec;
@@ -66,6 +67,22 @@ fn kept_services(alloc: Global, services: &Option<Names>, running: &[Text]) -> R
     }
 }
 
+// The terminals of stops and the tolerances of trips.
+fn tables_of(
+    alloc: Global,
+    terminals: &Found,
+    tolerances: &Found,
+) -> Result<(Entries<Text>, Entries<(Tolerance, Tolerance)>), FeedFault>
+    requires terminals { IsWithinLimit terminals.now }
+    requires tolerances { IsWithinLimit tolerances.now }
+    ensures { (desk : DeskTable) → Gives (λ tables. spec.settings_with desk tables.0 tables.1) result
+        (spec.with_tables terminals.now tolerances.now desk) }
+{
+    let terminals = terminals_of(alloc, terminals)?;
+    let tolerances = tolerances_of(alloc, tolerances)?;
+    Ok((terminals, tolerances))
+}
+
 impl Settings {
     /// The settings of the files, of at most [`gtfs_tables::MOST_BYTES`] bytes each, or the first refusal: of `desk.toml`,
     /// then of `terminals.csv`, then of `tolerances.csv`. A file that is not there has no entries.
@@ -86,8 +103,7 @@ impl Settings {
     {
         key_order_law();
         let desk = desk_of(alloc, settings)?;
-        let terminals = terminals_of(alloc, terminals)?;
-        let tolerances = tolerances_of(alloc, tolerances)?;
+        let (terminals, tolerances) = tables_of(alloc, terminals, tolerances)?;
         Ok(Settings {
             desk,
             terminals,

@@ -22,16 +22,15 @@ loop-place-preserved c =
     let iter : c.loop-place.place-iterator ≡ (c.in-Some.place.now, c.in-Some.value.now) ∷ c.next.new.self = grind (arith, common_steps) in
     let rising = rw iter at c.loop-place.invariant.rising in
     let new = rw iter at c.loop-place.invariant.new in
-    let pushed : c.push.new.self ≡ c.loop-place.layovers ++ (c.as_str.result.now, c.in-Some-minutes_in.minutes) ∷ [] =
-    c.in_ok-push.ensures.pushed ∙ ap (λ minutes. c.loop-place.layovers ++ (c.as_str.result.now, minutes) ∷ []) c.of.ensures in
+    let pushed = c.in_ok-push.ensures.pushed in
     record {
       gives = entries_go_on (minutes_in MOST_LAYOVER) c.loop-place.layovers c.push.new.self c.in-Some.place.now c.in-Some.value.now
-          c.next.new.self c.as_str.result.now c.in-Some-minutes_in.minutes _
-          (sym c.in-Some-minutes_in.ensures.value) c.as_str.ensures.value pushed
+          c.next.new.self c.as_str.result.now c.in-Some-minutes_in.layover _
+          (sym c.in-Some-minutes_in.ensures) c.as_str.ensures.value pushed
           (sym (ap (λ es. entries_from (minutes_in MOST_LAYOVER) c.loop-place.layovers (members_view es)) iter)
           ∙ c.loop-place.invariant.gives);
       rising = rising.1;
       new = subst (λ entries. AreNew entries c.next.new.self)
-          (sym (pushed ∙ ap (λ bytes. c.loop-place.layovers ++ (bytes, c.in-Some-minutes_in.minutes) ∷ []) c.as_str.ensures.value))
-          (AreNew-push c.loop-place.layovers c.in-Some.place.now c.in-Some-minutes_in.minutes c.next.new.self rising.0 new.1);
+          (sym (pushed ∙ ap (λ bytes. c.loop-place.layovers ++ (bytes, c.in-Some-minutes_in.layover) ∷ []) c.as_str.ensures.value))
+          (AreNew-push c.loop-place.layovers c.in-Some.place.now c.in-Some-minutes_in.layover c.next.new.self rising.0 new.1);
     }
