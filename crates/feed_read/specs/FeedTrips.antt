@@ -62,22 +62,26 @@ abbrev pub time_or : Option ℕ → Option ℕ → Option ℕ
 time_or (Some seconds) other = Some seconds
 time_or None other = other
 
--- A trip of vehicles of a class between its first and its last stop time. It departs rounded down to the minute, and ends
--- rounded up, after the layover of its last place.
+-- A trip of vehicles of a class from one stop time to another, which it leaves and reaches at these seconds. It departs rounded
+-- down to the minute, and ends rounded up, after the layover of its last place.
+abbrev pub feed_trip_at : SettingsView → Name → Name → StopTimeView → StopTimeView → ℕ → ℕ → FeedTrip
+feed_trip_at settings name class first last departure arrival = record {
+  name = name;
+  class = class;
+  from = terminal_of settings first.stop;
+  to = terminal_of settings last.stop;
+  departs = rounded_down departure;
+  ends = rounded_up arrival + layover_at settings (terminal_of settings last.stop);
+  early = (tolerance_of settings name).0;
+  late = (tolerance_of settings name).1;
+}
+
+-- a trip between its first and its last stop time
 unfoldable pub feed_trip_between : SettingsView → Name → Name → StopTimeView → StopTimeView → Result FeedTrip FeedFault
 feed_trip_between settings name class first last = do
   departure ← ok_or (time_or first.departure first.arrival) (fault.NoTime name)
   arrival ← ok_or (time_or last.arrival last.departure) (fault.NoTime name)
-  provided (nat_lt departure arrival) (fault.NotForward name) (Ok (record {
-    name = name;
-    class = class;
-    from = terminal_of settings first.stop;
-    to = terminal_of settings last.stop;
-    departs = rounded_down departure;
-    ends = rounded_up arrival + layover_at settings (terminal_of settings last.stop);
-    early = (tolerance_of settings name).0;
-    late = (tolerance_of settings name).1;
-  }))
+  provided (nat_lt departure arrival) (fault.NotForward name) (Ok (feed_trip_at settings name class first last departure arrival))
 
 -- a trip between its ends, if it has any
 abbrev pub feed_trip_from : SettingsView → Name → Name → Option StopTimeView → Option StopTimeView → Result FeedTrip FeedFault

@@ -49,6 +49,10 @@ chosen_in settings columns number fields = do
   name ← text_in paper.Trips number column.TripId (field_at fields columns.trip)
   Ok (if is_chosen settings service then Some name else None)
 
+-- the selected trips with one more
+abbrev pub selected_with : Selected → Name → Name → Selected
+selected_with before name class = record { names = before.names ++ name ∷ []; classes = before.classes ++ class ∷ [] }
+
 -- the selected trips, and that of a selected record with its class. Its name is not empty and no selected record before has it,
 -- and it is at most the 4,096th
 unfoldable pub with_selected : ℕ → Selected → Name → Name → Result Selected FeedFault
@@ -56,7 +60,7 @@ with_selected number before name class = do
   _ ← filled_in paper.Trips number column.TripId name
   provided (not (is_among name before.names)) (fault.DuplicateRow paper.Trips number)
       (provided (nat_lt (length before.names) MOST_SLOTS) (fault.TooManyTrips number)
-      (Ok (record { names = before.names ++ name ∷ []; classes = before.classes ++ class ∷ [] })))
+      (Ok (selected_with before name class)))
 
 -- the selected trips with that of a record, if it has a name that is chosen; of any other record nothing more is examined
 abbrev pub with_chosen : ℕ → Selected → Option Name → Result Selected FeedFault

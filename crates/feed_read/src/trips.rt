@@ -1,11 +1,14 @@
-ghost use Rattle.std.specs.Prelude.{◌≡◌, false, option_map};
+ghost use Rattle.std.specs.Prelude.{◌≡◌, ◌<◌, false, length, OnOk, option_map};
+ghost use Rattle.gtfs_tables.specs.Entries.{Name};
 ghost use Rattle.gtfs_tables.specs.Papers.{IsWithinLimit};
 ghost use Rattle.gtfs_tables.specs.Reading.{Gives};
+ghost use Rattle.trip_model.specs.declared.limits.TheConstants.{MOST_SLOTS};
 ghost use Rattle.trip_model.specs.Place.{has_slash};
+ghost use Rattle.desk_settings.specs.Names.{is_among};
 ghost use Rattle.feed_read.specs.Trips as spec;
 
 use crate::selection::Selection;
-use desk_io::{Found, Text};
+use desk_io::{Found, Memory, Text};
 use desk_settings::{Names, Settings};
 use gtfs_tables::{
     Column, FeedFault, Paper, RecordReader, Row, column_in, filled_in, read_records, text_in,
@@ -38,24 +41,43 @@ impl Selection {
         }
     }
 
-    // Adds the trip of a selected record.
+    // Refuses a selected record without a name, or of a name that was selected before, or that comes after the most.
     #[tactic(auto, unfolding(crate::specs::Trips::with_selected))]
-    fn add(&mut self, number: u32, name: &str, class: &str) -> Result<(), FeedFault>
-        requires { has_slash class.now ≡ false }
-        ensures { Gives (λ _. spec.seen self.new) result (spec.with_selected number (spec.seen self.old) name.now class.now) }
+    fn judge(&self, number: u32, name: &str) -> Result<(), FeedFault>
+        ensures gives { (class : Name) → Gives (λ _. spec.selected_with (spec.seen self.now) name.now class) result
+            (spec.with_selected number (spec.seen self.now) name.now class) }
+        ensures new { OnOk result (is_among name.now self.now.names ≡ false) }
+        ensures room { OnOk result (length self.now.names < MOST_SLOTS) }
     {
-        let name = filled_in(Paper::Trips, number, Column::TripId, name)?;
+        filled_in(Paper::Trips, number, Column::TripId, name)?;
         if self.names.has(name) {
             return Err(FeedFault::DuplicateRow(Paper::Trips, number));
         }
         if self.names.len() >= usize::from(MOST_SLOTS) {
             return Err(FeedFault::TooManyTrips(number));
         }
-        // The class comes first, so that each name has one even if there is no memory for the name.
+        Ok(())
+    }
+
+    // Appends a trip with its class. The class comes first, so that each name has one even if there is no memory for the name.
+    fn push(&mut self, name: &str, class: &str) -> Result<(), Memory>
+        requires new { is_among name.now self.old.names ≡ false }
+        requires room { length self.old.names < MOST_SLOTS }
+        requires class { has_slash class.now ≡ false }
+        ensures { OnOk result (spec.seen self.new ≡ spec.selected_with (spec.seen self.old) name.now class.now) }
+    {
         let alloc = *self.classes.allocator();
         self.classes.push(Text::of(alloc, class)?)?;
-        self.names.add(name)?;
-        Ok(())
+        self.names.add(name)
+    }
+
+    // Adds the trip of a selected record.
+    fn add(&mut self, number: u32, name: &str, class: &str) -> Result<(), FeedFault>
+        requires { has_slash class.now ≡ false }
+        ensures { Gives (λ _. spec.seen self.new) result (spec.with_selected number (spec.seen self.old) name.now class.now) }
+    {
+        self.judge(number, name)?;
+        Ok(self.push(name, class)?)
     }
 }
 
