@@ -5,7 +5,7 @@ use Rattle.std.specs.Prelude.{Result, Ok, Err, int_le, nat_lt, not, ◌+ℤ◌, 
 use Rattle.std.specs.Str.{bytes_eq}
 use Rattle.std.proofs.Math.ListN.{length-set}
 use Rattle.std.proofs.lemmas.Bool.{ne_eqb}
-use Rattle.std.proofs.lemmas.List.{length-append, map-set, set-set}
+use Rattle.std.proofs.lemmas.List.{length-append, length-map, map-set, set-set}
 use Rattle.deadhead_matrix.specs.Matrix.{MatrixView}
 use Rattle.assignment_model.specs.Paths.{IsAdded, IsTaken, with_slot}
 use Rattle.assignment_model.specs.Prices.{Plan, IsCertified}
@@ -18,7 +18,7 @@ use Rattle.edit_script.specs.declared.edit.Edit.{Edit}
 use Rattle.edit_script.specs.declared.edit.Edit.TheVariants.{Shift, Cancel, Restore, Extra, Undo, Redo, Show}
 use Rattle.edit_script.specs.declared.fault.EditFault.{EditFault}
 use Rattle.edit_script.specs.declared.fault.EditFault.TheVariants as fault
-use Rattle.pair_graph.specs.Pairs.{pairs_of, pairs_network}
+use Rattle.pair_graph.specs.Pairs.{PairsView, pairs_of, pairs_network}
 use Rattle.plan_history.specs.History.{HistoryView, IsReplaced}
 use Rattle.price_repair.specs.Without.{IsCertifiedWith, IsCertifiedWithout}
 use Rattle.price_repair.proofs.EditLemmas.{IsCertifiedWith-left_out, IsCertifiedWith-cancelled, IsCertifiedWithout-replaced}
@@ -97,6 +97,24 @@ pub plans-some : (m : MatrixView) (ts : List TimetableView) (ps : List Plan) (t 
 plans-some m [] ps t are last none = cc
 plans-some m (u ∷ ts) [] t are last none = are
 plans-some m (u ∷ ts) (p ∷ ps) t are last none = cc
+
+-- no plans are beside no timetables
+pub plans-none : (m : MatrixView) (ts : List TimetableView) (ps : List Plan) → ts ≡ [] → ps ≡ [] → ArePlansFor m ts ps
+plans-none m ts ps none free =
+    subst (λ us. ArePlansFor m us ps) (sym none) (subst (λ rs. ArePlansFor m [] rs) (sym free) tt)
+
+-- the pairs of a timetable have a move for each slot
+pub moves-slots : (t : TimetableView) (m : MatrixView) (pairs : PairsView) → pairs ≡ pairs_of t m None
+    → length pairs.moves ≡ length t.slots
+moves-slots t m pairs is = ap (λ (p : PairsView). length p.moves) is ∙ length-map t.slots move_of_slot
+
+-- a plan that is certified for the pairs of a timetable is one for it
+pub IsPlanFor-pairs : (t : TimetableView) (m : MatrixView) (pairs : PairsView) (plan : Plan) → pairs ≡ pairs_of t m None
+    → length plan.next ≡ length pairs.moves → IsCertified (pairs_network pairs) plan → IsPlanFor t m plan
+IsPlanFor-pairs t m pairs plan is slots certified = record {
+  slots = slots ∙ moves-slots t m pairs is;
+  certified = subst (λ (p : PairsView). IsCertified (pairs_network p) plan) is certified;
+}
 
 -- an edit of a trip that is accepted
 edited-ok : (s next : ScriptView) (number : ℕ) (t : TimetableView) → if_edited s number (Ok t) ≡ Ok next → next ≡ with_edit s number t
