@@ -1,13 +1,17 @@
 -- The places that a timetable gains of the records that were read so far.
-use Rattle.std.proofs.Common.{◌≡◌, inl, inr, ℕ, Bool, List, [], ◌∷◌, ◌++◌, Result, Ok, Err, refl, sym, ap, subst, ◌∙◌, append_assoc, arith}
+use Rattle.std.proofs.Common.{◌≡◌, inl, inr, ℕ, Bool, true, false, List, [], ◌∷◌, ◌++◌, Result, Ok, Err, refl, sym, ap, subst, ◌∙◌}
+use Rattle.std.proofs.Common.{append_assoc, arith}
 use Rattle.std.specs.Prelude.{Contains}
+use Rattle.std.specs.Str.{is_utf8}
 use Rattle.std.proofs.lemmas.List.{append-nil}
 use Rattle.std.proofs.lemmas.List.Elements.{All-append, All-nil, All-push, Contains-append_right, Contains-get_or}
 use Rattle.desk_io.specs.declared.shelf.Found.{Found}
 use Rattle.gtfs_tables.specs.declared.fault.FeedFault.{FeedFault}
+use Rattle.gtfs_tables.specs.declared.fault.FeedFault.TheVariants as fault
+use Rattle.gtfs_tables.specs.declared.paper.Column.{Column}
 use Rattle.gtfs_tables.specs.declared.paper.Paper.TheVariants as paper
 use Rattle.gtfs_tables.specs.Fold.{AreChanged, IsTableChanged}
-use Rattle.gtfs_tables.specs.Reading.{◌>>=◌, field_at, judged, nothing, table_in}
+use Rattle.gtfs_tables.specs.Reading.{◌>>=◌, field_at, judged, nothing, provided, table_in, text_in}
 use Rattle.gtfs_tables.specs.Table.{TableView}
 use Rattle.trip_model.specs.Place.{Place}
 use Rattle.trip_model.specs.Timetable.{TimetableView}
@@ -58,6 +62,14 @@ class-gained classed classes terminal class t between after is among first secon
       among = among;
       is = same ∙ ap (λ b. place_for b terminal class) (gained-classed _ t between first ∙ is);
     }) second)
+
+-- the text that is read of a field is the field
+pub text-field : (number : ℕ) (column : Column) (bytes text : List ℕ) → text_in paper.Deadheads number column bytes ≡ Ok text → text ≡ bytes
+text-field number column bytes text e = by (is_utf8 bytes) e
+  where
+    by : (holds : Bool) → provided holds (fault.NotUtf8 paper.Deadheads number column) (Ok bytes) ≡ Ok text → text ≡ bytes
+    by true e = cc
+    by false e = cc
 
 -- a record has gained places of its first terminal, and then of its second
 pub record-gained : (classes : List Class) (columns : Columns) (fields : List (List ℕ)) (from to : List ℕ) (t between after : TimetableView)

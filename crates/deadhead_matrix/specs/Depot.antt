@@ -2,6 +2,7 @@
 use Rattle.std.specs.Prelude.{ℕ, List, [], map, Result, Ok, unwrap_or}
 use Rattle.desk_io.specs.declared.shelf.Found.{Found}
 use Rattle.gtfs_tables.specs.declared.fault.FeedFault.{FeedFault}
+use Rattle.gtfs_tables.specs.declared.paper.Column.{Column}
 use Rattle.gtfs_tables.specs.declared.paper.Column.TheVariants as column
 use Rattle.gtfs_tables.specs.declared.paper.Paper.TheVariants as paper
 use Rattle.gtfs_tables.specs.Entries.{Name, Entries, value_of, with_record}
@@ -22,7 +23,11 @@ columns_in header = do
   pull_in ← column_in paper.Depot column.PullIn header
   Ok (record { terminal = terminal; pull_out = pull_out; pull_in = pull_in })
 
--- the terminal of one record and its pulls, each a number of at most four digits up to 1,440
+-- the value of a field that has to be a number of at most four digits up to 1,440
+abbrev pub minutes_in : ℕ → Column → List ℕ → Result ℕ FeedFault
+minutes_in number column text = number_in paper.Depot number column 4 MOST_DEADHEAD text
+
+-- the terminal of one record and its pulls
 unfoldable pub depot_row_in : Columns → ℕ → List (List ℕ) → Result (Name × Pull) FeedFault
 depot_row_in columns number fields = do
   terminal ← text_in paper.Depot number column.Terminal (field_at fields columns.terminal)
@@ -31,8 +36,8 @@ depot_row_in columns number fields = do
   _ ← filled_in paper.Depot number column.Terminal terminal
   _ ← filled_in paper.Depot number column.PullOut out_text
   _ ← filled_in paper.Depot number column.PullIn in_text
-  pull_out ← number_in paper.Depot number column.PullOut 4 MOST_DEADHEAD out_text
-  pull_in ← number_in paper.Depot number column.PullIn 4 MOST_DEADHEAD in_text
+  pull_out ← minutes_in number column.PullOut out_text
+  pull_in ← minutes_in number column.PullIn in_text
   Ok (terminal, record { pull_out = pull_out; pull_in = pull_in })
 
 -- the rows with that of one record

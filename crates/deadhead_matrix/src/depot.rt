@@ -1,7 +1,8 @@
-ghost use Rattle.std.specs.Prelude.{◌≡◌, IfOk, IfSome};
+ghost use Rattle.std.specs.Prelude.{◌≡◌, ◌≤◌, IfOk, IfSome};
 ghost use Rattle.gtfs_tables.specs.Entries.{value_of, with_record};
 ghost use Rattle.gtfs_tables.specs.Papers.{IsWithinLimit};
 ghost use Rattle.gtfs_tables.specs.Reading.{Gives};
+ghost use Rattle.assignment_model.specs.declared.limits.TheConstants.{MOST_DEADHEAD};
 ghost use Rattle.deadhead_matrix.specs.Depot as spec;
 ghost use Rattle.deadhead_matrix.specs.Pulls.{IsPull};
 
@@ -23,6 +24,15 @@ pub(crate) struct Columns {
     pull_in: usize,
 }
 
+// The minutes of a pull, at most 1,440.
+fn minutes_in(number: u32, column: Column, text: &str) -> Result<u16, FeedFault>
+    ensures gives { Gives (λ minutes. minutes) result (spec.minutes_in number column text.now) }
+    ensures short { IfOk result (λ minutes. minutes ≤ MOST_DEADHEAD) }
+{
+    let most = u64::from(MOST_DEADHEAD);
+    Ok(number_in(Paper::Depot, number, column, 4, most, text)? as u16)
+}
+
 // The terminal of a record and its pulls.
 #[tactic(auto, unfolding(crate::specs::Depot::depot_row_in))]
 fn depot_row_in<'a>(
@@ -34,15 +44,14 @@ fn depot_row_in<'a>(
     ensures valid { IfOk result (λ row. IsPull row.1) }
 {
     let paper = Paper::Depot;
-    let most = u64::from(MOST_DEADHEAD);
     let terminal = text_in(paper, number, Column::Terminal, row.field(columns.terminal))?;
     let pull_out = text_in(paper, number, Column::PullOut, row.field(columns.pull_out))?;
     let pull_in = text_in(paper, number, Column::PullIn, row.field(columns.pull_in))?;
     filled_in(paper, number, Column::Terminal, terminal)?;
     filled_in(paper, number, Column::PullOut, pull_out)?;
     filled_in(paper, number, Column::PullIn, pull_in)?;
-    let pull_out = number_in(paper, number, Column::PullOut, 4, most, pull_out)? as u16;
-    let pull_in = number_in(paper, number, Column::PullIn, 4, most, pull_in)? as u16;
+    let pull_out = minutes_in(number, Column::PullOut, pull_out)?;
+    let pull_in = minutes_in(number, Column::PullIn, pull_in)?;
     Ok((terminal, Pull { pull_out, pull_in }))
 }
 

@@ -1,4 +1,4 @@
-ghost use Rattle.std.specs.Prelude.{◌≡◌, ◌≢◌, ◌≤◌, false, [], length, All, Err, IfOk};
+ghost use Rattle.std.specs.Prelude.{◌≡◌, ◌≢◌, ◌≤◌, false, [], length, All, Err, IfOk, OnErr};
 ghost use Rattle.gtfs_tables.specs.Papers.{IsWithinLimit};
 ghost use Rattle.gtfs_tables.specs.Reading.{field_at, Gives};
 ghost use Rattle.trip_model.specs.Place.{has_slash};
@@ -12,7 +12,7 @@ use crate::deadheads::Deadheads;
 use crate::posts::{classes_of, places_of};
 use crate::unplaced::Unplaced;
 use assignment_model::MOST_DEADHEAD;
-use desk_io::{Found, Text};
+use desk_io::{Found, Memory, Text};
 use gtfs_tables::{
     Column, FeedFault, Paper, Row, TracedReader, column_in, filled_in, judge_table, number_in,
     read_traced, text_in,
@@ -80,6 +80,37 @@ struct Reading {
     deadheads: Deadheads,
     unplaced: Unplaced,
     ghost named: { All (λ class. has_slash class ≡ false) classes.items },
+}
+
+impl Reading {
+    // Takes the timetable out of its place, and no records in.
+    fn begin(alloc: Global, timetable: &mut Timetable) -> Result<Reading, Memory>
+        ensures timetable { IfOk result (λ reading. reading.timetable ≡ timetable.old) }
+        ensures classes { IfOk result (λ reading. reading.classes.items ≡ classes_of timetable.old) }
+        ensures begun { IfOk result (λ reading. reading.deadheads ≡ []) }
+        ensures placed { IfOk result (λ reading. reading.unplaced ≡ []) }
+        ensures err { OnErr result (timetable.new ≡ timetable.old) }
+    {
+        let deadheads = Deadheads::none(alloc)?;
+        let classes = classes_of(alloc, timetable)?;
+        let none = Timetable::open(alloc, 0, 0);
+        Ok(Reading {
+            alloc,
+            classes,
+            timetable: mem::replace(timetable, none),
+            deadheads,
+            unplaced: Unplaced::none(alloc),
+        })
+    }
+
+    // Puts the timetable in its place, and answers the entries.
+    fn end(self, timetable: &mut Timetable) -> Deadheads
+        ensures timetable { timetable.new ≡ self.timetable }
+        ensures entries { result ≡ self.deadheads }
+    {
+        *timetable = self.timetable;
+        self.deadheads
+    }
 }
 
 impl TracedReader for Reading {
@@ -159,18 +190,9 @@ pub(crate) fn read_deadheads(
     ensures left { result ≢ Err FeedFault.Memory → timetable.new ≡ left.timetable_left found.now timetable.old }
     ensures gained { HasGained (IsNamed found.now timetable.old) timetable.old timetable.new }
 {
-    let deadheads = Deadheads::none(alloc)?;
-    let classes = classes_of(alloc, timetable)?;
-    let none = Timetable::open(alloc, 0, 0);
-    let mut reading = Reading {
-        alloc,
-        classes,
-        timetable: mem::replace(timetable, none),
-        deadheads,
-        unplaced: Unplaced::none(alloc),
-    };
+    let mut reading = Reading::begin(alloc, timetable)?;
     let read = read_all(alloc, found, &mut reading);
-    *timetable = reading.timetable;
+    let deadheads = reading.end(timetable);
     read?;
-    Ok(reading.deadheads)
+    Ok(deadheads)
 }
