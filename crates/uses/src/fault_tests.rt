@@ -125,20 +125,28 @@ fn counted<L: Ledger>(
 // A status, how many bytes of two files, how many lines of a journal, and how many bytes of a text.
 type Stood = (u8, usize, usize, usize, usize);
 
-// What a run leaves: its status, its two files, the journal, and the text that was put.
-fn stands(alloc: Global, run: Run, faults: Faults) -> Result<Stood, Memory> {
-    let words = vec![in alloc; Text::of(alloc, run.command)?, Text::of(alloc, "feed")?]?;
-    let mut shelf = MemoryShelf::open(
-        alloc,
-        vec![in alloc; faults.read]?,
-        vec![in alloc; faults.write]?,
-    );
+// A shelf with the feed, of which one read and one write fail.
+fn shelf_of(alloc: Global, faults: Faults) -> Result<MemoryShelf, Memory> {
+    let reads = vec![in alloc; faults.read]?;
+    let mut shelf = MemoryShelf::open(alloc, reads, vec![in alloc; faults.write]?);
     for (name, text) in FEED {
         shelf.lay(alloc, name, text.as_bytes())?;
     }
+    Ok(shelf)
+}
+
+// A sink of which one put fails.
+fn sink_of(alloc: Global, faults: Faults) -> Result<MemorySink, Memory> {
+    let puts = vec![in alloc; faults.put]?;
+    MemorySink::open(alloc, faults.chunk.max(1), puts, faults.room)
+}
+
+// What a run leaves: its status, its two files, the journal, and the text that was put.
+fn stands(alloc: Global, run: Run, faults: Faults) -> Result<Stood, Memory> {
+    let words = vec![in alloc; Text::of(alloc, run.command)?, Text::of(alloc, "feed")?]?;
+    let mut shelf = shelf_of(alloc, faults)?;
     let mut keeper = MemoryKeeper::open(alloc, vec![in alloc; faults.call]?);
-    let chunk = faults.chunk.max(1);
-    let mut out = MemorySink::open(alloc, chunk, vec![in alloc; faults.put]?, faults.room)?;
+    let mut out = sink_of(alloc, faults)?;
     let blank = Blank::new(1);
     let status = counted::<Brand>(alloc, &words, &mut shelf, &mut out, &mut keeper, blank);
     Ok((
@@ -159,32 +167,35 @@ fn each_file_that_cannot_be_read_ends_a_run(rt: HostRuntime) -> Result<(), Fail>
     Ok(())
 }
 
+// A run, and the write, the call of the keeper and the put of it that fail. Then what one put takes and what all, and what is left.
+type Row = (Run, (u32, u32, u32), (usize, usize), Stood);
+
+// A file whose write fails has its first half.
+const ROWS: &[Row] = &[
+    (BLOCKS, (0, 0, 0), (16, 200), (1, 43, 41, 0, 124)),
+    (BLOCKS, (1, 0, 0), (16, 200), (6, 21, 0, 0, 0)),
+    (BLOCKS, (2, 0, 0), (16, 200), (6, 43, 20, 0, 0)),
+    (BLOCKS, (0, 0, 1), (16, 200), (6, 43, 41, 0, 0)),
+    (BLOCKS, (0, 0, 2), (16, 200), (6, 43, 41, 0, 16)),
+    (BLOCKS, (0, 0, 3), (16, 200), (6, 43, 41, 0, 32)),
+    (BLOCKS, (0, 0, 4), (16, 200), (6, 43, 41, 0, 48)),
+    (BLOCKS, (0, 0, 5), (16, 200), (6, 43, 41, 0, 64)),
+    (BLOCKS, (0, 0, 6), (16, 200), (6, 43, 41, 0, 80)),
+    (BLOCKS, (0, 0, 7), (16, 200), (6, 43, 41, 0, 96)),
+    (BLOCKS, (0, 0, 8), (16, 200), (6, 43, 41, 0, 112)),
+    (BLOCKS, (0, 0, 0), (16, 50), (6, 43, 41, 0, 50)),
+    (WRITE, (0, 0, 0), (16, 200), (1, 57, 158, 0, 92)),
+    (WRITE, (2, 0, 0), (16, 200), (6, 57, 79, 0, 0)),
+    (KEEP, (0, 0, 0), (16, 200), (1, 0, 0, 1, 92)),
+    (KEEP, (0, 1, 0), (16, 200), (7, 0, 0, 0, 0)),
+    (KEEP, (0, 2, 0), (16, 200), (7, 0, 0, 0, 0)),
+    (KEEP, (0, 0, 1), (16, 200), (6, 0, 0, 1, 0)),
+    (DEFICITS, (0, 0, 3), (8, 200), (6, 0, 0, 0, 16)),
+];
+
 #[test]
 fn what_stands_up_to_the_call_that_fails(rt: HostRuntime) -> Result<(), Fail> {
-    // The write, the call of the keeper and the put that fail; what one put takes and what all; and what is left. A file whose
-    // write fails has its first half.
-    let rows: [(Run, (u32, u32, u32), (usize, usize), Stood); 19] = [
-        (BLOCKS, (0, 0, 0), (16, 200), (1, 43, 41, 0, 124)),
-        (BLOCKS, (1, 0, 0), (16, 200), (6, 21, 0, 0, 0)),
-        (BLOCKS, (2, 0, 0), (16, 200), (6, 43, 20, 0, 0)),
-        (BLOCKS, (0, 0, 1), (16, 200), (6, 43, 41, 0, 0)),
-        (BLOCKS, (0, 0, 2), (16, 200), (6, 43, 41, 0, 16)),
-        (BLOCKS, (0, 0, 3), (16, 200), (6, 43, 41, 0, 32)),
-        (BLOCKS, (0, 0, 4), (16, 200), (6, 43, 41, 0, 48)),
-        (BLOCKS, (0, 0, 5), (16, 200), (6, 43, 41, 0, 64)),
-        (BLOCKS, (0, 0, 6), (16, 200), (6, 43, 41, 0, 80)),
-        (BLOCKS, (0, 0, 7), (16, 200), (6, 43, 41, 0, 96)),
-        (BLOCKS, (0, 0, 8), (16, 200), (6, 43, 41, 0, 112)),
-        (BLOCKS, (0, 0, 0), (16, 50), (6, 43, 41, 0, 50)),
-        (WRITE, (0, 0, 0), (16, 200), (1, 57, 158, 0, 92)),
-        (WRITE, (2, 0, 0), (16, 200), (6, 57, 79, 0, 0)),
-        (KEEP, (0, 0, 0), (16, 200), (1, 0, 0, 1, 92)),
-        (KEEP, (0, 1, 0), (16, 200), (7, 0, 0, 0, 0)),
-        (KEEP, (0, 2, 0), (16, 200), (7, 0, 0, 0, 0)),
-        (KEEP, (0, 0, 1), (16, 200), (6, 0, 0, 1, 0)),
-        (DEFICITS, (0, 0, 3), (8, 200), (6, 0, 0, 0, 16)),
-    ];
-    for (run, (write, call, put), (chunk, room), stood) in rows {
+    for (run, (write, call, put), (chunk, room), stood) in ROWS.iter().copied() {
         let faults = Faults {
             read: 0,
             write,
