@@ -125,7 +125,7 @@ fn counted<L: Ledger>(
 // A status, how many bytes of two files, how many lines of a journal, and how many bytes of a text.
 type Stood = (u8, usize, usize, usize, usize);
 
-// A shelf with the feed, of which one read and one write fail.
+// A shelf with the feed, whose read and write of these faults fail.
 fn shelf_of(alloc: Global, faults: Faults) -> Result<MemoryShelf, Memory> {
     let reads = vec![in alloc; faults.read]?;
     let mut shelf = MemoryShelf::open(alloc, reads, vec![in alloc; faults.write]?);
@@ -135,7 +135,7 @@ fn shelf_of(alloc: Global, faults: Faults) -> Result<MemoryShelf, Memory> {
     Ok(shelf)
 }
 
-// A sink of which one put fails.
+// A sink that takes what these faults say, and whose put of them fails.
 fn sink_of(alloc: Global, faults: Faults) -> Result<MemorySink, Memory> {
     let puts = vec![in alloc; faults.put]?;
     MemorySink::open(alloc, faults.chunk.max(1), puts, faults.room)
@@ -167,43 +167,43 @@ fn each_file_that_cannot_be_read_ends_a_run(rt: HostRuntime) -> Result<(), Fail>
     Ok(())
 }
 
-// A run, and the write, the call of the keeper and the put of it that fail. Then what one put takes and what all, and what is left.
-type Row = (Run, (u32, u32, u32), (usize, usize), Stood);
+// A run, what of it fails, and what is left.
+type Row = (Run, Faults, Stood);
 
 // A file whose write fails has its first half.
 const ROWS: &[Row] = &[
-    (BLOCKS, (0, 0, 0), (16, 200), (1, 43, 41, 0, 124)),
-    (BLOCKS, (1, 0, 0), (16, 200), (6, 21, 0, 0, 0)),
-    (BLOCKS, (2, 0, 0), (16, 200), (6, 43, 20, 0, 0)),
-    (BLOCKS, (0, 0, 1), (16, 200), (6, 43, 41, 0, 0)),
-    (BLOCKS, (0, 0, 2), (16, 200), (6, 43, 41, 0, 16)),
-    (BLOCKS, (0, 0, 3), (16, 200), (6, 43, 41, 0, 32)),
-    (BLOCKS, (0, 0, 4), (16, 200), (6, 43, 41, 0, 48)),
-    (BLOCKS, (0, 0, 5), (16, 200), (6, 43, 41, 0, 64)),
-    (BLOCKS, (0, 0, 6), (16, 200), (6, 43, 41, 0, 80)),
-    (BLOCKS, (0, 0, 7), (16, 200), (6, 43, 41, 0, 96)),
-    (BLOCKS, (0, 0, 8), (16, 200), (6, 43, 41, 0, 112)),
-    (BLOCKS, (0, 0, 0), (16, 50), (6, 43, 41, 0, 50)),
-    (WRITE, (0, 0, 0), (16, 200), (1, 57, 158, 0, 92)),
-    (WRITE, (2, 0, 0), (16, 200), (6, 57, 79, 0, 0)),
-    (KEEP, (0, 0, 0), (16, 200), (1, 0, 0, 1, 92)),
-    (KEEP, (0, 1, 0), (16, 200), (7, 0, 0, 0, 0)),
-    (KEEP, (0, 2, 0), (16, 200), (7, 0, 0, 0, 0)),
-    (KEEP, (0, 0, 1), (16, 200), (6, 0, 0, 1, 0)),
-    (DEFICITS, (0, 0, 3), (8, 200), (6, 0, 0, 0, 16)),
+    (BLOCKS, NONE, (1, 43, 41, 0, 124)),
+    (BLOCKS, Faults { write: 1, ..NONE }, (6, 21, 0, 0, 0)),
+    (BLOCKS, Faults { write: 2, ..NONE }, (6, 43, 20, 0, 0)),
+    (BLOCKS, Faults { put: 1, ..NONE }, (6, 43, 41, 0, 0)),
+    (BLOCKS, Faults { put: 2, ..NONE }, (6, 43, 41, 0, 16)),
+    (BLOCKS, Faults { put: 3, ..NONE }, (6, 43, 41, 0, 32)),
+    (BLOCKS, Faults { put: 4, ..NONE }, (6, 43, 41, 0, 48)),
+    (BLOCKS, Faults { put: 5, ..NONE }, (6, 43, 41, 0, 64)),
+    (BLOCKS, Faults { put: 6, ..NONE }, (6, 43, 41, 0, 80)),
+    (BLOCKS, Faults { put: 7, ..NONE }, (6, 43, 41, 0, 96)),
+    (BLOCKS, Faults { put: 8, ..NONE }, (6, 43, 41, 0, 112)),
+    (BLOCKS, Faults { room: 50, ..NONE }, (6, 43, 41, 0, 50)),
+    (WRITE, NONE, (1, 57, 158, 0, 92)),
+    (WRITE, Faults { write: 2, ..NONE }, (6, 57, 79, 0, 0)),
+    (KEEP, NONE, (1, 0, 0, 1, 92)),
+    (KEEP, Faults { call: 1, ..NONE }, (7, 0, 0, 0, 0)),
+    (KEEP, Faults { call: 2, ..NONE }, (7, 0, 0, 0, 0)),
+    (KEEP, Faults { put: 1, ..NONE }, (6, 0, 0, 1, 0)),
+    (
+        DEFICITS,
+        Faults {
+            put: 3,
+            chunk: 8,
+            ..NONE
+        },
+        (6, 0, 0, 0, 16),
+    ),
 ];
 
 #[test]
 fn what_stands_up_to_the_call_that_fails(rt: HostRuntime) -> Result<(), Fail> {
-    for (run, (write, call, put), (chunk, room), stood) in ROWS.iter().copied() {
-        let faults = Faults {
-            read: 0,
-            write,
-            call,
-            put,
-            chunk,
-            room,
-        };
+    for (run, faults, stood) in ROWS.iter().copied() {
         assert_eq!(rt; stands(rt.alloc(), run, faults)?, stood);
     }
     Ok(())
