@@ -34,6 +34,7 @@ abbrev pub IsPassedOn : (had had_by given : ℕ → Option ℕ) → ℕ → List
 IsPassedOn had had_by given s [] = IfSome (given s) (λ t. had_by t ≡ None)
 IsPassedOn had had_by given s (r ∷ path) = (given s ≡ had r) × IsSome (had r) × IsPassedOn had had_by given r path
 
+-- word: search; path = shortest augmenting path
 -- there is a path of distinct slots from a on along which this is passed on, and every other slot has what it had
 pub record IsPath (had had_by given : ℕ → Option ℕ) (a : ℕ) : Type 0 where
   pub path : List ℕ

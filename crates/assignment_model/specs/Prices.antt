@@ -8,11 +8,15 @@ use Rattle.assignment_model.specs.declared.limits.TheConstants.{MOST_DEADHEAD, V
 use Rattle.trip_model.specs.Links.{next_of, AreLinks}
 use Rattle.trip_model.specs.Network.{Network}
 
+-- rule: the weight of a pair of trips
+-- word: weight = saving of a connection
 -- what it saves to make j next after i: a vehicle, and the empty minutes home after i and out to j, less those of the walk.
 -- None where they do not fit
 abbrev pub weight : Network → ℕ → ℕ → Option ℕ
 weight network i j = option_map (λ minutes. VEHICLE_WEIGHT + network.home i + network.out j - minutes) (network.empty i j)
 
+-- word: plan = assignment with dual prices
+-- word: leave, enter = dual prices u, v
 -- for each slot the trip that its vehicle makes next, and two prices: one for leaving it, and one for entering it
 pub record Plan : Type 0 where
   pub next : List (Option ℕ)
@@ -32,6 +36,8 @@ weight_to network i (Some j) = unwrap_or (weight network i j) 0
 abbrev pub link_weights : Network → List (Option ℕ) → ℕ
 link_weights network links = sum_by (λ i. weight_to network i (next_of links i)) (range_with_len 0 (length links))
 
+-- rule: when prices prove a plan
+-- word: certified = optimal by complementary slackness
 -- A plan whose prices prove it. Links fit, and no trip is the next of two. A slot that is not live has no next trip and no
 -- price. On each pair that fits the two prices reach its weight. All prices together are the weights of the links.
 pub record IsCertified (network : Network) (plan : Plan) : Type 0 where

@@ -3,6 +3,7 @@ use Rattle.std.specs.Prelude.{ℕ, ◌-◌, nat_lt, if◌then◌else◌}
 use Rattle.block_audit.specs.declared.cost.Above.{Above}
 use Rattle.block_audit.specs.declared.cost.Above.TheVariants.{Nothing, Vehicles, Minutes}
 
+-- rule: how stated blocks compare with least ones
 -- by how many vehicles blocks are above the least, or, where they have as few, by how many empty minutes
 abbrev pub above_by : ℕ → ℕ → ℕ → ℕ → Above
 above_by vehicles minutes least_vehicles least_minutes =

@@ -42,6 +42,8 @@ misfits_from timetable matrix number [] = []
 misfits_from timetable matrix number (block ∷ blocks) = block_misfits timetable matrix number block.slots
     ++ misfits_from timetable matrix (number + 1) blocks
 
+-- rule: which stated trips do not fit
+-- word: misfit = infeasible connection of an existing block
 -- all misfits
 abbrev pub misfits_in : TimetableView → MatrixView → List NamedBlock → List Misfit
 misfits_in timetable matrix stated = misfits_from timetable matrix 0 stated

@@ -64,6 +64,7 @@ block_from names order s = record {
 abbrev pub blocks_by : List (List ℕ) → List ℕ → List NamedBlock
 blocks_by names order = map (block_from names order) (filter (begins names order) order)
 
+-- rule: which blocks a feed states
 -- The stated blocks. The trips that run and have one name are one block, in order of departure and then of slot. Every other
 -- trip that runs is a block of its own with the empty name. They are in the order of their first trips.
 abbrev pub stated_in : TableView → TimetableView → List Bool → List NamedBlock

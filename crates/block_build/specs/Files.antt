@@ -38,6 +38,7 @@ block_records timetable matrix prefix blocks =
     flat_map (λ number. records_of_block timetable matrix prefix number (slice_index_or blocks number []))
     (range_with_len 0 (length blocks))
 
+-- rule: the text of `blocks.csv`
 -- the text of `blocks.csv`
 unfoldable pub blocks_text : TimetableView → MatrixView → List ℕ → List (List ℕ) → List ℕ
 blocks_text timetable matrix prefix blocks = records_text (block_header ∷ block_records timetable matrix prefix blocks)
@@ -53,6 +54,7 @@ price_record timetable leave enter s =
 unfoldable pub price_records : TimetableView → List ℕ → List ℕ → List (List (List ℕ))
 price_records timetable leave enter = flat_map (price_record timetable leave enter) (range_with_len 0 (length timetable.slots))
 
+-- rule: the text of `prices.csv`
 -- the text of `prices.csv`
 unfoldable pub prices_text : TimetableView → List ℕ → List ℕ → List ℕ
 prices_text timetable leave enter = records_text (price_header ∷ price_records timetable leave enter)

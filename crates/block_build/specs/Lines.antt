@@ -9,6 +9,7 @@ use Rattle.deadhead_matrix.specs.Matrix.{MatrixView, walk}
 use Rattle.deadhead_matrix.specs.Pulls.{pull_at}
 use Rattle.trip_model.specs.Timetable.{TimetableView, Slot, slot_at}
 
+-- rule: the name of a block
 -- the name of the block of that number, counted from 1: the prefix and the number
 abbrev pub name_numbered : List ℕ → ℕ → List ℕ
 name_numbered prefix number = prefix ++ decimal number
@@ -64,6 +65,7 @@ block_line timetable matrix prefix number block =
     ++ trips_text timetable (walk matrix) block
     ++ pull_in_text (pull_in timetable matrix.pulls block) ++ 10 ∷ []
 
+-- rule: the lines of blocks
 -- the lines of blocks, in their order
 unfoldable pub block_text : TimetableView → MatrixView → List ℕ → List (List ℕ) → List ℕ
 block_text timetable matrix prefix blocks =

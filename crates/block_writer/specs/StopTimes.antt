@@ -55,6 +55,7 @@ abbrev pub stop_time_written : TimetableView → ℕ → ℕ → ℕ → ℕ →
 stop_time_written timetable base trip arrival departure row =
     moved_by (offset_of timetable base (slot_in timetable trip row)) arrival departure row
 
+-- rule: the stop times that are written
 -- the table with the times of shifted trips moved
 unfoldable pub with_times : TableView → TimetableView → ℕ → TableView
 with_times table timetable base = record {

@@ -55,6 +55,7 @@ trips_rows table timetable chosen blocks prefix =
     (slice_index_or chosen r false) (slice_index_or table.rows r []))
     (range_with_len 0 (length table.rows))
 
+-- rule: the `block_id` that is written
 -- the table with the blocks
 unfoldable pub with_blocks : TableView → TimetableView → List Bool → List (List ℕ) → List ℕ → TableView
 with_blocks table timetable chosen blocks prefix = record {

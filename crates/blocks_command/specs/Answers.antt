@@ -20,6 +20,7 @@ numbers_text timetable matrix plan =
     numbers_line (fixed_number timetable) (length (blocks_in timetable plan)) (minutes_in timetable matrix plan)
 
 module _ (matrix : MatrixView) (prefix : List ℕ) where
+  -- rule: what a `show` prints
   -- a plan as it is shown: the lines of its blocks, one space before each, and those of its prices
   abbrev pub show_text : TimetableView → Plan → List ℕ
   show_text timetable plan = block_text timetable matrix (codes " " ++ prefix) (blocks_in timetable plan)

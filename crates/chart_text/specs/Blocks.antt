@@ -25,6 +25,7 @@ is_walking timetable walk column link =
     let ends = (slot_at timetable link.0).trip.ends in
     has_minute column ends (ends + unwrap_or (walk_between timetable walk link.0 link.1) 0)
 
+-- rule: the marks of a chart
 -- a block in a column as one character: `#` where one of its trips runs, else `~` where its vehicle runs empty along a link, else `.`
 abbrev pub block_mark : TimetableView → (ℕ → ℕ → Option ℕ) → List ℕ → ℕ → ℕ
 block_mark timetable walk block column =

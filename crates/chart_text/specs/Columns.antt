@@ -13,6 +13,7 @@ first_departure moves = reduce min (map (λ m. m.leaves) moves)
 abbrev pub last_end : List Move → ℕ
 last_end moves = fold max 0 (map (λ m. m.arrives) moves)
 
+-- rule: the columns of a chart
 -- the columns in order of number, from that of the first departure to that of the last end, and none without moves
 unfoldable pub columns_of : List Move → List ℕ
 columns_of moves = option_map_or

@@ -16,6 +16,7 @@ value_in values minute = slice_index_or values minute (pos 0)
 unfoldable pub greatest_in : (ℕ → ℤ) → ℕ → ℤ
 greatest_in d column = fold int_max (d (COLUMN_MINUTES * column)) (map d (minutes_of column))
 
+-- rule: the marks of a chart
 -- a value as one character: its digit from 0 to 9, `+` above 9 and `-` below 0
 abbrev pub mark_of : ℤ → ℕ
 mark_of (pos n) = if nat_le n 9 then 48 + n else 43

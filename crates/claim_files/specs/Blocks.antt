@@ -55,6 +55,8 @@ pub record BlocksRead : Type 0 where
 abbrev pub block_row_of : TimetableView → ℕ → Name → ℕ → BlockRow
 block_row_of timetable block trip deadhead = record { block = block; trip = trip; slot = running timetable trip; deadhead = deadhead }
 
+-- rule: too many trips
+-- rule: the order of refusals within a file
 -- the rows with that of one record, at most 4,096 in all
 unfoldable pub with_trip : TimetableView → Columns → ℕ → BlocksRead → List (List ℕ) → Result BlocksRead FeedFault
 with_trip timetable columns number before fields = do

@@ -37,6 +37,7 @@ claimed_by (Err refused) prices = Err (claim_fault_of paper.Blocks refused)
 claimed_by (Ok blocks) (Err refused) = Err (claim_fault_of paper.Prices refused)
 claimed_by (Ok blocks) (Ok prices) = Ok (record { blocks = blocks; prices = prices })
 
+-- rule: the order of refusals from file to file
 -- what is claimed, or the first fault of `blocks.csv` and then of `prices.csv`
 abbrev pub claimed_of : TimetableView → Found → Found → Result ClaimedView ClaimFault
 claimed_of timetable blocks prices = claimed_by (rows_of timetable blocks) (prices_of timetable prices)

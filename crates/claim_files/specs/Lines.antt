@@ -55,6 +55,7 @@ IsTold timetable claimed (MinutesDiffer number shown minutes) = ⊤
 IsTold timetable claimed (PriceLow i j) = (i < length timetable.slots) × (j < length timetable.slots)
 IsTold timetable claimed (SumsDiffer prices weights) = ⊤
 
+-- rule: the text of a `no`
 -- what is printed of a reason
 abbrev pub reason_text_of : TimetableView → ClaimedView → Reason → List ℕ
 reason_text_of timetable claimed (UnknownTrip paper number) =

@@ -39,6 +39,8 @@ prices_in columns number fields = do
 abbrev pub price_row_of : TimetableView → List ℕ → ℕ → ℕ → PriceRow
 price_row_of timetable trip leave enter = record { trip = trip; slot = running timetable trip; leave = leave; enter = enter }
 
+-- rule: too many trips
+-- rule: the order of refusals within a file
 -- the rows with that of one record, at most 4,096 in all
 unfoldable pub with_prices : TimetableView → Columns → ℕ → List PriceRow → List (List ℕ) → Result (List PriceRow) FeedFault
 with_prices timetable columns number before fields = do

@@ -35,6 +35,7 @@ deadhead_in columns number fields = do
   minutes ← minutes_in number minutes_text
   provided (not (bytes_eq from to)) (fault.SameTerminal number) (Ok (from, to, minutes))
 
+-- rule: too many places
 -- the place that was found, or a new one, where there are fewer than 512
 abbrev pub or_new_place : TimetableView → Place → Option ℕ → Result (TimetableView × ℕ) FeedFault
 or_new_place timetable place (Some number) = Ok (timetable, number)
@@ -56,6 +57,7 @@ with_places terminal timetable numbers (class ∷ classes) =
 abbrev pub has_entry : List Entry → ℕ → ℕ → Bool
 has_entry entries from to = list_any (λ e. (e.from == from) && (e.to == to)) entries
 
+-- word: entry = deadhead
 -- the entries with that of a record, which no earlier record may have between its two places
 abbrev pub with_entry : ℕ → List Entry → Entry → Result (List Entry) FeedFault
 with_entry number before entry =
@@ -90,6 +92,7 @@ pub record ReadingView : Type 0 where
   pub entries : List Entry
   pub unplaced : List Ends
 
+-- rule: the order of refusals within a file
 -- What the records give with one more, where vehicles are of these classes. Earlier records are sought by its two places
 -- for each class: one that is new has none. Where there are no classes, they are sought by its ends.
 unfoldable pub with_deadhead : List Class → Columns → ℕ → ReadingView → List (List ℕ) → Result ReadingView FeedFault

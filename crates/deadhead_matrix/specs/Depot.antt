@@ -40,6 +40,7 @@ depot_row_in columns number fields = do
   pull_in ← minutes_in number column.PullIn in_text
   Ok (terminal, record { pull_out = pull_out; pull_in = pull_in })
 
+-- rule: the order of refusals within a file
 -- the rows with that of one record
 abbrev pub with_row : Columns → ℕ → Entries Pull → List (List ℕ) → Result (Entries Pull) FeedFault
 with_row columns number before fields = depot_row_in columns number fields >>= with_record paper.Depot number before
@@ -48,6 +49,7 @@ with_row columns number before fields = depot_row_in columns number fields >>= w
 abbrev pub rows_of : Found → Result (Entries Pull) FeedFault
 rows_of found = optional_read paper.Depot columns_in with_row [] found
 
+-- rule: the pull-out and pull-in of a terminal
 -- the pulls of a terminal; none where it has no row
 abbrev pub pull_of : Entries Pull → Name → Pull
 pull_of rows terminal = unwrap_or (value_of terminal rows) NO_PULL

@@ -28,6 +28,7 @@ abbrev pub home_after : List Pull → Option Move → ℕ
 home_after pulls None = 0
 home_after pulls (Some m) = (pull_at pulls m.to).pull_in
 
+-- rule: which trips fit
 -- a vehicle goes on from a trip to every trip that it can reach in time along a least walk. It comes from the depot and goes
 -- back to it by the pulls
 abbrev pub deadhead_network : List (Option Move) → MatrixView → Network
@@ -38,6 +39,7 @@ deadhead_network moves matrix = record {
   home = λ s. home_after matrix.pulls (move_at moves s);
 }
 
+-- rule: the network of a timetable and a matrix
 -- the network of a timetable and a matrix: that of the trips of its slots
 abbrev pub network_of : TimetableView → MatrixView → Network
 network_of timetable matrix = deadhead_network (trip_moves timetable.slots) matrix

@@ -20,6 +20,7 @@ place_lines name d =
 unfoldable pub sum_line : ℤ → List ℕ
 sum_line sum = codes "sum " ++ signed_decimal sum ++ 10 ∷ []
 
+-- rule: the text of `deficits`
 -- the lines of the places in order of number, and then the sum
 unfoldable pub deficit_text : List (List ℕ) → (ℕ → ℕ → ℤ) → List ℕ
 deficit_text names d = flat_map (λ place. place_lines place.1 (d place.0)) (enumerate_from 0 names)

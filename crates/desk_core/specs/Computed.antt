@@ -52,6 +52,7 @@ abbrev pub plans_forth : PlansView → Option Plan → PlansView
 plans_forth plans None = plans
 plans_forth plans (Some plan) = record { plan = plan; earlier = plans.earlier ++ plans.plan ∷ []; later = all_but_last plans.later }
 
+-- rule: which plan stands after a record
 -- the plans after an edit that is done, by the timetables before and after it
 abbrev pub plans_after : Edit → TimetableView → TimetableView → MatrixView → PlansView → PlansView
 plans_after Undo before after matrix plans = plans_back plans (last_item plans.earlier)

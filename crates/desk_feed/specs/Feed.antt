@@ -21,6 +21,7 @@ use Rattle.desk_run.specs.declared.reading.Page.{Page}
 use Rattle.desk_feed.specs.Edited.{standing_after}
 use Rattle.desk_feed.specs.declared.feed.Feed.{Feed}
 
+-- word: paper; page = input file; the same with what was found
 -- the papers of a feed, in the order in which they are read and judged
 abbrev pub feed_papers : List Paper
 feed_papers = paper.Settings ∷ paper.Terminals ∷ paper.Tolerances ∷ paper.Calendar ∷ paper.CalendarDates ∷ paper.Trips ∷ paper.StopTimes
@@ -72,6 +73,7 @@ said_with settings base entries pulls lines =
 abbrev pub standing : FeedView → TimetableView
 standing said = standing_after said.base said.lines
 
+-- rule: the order of refusals from file to file
 -- What the papers say. They are judged one after the other, and the first refusal ends it.
 unfoldable pub said_by : (Paper → Found) → Result FeedView FeedFault
 said_by found = do

@@ -35,6 +35,7 @@ unfoldable pub first_records : List Line → ℕ → List Numbered
 first_records lines zero = []
 first_records lines (suc n) = first_records lines n ++ record_at lines n ∷ []
 
+-- word: stands; moment = in effect; point after so many records
 -- A moment is a number of records: the state after so many of the first, and the timetable that stands then.
 abbrev pub state_at : TimetableView → List Line → ℕ → State
 state_at base lines m = machine base (first_records lines m)
@@ -58,6 +59,7 @@ trip_text (line.Edit edit) = codes ", " ++ trip_of edit
 unfoldable pub reason_text : Line → EditFault → List ℕ
 reason_text line refused = codes ": refused" ++ (trip_text line ++ (codes ": " ++ (fault_text_of refused ++ 10 ∷ [])))
 
+-- rule: the line of a refused record
 -- the line of a refused record
 unfoldable pub refusal_line : ℕ → Line → EditFault → List ℕ
 refusal_line number line refused = codes "record " ++ (decimal number ++ reason_text line refused)

@@ -28,6 +28,7 @@ found_as limit (Some bytes) = if nat_le (length bytes) limit then File bytes els
 abbrev pub found_in : Files → List ℕ → ℕ → Found
 found_in files name limit = found_as limit (get files name)
 
+-- word: tells = shows what it holds to contracts: an object in memory does, a real folder does not
 -- A shelf that tells its files answers the file of the name. One that tells nothing may answer anything.
 abbrev pub Tells : Option Files → List ℕ → ℕ → Found → Type 0
 Tells None name limit found = Unit {0}

@@ -19,6 +19,7 @@ pub record PutFailed (before after : SinkState) : Type 0 where
   pub never_falls : before.faults ≤ after.faults
   pub rose : Rose before.faults after.faults
 
+-- word: put = printed to standard output
 -- a text was cut short: a prefix of it was appended, and the count rose
 pub record PutsPrefix (bytes : List ℕ) (before after : SinkState) : Type 0 where
   pub count : ℕ

@@ -58,6 +58,7 @@ trips_in word = trips_written (length word) (number_of 4 word)
 abbrev pub sample_of : Option ℕ → Option CommandName
 sample_of trips = option_map Sample trips
 
+-- rule: which words name a command
 -- the command that the words name: a command and a folder, or that of a sample and a number
 abbrev pub command_of : List (List ℕ) → Option CommandName
 command_of (command ∷ word ∷ []) = if bytes_eq command (codes "sample") then sample_of (trips_in word) else command_named command

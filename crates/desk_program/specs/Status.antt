@@ -2,6 +2,7 @@
 use Rattle.std.specs.Prelude.{ℕ, ◌==◌, if◌then◌else◌, List, Option, None, Some, codes}
 use Rattle.desk_run.specs.declared.status.TheConstants.{READ_FAULT, WRITE_FAULT, KEEPER_FAULT, NO_MEMORY}
 
+-- rule: the line on standard error
 -- the line for a status, and none for a status that says enough by itself
 abbrev pub status_line_of : ℕ → Option (List ℕ)
 status_line_of status =

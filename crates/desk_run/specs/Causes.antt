@@ -6,6 +6,7 @@ use Rattle.desk_run.specs.Reading.{ReadView}
 use Rattle.desk_run.specs.World.{World, NoCountRose, NoFaultCounted}
 use Rattle.desk_run.specs.declared.status.TheConstants.{USAGE, NO, READ_FAULT, WRITE_FAULT, KEEPER_FAULT, NO_MEMORY}
 
+-- rule: when a status comes
 pub record HasCause (asked : Asked) (found : Option ReadView) (before after : World) (status : ℕ) : Type 0 where
   -- the status of an ending to which what was read leads
   pub ended : status ≤ NO → IsEnding asked found status

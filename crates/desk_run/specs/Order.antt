@@ -81,6 +81,7 @@ pub record CarriesInOrder (asked : Asked) (found : Option ReadView) (before afte
   pub becomes : Becomes chosen.outcome result before.world after.world
   pub whole : IfOk result (λ end. first.left ≡ [])
 
+-- rule: the order of the calls of a run
 -- the calls of a run, in their order; where it has no outcome, it does not come to its end, and makes no call but those that read
 abbrev pub IsInOrder : Asked → Option ReadView → Outside → Outside → ℕ → Type 0
 IsInOrder asked found before after status =

@@ -6,6 +6,7 @@ use Rattle.desk_run.specs.declared.status.Ending.{Ending}
 use Rattle.desk_run.specs.declared.status.Ending.TheVariants as ending
 use Rattle.desk_run.specs.declared.status.TheConstants.{DONE, EDITS_REFUSED, FEED_REFUSED, NO}
 
+-- rule: the number of a status
 -- the status that a run answers by its ending
 abbrev pub status_of : Ending → ℕ
 status_of ending.Done = DONE

@@ -5,6 +5,7 @@ use Rattle.desk_io.specs.Shelf.{ShelfState}
 use Rattle.desk_io.specs.Sink.{SinkState}
 use Rattle.desk_keeper.specs.Keeper.{KeeperState}
 
+-- word: shelf, sink, keeper; world = files, output, journal; the state of all three
 pub record World : Type 0 where
   pub shelf : ShelfState
   pub sink : SinkState

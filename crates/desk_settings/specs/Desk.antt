@@ -56,6 +56,7 @@ entries_from value_in before (member name value rest) =
 abbrev pub layovers_in : Data → Option (Entries ℕ)
 layovers_in value = option_and_then (entries_from (minutes_in MOST_LAYOVER) []) (as_table value)
 
+-- rule: which texts are vehicle classes
 -- whether a text is a class of vehicles: 1 to 16 bytes without `/`
 abbrev pub is_class : List ℕ → Bool
 is_class text = nat_le 1 (length text) && nat_le (length text) MOST_CLASS && not (has_slash text)
@@ -104,6 +105,7 @@ with_key desk key value =
 abbrev pub is_bad : Name → Data → Bool
 is_bad key value = not (is_some (with_key standard_desk key value))
 
+-- rule: the order of refusals within a file
 -- the key is a bad one of the members
 abbrev pub HasBad : Name → Members → Type 0
 HasBad bad no_members = ⊥

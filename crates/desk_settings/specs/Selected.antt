@@ -14,6 +14,7 @@ is_text_chosen settings service = is_utf8 service && is_chosen settings service
 abbrev pub is_selected : SettingsView → ℕ → List (List ℕ) → Bool
 is_selected settings place row = is_text_chosen settings (field_at row place)
 
+-- rule: which records of `trips.txt` are selected
 -- which records of a table of trips are selected
 abbrev pub chosen_in : SettingsView → TableView → List Bool
 chosen_in settings trips = map (is_selected settings (place_of column.ServiceId trips.header)) trips.rows

@@ -73,19 +73,23 @@ with_services_kept settings running = record settings { services = Some (kept_se
 abbrev pub is_classed : SettingsView → Bool
 is_classed settings = not (length settings.classes == 0)
 
+-- rule: the vehicle class of a trip
 -- the class of the trips of a route; that of a trip without a route is empty
 abbrev pub class_of : SettingsView → Name → Name
 class_of settings [] = []
 class_of settings route = unwrap_or (value_of route settings.classes) []
 
+-- rule: the layover of a terminal
 -- the layover of a place
 abbrev pub layover_at : SettingsView → Name → ℕ
 layover_at settings place = unwrap_or (value_of place settings.layovers) settings.layover
 
+-- rule: the terminal of a stop
 -- the terminal of a stop
 abbrev pub terminal_of : SettingsView → Name → Name
 terminal_of settings stop = unwrap_or (value_of stop settings.terminals) stop
 
+-- rule: the tolerances of a trip
 -- the tolerances of a trip, early before late
 abbrev pub tolerance_of : SettingsView → Name → ℕ × ℕ
 tolerance_of settings trip = unwrap_or (value_of trip settings.tolerances) (settings.early, settings.late)

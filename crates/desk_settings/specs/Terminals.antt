@@ -25,6 +25,7 @@ terminal_in columns number fields = do
   _ ← filled_in paper.Terminals number column.Terminal terminal
   Ok (stop, terminal)
 
+-- rule: the order of refusals within a file
 -- the terminals with that of one record
 abbrev pub with_terminal : Columns → ℕ → Entries Name → List (List ℕ) → Result (Entries Name) FeedFault
 with_terminal columns number before fields = terminal_in columns number fields >>= with_record paper.Terminals number before

@@ -31,6 +31,7 @@ tolerance_in columns number fields = do
   late ← number_in paper.Tolerances number column.Late 2 MOST_TOLERANCE late_text
   Ok (trip, (early, late))
 
+-- rule: the order of refusals within a file
 -- the tolerances with those of one record
 abbrev pub with_tolerance : Columns → ℕ → Entries (ℕ × ℕ) → List (List ℕ) → Result (Entries (ℕ × ℕ)) FeedFault
 with_tolerance columns number before fields = tolerance_in columns number fields >>= with_record paper.Tolerances number before

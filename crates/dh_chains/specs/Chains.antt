@@ -48,6 +48,8 @@ left ms = map (λ (m : Deadhead). m.from) ms
 abbrev pub route : Deadhead → List Deadhead → List ℕ
 route first rest = first.to ∷ left (first ∷ rest)
 
+-- rule: which deadheads are a chain
+-- word: chain = unit reduction deadheading chain
 -- one to three deadheads between distinct places. The first arrives at a place with a maximum of at least 1, at the first
 -- minute of that maximum
 pub record IsUnitChain (places : Places) (first : Deadhead) (rest : List Deadhead) : Type 0 where
@@ -65,6 +67,7 @@ IsBefore ps [] = ⊥
 IsBefore [] (q ∷ qs) = ⊤
 IsBefore (p ∷ ps) (q ∷ qs) = (p < q) ⊎ ((p ≡ q) × IsBefore ps qs)
 
+-- rule: the order of chains
 -- the chain is such a one, and no other one comes before it in the order of their places
 pub record IsFirstChain (places : Places) (first : Deadhead) (rest : List Deadhead) : Type 0 where
   pub chain : IsUnitChain places first rest

@@ -17,6 +17,7 @@ use Rattle.edit_script.specs.declared.fault.TripEnd.TheVariants as side
 abbrev pub provided : Bool → EditFault → Result TimetableView EditFault → Result TimetableView EditFault
 provided holds refused rest = if holds then rest else Err refused
 
+-- rule: a shift within the tolerances
 -- a number of minutes off its published times is within the tolerances of a trip
 abbrev pub is_within : Trip → ℤ → Bool
 is_within trip offset = int_le (neg_ℤ (pos trip.early)) offset && int_le offset (pos trip.late)
@@ -46,6 +47,7 @@ abbrev pub restored_at : TimetableView → Option ℕ → Result TimetableView E
 restored_at t None = Err fault.UnknownTrip
 restored_at t (Some s) = provided (not (slot_at t s).trip.live) fault.NotCancelled (Ok (with_live t s true))
 
+-- rule: the layover of a trip
 -- an extra trip between two places
 abbrev pub extra_trip : TimetableView → ℕ → ℕ → ℕ → ℕ → Trip
 extra_trip t from to departs arrives = record {
@@ -59,6 +61,7 @@ extra_trip t from to departs arrives = record {
   live = true;
 }
 
+-- rule: too many trips
 -- an extra trip to a place that may be there, from one that is
 abbrev pub extra_to : TimetableView → List ℕ → ℕ → ℕ → ℕ → Option ℕ → Result TimetableView EditFault
 extra_to t name departs arrives from None = Err (fault.UnknownPlace side.To)
@@ -77,6 +80,7 @@ abbrev pub extra_new : TimetableView → List ℕ → List ℕ → List ℕ → 
 extra_new t name from to departs arrives (Some s) = Err fault.TripExists
 extra_new t name from to departs arrives None = extra_from t name to departs arrives (number_of (place_names t) from)
 
+-- rule: why an edit is refused, and what it does
 -- the timetable after an edit of a trip, or why it is refused; the other edits edit no trip
 abbrev pub edited : TimetableView → Edit → Result TimetableView EditFault
 edited t (Shift trip by) = shifted_at t by (number_of (slot_names t) trip)

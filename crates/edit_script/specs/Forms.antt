@@ -103,6 +103,7 @@ edit_by fields word row =
     else if (fields == 6) && bytes_eq word (codes "extra") then extra_edit row
     else None
 
+-- rule: which records are edits
 -- the edit of a record, if it has one of the forms. Empty fields at its end, and spaces round its first word, are passed over
 abbrev pub edit_of : List (List ℕ) → Option Edit
 edit_of row = edit_by (filled row) (without_spaces (field_at row 0)) row

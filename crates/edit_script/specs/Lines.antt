@@ -13,6 +13,7 @@ use Rattle.edit_script.specs.declared.fault.TripEnd.TheVariants.{From, To}
 abbrev pub signed_text : ℤ → List ℕ
 signed_text value = (if int_lt value (pos 0) then 45 else 43) ∷ decimal (unsigned_abs value)
 
+-- rule: the line of an edit
 -- the fields of the record of an edit; its canonical line is the text of that record, without the line feed
 abbrev pub fields_of : Edit → List (List ℕ)
 fields_of (Shift trip by) = codes "shift" ∷ trip ∷ signed_text by ∷ []
@@ -28,6 +29,7 @@ abbrev pub side_name_of : TripEnd → List ℕ
 side_name_of From = codes "from"
 side_name_of To = codes "to"
 
+-- rule: the text of a refused edit
 -- what is printed of a refused edit; of lack of memory nothing is
 abbrev pub fault_text_of : EditFault → List ℕ
 fault_text_of fault.NotAnEdit = codes "not an edit"

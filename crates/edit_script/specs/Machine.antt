@@ -91,6 +91,7 @@ or_stays m (Err refused) = m
 abbrev pub with_record : TimetableView → State → Numbered → State
 with_record base m r = or_stays m (state_after base m r)
 
+-- rule: the timetable after a script
 -- the state after all records
 abbrev pub machine : TimetableView → List Numbered → State
 machine base records = fold (with_record base) begun records

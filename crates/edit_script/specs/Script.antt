@@ -86,6 +86,7 @@ if_redone s (Some t) = Ok (record s {
 abbrev pub if_shown : ScriptView → Result ScriptView EditFault
 if_shown s = if nat_lt s.shows MOST_SHOWS then Ok (record s { shows = s.shows + 1 }) else Err fault.TooManyShows
 
+-- rule: what undo, redo and show do in a script
 -- the script after an edit with its number, or why it is refused
 abbrev pub stepped : ScriptView → ℕ → Edit → Result ScriptView EditFault
 stepped s number Undo = if_undone s (last_item s.earlier)

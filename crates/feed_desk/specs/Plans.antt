@@ -55,6 +55,7 @@ module _ (base : TimetableView) (lines : List Line) (matrix : MatrixView) where
   plans_at (suc n) = plans_by (line_at lines n) (refusal_in (step_at base lines n)) (standing_at base lines n)
       (standing_at base lines (suc n)) matrix (plans_at n)
 
+  -- rule: which plan stands after a record
   -- the plan then
   abbrev pub plan_at : ℕ → Plan
   plan_at m = (plans_at m).plan

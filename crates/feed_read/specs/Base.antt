@@ -43,6 +43,7 @@ names_of places = map (λ place. place.name) places
 abbrev pub with_place : List Place → Place → List Place
 with_place places place = if is_among place.name (names_of places) then places else places ++ place ∷ []
 
+-- rule: the numbers of places
 -- the places that are met, each once, in the order in which they are met
 abbrev pub places_met : List Place → List Place
 places_met ends = fold with_place [] ends
@@ -81,6 +82,7 @@ timetable_over settings places feed_trips = record {
   late = settings.late;
 }
 
+-- rule: too many places
 -- the timetable of trips between at most 512 places, which are numbered in the order in which the trips meet them
 unfoldable pub timetable_of : SettingsView → List FeedTrip → Result TimetableView FeedFault
 timetable_of settings feed_trips =

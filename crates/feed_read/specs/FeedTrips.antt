@@ -39,6 +39,7 @@ abbrev pub later : Option StopTimeView → StopTimeView → Option StopTimeView
 later None stop_time = Some stop_time
 later (Some greatest) stop_time = if nat_lt greatest.sequence stop_time.sequence then Some stop_time else Some greatest
 
+-- rule: the first and the last stop of a trip
 -- the stop time of the least number along the trip
 abbrev pub first_stop_time : List StopTimeView → Option StopTimeView
 first_stop_time stop_times = fold sooner None stop_times
@@ -62,6 +63,8 @@ abbrev pub time_or : Option ℕ → Option ℕ → Option ℕ
 time_or (Some seconds) other = Some seconds
 time_or None other = other
 
+-- rule: the layover of a trip
+-- rule: the minutes of a trip
 -- A trip of vehicles of a class from one stop time to another, which it leaves and reaches at these seconds. It departs rounded
 -- down to the minute, and ends rounded up, after the layover of its last place.
 abbrev pub feed_trip_at : SettingsView → Name → Name → StopTimeView → StopTimeView → ℕ → ℕ → FeedTrip
@@ -88,6 +91,7 @@ abbrev pub feed_trip_from : SettingsView → Name → Name → Option StopTimeVi
 feed_trip_from settings name class (Some first) (Some last) = feed_trip_between settings name class first last
 feed_trip_from settings name class _ _ = Err (fault.TooFewStops name)
 
+-- rule: the order of refusals within a file
 -- the trip of that name and class with these stop times. They are at least two, no two have one number, both ends have a time,
 -- and the trip is forward
 unfoldable pub feed_trip_of : SettingsView → Name → Name → List StopTimeView → Result FeedTrip FeedFault

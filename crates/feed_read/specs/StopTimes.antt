@@ -59,6 +59,7 @@ with_stop_time_of columns number before fields None = Ok before
 with_stop_time_of columns number before fields (Some trip) =
     stop_time_in columns number trip fields >>= λ stop_time. Ok (before ++ stop_time ∷ [])
 
+-- rule: the order of refusals within a file
 -- the stop times with that of one record, among selected trips of these names
 unfoldable pub with_stop_time : List Name → Columns → ℕ → List StopTimeView → List (List ℕ) → Result (List StopTimeView) FeedFault
 with_stop_time names columns number before fields = do

@@ -53,6 +53,7 @@ chosen_in settings columns number fields = do
 abbrev pub selected_with : Selected → Name → Name → Selected
 selected_with before name class = record { names = before.names ++ name ∷ []; classes = before.classes ++ class ∷ [] }
 
+-- rule: too many trips
 -- the selected trips, and that of a selected record with its class. Its name is not empty and no selected record before has it,
 -- and it is at most the 4,096th
 unfoldable pub with_selected : ℕ → Selected → Name → Name → Result Selected FeedFault
@@ -67,6 +68,7 @@ abbrev pub with_chosen : ℕ → Selected → Option Name → Result Selected Fe
 with_chosen number before None = Ok before
 with_chosen number before (Some name) = with_selected number before name []
 
+-- rule: the order of refusals within a file
 -- the selected trips with that of a record
 unfoldable pub with_trip : SettingsView → Columns → ℕ → Selected → List (List ℕ) → Result Selected FeedFault
 with_trip settings columns number before fields = chosen_in settings columns number fields >>= with_chosen number before
@@ -78,6 +80,7 @@ with_chosen_class settings columns number before fields (Some name) =
     text_in paper.Trips number column.RouteId (field_at fields columns.route) >>= λ route. with_selected number before name
     (class_of settings route)
 
+-- rule: the order of refusals within a file
 -- the selected trips with that of a record, where vehicles are of classes
 unfoldable pub with_classed_trip : SettingsView → ClassedColumns → ℕ → Selected → List (List ℕ) → Result Selected FeedFault
 with_classed_trip settings columns number before fields =

@@ -70,5 +70,6 @@ feed_files trips =
     insert (insert (insert empty (file_name_of paper.Trips) (trips_text trips)) (file_name_of paper.StopTimes) (stop_times_text trips))
     (file_name_of paper.Deadheads) deadheads_text
 
+-- rule: the feed of a sample
 abbrev pub sample_files : ℕ → Files
 sample_files trips = if nat_lt 0 trips then insert (feed_files trips) (file_name_of paper.Edits) edits_text else feed_files trips

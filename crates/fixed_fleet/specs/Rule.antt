@@ -24,6 +24,7 @@ abbrev pub forerunner_below : List (Option Move) → List (Option ℕ) → ℕ �
 forerunner_below moves links j zero = None
 forerunner_below moves links j (suc i) = better moves links j i (forerunner_below moves links j i)
 
+-- word: forerunner = first-in, first-out predecessor
 -- the slot after which j is made, where there is one
 abbrev pub forerunner : List (Option Move) → List (Option ℕ) → ℕ → Option ℕ
 forerunner moves links j = forerunner_below moves links j (length moves)
@@ -33,6 +34,7 @@ abbrev pub with_link : List (Option ℕ) → Option ℕ → ℕ → List (Option
 with_link links None j = links
 with_link links (Some i) j = slice_set links i (Some j)
 
+-- rule: first in, first out
 -- trip by trip in order of departure, each is linked to its forerunner
 unfoldable pub first_in_first_out : List (Option Move) → List (Option ℕ)
 first_in_first_out moves = fold (λ links j. with_link links (forerunner moves links j) j) (replicate (length moves) None)

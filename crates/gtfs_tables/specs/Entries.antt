@@ -11,6 +11,7 @@ use Rattle.gtfs_tables.specs.Reading.{provided}
 abbrev pub Name : Type 0
 Name = List ℕ
 
+-- rule: lists of names with values
 -- names with a value each
 abbrev pub Entries : Type 0 → Type 0
 Entries X = List (Name × X)
@@ -23,6 +24,7 @@ value_of name entries = lookup (bytes_eq name) entries
 abbrev pub has_name : {X : Type 0} → Name → Entries X → Bool
 has_name name entries = is_some (value_of name entries)
 
+-- rule: duplicate records
 -- the entries, and that of a record of this number, whose name must be new, at the end
 abbrev pub with_record : {X : Type 0} → Paper → ℕ → Entries X → Name × X → Result (Entries X) FeedFault
 with_record paper number before entry =

@@ -39,6 +39,7 @@ fault_text_of (fault.NotForward trip) = trip_text_of trip (codes "not forward")
 fault_text_of (fault.TooManyRecords paper) = file_name_of paper ++ codes ": too many records"
 fault_text_of fault.Memory = []
 
+-- rule: the text of a refusal
 -- the whole line of a refused file, with its line feed
 abbrev pub feed_line_of : FeedFault → List ℕ
 feed_line_of refused = codes "feed refused: " ++ fault_text_of refused ++ 10 ∷ []

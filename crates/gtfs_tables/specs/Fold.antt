@@ -33,6 +33,7 @@ bytes_read paper columns_in step start bytes = or_refused paper (table_of bytes)
 abbrev pub paper_read : {C A : Type 0} → Paper → ColumnsIn C → (C → Step A) → A → Found → Result A FeedFault
 paper_read paper columns_in step start found = table_in paper found >>= table_read columns_in step start
 
+-- rule: a file that need not be there
 -- what a paper gives that need not be there: without it there are no records
 abbrev pub optional_read : {C A : Type 0} → Paper → ColumnsIn C → (C → Step A) → A → Found → Result A FeedFault
 optional_read paper columns_in step start found = optional_in paper start (bytes_read paper columns_in step start) found
@@ -46,6 +47,7 @@ abbrev pub unless_longer : {A : Type 0} → Paper → Option ℕ → Result A Fe
 unless_longer paper None read = read
 unless_longer paper (Some number) read = Err (fault.RowTooLong paper number)
 
+-- rule: a record that is longer than the header
 -- the refusal that is due where this one came and these records are left
 abbrev pub due : Paper → Option ℕ → FeedFault → FeedFault
 due paper None refused = refused

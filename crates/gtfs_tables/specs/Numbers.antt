@@ -11,6 +11,7 @@ digits_number most digits =
     if nat_lt 0 (length digits) && nat_le (length digits) most && list_all is_ascii_digit digits
     then Some (digits_value 10 digits) else None
 
+-- rule: which texts are numbers
 -- the value of a number of at most `most` digits, with spaces round it
 abbrev pub number_of : ℕ → List ℕ → Option ℕ
 number_of most text = digits_number most (without_spaces text)

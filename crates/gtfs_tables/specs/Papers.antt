@@ -8,6 +8,7 @@ use Rattle.gtfs_tables.specs.declared.paper.Paper.TheVariants as paper
 use Rattle.gtfs_tables.specs.declared.paper.Column.{Column}
 use Rattle.gtfs_tables.specs.declared.paper.Column.TheVariants as column
 
+-- rule: the names of files and columns
 -- the name by which a file is read and printed
 abbrev pub file_name_of : Paper → List ℕ
 file_name_of paper.Settings = codes "desk.toml"
@@ -29,6 +30,7 @@ file_name_of paper.Prices = codes "prices.csv"
 abbrev pub IsWithinLimit : Found → Type 0
 IsWithinLimit found = FitsIn MOST_BYTES found
 
+-- rule: the names of files and columns
 -- the name of a column, as it is in a header and is printed; `field` for any other
 abbrev pub column_name_of : Column → List ℕ
 column_name_of column.StopId = codes "stop_id"

@@ -93,6 +93,7 @@ judged paper found = table_in paper found >>= λ _. nothing
 abbrev pub column_in : Paper → Column → List (List ℕ) → Result ℕ FeedFault
 column_in paper column header = ok_or (column_of (column_name_of column) header) (fault.NoColumn paper column)
 
+-- rule: a column that need not be there
 -- the number, from 0, of a column that need not be there; where it is not, of the next column
 abbrev pub place_of : Column → List (List ℕ) → ℕ
 place_of column header = unwrap_or (column_of (column_name_of column) header) (length header)

@@ -14,6 +14,7 @@ use Rattle.gtfs_tables.specs.declared.records.Records.TheVariants.{Lines, Quoted
 abbrev pub records_in : List ℕ → List (List (List ℕ))
 records_in bytes = csv.records csv.default_config bytes
 
+-- rule: the records of a file
 -- the records of a file, after at most one leading byte-order mark
 abbrev pub records : List ℕ → List (List (List ℕ))
 records bytes = records_in (csv.strip_bom bytes)

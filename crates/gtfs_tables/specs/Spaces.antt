@@ -10,6 +10,7 @@ after_spaces (byte ∷ text) = if byte == 32 then after_spaces text else byte �
 abbrev pub before_spaces : List ℕ → List ℕ
 before_spaces text = reverse (after_spaces (reverse text))
 
+-- rule: the spaces round a field
 -- a text without the spaces at both ends
 abbrev pub without_spaces : List ℕ → List ℕ
 without_spaces text = before_spaces (after_spaces text)

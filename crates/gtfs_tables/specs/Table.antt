@@ -47,6 +47,7 @@ IsFaultOf due NoHeader = due ≡ Err NoHeader
 IsFaultOf due (RowTooLong r) = due ≡ Err (RowTooLong r)
 IsFaultOf due Memory = ⊤
 
+-- rule: which column has a name
 -- the first column whose name, without spaces at both ends, is this one; columns count from 0
 abbrev pub column_of : List ℕ → List (List ℕ) → Option ℕ
 column_of name header = position_from (λ column. bytes_eq (without_spaces column) name) 0 header

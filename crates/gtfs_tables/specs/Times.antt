@@ -18,6 +18,7 @@ full_time (h ∷ i ∷ colon ∷ m ∷ n ∷ other ∷ s ∷ t ∷ []) =
     then Some (3600 * pair_value h i + 60 * pair_value m n + pair_value s t) else None
 full_time text = None
 
+-- rule: which texts are times
 -- the seconds of a time, `HH:MM:SS` or `H:MM:SS`, with spaces round it; the short form is the long one without its leading 0
 abbrev pub seconds_of : List ℕ → Option ℕ
 seconds_of text = let form = without_spaces text in if length form == 7 then full_time (48 ∷ form) else full_time form
@@ -28,10 +29,12 @@ full_minute (h ∷ i ∷ colon ∷ m ∷ n ∷ []) =
     if is_pair 57 h i && (colon == 58) && is_pair 53 m n then Some (60 * pair_value h i + pair_value m n) else None
 full_minute text = None
 
+-- rule: which texts are times
 -- the minute of `HH:MM` or `H:MM`, with spaces round it; the short form is the long one without its leading 0
 abbrev pub minute_of : List ℕ → Option ℕ
 minute_of text = let form = without_spaces text in if length form == 4 then full_minute (48 ∷ form) else full_minute form
 
+-- rule: a departure is rounded down to the minute, an arrival up
 -- a second as a minute, rounded down
 abbrev pub rounded_down : ℕ → ℕ
 rounded_down seconds = seconds / 60

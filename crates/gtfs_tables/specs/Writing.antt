@@ -9,6 +9,7 @@ use Rattle.csv.specs.declared.writer.WriterBuilder.{WriterBuilder}
 abbrev pub record_writer : WriterBuilder
 record_writer = csv.with_flexible csv.default_writer true
 
+-- rule: how a record is written
 -- the text of a record, with its line feed
 abbrev pub record_text : List (List ℕ) → List ℕ
 record_text fields = csv.row_text record_writer fields

@@ -39,6 +39,8 @@ unfoldable pub board_records : TimetableView → MatrixView → List ℕ → Lis
 board_records timetable matrix prefix blocks =
     flat_map (λ number. board_of_block timetable matrix prefix number (slice_index_or blocks number [])) (range_with_len 0 (length blocks))
 
+-- rule: the text of `boards.csv`
+-- word: board = running board, paddle
 -- the text of `boards.csv`
 unfoldable pub boards_text : TimetableView → MatrixView → List ℕ → List (List ℕ) → List ℕ
 boards_text timetable matrix prefix blocks = records_text (board_header ∷ board_records timetable matrix prefix blocks)

@@ -49,6 +49,7 @@ legs_in timetable matrix blocks = flat_map (legs_of timetable matrix) blocks
 abbrev pub ways : List Leg → List Move
 ways legs = map (λ leg. leg.way) legs
 
+-- rule: the deadheads that are put into the deficits
 -- the moves of the vehicles of blocks, with the deadheads put in
 unfoldable pub joined_moves : TimetableView → MatrixView → List (List ℕ) → List Move
 joined_moves timetable matrix blocks = ways (legs_in timetable matrix blocks)

@@ -62,6 +62,7 @@ abbrev pub keeping_by : TimetableView → Journal → List Line → Result (List
 keeping_by base stored lines (Ok journal) = keeping_lines base stored journal lines
 keeping_by base stored lines (Err refused) = refusing refused
 
+-- rule: what `keep` appends to the journal
 abbrev pub keeping : ReadView → FeedView → OutcomeView
 keeping read said = keeping_by said.base (lines_loaded read.journal) said.lines (script_loaded read.journal)
 

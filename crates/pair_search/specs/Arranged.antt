@@ -33,6 +33,7 @@ post_of_key key = if key == 0 then None else Some (key - 1)
 abbrev pub column_of : ℕ → Column
 column_of rank = record { post = post_of_key (rank / 4294967296); minute = rank / 65536 % 65536; slot = rank % 65536 }
 
+-- rule: ties between least plans
 -- the slots of columns by post, those of one post by minute, and those of one minute by number
 unfoldable pub arranged : PairsView → Bool → Option ℕ → List ℕ
 arranged pairs turned without =

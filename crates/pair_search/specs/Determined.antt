@@ -23,6 +23,7 @@ abbrev pub nearness : List ℕ → ℕ → Option ℕ → ℕ
 nearness dist bound None = bound
 nearness dist bound (Some j) = at dist j
 
+-- rule: ties between least plans
 -- of so many columns the nearest that is not done and nearer than a bound; of several the first
 abbrev pub first_nearest : ℕ → List Bool → List ℕ → ℕ → Option ℕ
 first_nearest zero done dist bound = None

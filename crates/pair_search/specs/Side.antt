@@ -13,6 +13,7 @@ use Rattle.pair_graph.specs.declared.share.Share.{Share}
 use Rattle.pair_search.specs.declared.line.Reach.{Reach}
 use Rattle.pair_search.specs.Order.{column_minute, column_post, no_column, slot_at, place_of}
 
+-- word: row, column = leaving side and entering side of a trip; of a file, record and field; of a chart, line and ten minutes
 -- pairs; whether entering sides are the rows; the column that is left out, if one is. Then the columns in an order, with the
 -- place of each, and their groups, with how many there are
 pub record SideView : Type 0 where

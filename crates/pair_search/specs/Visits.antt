@@ -35,6 +35,7 @@ RowsVisit w groups count rows (suc t) dist dist' was now =
     (mid : List ℕ) × (paid : ℕ) × RowsVisit w groups count rows t dist mid was paid
     × RowVisits (w (at rows t)) groups count mid dist' paid now
 
+-- rule: the steps of a search
 -- The rows of a search visit all groups, one after the other. No two of them are alike, so no pair is visited twice.
 pub record VisitsOnce (w : ℕ → ℕ → Option ℕ) (groups : List Group) (count : ℕ) (rows dist dist' : List ℕ) (was now : ℕ) : Type 0 where
   pub size : ℕ

@@ -34,6 +34,7 @@ or_stays standing (Err refused) = standing
 abbrev pub with_record : TimetableView → List Standing → Numbered → List Standing
 with_record base standing r = or_stays standing (line_after base standing r.number r.line)
 
+-- rule: the edits of several planners that stand
 -- the records that stand after all records
 abbrev pub planners_machine : TimetableView → List Numbered → List Standing
 planners_machine base records = fold (with_record base) [] records

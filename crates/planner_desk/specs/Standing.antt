@@ -59,6 +59,7 @@ abbrev pub without_last : List Standing → Option ℕ → Result (List Standing
 without_last standing None = Err fault.NothingToUndo
 without_last standing (Some n) = unless_held (holder (standing_at standing n) (drop (n + 1) standing)) (remove standing n)
 
+-- rule: what an undo of a planner takes back
 -- the records that stand after an undo of a planner: the planner's last is taken out, and it alone
 abbrev pub undone : List ℕ → List Standing → Result (List Standing) PlannerFault
 undone planner standing = without_last standing (last_place planner standing)

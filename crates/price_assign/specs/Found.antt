@@ -12,6 +12,7 @@ found_left pairs a b plan = found_by (arranged pairs false b) (weight_from pairs
 unfoldable pub found_right : PairsView → ℕ → Option ℕ → Plan → Plan
 found_right pairs b a plan = turned_plan (found_by (arranged pairs true a) (weight_from pairs true a) b (turned_plan plan))
 
+-- rule: which of several least plans
 -- the plan for pairs: one leaving side after the other, the last departure first
 unfoldable pub solved : PairsView → Plan
 solved pairs = all_found (arranged pairs false None) (weight_from pairs false None) (departing pairs)

@@ -8,6 +8,7 @@ use Rattle.price_check.specs.declared.claim.TheConstants.{MOST_PRICE}
 use Rattle.trip_model.specs.declared.limits.TheConstants.{MOST_SLOTS}
 use Rattle.trip_model.specs.Timetable.{TimetableView, slot_at}
 
+-- word: claim = submitted schedule
 -- the records of both files, in their order
 pub record ClaimedView : Type 0 where
   pub blocks : List BlockRow

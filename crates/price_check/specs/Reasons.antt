@@ -131,6 +131,7 @@ unproved network claimed = first_of (
     ∷ unequal (price_sum claimed.prices) (weight_sum network claimed.blocks)
     ∷ [])
 
+-- rule: why a claim is refused
 -- the first reason of the seven that holds, at its least record or slot
 abbrev pub reason_of : TimetableView → MatrixView → ClaimedView → Option Reason
 reason_of timetable matrix claimed = option_or (misnamed timetable claimed) (unproved (network_of timetable matrix) claimed)
@@ -140,6 +141,8 @@ abbrev pub verdict_by : Network → List BlockRow → Option Reason → Verdict
 verdict_by network rows None = Yes (length (blocks_in rows)) (empty_minutes network (blocks_in rows))
 verdict_by network rows (Some reason) = No reason
 
+-- rule: the verdict on a claim
+-- word: verdict = result of the verification of a submitted schedule
 -- the verdict on a claim
 abbrev pub verdict_of : TimetableView → MatrixView → ClaimedView → Verdict
 verdict_of timetable matrix claimed = verdict_by (network_of timetable matrix) claimed.blocks (reason_of timetable matrix claimed)

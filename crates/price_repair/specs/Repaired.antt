@@ -17,6 +17,7 @@ abbrev pub right_added : PairsView → Option ℕ → Plan → Plan
 right_added pairs None plan = plan
 right_added pairs (Some b) plan = found_right pairs b None plan
 
+-- rule: which of several least plans
 -- the plan after the trip of a slot was taken: without it, then with the sides of the trip before it and of its next one
 unfoldable pub plan_taken : PairsView → ℕ → Plan → Plan
 plan_taken pairs slot plan =
@@ -27,6 +28,7 @@ plan_taken pairs slot plan =
 unfoldable pub plan_added : PairsView → ℕ → Plan → Plan
 plan_added pairs slot plan = found_right pairs slot None (found_left pairs slot (Some slot) (with_slots plan (length pairs.moves)))
 
+-- rule: which of several least plans
 -- the plan after the trip of a slot became another one: it is taken, and then added. The pairs are those without either trip, and
 -- those with the one that is there now
 unfoldable pub plan_replaced : PairsView → PairsView → ℕ → Plan → Plan

@@ -114,6 +114,7 @@ schedule_in columns number fields = do
   end ← date_in paper.Calendar number column.EndDate texts.end
   Ok (texts.service, record { weekdays = weekdays; start = start; end = end })
 
+-- rule: the order of refusals within a file
 -- the schedules of services with that of one record
 abbrev pub with_schedule : Columns → ℕ → Entries ServicePeriod → List (List ℕ) → Result (Entries ServicePeriod) FeedFault
 with_schedule columns number before fields = schedule_in columns number fields >>= with_record paper.Calendar number before

@@ -61,6 +61,7 @@ with_exception number before row =
     provided (not (is_some (exception_of before (row.0, row.1)))) (fault.DuplicateRow paper.CalendarDates number)
     (Ok (before ++ ((row.0, row.1), row.2) ∷ []))
 
+-- rule: the order of refusals within a file
 -- the exceptions with that of one record
 abbrev pub with_record : Columns → ℕ → List (ServiceDate × Exception) → List (List ℕ) → Result (List (ServiceDate × Exception)) FeedFault
 with_record columns number before fields = exception_row_in columns number fields >>= with_exception number before

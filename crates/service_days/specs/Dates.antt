@@ -45,6 +45,7 @@ abbrev pub if_date : Option ℕ → Option ℕ
 if_date None = None
 if_date (Some number) = if is_date number then Some number else None
 
+-- rule: which texts are dates
 -- the date of a text: eight digits, with spaces round them
 abbrev pub date_of : List ℕ → Option ℕ
 date_of text = if_date (eight_digits text)

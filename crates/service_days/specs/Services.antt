@@ -47,6 +47,7 @@ runs_by (Some Added) schedule date = true
 runs_by (Some Removed) schedule date = false
 runs_by None schedule date = is_scheduled schedule date
 
+-- rule: which services run on a date
 -- whether a service runs on a date
 abbrev pub is_running : ServicesView → ℕ → Name → Bool
 is_running services date service = runs_by (exception_of services.exceptions (service, date)) (value_of service services.schedules) date

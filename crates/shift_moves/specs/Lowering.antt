@@ -4,6 +4,7 @@ use Rattle.trip_model.specs.Fleet.{deficit_sum, with_shift}
 use Rattle.trip_model.specs.Timetable.{TimetableView, slot_at}
 use Rattle.trip_model.specs.Trip.{MayShift}
 
+-- rule: which shifts lower the fleet
 -- the trip in a slot runs and may be moved by so many minutes, at least one. With it so moved the sum of the maxima is smaller
 pub record IsLowering (timetable : TimetableView) (slot : ℕ) (by : ℤ) : Type 0 where
   pub in_timetable : slot < length timetable.slots
@@ -20,6 +21,7 @@ IsBefore by other = (unsigned_abs by < unsigned_abs other) ⊎ ((unsigned_abs by
 abbrev pub Precedes : ℕ → ℤ → ℕ → ℤ → Type 0
 Precedes slot by other_slot other = (slot < other_slot) ⊎ ((slot ≡ other_slot) × IsBefore by other)
 
+-- rule: the order of shifts
 -- the shift lowers the sum, and no shift before it does
 pub record IsFirst (timetable : TimetableView) (slot : ℕ) (by : ℤ) : Type 0 where
   pub lowering : IsLowering timetable slot by

@@ -25,6 +25,7 @@ IsBlock network (i ∷ js) = Follow network i js
 abbrev pub slots_in : List (List ℕ) → List ℕ
 slots_in blocks = flat_map (λ block. block) blocks
 
+-- word: blocking = vehicle schedule
 -- blocks that have each live slot exactly once, and no other slot
 pub record IsBlocking (network : Network) (blocks : List (List ℕ)) : Type 0 where
   pub stands : StandsOnce network.live (slots_in blocks)
@@ -40,15 +41,19 @@ abbrev pub block_minutes : Network → List ℕ → ℕ
 block_minutes network [] = 0
 block_minutes network (i ∷ js) = network.out i + minutes_after network i js
 
+-- rule: the empty minutes of blocks
 -- the empty minutes of all blocks
 abbrev pub empty_minutes : Network → List (List ℕ) → ℕ
 empty_minutes network blocks = sum_by (block_minutes network) blocks
 
+-- word: fewest = minimum fleet
 -- no blocking has fewer vehicles
 pub record IsFewest (network : Network) (blocks : List (List ℕ)) : Type 0 where
   pub blocking : IsBlocking network blocks
   pub fewest : (others : List (List ℕ)) → IsBlocking network others → length blocks ≤ length others
 
+-- rule: which blocks are least
+-- word: least = minimum fleet, and then minimum deadhead minutes
 -- no blocking has fewer vehicles, and none with as few has fewer empty minutes
 pub record IsLeast (network : Network) (blocks : List (List ℕ)) : Type 0 where
   pub fewest : IsFewest network blocks

@@ -12,6 +12,7 @@ departures moves place minute = count_by (λ m. (m.from == place) && nat_le m.le
 abbrev pub arrivals : List Move → ℕ → ℕ → ℕ
 arrivals moves place minute = count_by (λ m. (m.to == place) && nat_le m.arrives minute) moves
 
+-- rule: the deficit of a place
 -- the departures less the arrivals: both count in their own minute, so that a vehicle may leave in the minute in which
 -- it arrives
 abbrev pub deficit : List Move → ℕ → ℕ → ℤ

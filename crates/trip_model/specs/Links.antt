@@ -13,6 +13,7 @@ next_of links s = slice_index_or links s None
 abbrev pub AreApart : List (Option ℕ) → Type 0
 AreApart links = (h i j : ℕ) → next_of links h ≡ Some j → next_of links i ≡ Some j → h ≡ i
 
+-- word: links = assignment
 -- a vehicle can go on along each link, and no trip is the next of two
 pub record AreLinks (network : Network) (links : List (Option ℕ)) : Type 0 where
   pub fits : (i j : ℕ) → next_of links i ≡ Some j → Fits network i j
@@ -27,6 +28,7 @@ abbrev pub leads_to : ℕ → Option ℕ → Bool
 leads_to s None = false
 leads_to s (Some j) = j == s
 
+-- word: trip before = predecessor
 -- the trip before that of s: the first slot whose next trip is that of s
 abbrev pub before_of : List (Option ℕ) → ℕ → Option ℕ
 before_of links s = position (leads_to s) links
@@ -45,6 +47,7 @@ along links (suc most) (Some s) = s ∷ along links most (next_of links s)
 unfoldable pub block_from : List (Option ℕ) → ℕ → List ℕ
 block_from links s = along links MINUTES (Some s)
 
+-- rule: the blocks of a plan
 -- the blocks that the links make, in the order given for their first trips
 abbrev pub blocks_along : List (Option ℕ) → List ℕ → List (List ℕ)
 blocks_along links order = map (block_from links) (filter (is_first links) order)

@@ -16,6 +16,7 @@ first_maximum_up_to d (suc last) =
     let before = first_maximum_up_to d last in
     if int_lt before.0 (d (suc last)) then (d (suc last), suc last) else before
 
+-- rule: the maximum of a deficit, and its first minute
 -- the greatest value of d over all minutes, and its first minute
 unfoldable pub first_maximum : (ℕ → ℤ) → ℤ × ℕ
 first_maximum d = first_maximum_up_to d LAST_MINUTE

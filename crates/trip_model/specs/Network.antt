@@ -10,6 +10,7 @@ pub record Network : Type 0 where
   pub out : ℕ → ℕ
   pub home : ℕ → ℕ
 
+-- word: fits = compatible, feasible connection
 -- one vehicle can make the trip of j next after that of i
 abbrev pub Fits : Network → ℕ → ℕ → Type 0
 Fits network i j = IsSome (network.empty i j)

@@ -23,6 +23,7 @@ placed_by key (x ∷ xs) s = if nat_le (key x) (key s) then x ∷ placed_by key 
 abbrev pub by_key : (ℕ → ℕ) → List ℕ → List ℕ
 by_key key slots = fold (placed_by key) [] slots
 
+-- rule: trips in order of departure
 -- the slots that run, by departure, and those of one departure by number
 unfoldable pub by_departure : List (Option Move) → List ℕ
 by_departure moves = by_key (λ s. minute_left (move_at moves s)) (live_slots moves)

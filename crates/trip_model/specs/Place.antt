@@ -3,6 +3,7 @@ use Rattle.std.specs.Prelude.{◌≡◌, ℕ, ◌≤◌, ◌==◌, Bool, true, f
 use Rattle.std.specs.List.{list_any}
 use Rattle.trip_model.specs.declared.limits.TheConstants.{MOST_LAYOVER}
 
+-- word: place = terminal
 -- a place with its terminal, the class of the vehicles that use it, and the minutes of layover of a trip that ends there
 pub record Place : Type 0 where
   pub name : List ℕ
@@ -22,6 +23,8 @@ slash = 47
 abbrev pub has_slash : List ℕ → Bool
 has_slash text = list_any (λ b. b == slash) text
 
+-- rule: the name of a post
+-- word: post = terminal of one vehicle type
 -- the post of a terminal for a class, with the name TERMINAL/CLASS
 abbrev pub post_place : List ℕ → List ℕ → ℕ → Place
 post_place terminal class layover = record { name = terminal ++ slash ∷ class; terminal = terminal; class = class; layover = layover }

@@ -22,6 +22,7 @@ abbrev pub meets : Option Move → Option Move → Bool
 meets (Some a) (Some b) = (a.to == b.from) && nat_le a.arrives b.leaves
 meets _ _ = false
 
+-- word: fixed, plain = fixed schedule, without deadheads
 -- a vehicle goes on from a trip that ends, in time, where the next one begins, and runs no minute empty
 abbrev pub plain_network : List (Option Move) → Network
 plain_network moves = record {

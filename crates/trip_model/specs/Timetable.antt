@@ -8,6 +8,7 @@ use Rattle.trip_model.specs.declared.timetable.Post.{Post}
 use Rattle.trip_model.specs.Place.{Place, IsPlace, place_in}
 use Rattle.trip_model.specs.Trip.{IsValidTrip}
 
+-- word: slot = trip index
 -- a slot with its trip, live or cancelled
 pub record Slot : Type 0 where
   pub name : List ℕ

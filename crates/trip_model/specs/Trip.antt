@@ -17,6 +17,7 @@ published_departure trip = pos trip.departs -ℤ trip.offset
 abbrev pub published_end : Trip → ℤ
 published_end trip = pos trip.ends -ℤ trip.offset
 
+-- rule: which trips are valid
 -- a trip between two of the places, which are of one class. It ends after it departs, and is moved within its tolerances of at
 -- most an hour. It is published to depart by 99:59 and to end by 104:00
 pub record IsValidTrip (places : List Place) (trip : Trip) : Type 0 where
@@ -40,6 +41,8 @@ shifted trip by = record trip {
   offset = trip.offset +ℤ by;
 }
 
+-- rule: a shift within the tolerances
+-- word: shift; tolerance; offset = departure-time shift; its window; minutes off the published time
 -- the trip may be moved by so many minutes: then its offset is within its tolerances, and it departs at midnight or later
 pub record MayShift (trip : Trip) (by : ℤ) : Type 0 where
   pub not_too_early : neg_ℤ (pos trip.early) ≤ℤ (trip.offset +ℤ by)

@@ -23,6 +23,7 @@ module _ {X : Type 0} where
   abbrev pub HasRoom : LogView X → Type 0
   HasRoom log = length log.kept + length log.undone < UNDO_DEPTH
 
+  -- rule: how many edits can be undone
   -- the newest 256 of the items: the older ones can no longer be undone
   abbrev pub latest_items : List X → List X
   latest_items items = drop (length items - UNDO_DEPTH) items
