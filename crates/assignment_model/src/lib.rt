@@ -1,7 +1,9 @@
 //! The assignment problem of a network of trips: plans of next trips, and the dual prices that prove them least.
 //!
 //! A row is a trip that a vehicle leaves, a column is one that it enters, and a pair weighs what the link saves. The crate has
-//! no code but laws. [`laws::certified_law`] says that the blocks of a plan with such prices are least. The laws of
+//! no code but laws.
+//!
+//! The contract that the crates above use: the blocks of a certified plan are least ([`laws::certified_law`]). The laws of
 //! [`path_laws`] are of the paths along which a plan is repaired.
 //!
 //! The contracts cite:

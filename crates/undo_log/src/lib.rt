@@ -6,8 +6,9 @@
 //!
 //! `plan_history` shows a use, in `src/history.rt`.
 //!
-//! The one contract of the layer: each call says what both lists are afterwards and which item it handed back. [`Log::open`]
-//! takes all the memory that a log ever needs. Items are moved. An item that a push forgets from the undone ones is dropped.
+//! The contract that the crates above use: each call says what both lists are afterwards and which item it handed back.
+//! [`Log::open`] takes all the memory that a log ever needs. Items are moved. An item that a push forgets from the undone
+//! ones is dropped.
 //!
 //! The contracts cite `Log`:
 //!

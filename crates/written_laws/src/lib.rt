@@ -1,6 +1,9 @@
 //! What is written of a feed, read again: it reads as the timetable, with the trips at their shifted minutes, and it states the
 //! plan.
 //!
+//! The contract that the crates above use: the two files of `write` read as the timetable of the feed, with the trips at the
+//! minutes at which they stand. Where all trips run and none is added, they state the blocks of the plan, which are least.
+//!
 //! [`laws::written_law`] says the first of each timetable that follows that of the feed. [`laws::follows_law`] says that what
 //! stands after a script does. `write` joins them in what it gives. [`laws::early_law`] says when all times can be written.
 //!
