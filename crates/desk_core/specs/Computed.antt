@@ -15,6 +15,7 @@ use Rattle.undo_log.specs.Log.{last_item, latest_items}
 abbrev pub first_plan : TimetableView → MatrixView → Plan
 first_plan timetable matrix = solved (pairs_of timetable matrix None)
 
+-- rule: which plan stands after a record
 -- the plan for a timetable after the edit of the trip in a slot: that trip is taken out, added, or taken out and then added
 abbrev pub plan_repaired : Edit → ℕ → TimetableView → MatrixView → Plan → Plan
 plan_repaired (Shift trip by) s timetable matrix plan =

@@ -44,6 +44,7 @@ later (Some greatest) stop_time = if nat_lt greatest.sequence stop_time.sequence
 abbrev pub first_stop_time : List StopTimeView → Option StopTimeView
 first_stop_time stop_times = fold sooner None stop_times
 
+-- rule: the first and the last stop of a trip
 -- the stop time of the greatest number along the trip
 abbrev pub last_stop_time : List StopTimeView → Option StopTimeView
 last_stop_time stop_times = fold later None stop_times

@@ -39,6 +39,7 @@ minute_of text = let form = without_spaces text in if length form == 4 then full
 abbrev pub rounded_down : ℕ → ℕ
 rounded_down seconds = seconds / 60
 
+-- rule: a departure is rounded down to the minute, an arrival up
 -- a second as a minute, rounded up
 abbrev pub rounded_up : ℕ → ℕ
 rounded_up seconds = (seconds + 59) / 60

@@ -24,6 +24,7 @@ plan_taken pairs slot plan =
     right_added pairs (next_of plan.next slot)
     (left_added pairs (before_of plan.next slot) (next_of plan.next slot) (plan_without plan slot))
 
+-- rule: which of several least plans
 -- the plan after a trip was added in a slot: with its leaving side, and then with its entering side
 unfoldable pub plan_added : PairsView → ℕ → Plan → Plan
 plan_added pairs slot plan = found_right pairs slot None (found_left pairs slot (Some slot) (with_slots plan (length pairs.moves)))
