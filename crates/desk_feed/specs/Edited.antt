@@ -7,6 +7,7 @@ use Rattle.desk_run.specs.declared.status.Ending.{Ending}
 use Rattle.desk_feed.specs.declared.script.Edited.{Edited}
 use Rattle.desk_feed.specs.Script.{ending_by, refused_to, some_refused, standing_at}
 
+-- rule: the timetable after a script
 -- the timetable after all records of a script, the lines of those that are refused, and how a run ends by them
 abbrev pub standing_after : TimetableView → List Line → TimetableView
 standing_after base lines = standing_at base lines (length lines)

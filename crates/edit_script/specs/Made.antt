@@ -89,6 +89,7 @@ pub record IsDue (t : TimetableView) (edit : Edit) (judged : Judged) : Type 0 wh
   pub slot : IsSlotOf edit t (Some judged.slot)
   pub does : edited t edit ≡ Ok (with_judged t judged)
 
+-- rule: why an edit is refused, and what it does
 -- an edit of a trip is judged: it is known what it does, or why it is refused. Or there was no memory for one that is accepted
 abbrev pub IsJudged : Result Judged EditFault → TimetableView → Edit → Type 0
 IsJudged (Ok judged) t edit = IsDue t edit judged

@@ -26,6 +26,7 @@ pub record Kept : Type 0 where
 abbrev pub nothing_kept : Kept
 nothing_kept = record { sequences = []; repeated = false; first = None; last = None }
 
+-- rule: the first and the last stop of a trip
 -- what is kept with one more stop time
 abbrev pub with_kept : Kept → StopTimeView → Kept
 with_kept kept stop_time = record {

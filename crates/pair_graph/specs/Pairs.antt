@@ -25,6 +25,7 @@ moves_without moves (Some slot) = slice_set moves slot None
 abbrev pub pairs_of : TimetableView → MatrixView → Option ℕ → PairsView
 pairs_of timetable matrix without = record { moves = moves_without (trip_moves timetable.slots) without; matrix = matrix }
 
+-- rule: which trips fit
 -- a vehicle goes on from a trip to every one that it can reach in time along a least walk
 abbrev pub pairs_network : PairsView → Network
 pairs_network pairs = deadhead_network pairs.moves pairs.matrix

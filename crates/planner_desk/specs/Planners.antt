@@ -35,6 +35,7 @@ standing_by base standing r Redo = Err fault.NotAnEdit
 standing_by base standing r Show = Err fault.NotAnEdit
 standing_by base standing r edit = if_accepted standing r (edited (timetable_of base standing) edit)
 
+-- rule: the edits of several planners that stand
 abbrev pub standing_after : TimetableView → List Standing → Standing → Result (List Standing) PlannerFault
 standing_after base standing r = standing_by base standing r r.asked.edit
 
