@@ -126,5 +126,6 @@ audit_does = record {
   most = λ read said. most_steps (length (standing said).slots);
 }
 
+-- what `audit` asks of a run
 unfoldable pub audit_asked : Asked
 audit_asked = of_feed audit_does

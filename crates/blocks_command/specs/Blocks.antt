@@ -60,8 +60,10 @@ pub record IsPlan (said : FeedView) (outcome : OutcomeView) : Type 0 where
   pub planned : IsPlanned said.base said.lines matrix said.settings.prefix outcome
   pub accepted : IsLastAccepted (standing said) matrix said.settings.prefix (plan_at said.base said.lines matrix (length said.lines))
 
+-- what `blocks` asks of a feed
 abbrev pub blocks_does : FeedAsked
 blocks_does = doing IsPlan most_steps_of
 
+-- what `blocks` asks of a run
 unfoldable pub blocks_asked : Asked
 blocks_asked = of_feed blocks_does

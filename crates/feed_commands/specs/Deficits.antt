@@ -15,5 +15,6 @@ deficits_text timetable = deficit_text (place_names timetable) (deficit (live_mo
 abbrev pub deficits_shown : TextAsked
 deficits_shown = record { Shows = λ stands text. text ≡ deficits_text stands.timetable; most = λ timetable. 28 * length timetable.slots }
 
+-- what `deficits` asks of a run
 unfoldable pub deficits_asked : Asked
 deficits_asked = of_feed (showing deficits_shown)

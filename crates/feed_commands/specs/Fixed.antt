@@ -33,8 +33,10 @@ pub record IsFixedText (timetable : TimetableView) (pulls : List Pull) (prefix :
   pub number : pos (length blocks) ≡ deficit_sum timetable
   pub printed : text ≡ fixed_text timetable pulls prefix blocks
 
+-- which texts `fixed` may put, and the most steps
 abbrev pub fixed_shown : TextAsked
 fixed_shown = record { Shows = λ stands. IsFixedText stands.timetable stands.pulls stands.settings.prefix; most = λ timetable. 0 }
 
+-- what `fixed` asks of a run
 unfoldable pub fixed_asked : Asked
 fixed_asked = of_feed (showing fixed_shown)

@@ -47,5 +47,6 @@ pub record IsJoined (said : FeedView) (outcome : OutcomeView) : Type 0 where
 abbrev pub joined_does : FeedAsked
 joined_does = doing IsJoined (λ said. most_steps_of said + 28 * MOST_MOVES)
 
+-- what `joined` asks of a run
 unfoldable pub joined_asked : Asked
 joined_asked = of_feed joined_does

@@ -94,6 +94,7 @@ pub record Keeps (read : ReadView) (said : FeedView) (outcome : OutcomeView) : T
   pub done : outcome ≡ keeping read said
   pub replays : Replays said.base said.lines
 
+-- what `keep` asks of a feed
 abbrev pub keep_does : FeedAsked
 keep_does = record {
   further = [];
@@ -103,5 +104,6 @@ keep_does = record {
   most = λ read said. 0;
 }
 
+-- what `keep` asks of a run
 unfoldable pub keep_asked : Asked
 keep_asked = of_feed keep_does

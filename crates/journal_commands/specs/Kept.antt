@@ -26,9 +26,11 @@ abbrev pub writing_journal : Journal → Result (List Line) FeedFault → Outcom
 writing_journal lines (Ok script) = writing_lines lines (length script)
 writing_journal lines (Err refused) = refusing refused
 
+-- what `kept` does of what was read
 abbrev pub kept_of : ReadView → OutcomeView
 kept_of read = writing_journal (lines_loaded read.journal) (script_loaded read.journal)
 
+-- what `kept` asks of a run
 abbrev pub kept_asked : Asked
 kept_asked = record {
   papers = [];

@@ -56,5 +56,6 @@ pub record IsChains (stands : EditedView) (text : List ℕ) : Type 0 where
 abbrev pub chains_shown : TextAsked
 chains_shown = record { Shows = IsChains; most = λ timetable. 28 * length timetable.slots + 84 * (length timetable.slots + 1) }
 
+-- what `chains` asks of a run
 unfoldable pub chains_asked : Asked
 chains_asked = of_feed (showing chains_shown)

@@ -45,8 +45,10 @@ steps_of_search n = 13440 * n
 abbrev pub steps_of_shifts : ℕ → ℕ
 steps_of_shifts n = 28 * n + (steps_of_search n + 56) * n + steps_of_search n
 
+-- which texts `shifts` may put, and the most steps
 abbrev pub shifts_shown : TextAsked
 shifts_shown = record { Shows = λ stands. IsShiftsText stands.timetable 0; most = λ timetable. steps_of_shifts (length timetable.slots) }
 
+-- what `shifts` asks of a run
 unfoldable pub shifts_asked : Asked
 shifts_asked = of_feed (showing shifts_shown)

@@ -40,13 +40,15 @@ pub record IsHeld (planner : List ℕ) (standing : List Standing) (number : ℕ)
   pub names : trip_at standing later ≡ trip_at standing place
   pub first : (k : ℕ) → place < k → k < later → trip_at standing k ≢ trip_at standing place
 
--- what each answer to an undo says
+-- what each answer to an undo says: an accepted one takes back the planner's last record
 abbrev pub UndoTakesBack : Type 0
 UndoTakesBack = (planner : List ℕ) (standing next : List Standing) → undone planner standing ≡ Ok next → TakesBack planner standing next
 
+-- nothing is to be undone: no record that stands is of the planner
 abbrev pub NothingStands : Type 0
 NothingStands = (planner : List ℕ) (standing : List Standing) → undone planner standing ≡ Err fault.NothingToUndo → HasNone planner standing
 
+-- a record holds the planner's last one: it is later, and names its trip
 abbrev pub HolderStands : Type 0
 HolderStands = (planner : List ℕ) (standing : List Standing) (number : ℕ) → undone planner standing ≡ Err (fault.HeldBy number)
     → IsHeld planner standing number

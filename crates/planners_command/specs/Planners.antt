@@ -65,6 +65,7 @@ own_papers = paper.PlannerEdits ∷ []
 abbrev pub all_papers : List Paper
 all_papers = feed_papers ++ own_papers
 
+-- what `planners` asks of a feed
 abbrev pub planners_does : FeedAsked
 planners_does = record {
   further = own_papers;
@@ -74,5 +75,6 @@ planners_does = record {
   most = λ read said. most_by (standing said) (lines_in read);
 }
 
+-- what `planners` asks of a run
 unfoldable pub planners_asked : Asked
 planners_asked = of_feed planners_does

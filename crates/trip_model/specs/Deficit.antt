@@ -1,4 +1,6 @@
--- The deficit of a place at a minute: departures so far less arrivals so far.
+-- The deficit of a place at a minute: departures so far less arrivals so far. An example: T1 leaves Harbour at 07:00 and ends at
+-- Mill at 07:30, its layover included. T2 leaves Mill at 07:30 and ends at Harbour at 08:00. The deficit of Harbour is 1 from
+-- 07:00 to 07:59, and 0 at 08:00. That of Mill stays 0. The maxima add up to 1, so one vehicle is enough.
 use Rattle.std.specs.Prelude.{ℕ, List, map, filter, count_by, ◌==◌, nat_le, ◌&&◌, ℤ, pos, ◌-ℤ◌}
 use Rattle.trip_model.specs.declared.trip.Move.{Move}
 use Rattle.trip_model.specs.Timetable.{Slot}

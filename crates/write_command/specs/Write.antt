@@ -153,5 +153,6 @@ write_does = record {
   most = λ read. most_steps_of;
 }
 
+-- what `write` asks of a run
 unfoldable pub write_asked : Asked
 write_asked = of_feed write_does
