@@ -1,0 +1,1 @@
+"""The pages of docs/ that tools/book makes from the sources."""

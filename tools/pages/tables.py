@@ -1,0 +1,138 @@
+"""The tables of statuses, files, columns, refusals and limits, from their enums and constants."""
+import pathlib
+import re
+
+from pages.crates import ROOT
+from pages.page import begun, link, sentence, table
+from pages.specs import Names, definitions, specs
+from pages.texts import printed
+
+INTRO = """[FORMATS.md](FORMATS.md) says when each comes, and what is read and printed. In a text, words in capitals stand for what a run has:
+FILE for the name of a file, N for the number of a record, which is counted from 1 after the header.
+"""
+STATUS = "crates/desk_run/src/status.rt"
+FAULTS = [
+    ("Refused feeds", "crates/gtfs_tables/src/fault.rt", "FeedFault", ("gtfs_tables", "Faults", "fault_text_of"),
+     "The line is `feed refused: TEXT`."),
+    ("Refused edits", "crates/edit_script/src/fault.rt", "EditFault", ("edit_script", "Lines", "fault_text_of"),
+     "The line is `record N: refused: TRIP: TEXT`, without the trip where the edit names none."),
+    ("Refused records of planners", "crates/planner_desk/src/fault.rt", "PlannerFault", ("planners_command", "Answers", "planner_fault_text"),
+     "The line is `planner N: refused: TRIP: TEXT`."),
+    ("Files that are no claim", "crates/claim_files/src/fault.rt", "ClaimFault", ("claim_files", "Lines", "claim_text_of"),
+     "The line is `no: TEXT`."),
+    ("Reasons against a claim", "crates/price_check/src/verdict.rt", "Reason", ("claim_files", "Lines", "reason_text_of"),
+     "The line is `no: TEXT`. The first reason counts."),
+]
+
+
+def source(file: str) -> str:
+    """A file of the sources."""
+    return (ROOT / file).read_text()
+
+
+def constants(file: str) -> list[tuple[str, int, str]]:
+    """The constants of a file: name, value and comment."""
+    found = re.findall(r"((?:^ *///[^\n]*\n)*)^ *pub(?:\([\w ]+\))? const (\w+): \w+ = ([^;]+);", source(file), re.MULTILINE)
+    return [(name, value.strip(), comment_of(text)) for text, name, value in found]
+
+
+def comment_of(text: str) -> str:
+    """The words of comment lines."""
+    return " ".join(line.strip().removeprefix("///").strip() for line in text.splitlines())
+
+
+def block(file: str, kind: str, name: str) -> str:
+    """What stands between the braces of an enum or a struct."""
+    found = re.search(rf"pub {kind} {name} \{{\n(.*?)^\}}", source(file), re.MULTILINE | re.DOTALL)
+    if not found:
+        raise SystemExit(f"book: {file} has no {kind} {name}")
+    return found[1]
+
+
+def variants(file: str, name: str) -> dict[str, str]:
+    """The variants of an enum with their comments."""
+    found = re.findall(r"((?:^    ///[^\n]*\n)*)^    (\w+)(?=[(,{ ])", block(file, "enum", name), re.MULTILINE)
+    return {variant: comment_of(text) for text, variant in found}
+
+
+def names_by(file: str, kind: str) -> dict[str, str]:
+    """The names that the arms of a match give the variants of an enum."""
+    return dict(re.findall(rf'{kind}::(\w+) => "([^"]*)"', source(file)))
+
+
+def statuses() -> str:
+    """The table of statuses."""
+    said = dict(re.findall(r'status == (\w+) then Some \(codes "([^"]*)"\)', source("crates/desk_program/specs/Status.antt")))
+    rows = [(value, sentence(comment), f"`{said[name]}`" if name in said else "") for name, value, comment in constants(STATUS)]
+    if len(rows) < 2 or not set(said) <= {name for name, _, _ in constants(STATUS)}:
+        raise SystemExit("book: the statuses are not found")
+    return table(("Status", "Comes", "On standard error"), rows)
+
+
+def papers() -> dict[str, str]:
+    """The names of files by the variants of `Paper`."""
+    return names_by("crates/gtfs_tables/src/paper.rt", "Paper")
+
+
+def columns() -> dict[str, str]:
+    """The names of columns by the variants of `Column`."""
+    return names_by("crates/gtfs_tables/src/paper.rt", "Column")
+
+
+def required() -> dict[str, list[str]]:
+    """For each variant of `Paper` the columns that its file must have. Those of one definition stand together."""
+    found: dict[str, list[str]] = {}
+    week = re.findall(r"column\.(\w+)", definitions()["service_days", "Calendar", "weekdays"].text)
+    for spec in specs():
+        for it in spec.definitions:
+            for paper, column in re.findall(r"column_in paper\.(\w+) (column\.\w+|\(weekday day\))", it.text):
+                names = [column.removeprefix("column.")] if column.startswith("column.") else week
+                found.setdefault(paper, []).extend(name for name in names if name not in found.get(paper, []))
+    return found
+
+
+def files() -> str:
+    """The table of files and their columns."""
+    rows = [(f"`{name}`", ", ".join(f"`{columns()[column]}`" for column in required().get(paper, []))) for paper, name in papers().items()]
+    return table(("File", "Columns that are read by their names"), rows)
+
+
+def refusals(file: str, enum: str, key: tuple[str, str, str]) -> str:
+    """The table of the refusals of an enum, each with its text."""
+    names = Names(source(f"crates/{key[0]}/specs/{key[1]}.antt"))
+    texts = printed(definitions()[key], names, {f"paper.{paper}": name for paper, name in papers().items()})
+    if key[2] == "planner_fault_text":
+        edits = printed(definitions()["edit_script", "Lines", "fault_text_of"], Names(source("crates/edit_script/specs/Lines.antt")), {})
+        texts |= {case: edits[case] for case in edits if case in texts} | {"Refused": "the text of a refused edit"}
+    rows = []
+    for case, comment in variants(file, enum).items():
+        if case != "Memory":
+            if case not in texts:
+                raise SystemExit(f"book: {enum}::{case} has no text")
+            rows.append((f"`{texts[case]}`" if case != "Refused" else texts[case], sentence(comment)))
+    return table(("Text", "Comes"), rows)
+
+
+def limits() -> str:
+    """The table of limits, each with the constant that owns it."""
+    file = "crates/limits/src/limits.rt"
+    owners = {name: crate for crate, names in re.findall(r"use (\w+)::\{?([^};]*)\}?;", source(file)) for name in re.findall(r"\w+", names)}
+    values = dict(re.findall(r"^      (\w+) = (\d+);", source(file), re.MULTILINE))
+    held = dict(re.findall(r"^        (\w+): (\w+),", source(file), re.MULTILINE))
+    fields = re.findall(r"((?:^    ///[^\n]*\n)+)^    pub (\w+):", block(file, "struct", "Limits"), re.MULTILINE)
+    rows = []
+    for text, field in fields:
+        crate, name = owners[held[field]], held[field]
+        home = next((it for it in sorted((ROOT / "crates" / crate / "src").glob("*.rt")) if f"const {name}:" in it.read_text()), None)
+        if home is None:
+            raise SystemExit(f"book: {name} is no constant of {crate}")
+        rows.append((sentence(comment_of(text)), f"{int(values[field]):,}", link(f"`{name}`", home.relative_to(ROOT)) + f" of `{crate}`"))
+    return table(("Limit", "At most", "Constant"), rows)
+
+
+def page() -> str:
+    """The page."""
+    parts = [begun("Tables", INTRO), "\n## Statuses\n\n", statuses(), "\n## Files and columns\n\n", files()]
+    for title, file, enum, key, text in FAULTS:
+        parts.append(f"\n## {title}\n\n{text} {link(f'`{enum}`', pathlib.Path(file))} has them.\n\n" + refusals(file, enum, key))
+    return "".join([*parts, "\n## Limits\n\n", limits()])
