@@ -4,20 +4,22 @@ import re
 
 from pages.crates import ROOT
 from pages.page import begun, link, sentence, table
-from pages.specs import Names, definitions, specs
+from pages.specs import Key, Names, definitions, specs
 from pages.texts import printed
 
 INTRO = """[FORMATS.md](FORMATS.md) says when each comes, and what is read and printed. In a text, words in capitals stand for what a run has:
 FILE for the name of a file, N for the number of a record, which is counted from 1 after the header.
 """
 STATUS = "crates/desk_run/src/status.rt"
+EDITS: Key = ("edit_script", "Lines", "fault_text_of")
+PLANNERS: Key = ("planners_command", "Answers", "planner_fault_text")
 FAULTS = [
     ("Refused feeds", "crates/gtfs_tables/src/fault.rt", "FeedFault", ("gtfs_tables", "Faults", "fault_text_of"),
      "The line is `feed refused: TEXT`."),
-    ("Refused edits", "crates/edit_script/src/fault.rt", "EditFault", ("edit_script", "Lines", "fault_text_of"),
-     "The line is `record N: refused: TRIP: TEXT`, without the trip where the edit names none."),
-    ("Refused records of planners", "crates/planner_desk/src/fault.rt", "PlannerFault", ("planners_command", "Answers", "planner_fault_text"),
-     "The line is `planner N: refused: TRIP: TEXT`."),
+    ("Refused edits", "crates/edit_script/src/fault.rt", "EditFault", EDITS,
+     "The line is `record N: refused, TRIP: TEXT`, without the trip where the edit names none."),
+    ("Refused records of planners", "crates/planner_desk/src/fault.rt", "PlannerFault", PLANNERS,
+     "The line is `planner N: refused, TRIP: TEXT`, where a trip is named."),
     ("Files that are no claim", "crates/claim_files/src/fault.rt", "ClaimFault", ("claim_files", "Lines", "claim_text_of"),
      "The line is `no: TEXT`."),
     ("Reasons against a claim", "crates/price_check/src/verdict.rt", "Reason", ("claim_files", "Lines", "reason_text_of"),
@@ -97,19 +99,25 @@ def files() -> str:
     return table(("File", "Columns that are read by their names"), rows)
 
 
-def refusals(file: str, enum: str, key: tuple[str, str, str]) -> str:
-    """The table of the refusals of an enum, each with its text."""
+def texts_of(key: Key) -> dict[str, str]:
+    """What a definition prints of each refusal, as a pattern."""
     names = Names(source(f"crates/{key[0]}/specs/{key[1]}.antt"))
-    texts = printed(definitions()[key], names, {f"paper.{paper}": name for paper, name in papers().items()})
-    if key[2] == "planner_fault_text":
-        edits = printed(definitions()["edit_script", "Lines", "fault_text_of"], Names(source("crates/edit_script/specs/Lines.antt")), {})
-        texts |= {case: edits[case] for case in edits if case in texts} | {"Refused": "the text of a refused edit"}
+    return printed(definitions()[key], names, {f"paper.{paper}": name for paper, name in papers().items()})
+
+
+def refusals(file: str, enum: str, key: Key) -> str:
+    """The table of the refusals of an enum, each with its text."""
+    texts = {case: f"`{text}`" for case, text in texts_of(key).items()}
+    if key == PLANNERS:
+        # Those of an edit are printed by the definition of that.
+        edits = texts_of(EDITS)
+        texts |= {case: f"`{edits[case]}`" for case in texts if case in edits} | {"Refused": "that of the edit"}
     rows = []
     for case, comment in variants(file, enum).items():
         if case != "Memory":
             if case not in texts:
                 raise SystemExit(f"book: {enum}::{case} has no text")
-            rows.append((f"`{texts[case]}`" if case != "Refused" else texts[case], sentence(comment)))
+            rows.append((texts[case], sentence(comment)))
     return table(("Text", "Comes"), rows)
 
 
