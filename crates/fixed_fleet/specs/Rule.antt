@@ -41,7 +41,7 @@ first_in_first_out moves = fold (λ links j. with_link links (forerunner moves l
     (by_departure moves)
 
 -- what a forerunner is: no slot that may precede j ends before it, and none that ends together with it has a lesser
--- number; and there is none only where no slot may precede j
+-- number. There is none only where no slot may precede j
 abbrev pub IsForerunner : List (Option Move) → List (Option ℕ) → ℕ → Option ℕ → Type 0
 IsForerunner moves links j None = (h : ℕ) → h < length moves → may_precede moves links j h ≡ true → ⊥
 IsForerunner moves links j (Some i) =
