@@ -1,6 +1,6 @@
 """The map of crates: their layers, the picture, and for each crate what it does, what it stands on and its contract."""
 from pages.crates import Crate, layers, reduced
-from pages.page import begun, link, table
+from pages.page import begun, link, sentence, table
 
 INTRO = """A crate stands on its own layer and on lower ones. [ARCHITECTURE.md](ARCHITECTURE.md) says why the layers are as they are, and
 [DEFINITIONS.md](DEFINITIONS.md) has each crate's definitions.
@@ -12,7 +12,7 @@ INTRO = """A crate stands on its own layer and on lower ones. [ARCHITECTURE.md](
 def row(crate: Crate) -> tuple[str, ...]:
     """The row of a crate."""
     uses = ", ".join(f"`{name}`" for name in reduced()[crate.name])
-    return link(f"`{crate.name}`", crate.root.relative_to(crate.folder.parent.parent)), crate.purpose, uses, crate.contract
+    return link(f"`{crate.name}`", crate.root.relative_to(crate.folder.parent.parent)), crate.purpose, uses, sentence(crate.contract)
 
 
 def crate_map() -> str:

@@ -5,7 +5,7 @@ import pathlib
 import re
 
 ROOT = pathlib.Path(__file__).resolve().parent.parent.parent
-CONTRACT = re.compile(r"The contract that the crates? above uses?: ")
+CONTRACT = re.compile(r"^The contract that the crates? above uses?: *")
 
 
 @dataclasses.dataclass(frozen=True)
@@ -34,9 +34,10 @@ class Crate:
     @property
     def contract(self) -> str:
         """The contract that the crates above use, or nothing where its head has none."""
-        for text in self.head:
+        for text, following in zip(self.head, (*self.head[1:], "")):
             if "contract that the crate" in text:
-                return CONTRACT.sub("", text)
+                items = re.sub(r"(^|(?<=\.)) ?- ", " ", following) if text.endswith(":") else ""
+                return CONTRACT.sub("", f"{text} {items}".strip())
         return ""
 
 

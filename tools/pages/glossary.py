@@ -8,7 +8,7 @@ one before it. [RULES.md](RULES.md) finds a rule, and [CRATES.md](CRATES.md) a c
 
 - `Is…`, `Are…` and `Has…` state a fact, and `is_…` and `has_…` test one. `with_…` changes a part or adds one. `columns_in` is where
   the columns of a file are. A `…View`, `seen` and `…_seen` are what a contract sees of a value.
-- A law is the contract of a call `…_law`, mostly in `src/laws.rt`. `asked` is what a command asks.
+- A law is the contract of a call `…_law`, mostly in `src/laws.rt`. `…_asked` is what a command asks.
 """
 
 

@@ -7,8 +7,8 @@ MADE = "Made by `tools/book` from the sources; change those, not this page."
 
 
 def begun(title: str, text: str) -> str:
-    """The top of a page."""
-    return f"# {title}\n\n{MADE} {text}\n"
+    """The top of a page. A paragraph or an item of a list becomes one line."""
+    return f"# {title}\n\n{MADE} " + re.sub(r"(?<!\n)\n *(?![\n\-])", " ", text.strip()) + "\n"
 
 
 def link(text: str, file: pathlib.Path) -> str:
