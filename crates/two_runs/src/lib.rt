@@ -1,4 +1,4 @@
-//! Runs one after the other.
+//! Runs one after the other: `check` says yes to what `blocks` wrote, and `audit` finds least what `write` wrote.
 //!
 //! [`run_blocks_and_check`] is `blocks`, and then `check` over the same shelf, which says yes to what was written. [`later_law`]
 //! says so of a `check` at any later time.
