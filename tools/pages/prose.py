@@ -4,6 +4,8 @@ import re
 from pages.mentions import FENCE
 
 LONGEST = 35
+JOINT = "\u2423"
+"""What stands for a space in a piece of code."""
 ENDS = re.compile(r"(?<=[.?!])[\"')*]*\s+(?=[\"'(*`]*[A-Z0-9`\[])")
 
 
@@ -15,7 +17,7 @@ def words(text: str) -> int:
 def plain(text: str) -> str:
     """A text in which a link is its words, and a piece of code is one word."""
     text = re.sub(r"!?\[((?:[^\[\]`]|`[^`]*`)*)\]\([^)]*\)", r"\1", text)
-    return re.sub(r"`[^`\n]*`", "Code", text).replace("**", "")
+    return re.sub(r"`[^`\n]*`", lambda code: code[0].replace(" ", JOINT), text).replace("**", "")
 
 
 def parts(text: str) -> list[str]:
@@ -41,4 +43,4 @@ def sentences(text: str) -> list[str]:
 
 def long_sentences(text: str) -> list[str]:
     """The sentences with more words than a reader follows."""
-    return [it for it in sentences(text) if len(re.findall(r"\w[\w'’.,:-]*", it)) > LONGEST]
+    return [it.replace(JOINT, " ") for it in sentences(text) if len(re.findall(r"\S*\w\S*", it)) > LONGEST]
