@@ -13,6 +13,7 @@ use Rattle.block_writer.specs.declared.stop_times.Columns.{Columns}
 use Rattle.block_writer.specs.Fields.{slot_in, table_text}
 use Rattle.block_writer.specs.Texts.{texts_in, with_written}
 
+-- rule: a time that is moved
 -- a second of the service day moved by so many minutes, and not below midnight
 abbrev pub moved : ℤ → ℕ → ℕ
 moved offset seconds = if int_lt offset (pos 0) then seconds - 60 * unsigned_abs offset else seconds + 60 * unsigned_abs offset

@@ -8,6 +8,7 @@ use Rattle.trip_model.specs.Timetable.{TimetableView, number_of, slot_at, slot_n
 abbrev pub if_runs : TimetableView → ℕ → Option ℕ
 if_runs timetable s = then_some (slot_at timetable s).trip.live s
 
+-- rule: which trip a record of a claim names
 -- the slot of the trip of that name, if it runs
 abbrev pub running : TimetableView → List ℕ → Option ℕ
 running timetable name = option_and_then (if_runs timetable) (number_of (slot_names timetable) name)

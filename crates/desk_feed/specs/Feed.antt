@@ -36,6 +36,7 @@ pub record FeedView : Type 0 where
   pub entries : List Entry
   pub pulls : List Pull
 
+-- rule: the services of a date in the settings
 -- the settings where there is no date; where there is one, those in which the services are kept that run on it
 abbrev pub kept_on : Found → Found → SettingsView → Option ℕ → Result SettingsView FeedFault
 kept_on calendar dates settings None = Ok settings

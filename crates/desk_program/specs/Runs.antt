@@ -10,6 +10,7 @@ use Rattle.desk_run.specs.declared.status.TheConstants.{USAGE, WRITE_FAULT}
 use Rattle.desk_program.specs.Commands.{asked_by}
 use Rattle.desk_program.specs.declared.command.CommandName.{CommandName}
 
+-- rule: the usage line
 -- the line that is put for words of no form, with its line feed
 abbrev pub usage_line : List ℕ
 usage_line = codes "usage: blockdesk deficits|fixed|blocks|check|write|chart|chains|shifts|keep|kept|joined|planners|audit FOLDER, or blockdesk sample N" ++ 10 ∷ []

@@ -79,6 +79,7 @@ if_date text = if length text == 8 then date_of text else None
 abbrev pub date_in : Data → Option ℕ
 date_in value = option_and_then if_date (as_str value)
 
+-- rule: what holds without `desk.toml`
 -- what holds where `desk.toml` does not say otherwise
 abbrev pub standard_desk : DeskTable
 standard_desk = record { services = None; date = None; classes = []; layover = 0; layovers = []; early = 0; late = 0; prefix = codes "B" }

@@ -23,6 +23,7 @@ deadhead_text timetable m =
 unfoldable pub further_text : TimetableView → List Deadhead → List ℕ
 further_text timetable ms = flat_map (λ (m : Deadhead). codes "; " ++ deadhead_text timetable m) ms
 
+-- rule: the line of a chain
 -- the chain of that number: its deadheads, and the sum of the maxima with it
 unfoldable pub chain_text : TimetableView → ℕ → Chain → ℕ → List ℕ
 chain_text timetable number chain sum =

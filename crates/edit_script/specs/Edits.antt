@@ -8,6 +8,7 @@ use Rattle.edit_script.specs.declared.edit.Line.TheVariants as line
 use Rattle.trip_model.specs.declared.limits.TheConstants.{LAST_DEPARTURE}
 use Rattle.edit_script.specs.declared.edit.TheConstants.{MOST_SHIFT}
 
+-- rule: the limits of an edit
 -- an edit is in form: its trip has a name, a shift is 1 to 120 minutes either way, and minutes are at most 99:59
 abbrev pub InForm : Edit → Type 0
 InForm (Shift trip by) = (0 < length trip) × (0 < unsigned_abs by) × (unsigned_abs by ≤ MOST_SHIFT)

@@ -89,6 +89,7 @@ timetable_of settings feed_trips =
     let places = places_met (ends_of settings feed_trips) in
     provided (nat_le (length places) MOST_PLACES) (fault.TooManyPlaces paper.StopTimes) (Ok (timetable_over settings places feed_trips))
 
+-- rule: the timetable of a feed
 -- The base timetable: of `trips.txt` the selected trips, of `stop_times.txt` their stop times, and of these the timetable. What
 -- comes first is judged first.
 unfoldable pub base_of : SettingsView → Found → Found → Result TimetableView FeedFault

@@ -41,6 +41,7 @@ last_from planner n so_far (r ∷ standing) = last_from planner (n + 1) (if byte
 abbrev pub last_place : List ℕ → List Standing → Option ℕ
 last_place planner standing = last_from planner 0 None standing
 
+-- rule: which record holds another one's undo
 -- a record after another holds it: it is of another planner, and names its trip
 abbrev pub holds : Standing → Standing → Bool
 holds held r = not (bytes_eq r.asked.planner held.asked.planner) && bytes_eq (trip_of r.asked.edit) (trip_of held.asked.edit)

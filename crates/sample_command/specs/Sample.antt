@@ -19,6 +19,7 @@ use Rattle.deadhead_matrix.specs.Plans.{IsScheduled}
 use Rattle.desk_feed.specs.Schedule.{IsMatrixFor, most_steps}
 use Rattle.feed_sample.specs.Sample.{sample_files}
 
+-- rule: the line of a sample
 -- the summary of a sample of so many trips: the fewest vehicles without deadheads, and the vehicles and the empty minutes of a plan
 unfoldable pub summary_line : ℕ → ℕ → ℕ → ℕ → List ℕ
 summary_line trips fixed vehicles minutes =
