@@ -16,7 +16,7 @@ NAME = re.compile(r"[^\W\d]\w*(?:::[^\W\d]\w*)*(?:\(\))?")
 FILE = re.compile(r"[\w.*-]+(?:/[\w.*-]+)*/?")
 ENDINGS = (".rt", ".antt", ".py", ".js", ".edit", ".case", ".css", ".html", ".sh")
 FOLDERS = ("crates", "tools", "docs", "workbench", "examples", "cases", "prebuilt", "src", "specs", "proofs", "must-fail", "static")
-BASES = ("", "crates", "crates/*", "workbench", "workbench/desk", "docs", "tools")
+BASES = ("", "crates", "workbench", "workbench/desk", "docs", "tools")
 SOURCES = ("crates", "workbench", "tools", "examples", "cases", "desk", "blockdesk", "crates.txt", "prebuilt/PROVENANCE", ".ci")
 COMMENT = {".antt": re.compile(r"(?m)--.*$")}
 
@@ -33,16 +33,21 @@ def documents() -> list[pathlib.Path]:
     return [it for it in tracked() if it.suffix == ".md" and it.parts[0] in ("docs", "README.md", "examples", "tools")]
 
 
-def is_listed(path: str) -> bool:
-    """Whether a file or folder is there under a path from the root, which may have `*`."""
-    shape = re.compile(re.escape(path.strip("/")).replace(r"\*", "[^/]*") + r"(/.*)?")
-    return any(shape.fullmatch(it.as_posix()) for it in tracked())
+@functools.cache
+def paths() -> frozenset[str]:
+    """The files and folders, from the root."""
+    return frozenset(it.as_posix() for path in tracked() for it in (path, *path.parents))
 
 
 @functools.cache
 def is_there(path: str) -> bool:
-    """Whether a path is one of the repository, or of a crate, or of the workbench."""
-    return any(is_listed(f"{base}/{path}" if base else path) for base in BASES)
+    """Whether a path, which may have `*`, is one of the repository, or of a crate, or of the workbench."""
+    path = path.strip("/")
+    whole = [f"{base}/{path}" if base else path for base in (*BASES, *(f"crates/{crate}" for crate in crates()))]
+    if "*" not in path:
+        return any(it in paths() for it in whole)
+    shapes = [re.compile(re.escape(it).replace(r"\*", "[^/]*")) for it in whole]
+    return any(shape.fullmatch(it) for shape in shapes for it in paths())
 
 
 @functools.cache
@@ -80,6 +85,11 @@ def is_name(span: str) -> bool:
     return bool(NAME.fullmatch(span)) and ("_" in span.strip("_") or "::" in span or bool(re.search(r"[a-z][A-Z]", span)))
 
 
+def is_word(word: str, allowed: frozenset[str]) -> bool:
+    """Whether a word is one of the sources. A number at its end is a size, as that of a generated feed."""
+    return any(it in words() or it in allowed for it in (word, re.sub(r"(_\d+)+$", "", word)))
+
+
 def wrong_span(span: str, allowed: frozenset[str]) -> str | None:
     """What is wrong about a span of code."""
     if FILE.fullmatch(span) and not re.search(r"(^|[/_.])[A-Z]{2,}([/_.]|$)", span):
@@ -87,11 +97,8 @@ def wrong_span(span: str, allowed: frozenset[str]) -> str | None:
             return None if is_there(span) else f"no file {span}"
         if "/" not in span and span.endswith(ENDINGS) and not span.startswith("."):
             return None if is_file_name(span) else f"no file {span}"
-    if is_name(span):
-        # A number at the end of a name is its size, as that of a generated feed.
-        missing = [it for it in re.findall(r"\w+", span) if not {it, re.sub(r"(_\d+)+$", "", it)} & (words() | allowed)]
-        if missing:
-            return f"nothing is called {span}"
+    if is_name(span) and not all(is_word(it, allowed) for it in re.findall(r"\w+", span)):
+        return f"nothing is called {span}"
     return None
 
 
@@ -108,11 +115,11 @@ def wrong_link(document: pathlib.Path, text: str, target: str) -> str | None:
     file = file.relative_to(ROOT)
     if part and file.suffix == ".md" and part not in anchors(file):
         return f"{path} has no section #{part}"
-    names = [it for it in SPAN.findall(text) if is_name(it)]
-    if file.suffix in ENDINGS and len(names) == 1 and text == f"`{names[0]}`":
-        last = re.findall(r"\w+", names[0])[-1]
+    name = text.strip("`")
+    if file.suffix in ENDINGS and text == f"`{name}`" and NAME.fullmatch(name):
+        last = re.findall(r"\w+", name)[-1]
         if not re.search(rf"\b{last}\b", (ROOT / file).read_text()) and last not in (file.stem, *file.parts):
-            return f"{path} has no {names[0]}"
+            return f"{path} has no {name}"
     return None
 
 
