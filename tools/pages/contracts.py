@@ -10,7 +10,6 @@ from pages.specs import Key, Names
 COMMENT_OR_TEXT = re.compile(r'//[^\n]*|"(?:\\.|[^"\\])*"|\'(?:\\.|[^\'\\])\'')
 OPENING = re.compile(r"\bfn\s+(\w+)|\bimpl\b([^{;]*)\{|\btrait\s+(\w+)[^{;]*\{|\bghost\s+(\w+)\s*(?::[^={;]*)?=\s*\{")
 CLAUSE = re.compile(r"\b(?:requires|ensures)\b\s*\w*\s*$")
-BRACKETS = {"(": ")", "[": "]", "{": "}"}
 
 
 @dataclasses.dataclass(frozen=True)

@@ -2,8 +2,8 @@
 from pages.crates import Crate, layers, reduced
 from pages.page import begun, link, sentence, table
 
-INTRO = """A crate stands on its own layer and on lower ones. [ARCHITECTURE.md](ARCHITECTURE.md) says why the layers are as they are, and
-[DEFINITIONS.md](DEFINITIONS.md) has each crate's definitions.
+INTRO = """A crate stands on its own layer and on lower ones. [ARCHITECTURE.md](ARCHITECTURE.md) says why the layers are as
+they are, and [DEFINITIONS.md](DEFINITIONS.md) has each crate's definitions.
 
 ![A box for each crate; a line leads down to each crate that it stands on and through no other.](crates.svg)
 """
@@ -12,7 +12,7 @@ INTRO = """A crate stands on its own layer and on lower ones. [ARCHITECTURE.md](
 def row(crate: Crate) -> tuple[str, ...]:
     """The row of a crate."""
     uses = ", ".join(f"`{name}`" for name in reduced()[crate.name])
-    return link(f"`{crate.name}`", crate.root.relative_to(crate.folder.parent.parent)), crate.purpose, uses, sentence(crate.contract)
+    return link(f"`{crate.name}`", crate.root), crate.purpose, uses, sentence(crate.contract)
 
 
 def crate_map() -> str:

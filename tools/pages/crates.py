@@ -17,13 +17,8 @@ class Crate:
     head: tuple[str, ...]
 
     @property
-    def folder(self) -> pathlib.Path:
-        """Its folder."""
-        return ROOT / "crates" / self.name
-
-    @property
     def root(self) -> pathlib.Path:
-        """The file with its head."""
+        """The file with its head, from the root of the repository."""
         return root_of(self.name)
 
     @property
@@ -50,14 +45,14 @@ class Layer:
 
 
 def root_of(crate: str) -> pathlib.Path:
-    """The file with the head of a crate: src/lib.rt, or src/main.rt of a program."""
-    source = ROOT / "crates" / crate / "src"
-    return source / "lib.rt" if (source / "lib.rt").exists() else source / "main.rt"
+    """The file with the head of a crate, from the root of the repository: src/lib.rt, or src/main.rt of a program."""
+    source = pathlib.Path("crates", crate, "src")
+    return source / "lib.rt" if (ROOT / source / "lib.rt").exists() else source / "main.rt"
 
 
 def head_of(crate: str) -> tuple[str, ...]:
     """The paragraphs of the head of a crate, each as one line. A link to a name is the name."""
-    lines = [line[3:].strip() for line in root_of(crate).read_text().splitlines() if line.startswith("//!")]
+    lines = [line[3:].strip() for line in (ROOT / root_of(crate)).read_text().splitlines() if line.startswith("//!")]
     text = re.sub(r"\[(`[^`]*`)\]", r"\1", "\n".join(lines))
     return tuple(" ".join(part.split()) for part in text.split("\n\n"))
 

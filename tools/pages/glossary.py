@@ -3,11 +3,11 @@ from pages.crates import layers
 from pages.page import begun, cell, link, table
 from pages.specs import Spec, specs
 
-INTRO = """An entry is a definition with the comment above it. Names that share a comment share an entry, and a comment may go on from the
-one before it. [RULES.md](RULES.md) finds a rule, and [CRATES.md](CRATES.md) a crate.
+INTRO = """An entry is a definition with the comment above it. Names that share a comment share an entry, and a comment may go
+on from the one before it. [RULES.md](RULES.md) finds a rule, and [CRATES.md](CRATES.md) a crate.
 
-- `Is…`, `Are…` and `Has…` state a fact, and `is_…` and `has_…` test one. `with_…` changes a part or adds one. `columns_in` is where
-  the columns of a file are. A `…View`, `seen` and `…_seen` are what a contract sees of a value.
+- `Is…`, `Are…` and `Has…` state a fact, and `is_…` and `has_…` test one. `with_…` changes a part or adds one. `columns_in` is
+  where the columns of a file are. A `…View`, `seen` and `…_seen` are what a contract sees of a value.
 - A law is the contract of a call `…_law`, mostly in `src/laws.rt`. `…_asked` is what a command asks.
 """
 

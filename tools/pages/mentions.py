@@ -24,8 +24,9 @@ COMMENT = {".antt": re.compile(r"(?m)--.*$")}
 @functools.cache
 def tracked() -> tuple[pathlib.Path, ...]:
     """The files that git knows, from the root."""
-    said = subprocess.run(["git", "ls-files", "-z", "--cached", "--others", "--exclude-standard"], cwd=ROOT, check=True, stdout=subprocess.PIPE)
-    return tuple(pathlib.Path(name) for name in said.stdout.decode().split("\0") if name and (ROOT / name).is_file())
+    words = ["git", "ls-files", "-z", "--cached", "--others", "--exclude-standard"]
+    said = subprocess.run(words, cwd=ROOT, check=True, stdout=subprocess.PIPE).stdout.decode()
+    return tuple(pathlib.Path(name) for name in said.split("\0") if name and (ROOT / name).is_file())
 
 
 def documents() -> list[pathlib.Path]:

@@ -25,7 +25,7 @@ def table(head: Iterable[str], rows: Iterable[Iterable[str]]) -> str:
     """A table."""
     head = list(head)
     lines = [head, ["---"] * len(head), *rows]
-    return "".join("| " + " | ".join(cell(it) for it in line) + " |\n" for line in lines).replace("|  |", "| |").replace("|  |", "| |")
+    return "".join("|" + "".join(f" {cell(it)} |" if it else " |" for it in line) + "\n" for line in lines)
 
 
 def sentence(text: str) -> str:

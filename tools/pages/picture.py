@@ -79,12 +79,14 @@ def picture() -> str:
     def y(level: int) -> float:
         return 44 + (top - level) * ROW + HEIGHT / 2
 
-    parts = [f'<svg xmlns="http://www.w3.org/2000/svg" viewBox="0 0 {size_x:.0f} {size_y:.0f}" font-family="sans-serif" font-size="12">',
+    parts = [f'<svg xmlns="http://www.w3.org/2000/svg" viewBox="0 0 {size_x:.0f} {size_y:.0f}" font-family="sans-serif" '
+             'font-size="12">',
              "<title>The crates, and what each stands on</title>", '<rect width="100%" height="100%" fill="#ffffff"/>']
     x = float(MARGIN)
     colour = {}
     for layer, fill in zip(layers(), COLOURS):
-        parts.append(f'<rect x="{x:.0f}" y="10" width="14" height="14" fill="{fill}" stroke="#555"/><text x="{x + 20:.0f}" y="21">{layer.name}</text>')
+        parts.append(f'<rect x="{x:.0f}" y="10" width="14" height="14" fill="{fill}" stroke="#555"/>'
+                     f'<text x="{x + 20:.0f}" y="21">{layer.name}</text>')
         x += 40 + 8 * len(layer.name)
         colour |= {crate.name: fill for crate in layer.crates}
     parts.append('<g fill="none" stroke="#7a8793" stroke-width="1">')

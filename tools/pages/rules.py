@@ -4,9 +4,9 @@ from pages.crates import layers
 from pages.page import begun, link, table
 from pages.specs import Definition, definitions, users
 
-INTRO = """A rule is a definition in `specs/` that is tagged by `-- rule: NAME`. Its code is each function whose contract cites it. Where no
-contract does so, the code is that of definitions which name it, in the same crate, and the column begins with "by".
-[FORMATS.md](FORMATS.md) has the rules in words.
+INTRO = """A rule is a definition in `specs/` with a line `-- rule: NAME` above it. Its code is each function whose contract cites
+it. Where no contract does so, or only laws, the code is that of the nearest definition which names it and is cited, in the same
+crate; the column begins with that. [FORMATS.md](FORMATS.md) has the rules in words.
 """
 FILES = 2
 
@@ -17,7 +17,8 @@ def is_law(function: Function) -> bool:
 
 
 def code_of(rule: Definition) -> tuple[str, list[Function]]:
-    """The functions whose contracts cite a rule. Where these are laws at most, also those of the nearest definition that names it."""
+    """The functions whose contracts cite a rule. Where these are laws at most, also those of the nearest definition that names
+    it, with the name of that."""
     direct = citing().get(rule.key, [])
     if not all(map(is_law, direct)):
         return "", direct
@@ -62,7 +63,8 @@ def index() -> str:
         rows = []
         for rule, owners in rules().items():
             if owners[0].key[0] in names:
-                rows += [(rule if it is owners[0] else "", link(f"`{it.name}`", it.file) + f" of `{it.key[0]}`", shown(it)) for it in owners]
+                rows += [(rule if it is owners[0] else "", f"{link(f'`{it.name}`', it.file)} of `{it.key[0]}`", shown(it))
+                         for it in owners]
         if rows:
             parts.append(f"\n## {layer.name.capitalize()}\n\n" + table(("Rule", "Definition", "Code"), rows))
     return "".join(parts)

@@ -12,7 +12,7 @@ import re
 
 from pages.crates import ROOT, crates
 
-DEFINED = re.compile(r"(?P<indent> *)(?:(?:abbrev|unfoldable)(?P<is_pub> pub)? |(?P<is_record>pub record |record ))(?P<name>[^\s:(]+)")
+DEFINED = re.compile(r" *(?:(?:abbrev|unfoldable) (?P<pub>pub )?|(?P<pub_record>pub )?record )(?P<name>[^\s:(]+)")
 IMPORT = re.compile(r"\buse Rattle\.(\w+)\.specs\.(\w+)(?:\.\{([^}]*)\}| as (\w+))")
 WORD = re.compile(r"(?<![\w.])([^\W\d][\w']*)(?:\.([^\W\d][\w']*))?")
 
@@ -101,8 +101,8 @@ def read_spec(crate: str, path: pathlib.Path) -> Spec:
         words = tuple(it.removeprefix("-- word: ") for it in comment if it.startswith("-- word: "))
         rest = [it for it in comment if not it.startswith(("-- rule: ", "-- word: "))]
         body = "\n".join(it for it in lines[n:end] if not it.strip().startswith("--"))
-        definitions.append(Definition((crate, path.stem, found["name"]), bool(found["is_pub"] or "pub" in (found["is_record"] or "")),
-                                      plain(rest), rules, tuple(tuple(it.split(" = ", 1)) for it in words), body))
+        definitions.append(Definition((crate, path.stem, found["name"]), bool(found["pub"] or found["pub_record"]), plain(rest), rules,
+                                      tuple((here, field) for here, _, field in (it.partition(" = ") for it in words)), body))
     return Spec(crate, path.stem, plain(lines[:head]), tuple(definitions))
 
 

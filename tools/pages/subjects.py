@@ -18,7 +18,8 @@ def coded(crate: str, module: str, what: str) -> list[str]:
 
 def refusals() -> list[str]:
     """The fixed parts of the texts of refusals."""
-    texts = [text for _, _, _, key, _ in FAULTS if key != PLANNERS for text in texts_of(key).values()] + [texts_of(PLANNERS)["HeldBy"]]
+    keys = [key for _, _, _, key, _ in FAULTS if key != PLANNERS]
+    texts = [text for key in keys for text in texts_of(key).values()] + [texts_of(PLANNERS)["HeldBy"]]
     found = [it.strip(" :,()") for text in texts for it in GIVEN.split(text)]
     return [it for it in dict.fromkeys(found) if len(it) > 3 and it not in papers().values()]
 

@@ -7,10 +7,11 @@ from pages.page import begun, link, sentence, table
 from pages.specs import Key, Names, definitions, specs
 from pages.texts import printed
 
-INTRO = """[FORMATS.md](FORMATS.md) says when each comes, and what is read and printed. In a text, words in capitals stand for what a run has:
-FILE for the name of a file, N for the number of a record, which is counted from 1 after the header.
+INTRO = """[FORMATS.md](FORMATS.md) says when each comes, and what is read and printed. In a text, words in capitals stand for
+what a run has: FILE for the name of a file, N for the number of a record, which is counted from 1 after the header.
 """
 STATUS = "crates/desk_run/src/status.rt"
+LIMITS = "crates/limits/src/limits.rt"
 EDITS: Key = ("edit_script", "Lines", "fault_text_of")
 PLANNERS: Key = ("planners_command", "Answers", "planner_fault_text")
 FAULTS = [
@@ -95,7 +96,8 @@ def required() -> dict[str, list[str]]:
 
 def files() -> str:
     """The table of files and their columns."""
-    rows = [(f"`{name}`", ", ".join(f"`{columns()[column]}`" for column in required().get(paper, []))) for paper, name in papers().items()]
+    found = required()
+    rows = [(f"`{name}`", ", ".join(f"`{columns()[it]}`" for it in found.get(paper, []))) for paper, name in papers().items()]
     return table(("File", "Columns that are read by their names"), rows)
 
 
@@ -121,20 +123,26 @@ def refusals(file: str, enum: str, key: Key) -> str:
     return table(("Text", "Comes"), rows)
 
 
+def home_of(crate: str, constant: str) -> pathlib.Path:
+    """The file of a crate that has a constant, from the root."""
+    for path in sorted((ROOT / "crates" / crate / "src").glob("*.rt")):
+        if f"const {constant}:" in path.read_text():
+            return path.relative_to(ROOT)
+    raise SystemExit(f"book: {constant} is no constant of {crate}")
+
+
 def limits() -> str:
     """The table of limits, each with the constant that owns it."""
-    file = "crates/limits/src/limits.rt"
-    owners = {name: crate for crate, names in re.findall(r"use (\w+)::\{?([^};]*)\}?;", source(file)) for name in re.findall(r"\w+", names)}
-    values = dict(re.findall(r"^      (\w+) = (\d+);", source(file), re.MULTILINE))
-    held = dict(re.findall(r"^        (\w+): (\w+),", source(file), re.MULTILINE))
-    fields = re.findall(r"((?:^    ///[^\n]*\n)+)^    pub (\w+):", block(file, "struct", "Limits"), re.MULTILINE)
+    text = source(LIMITS)
+    owners = {it: crate for crate, names in re.findall(r"use (\w+)::\{?([^};]*)\}?;", text) for it in re.findall(r"\w+", names)}
+    values = dict(re.findall(r"^      (\w+) = (\d+);", text, re.MULTILINE))
+    held = dict(re.findall(r"^        (\w+): (\w+),", text, re.MULTILINE))
+    fields = re.findall(r"((?:^    ///[^\n]*\n)+)^    pub (\w+):", block(LIMITS, "struct", "Limits"), re.MULTILINE)
     rows = []
-    for text, field in fields:
-        crate, name = owners[held[field]], held[field]
-        home = next((it for it in sorted((ROOT / "crates" / crate / "src").glob("*.rt")) if f"const {name}:" in it.read_text()), None)
-        if home is None:
-            raise SystemExit(f"book: {name} is no constant of {crate}")
-        rows.append((sentence(comment_of(text)), f"{int(values[field]):,}", link(f"`{name}`", home.relative_to(ROOT)) + f" of `{crate}`"))
+    for comment, field in fields:
+        name = held[field]
+        owner = f"{link(f'`{name}`', home_of(owners[name], name))} of `{owners[name]}`"
+        rows.append((sentence(comment_of(comment)), f"{int(values[field]):,}", owner))
     return table(("Limit", "At most", "Constant"), rows)
 
 

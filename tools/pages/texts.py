@@ -10,6 +10,7 @@ from pages.specs import Definition, Names, definitions
 
 TOKEN = re.compile(r'"(?:\\.|[^"\\])*"|\+\+|∷|[()\[\]]|[^\s()\[\]"]+')
 PLACES = {"number": "N", "paper": "FILE", "s": "TRIP", "i": "TRIP", "j": "TRIP", "sum": "MINUTES", "shown": "MINUTES"}
+MANY = 4
 
 
 def equations(it: Definition) -> list[tuple[str, str]]:
@@ -64,15 +65,15 @@ class Printer:
             return rest[0][1].strip('"')
         if head in ("decimal", "signed_text", "file_name_of"):
             return texts[0]
-        own = {it.name: it for it in definitions().values() if it.key[:2] == self.it.key[:2]}
-        key = self.names.single.get(head)
-        known = own.get(head) or (definitions().get(key) if key else None)
-        if rest and known and len(equations(known)) == 1:
-            left, right = equations(known)[0]
-            return Printer(known, self.names, self.papers).of(right, dict(zip(left.split(), texts)))
-        if rest:
-            return {"column_name_of": "COLUMN", "trip_named": "TRIP", "side_name_of": "from|to"}.get(head, texts[-1])
-        return given.get(head, place_of(head))
+        if not rest:
+            return given.get(head, place_of(head))
+        known = definitions().get((*self.it.key[:2], head)) or definitions().get(self.names.single.get(head, self.it.key))
+        cases = equations(known) if known and known != self.it else []
+        if len(cases) == 1:
+            return Printer(known, self.names, self.papers).of(cases[0][1], dict(zip(cases[0][0].split(), texts)))
+        # Few fixed texts are named, and of many the kind: `column_name_of` is COLUMN.
+        fixed = re.findall(r'^codes "(\w+)"$', "\n".join(right for _, right in cases), re.MULTILINE)
+        return "|".join(fixed) if 0 < len(fixed) == len(cases) < MANY else head.partition("_")[0].upper()
 
 
 def printed(it: Definition, names: Names, papers: dict[str, str]) -> dict[str, str]:
