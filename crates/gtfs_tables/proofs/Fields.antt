@@ -64,8 +64,3 @@ cut-texts start (end ∷ ends) bytes ascii =
 pub padded-texts : (width : ℕ) (fields : List (List ℕ)) → All IsUtf8 fields → All IsUtf8 (padded width fields)
 padded-texts width fields texts =
     All-append IsUtf8 fields (replicate (width - length fields) []) texts (All-replicate IsUtf8 (width - length fields) [] IsUtf8-nil)
-
--- a record that has the fields of its width already
-pub padded-whole : (width : ℕ) (fields : List (List ℕ)) → length fields ≤ width → width ≤ length fields → fields ≡ padded width fields
-padded-whole width fields fits has =
-    let none : width - length fields ≡ 0 = omega arith in rw (none, append-nil fields) refl

@@ -1,6 +1,7 @@
 -- How commas part a line, and that `csv` reads bytes without a double quote in the same way.
-use Rattle.std.proofs.Common.{◌≡◌, ◌≢◌, ℕ, zero, suc, ◌+◌, ◌-◌, ◌<◌, ◌≤◌, ◌==◌, List, [], ◌∷◌, ◌++◌, length, drop, take, get_or}
-use Rattle.std.proofs.Common.{get_or-drop, Bool, true, false, cond, Option, Some, None, refl, sym, ap, subst, arith, ◌∙◌, add-one, append_assoc, All}
+use Rattle.std.proofs.Common.{◌≡◌, ◌≢◌, ℕ, zero, suc, ◌+◌, ◌-◌, ◌<◌, ◌==◌, List, [], ◌∷◌, ◌++◌, length, drop, take, get_or}
+use Rattle.std.proofs.Common.{get_or-drop, Bool, true, false, true≢false, ◌&&◌, cond, Option, Some, None, refl, sym, ap, subst, arith, ◌∙◌, add-one, append_assoc, All}
+use Rattle.std.specs.Cmp.Lexicographic.{pointwise}
 use Rattle.std.specs.List.{list_any}
 use Rattle.std.specs.Str.{IsAscii, IsUtf8}
 use Rattle.std.proofs.lemmas.Bool.{eqb-true, or_parts}
@@ -302,30 +303,32 @@ from-place n xs = take_all (length xs - n) (drop n xs) (omega (arith, length-dro
 pub from-behind : {A : Type 0} (n : ℕ) (xs : List A) → take (length xs - (n + 1)) (drop (n + 1) xs) ≡ drop (suc n) xs
 from-behind n xs = rw (← add-one n) (from-place (n + 1) xs)
 
+no-and : (x : Bool) → (x && false) ≡ false
+no-and true = refl
+no-and false = refl
+
+-- three answers in a row
+three : (x y z : Bool) → (x && y && z) ≡ (x && (y && (z && true)))
+three true true true = refl
+three true true false = refl
+three true false z = refl
+three false y z = refl
+
 -- where the bytes begin with a byte-order mark
-pub mark-off : (bytes : List ℕ) → 3 ≤ length bytes → is_bom (get_or bytes 0 0) (get_or bytes 1 0) (get_or bytes 2 0) ≡ true
-    → drop 3 bytes ≡ strip_bom bytes
+pub mark-off : (bytes : List ℕ) → pointwise ◌==◌ (take 3 bytes) (239 ∷ 187 ∷ 191 ∷ []) ≡ true → drop 3 bytes ≡ strip_bom bytes
 unfolding strip_bom
-mark-off [] long mark = absurd (omega arith)
-mark-off (a ∷ []) long mark = absurd (omega arith)
-mark-off (a ∷ b ∷ []) long mark = absurd (omega arith)
-mark-off (a ∷ b ∷ c ∷ rest) long mark = rw mark refl
+mark-off [] mark = absurd (true≢false (sym mark))
+mark-off (a ∷ []) mark = absurd (true≢false (sym mark ∙ no-and (a == 239)))
+mark-off (a ∷ b ∷ []) mark = absurd (true≢false (sym mark ∙ (ap (λ x. (a == 239) && x) (no-and (b == 187)) ∙ no-and (a == 239))))
+mark-off (a ∷ b ∷ c ∷ rest) mark = rw (three (a == 239) (b == 187) (c == 191), mark) refl
 
 -- where they do not
-pub no-mark : (bytes : List ℕ) → 3 ≤ length bytes → is_bom (get_or bytes 0 0) (get_or bytes 1 0) (get_or bytes 2 0) ≡ false
-    → bytes ≡ strip_bom bytes
+pub no-mark : (bytes : List ℕ) → pointwise ◌==◌ (take 3 bytes) (239 ∷ 187 ∷ 191 ∷ []) ≡ false → bytes ≡ strip_bom bytes
 unfolding strip_bom
-no-mark [] long mark = absurd (omega arith)
-no-mark (a ∷ []) long mark = absurd (omega arith)
-no-mark (a ∷ b ∷ []) long mark = absurd (omega arith)
-no-mark (a ∷ b ∷ c ∷ rest) long mark = rw mark refl
-
-pub few-bytes : (bytes : List ℕ) → length bytes < 3 → bytes ≡ strip_bom bytes
-unfolding strip_bom
-few-bytes [] few = refl
-few-bytes (a ∷ []) few = refl
-few-bytes (a ∷ b ∷ []) few = refl
-few-bytes (a ∷ b ∷ c ∷ rest) few = absurd (omega arith)
+no-mark [] mark = refl
+no-mark (a ∷ []) mark = refl
+no-mark (a ∷ b ∷ []) mark = refl
+no-mark (a ∷ b ∷ c ∷ rest) mark = rw (three (a == 239) (b == 187) (c == 191), mark) refl
 
 pub bare-without-mark : (bytes : List ℕ) → IsUnquoted bytes → IsUnquoted (strip_bom bytes)
 unfolding strip_bom

@@ -15,7 +15,10 @@
 //! - A fold gives its definition over the records that `csv` reads of the bytes. Or it gives the first refusal, or there was no
 //!   memory.
 //! - A time and a number are the values of their grammars.
-//! - Records that are written read back, unless the text begins with a byte-order mark ([`laws`]).
+//! - Records that are written read back, unless the text begins with a byte-order mark ([`laws::read_back_law`]).
+//! - A writer that lost a record takes no other, and gives no bytes.
+//!
+//! Laws for a reader, which nothing calls: [`laws::minute_law`].
 //!
 //! `desk_settings` shows a use, in `src/terminals.rt`.
 //!

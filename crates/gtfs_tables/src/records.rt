@@ -1,5 +1,5 @@
 ghost use Rattle.std.specs.Prelude.{◌≡◌, IfOk};
-ghost use Rattle.csv.specs.Reading.{is_bom, strip_bom};
+ghost use Rattle.csv.specs.Reading.{strip_bom};
 ghost use Rattle.gtfs_tables.specs.Records.{records, records_left, reader_left, IsReader, IsReading, ReadsNext};
 
 use crate::Row;
@@ -30,24 +30,13 @@ fn reader_over(alloc: Global, bytes: &[u8]) -> Reader<&[u8]>
         .from_reader(alloc, bytes)
 }
 
-// Whether three bytes are a byte-order mark.
-fn is_mark(a: u8, b: u8, c: u8) -> bool
-    ensures { result ≡ is_bom a b c }
-{
-    a == 0xef && b == 0xbb && c == 0xbf
-}
-
 // The bytes without a byte-order mark at their front.
 fn without_mark(bytes: &[u8]) -> &[u8]
     ensures { result.now ≡ strip_bom bytes.now }
 {
-    if bytes.len() < 3 {
-        return bytes;
-    }
-    if is_mark(bytes[0], bytes[1], bytes[2]) {
-        &bytes[3..]
-    } else {
-        bytes
+    match bytes.strip_prefix(&[0xef, 0xbb, 0xbf]) {
+        Some(rest) => rest,
+        None => bytes,
     }
 }
 

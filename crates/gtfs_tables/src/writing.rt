@@ -1,6 +1,6 @@
-ghost use Rattle.std.specs.Prelude.{◌≡◌, [], ◌++◌, IfOk, IsUtf8, OnOk, OnErr, map};
+ghost use Rattle.std.specs.Prelude.{◌≡◌, ◌≢◌, [], ◌++◌, IfOk, IsUtf8, OnOk, OnErr, map};
 ghost use Rattle.csv.specs.Records.{fields_of};
-ghost use Rattle.gtfs_tables.specs.Writing.{record_text};
+ghost use Rattle.gtfs_tables.specs.Writing.{lost, record_text};
 
 use crate::Row;
 use csv::{ByteRecord, Writer, WriterBuilder};
@@ -9,7 +9,7 @@ use std::alloc::Global;
 use std::marker::Model;
 
 /// Comma-separated text to which records are appended, a line feed at the end of each; seen as the bytes so far. Want of
-/// memory for a record loses them all: the bytes are none, and no other record is taken.
+/// memory for a record loses them all: it is then seen as `lost`, takes no other record, and gives no bytes.
 pub struct RecordWriter {
     writer: Writer<Vec<u8>>,
     failed: bool,
@@ -27,14 +27,15 @@ impl Drop for RecordWriter {
 impl Model for RecordWriter {
     ghost use Rattle.std.specs.Prelude.{◌≡◌, List, ℕ, [], Some, unwrap_or, false, if◌then◌else◌};
     ghost use Rattle.csv.specs.Writing.{fields_written, has_written, text_written, writer_setup};
-    ghost use Rattle.gtfs_tables.specs.Writing.{record_writer};
+    ghost use Rattle.gtfs_tables.specs.Writing.{lost, record_writer, AreWhole};
 
     ghost Value = { List ℕ };
 
-    ghost view = { λ w. if w.failed then [] else unwrap_or (text_written (λ bytes. Some bytes.items) w.writer) [] };
+    ghost view = { λ w. if w.failed then lost else unwrap_or (text_written (λ bytes. Some bytes.items) w.writer) [] };
 
     ghost invariant = { λ w. w.failed ≡ false
-        → (writer_setup w.writer ≡ record_writer) × (fields_written w.writer ≡ 0) × (has_written w.writer ≡ false) };
+        → (writer_setup w.writer ≡ record_writer) × (fields_written w.writer ≡ 0) × (has_written w.writer ≡ false)
+        × AreWhole (unwrap_or (text_written (λ bytes. Some bytes.items) w.writer) []) };
 }
 
 impl RecordWriter {
@@ -53,7 +54,8 @@ impl RecordWriter {
     /// Appends a record of these fields, in quotes where they need them.
     pub fn push(&mut self, fields: &[&[u8]]) -> Result<(), Memory>
         ensures pushed { OnOk result (self.new ≡ self.old ++ record_text (map (λ field. field.now) fields.now)) }
-        ensures err { OnErr result (self.new ≡ []) }
+        ensures err { OnErr result (self.new ≡ lost) }
+        ensures held { OnOk result (self.old ≢ lost) }
     {
         if self.failed {
             return Err(Memory);
@@ -69,7 +71,8 @@ impl RecordWriter {
     // Appends a record that `csv` holds.
     fn push_whole(&mut self, whole: &ByteRecord) -> Result<(), Memory>
         ensures pushed { OnOk result (self.new ≡ self.old ++ record_text (fields_of whole.now)) }
-        ensures err { OnErr result (self.new ≡ []) }
+        ensures err { OnErr result (self.new ≡ lost) }
+        ensures held { OnOk result (self.old ≢ lost) }
     {
         if self.failed {
             return Err(Memory);
@@ -86,7 +89,8 @@ impl RecordWriter {
     /// at its end.
     pub fn push_row(&mut self, alloc: Global, row: &Row) -> Result<(), Memory>
         ensures pushed { OnOk result (self.new ≡ self.old ++ record_text row.now) }
-        ensures err { OnErr result (self.new ≡ []) }
+        ensures err { OnErr result (self.new ≡ lost) }
+        ensures held { OnOk result (self.old ≢ lost) }
     {
         if let Some(whole) = row.whole() {
             return self.push_whole(whole);
@@ -102,7 +106,8 @@ impl RecordWriter {
 
     /// The bytes of the records.
     pub fn into_bytes(self) -> Result<Bytes, Memory>
-        ensures { IfOk result (λ bytes. bytes ≡ self) }
+        ensures bytes { IfOk result (λ bytes. bytes ≡ self) }
+        ensures held { OnOk result (self ≢ lost) }
     {
         let RecordWriter { writer, failed } = self;
         if failed {
@@ -117,7 +122,8 @@ impl RecordWriter {
     /// The text of the records, whose fields were all text.
     pub fn into_text(self) -> Result<Text, Memory>
         requires { IsUtf8 self }
-        ensures { IfOk result (λ text. text ≡ self) }
+        ensures text { IfOk result (λ text. text ≡ self) }
+        ensures held { OnOk result (self ≢ lost) }
     {
         let RecordWriter { writer, failed } = self;
         if failed {

@@ -14,6 +14,6 @@ loop-slot-preserved c = record {
 
 pub returns : goal.returns
 returns c =
-    if-text c.into_text.result c.loop-slot.records _ c.into_text.ensures
+    if-text c.into_text.result c.loop-slot.records _ c.into_text.ensures.text
     (prices-written c.args.prices.now.timetable.now c.args.prices.now.leave.now c.args.prices.now.enter.now c.loop-slot.records
     c.loop-slot.slot (omega (arith, c.slots-slot-end.ensures.count)) c.loop-slot.invariant.written)

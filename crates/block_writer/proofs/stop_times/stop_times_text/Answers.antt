@@ -23,7 +23,7 @@ returns-clause-written c =
     let begins =
     started c.new-records.result c.push_row.new.self c.in_ok-header.header c.new-records.ensures
     c.in_ok-push_row.ensures.pushed in
-    rw c.in_ok-into_bytes.ensures
+    rw c.in_ok-into_bytes.ensures.bytes
     (stop-times-made c.args.timetable.now c.args.base c.in_ok-header.header c.push_row.new.self
     (table_in paper.StopTimes c.args.found.now) _
     (header-table paper.StopTimes c.args.found.now c.in_ok-header.header c.in_ok-header.ensures) begins c.in_ok-written.ensures)

@@ -29,7 +29,7 @@ loop-before-preserved c =
 
 pub returns : goal.returns
 returns c =
-    if-text c.into_bytes.result c.loop-before.records _ c.into_bytes.ensures
+    if-text c.into_bytes.result c.loop-before.records _ c.into_bytes.ensures.bytes
     (trips-made c.args.trips.now c.args.timetable.now c.args.chosen.now c.args.blocks.now c.args.prefix.now c.in_ok-numbers.numbers.items
     c.slots.result c.place_of-trip.result c.place_of-block.result
     c.loop-before.before c.loop-before.records c.in_ok-numbers.ensures c.slots.ensures.count

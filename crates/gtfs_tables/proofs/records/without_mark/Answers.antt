@@ -1,13 +1,8 @@
-use Rattle.std.proofs.Common.{sym, ◌∙◌}
-use Rattle.gtfs_tables.proofs.PartLemmas.{few-bytes, from-place, mark-off, no-mark}
+use Rattle.gtfs_tables.proofs.PartLemmas.{mark-off, no-mark}
 use Rattle.gtfs_tables.proofs.records.without_mark.Goals as goal
 
-pub returns-then-bytes-lt3 : goal.returns-then-bytes-lt3
-returns-then-bytes-lt3 c = few-bytes c.args.bytes.now c.if-bytes-lt3.true
+pub returns-in-Some : goal.returns-in-Some
+returns-in-Some c = rw c.in-Some.ensures.cases.1 (mark-off c.args.bytes.now c.in-Some.ensures.cases.0)
 
-pub returns-then-is_mark : goal.returns-then-is_mark
-returns-then-is_mark c =
-    from-place 3 c.args.bytes.now ∙ mark-off c.args.bytes.now c.if-bytes-lt3.false (sym c.is_mark.ensures ∙ c.if-is_mark.true)
-
-pub returns-else-is_mark : goal.returns-else-is_mark
-returns-else-is_mark c = no-mark c.args.bytes.now c.if-bytes-lt3.false (sym c.is_mark.ensures ∙ c.if-is_mark.false)
+pub returns-in-None : goal.returns-in-None
+returns-in-None c = no-mark c.args.bytes.now c.in-None.ensures.cases

@@ -19,6 +19,6 @@ loop-number-preserved c =
 pub returns : goal.returns
 returns c =
     let named = c.args.named.now in
-    if-text c.into_text.result c.loop-number.records _ c.into_text.ensures
+    if-text c.into_text.result c.loop-number.records _ c.into_text.ensures.text
     (boards-written named.timetable.now named.matrix.now named.prefix.now named.blocks.now c.loop-number.records c.loop-number.number
     (omega (arith, c.len-number-end.ensures.count)) c.loop-number.invariant.written)
