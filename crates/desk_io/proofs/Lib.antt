@@ -1,5 +1,5 @@
-pub mod Finding
 pub mod EachPut
 pub mod FoundFirst
 pub mod OthersStay
 pub mod PutsMore
+pub mod Spared

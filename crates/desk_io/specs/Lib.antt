@@ -2,8 +2,11 @@ pub mod Calls
 pub mod Faults
 pub mod FolderShelf
 pub mod History
+pub mod Host
 pub mod MemoryShelf
 pub mod MemorySink
 pub mod OutSink
 pub mod Shelf
 pub mod Sink
+pub mod System
+pub mod WholeFiles

@@ -1,176 +1,112 @@
-ghost use Rattle.std.specs.Prelude.{◌≡◌, ◌≢◌, IfOk, IfSome, Some};
-ghost use Rattle.desk_io.specs.Shelf.{FitsIn, found_as};
+ghost use Rattle.std.specs.Prelude.{Err};
 
-use crate::{Bytes, Found, History, Request, Shelf, ShelfFault, Text};
+use crate::system::System;
+use crate::system_call::Refusal;
+use crate::whole_files::{read_file, write_file};
+use crate::{Found, History, Request, Shelf, ShelfFault, Text};
 use std::alloc::Global;
-use std::io::{ErrorKind, Read, Write};
-use std::path::Path;
-use std::rt::Files;
-use std::{fs, io};
 
-/// A real folder. It tells nothing of its files, counts its faults, and tells which calls came.
+/// A real folder. It tells nothing of its files, counts its faults, and tells which calls came, and what was asked of the system.
 #[derive(Drop)]
-pub struct FolderShelf<'a, R: Files> {
-    rt: &'a R,
+pub struct FolderShelf<Y: System + Drop> {
+    system: Y,
     folder: Text,
     read_faults: u64,
     write_faults: u64,
     history: History,
 }
 
-impl<'a, R: Files> FolderShelf<'a, R> {
+impl<Y: System + Drop> FolderShelf<Y> {
     ghost use Rattle.std.specs.Prelude.{◌≡◌, [], None};
-    ghost use Rattle.desk_io.specs.FolderShelf.{folder_history_of, folder_state_of};
+    ghost use Rattle.desk_io.specs.FolderShelf.{fault_of, folder_history_of, folder_of, folder_state_of, system_of};
+    ghost use Rattle.desk_io.specs.Shelf.{Reads, Writes};
 
-    /// The folder at this path. It is not looked at before the first call. No fault was counted, and no call came.
-    pub fn over(rt: &'a R, folder: Text) -> FolderShelf<'a, R>
+    /// The folder at this path, as the system has it. It is not looked at before the first call. No fault was counted, and no call
+    /// came.
+    pub fn over(system: Y, folder: Text) -> FolderShelf<Y>
         ensures state { folder_state_of result ≡ record { files = None; read_faults = 0; write_faults = 0 } }
         ensures history { folder_history_of result ≡ [] }
+        ensures system { system_of result ≡ system }
+        ensures folder { folder_of result ≡ folder }
     {
         FolderShelf {
-            rt,
+            system,
             folder,
             read_faults: 0,
             write_faults: 0,
             history: History::new(),
         }
     }
-}
 
-// What is found of a file that the system opened. No more than one byte above the limit is read. What the system refuses is
-// handed on.
-#[tactic(auto, using(crate::proofs::Finding::take_short))]
-fn find<I: Read + Drop>(alloc: Global, file: I, limit: u64) -> io::Result<Found>
-    ensures bound { IfOk result (FitsIn limit) }
-    ensures found { IfSome (I.remaining file) (λ bytes. IfOk result (λ found. found ≡ found_as limit (Some bytes))) }
-    ensures there { IfOk result (λ found. found ≢ Found.Missing) }
-{
-    let mut bytes = Vec::new(alloc);
-    file.take(limit.saturating_add(1)).read_to_end(&mut bytes)?;
-    if bytes.len() as u64 <= limit {
-        Ok(Found::File(Bytes::wrap(bytes)))
-    } else {
-        Ok(Found::TooLong)
-    }
-}
-
-impl<'a, R: Files> FolderShelf<'a, R> {
-    ghost use Rattle.std.specs.Prelude.{◌≡◌, ◌≢◌, [], None, IfOk, IfErr, OnOk, OnErr, IsOk};
-    ghost use Rattle.std.specs.IoError.{error_kind};
-    ghost use Rattle.desk_io.specs.Shelf.{ReadFailed, Reads, WriteFailed};
-    ghost use Rattle.desk_io.specs.FolderShelf.{folder_history_of, folder_state_of};
-
-    // Counts a fault of a read.
-    fn read_fault(&mut self) -> ShelfFault
-        ensures failed { result ≡ ShelfFault.Failed }
-        ensures state { ReadFailed (folder_state_of self.old) (folder_state_of self.new) }
+    // What a read answers to a refusal. Every one but lack of memory is counted.
+    fn unread(&mut self, why: Refusal) -> ShelfFault
+        ensures fault { result ≡ fault_of why }
+        ensures state { Reads {T = Unit {0}} (Err result) (folder_state_of self.old) (folder_state_of self.new) }
         ensures history { folder_history_of self.new ≡ folder_history_of self.old }
+        ensures system { system_of self.new ≡ system_of self.old }
     {
-        self.read_faults = self.read_faults.saturating_add(1);
-        ShelfFault::Failed
-    }
-
-    // What a read answers to what the system answered when it was to open the file. One that is not there is no fault, and want
-    // of memory is answered as such. Every other refusal of the system is counted.
-    fn answer_open<I>(&mut self, opened: io::Result<I>) -> Result<Option<I>, ShelfFault>
-        ensures state { Reads result (folder_state_of self.old) (folder_state_of self.new) }
-        ensures history { folder_history_of self.new ≡ folder_history_of self.old }
-        ensures opened { IfOk opened (λ file. result ≡ Ok (Some file)) }
-        ensures missing { IfErr opened (λ error. error_kind error ≡ ErrorKind.NotFound → result ≡ Ok None) }
-        ensures memory { IfErr opened (λ error. error_kind error ≡ ErrorKind.OutOfMemory → result ≡ Err ShelfFault.Memory) }
-        ensures failed { IfErr opened (λ error. error_kind error ≢ ErrorKind.NotFound → error_kind error ≢ ErrorKind.OutOfMemory
-            → result ≡ Err ShelfFault.Failed) }
-    {
-        match opened {
-            Ok(file) => Ok(Some(file)),
-            Err(error) => match error.kind() {
-                ErrorKind::NotFound => Ok(None),
-                ErrorKind::OutOfMemory => Err(ShelfFault::Memory),
-                _ => Err(self.read_fault()),
-            },
-        }
-    }
-
-    // What a read answers to what the system answered when the file, which it had opened, was read. Such a file is never
-    // missing: every refusal but lack of memory is counted.
-    fn answer_read(&mut self, read: io::Result<Found>) -> Result<Found, ShelfFault>
-        ensures state { Reads result (folder_state_of self.old) (folder_state_of self.new) }
-        ensures history { folder_history_of self.new ≡ folder_history_of self.old }
-        ensures found { IfOk read (λ found. result ≡ Ok found) }
-        ensures only { IfOk result (λ found. read ≡ Ok found) }
-        ensures memory { IfErr read (λ error. error_kind error ≡ ErrorKind.OutOfMemory → result ≡ Err ShelfFault.Memory) }
-        ensures failed { IfErr read (λ error. error_kind error ≢ ErrorKind.OutOfMemory → result ≡ Err ShelfFault.Failed) }
-    {
-        match read {
-            Ok(found) => Ok(found),
-            Err(error) if error.kind() == ErrorKind::OutOfMemory => Err(ShelfFault::Memory),
-            Err(_) => Err(self.read_fault()),
-        }
-    }
-
-    // What a write answers to what the system answered when it was to open the file for writing. Until then the file is as it
-    // was, so lack of memory is answered as such. Every other refusal is counted.
-    fn answer_create<W>(&mut self, created: io::Result<W>) -> Result<W, ShelfFault>
-        ensures history { folder_history_of self.new ≡ folder_history_of self.old }
-        ensures opened { IfOk created (λ file. (result ≡ Ok file) × (folder_state_of self.new ≡ folder_state_of self.old)) }
-        ensures memory { IfErr created
-            (λ error. error_kind error ≡ ErrorKind.OutOfMemory
-            → (result ≡ Err ShelfFault.Memory) × (folder_state_of self.new ≡ folder_state_of self.old)) }
-        ensures failed { IfErr created
-            (λ error. error_kind error ≢ ErrorKind.OutOfMemory
-            → (result ≡ Err ShelfFault.Failed) × WriteFailed [] (folder_state_of self.old) (folder_state_of self.new)) }
-    {
-        match created {
-            Ok(file) => Ok(file),
-            Err(error) if error.kind() == ErrorKind::OutOfMemory => Err(ShelfFault::Memory),
-            Err(_) => {
-                self.write_faults = self.write_faults.saturating_add(1);
-                Err(ShelfFault::Failed)
+        match why {
+            Refusal::Memory => ShelfFault::Memory,
+            _ => {
+                self.read_faults = self.read_faults.saturating_add(1);
+                ShelfFault::Failed
             }
         }
     }
 
-    // What a write answers to what the system answered when the file, which it had emptied, was written. Every refusal is
-    // counted, also lack of memory.
-    fn answer_write(&mut self, written: &io::Result<()>) -> Result<(), ShelfFault>
+    // What a write answers to a refusal. Every one but lack of memory is counted.
+    fn unwritten(&mut self, why: Refusal) -> ShelfFault
+        ensures fault { result ≡ fault_of why }
+        ensures state { Writes {T = Unit {0}} [] [] (Err result) (folder_state_of self.old) (folder_state_of self.new) }
         ensures history { folder_history_of self.new ≡ folder_history_of self.old }
-        ensures done { OnOk written.now ((IsOk result) × (folder_state_of self.new ≡ folder_state_of self.old)) }
-        ensures failed { OnErr written.now
-            ((result ≡ Err ShelfFault.Failed) × WriteFailed [] (folder_state_of self.old) (folder_state_of self.new)) }
+        ensures system { system_of self.new ≡ system_of self.old }
     {
-        if written.is_err() {
-            self.write_faults = self.write_faults.saturating_add(1);
-            return Err(ShelfFault::Failed);
+        match why {
+            Refusal::Memory => ShelfFault::Memory,
+            _ => {
+                self.write_faults = self.write_faults.saturating_add(1);
+                ShelfFault::Failed
+            }
         }
-        Ok(())
     }
 }
 
-impl<'a, R: Files> Shelf for FolderShelf<'a, R> {
-    ghost use Rattle.desk_io.specs.FolderShelf.{folder_history_of, folder_state_of};
+impl<Y: System + Drop> Shelf for FolderShelf<Y> {
+    ghost use Rattle.std.specs.Prelude.{◌≡◌, [], ◌∷◌, ◌++◌, IfOk, Result};
+    ghost use Rattle.desk_io.specs.FolderShelf.{AsksForRead, AsksForWrite, folder_history_of, folder_of, folder_state_of, system_of};
+    ghost use Rattle.desk_io.specs.History.{Read, Write};
+    ghost use Rattle.desk_io.specs.Shelf.{FitsIn, Reads, Tells, Writes};
 
     ghost state = { folder_state_of };
 
     ghost history = { folder_history_of };
 
-    fn read(&mut self, alloc: Global, name: &str, limit: u64) -> Result<Found, ShelfFault> {
+    fn read(&mut self, alloc: Global, name: &str, limit: u64) -> Result<Found, ShelfFault>
+        ensures bound { IfOk result (FitsIn limit) }
+        ensures found { IfOk result (Tells (folder_state_of self.old).files name.now limit) }
+        ensures state { Reads result (folder_state_of self.old) (folder_state_of self.new) }
+        ensures noted { folder_history_of self.new ≡ folder_history_of self.old ++ Read name.now ∷ [] }
+        // The answer is what the system answered, of this file.
+        ensures asked { AsksForRead (folder_of self.old) name.now limit result (Y.trace (system_of self.old)) (Y.trace (system_of self.new)) }
+    {
         self.history = self.history.then(&Request::Read(name));
-        let Ok(path) = Path::new(self.folder.as_str()).join(alloc, name) else {
-            return Err(ShelfFault::Memory);
-        };
-        let Some(file) = self.answer_open(fs::open(self.rt, path.as_str()))? else {
-            return Ok(Found::Missing);
-        };
-        self.answer_read(find(alloc, file, limit))
+        match read_file(&mut self.system, alloc, self.folder.as_str(), name, limit) {
+            Ok(found) => Ok(found),
+            Err(why) => Err(self.unread(why)),
+        }
     }
 
-    fn write(&mut self, alloc: Global, name: &str, bytes: &[u8]) -> Result<(), ShelfFault> {
+    fn write(&mut self, alloc: Global, name: &str, bytes: &[u8]) -> Result<(), ShelfFault>
+        ensures writes { Writes name.now bytes.now result (folder_state_of self.old) (folder_state_of self.new) }
+        ensures noted { folder_history_of self.new ≡ folder_history_of self.old ++ Write name.now bytes.now ∷ [] }
+        // The answer is what the system answered, of this file and these bytes.
+        ensures asked { AsksForWrite (folder_of self.old) name.now bytes.now result (Y.trace (system_of self.old))
+            (Y.trace (system_of self.new)) }
+    {
         self.history = self.history.then(&Request::Write(name, bytes));
-        let Ok(path) = Path::new(self.folder.as_str()).join(alloc, name) else {
-            return Err(ShelfFault::Memory);
-        };
-        let mut file = self.answer_create(fs::create(self.rt, path.as_str()))?;
-        let written = file.write_all(bytes);
-        self.answer_write(&written)
+        match write_file(&mut self.system, alloc, self.folder.as_str(), name, bytes) {
+            Ok(()) => Ok(()),
+            Err(why) => Err(self.unwritten(why)),
+        }
     }
 }
