@@ -2,7 +2,8 @@
 use Rattle.std.proofs.Common.{◌≡◌, ℕ, inl, inr, Bool, Option, None, Result, Ok, Err, refl, sym, ◌∙◌}
 use Rattle.desk_io.specs.Shelf.{ShelfState}
 use Rattle.desk_keeper.specs.Keeper.{KeeperState}
-use Rattle.desk_run.specs.Becomes.{Becomes}
+use Rattle.desk_run.specs.Becomes.{Becomes, WritesAll}
+use Rattle.desk_run.specs.Outcome.{OutcomeView}
 use Rattle.desk_run.specs.Commands.{Asked, Chosen}
 use Rattle.desk_run.specs.Reading.{LoadsJournal, ReadView, ReadsPapers}
 use Rattle.desk_run.specs.Runs.{Attempts}
@@ -38,3 +39,12 @@ unloaded T asked before shelf keeper keeps run_fault.Keeper same keeps_are loads
     inl (record { asked = sym keeps_are ∙ loads.0; shelf = same; sink = refl; keeper = loads.1 })
 unloaded T asked before shelf keeper keeps run_fault.Read same keeps_are loads = absurd loads
 unloaded T asked before shelf keeper keeps run_fault.Write same keeps_are loads = absurd loads
+
+-- a write was refused as an outcome was carried out
+pub cut_at_file : (outcome : OutcomeView) (fault : RunFault) (before : World) (shelf : ShelfState)
+    → WritesAll {T = Unit {0}} outcome.writes (Err fault) before.shelf shelf → Becomes outcome (Err fault) before (record before { shelf = shelf })
+cut_at_file outcome run_fault.Write before shelf writes = inl (record { shelf = writes; sink = refl; keeper = refl })
+cut_at_file outcome run_fault.Memory before shelf writes =
+    record { shelf = writes.so; keeper = refl; sink = refl; more = inl writes.more }
+cut_at_file outcome run_fault.Read before shelf writes = absurd writes
+cut_at_file outcome run_fault.Keeper before shelf writes = absurd writes

@@ -1,5 +1,5 @@
 -- What becomes of an outcome: it is carried out whole, or a fault or lack of memory ends that.
-use Rattle.std.specs.Prelude.{◌≡◌, ◌⊎◌, ℕ, List, fold, take, slice_get, Option, None, Some, IsSome, Result, Ok, Err}
+use Rattle.std.specs.Prelude.{◌≡◌, ◌⊎◌, ℕ, ◌<◌, length, List, fold, take, slice_get, Option, None, Some, IsSome, Result, Ok, Err}
 use Rattle.desk_io.specs.Shelf.{ShelfState, with_file, WriteFailed}
 use Rattle.desk_io.specs.Sink.{put_bytes, PutsPrefix}
 use Rattle.desk_keeper.specs.Keeper.{Journal, KeeperState, CallFailed, with_lines}
@@ -42,11 +42,16 @@ pub record IsWrittenSoFar (writes : List Writing) (before after : ShelfState) : 
   pub count : ℕ
   pub shelf : after ≡ with_writings (take count writes) before
 
+-- and one more was still to be written
+pub record IsWrittenInPart (writes : List Writing) (before after : ShelfState) : Type 0 where
+  pub so : IsWrittenSoFar writes before after
+  pub more : so.count < length writes
+
 -- what became of the files
 abbrev pub WritesAll : {T : Type 0} → List Writing → Result T RunFault → ShelfState → ShelfState → Type 0
 WritesAll writes (Ok x) before after = after ≡ with_writings writes before
 WritesAll writes (Err run_fault.Write) before after = IsHalfWritten writes before after
-WritesAll writes (Err run_fault.Memory) before after = IsWrittenSoFar writes before after
+WritesAll writes (Err run_fault.Memory) before after = IsWrittenInPart writes before after
 WritesAll writes (Err run_fault.Read) before after = ⊥
 WritesAll writes (Err run_fault.Keeper) before after = ⊥
 
@@ -54,7 +59,7 @@ WritesAll writes (Err run_fault.Keeper) before after = ⊥
 abbrev pub AppendsSome : {T : Type 0} → Option Journal → Result T RunFault → KeeperState → KeeperState → Type 0
 AppendsSome lines (Ok x) before after = after ≡ with_appended lines before
 AppendsSome lines (Err run_fault.Keeper) before after = IsSome lines × CallFailed before after
-AppendsSome lines (Err run_fault.Memory) before after = after ≡ before
+AppendsSome lines (Err run_fault.Memory) before after = IsSome lines × (after ≡ before)
 AppendsSome lines (Err run_fault.Read) before after = ⊥
 AppendsSome lines (Err run_fault.Write) before after = ⊥
 
@@ -82,6 +87,7 @@ pub record EndsForMemory (outcome : OutcomeView) (before after : World) : Type 0
   pub shelf : IsWrittenSoFar outcome.writes before.shelf after.shelf
   pub keeper : after.keeper ≡ before.keeper
   pub sink : after.sink ≡ before.sink
+  pub more : (shelf.count < length outcome.writes) ⊎ IsSome outcome.lines
 
 -- what becomes of an outcome
 abbrev pub Becomes : OutcomeView → Result ℕ RunFault → World → World → Type 0

@@ -1,5 +1,8 @@
 use Rattle.std.proofs.Common.{Ok, Err, sym, subst, ◌∙◌}
 use Rattle.std.proofs.lemmas.Result.{err_from_is_err_and}
+use Rattle.desk_run.specs.Becomes.{Becomes, WritesAll}
+use Rattle.desk_run.specs.World.{world}
+use Rattle.desk_run.proofs.Carried.{cut_at_file}
 use Rattle.desk_run.specs.Order.{CallsToCarry}
 use Rattle.desk_run.specs.Outcome.{OutcomeView}
 use Rattle.desk_run.specs.Outside.{histories}
@@ -87,3 +90,25 @@ returns-in-Err-clause-calls g c =
     }) ∙ c.outcome.view_is)
     (ends_at_text outcome h _ c.in_ok-write_all.ensures.come _ _ c.in_ok-append.ensures.come run_fault.Write c.in-Err.field-0
     c.in-Err.ensures.come)
+
+pub returns-in_err-write_all-clause-becomes : goal.returns-in_err-write_all-clause-becomes
+returns-in_err-write_all-clause-becomes g c =
+    let w = world g.S.Shelf.state g.O.Sink.state g.K.Keeper.state c.args.shelf.now c.args.out.now c.args.keeper.now in
+    let now = world g.S.Shelf.state g.O.Sink.state g.K.Keeper.state c.write_all.new.shelf c.args.out.now c.args.keeper.now in
+    let fault = err_from_is_err_and c.from_residual.result c.from_residual.ensures.1 in
+    let outcome : OutcomeView = record {
+      writes = c.deref.result.now;
+      lines = c.outcome.inside.lines;
+      text = c.outcome.inside.text;
+      ending = c.outcome.inside.ending;
+    } in
+    subst (λ (outcome : OutcomeView). Becomes outcome c.from_residual.result w now)
+    ((λ i. record {
+      writes = c.deref.ensures.value i;
+      lines = c.outcome.inside.lines;
+      text = c.outcome.inside.text;
+      ending = c.outcome.inside.ending;
+    }) ∙ c.outcome.view_is)
+    (subst (λ result. Becomes outcome result w now) (sym fault.1) (cut_at_file outcome fault.0 w (g.S.Shelf.state c.write_all.new.shelf)
+    (subst (λ f. WritesAll {T = Unit {0}} c.deref.result.now (Err f) (g.S.Shelf.state c.args.shelf.now) (g.S.Shelf.state c.write_all.new.shelf))
+    (sym fault.2) c.in_err-write_all.ensures.writes)))

@@ -40,11 +40,14 @@ returns-in-Err-Failed-clause-writes g c = record {
 
 pub returns-in-Err-Memory-clause-writes : goal.returns-in-Err-Memory-clause-writes
 returns-in-Err-Memory-clause-writes g c = record {
-  count = c.loop-writing.writing-index;
-  shelf = subst (λ fault. Writes {T = Unit {0}} c.writing-item.result.name c.writing-item.result.bytes (Err fault)
-      (g.S.Shelf.state c.loop-writing.shelf) (g.S.Shelf.state c.write_one.new.shelf)) c.in-Err-Memory.field-0-is
-      c.in-Err-Memory.ensures.writes
-      ∙ c.loop-writing.invariant.written;
+  so = record {
+    count = c.loop-writing.writing-index;
+    shelf = subst (λ fault. Writes {T = Unit {0}} c.writing-item.result.name c.writing-item.result.bytes (Err fault)
+        (g.S.Shelf.state c.loop-writing.shelf) (g.S.Shelf.state c.write_one.new.shelf)) c.in-Err-Memory.field-0-is
+        c.in-Err-Memory.ensures.writes
+        ∙ c.loop-writing.invariant.written;
+  };
+  more = c.loop-writing-test.true;
 }
 
 pub returns-clause-writes : goal.returns-clause-writes
