@@ -1,19 +1,35 @@
 -- Two runs of one command that read the same.
-use Rattle.std.specs.Prelude.{◌≡◌, ℕ}
+use Rattle.std.specs.Prelude.{◌≡◌, ℕ, List, [], ◌++◌, Option, Some}
+use Rattle.desk_io.specs.History.{Call}
+use Rattle.desk_io.specs.Sink.{ArePuts}
 use Rattle.desk_run.specs.Becomes.{done}
 use Rattle.desk_run.specs.Commands.{Asked, IsGiven}
+use Rattle.desk_run.specs.Order.{carrying, reading, with_calls}
 use Rattle.desk_run.specs.Outcome.{OutcomeView, status_of}
+use Rattle.desk_run.specs.Outside.{Histories, Outside}
 use Rattle.desk_run.specs.Reading.{ReadView}
-use Rattle.desk_run.specs.World.{World}
 
 -- what was read determines the outcome: there is one at the most that the command may give of it
 abbrev pub IsDetermined : Asked → Type 0
 IsDetermined asked = (read : ReadView) (one other : OutcomeView) → IsGiven asked read one → IsGiven asked read other → one ≡ other
 
--- both runs carried out one outcome: its files, its lines and its text; and both answered the status of its ending
-pub record AreAlike (before after later last : World) (status second : ℕ) : Type 0 where
-  pub outcome : OutcomeView
-  pub carried : after ≡ done outcome before
-  pub carried_again : last ≡ done outcome later
+-- all calls were made that read, and that carry an outcome out: its writes, its append and its puts, each with its bytes
+pub record MakesAll (asked : Asked) (outcome : OutcomeView) (before after : Histories) : Type 0 where
+  pub puts : List Call
+  pub are : ArePuts outcome.text [] puts
+  pub made : after ≡ with_calls before (reading asked ++ carrying outcome puts)
+
+-- a run carried one outcome out, whole: in its calls, in the world where that tells what is in it, and in its status
+pub record CarriesOut (asked : Asked) (outcome : OutcomeView) (before after : Outside) (status : ℕ) : Type 0 where
+  pub calls : MakesAll asked outcome before.calls after.calls
+  pub world : after.world ≡ done outcome before.world
   pub answered : status ≡ status_of outcome.ending
-  pub answered_again : second ≡ status_of outcome.ending
+
+-- both runs carried out one outcome, which the command gives of what both have read
+pub record AreAlike (asked : Asked) (found : Option ReadView) (before after later last : Outside) (status second : ℕ) : Type 0 where
+  pub read : ReadView
+  pub is : found ≡ Some read
+  pub outcome : OutcomeView
+  pub given : IsGiven asked read outcome
+  pub one : CarriesOut asked outcome before after status
+  pub other : CarriesOut asked outcome later last second

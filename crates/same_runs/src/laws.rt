@@ -21,13 +21,13 @@ pub fn determined_law()
     ensures { (command : CommandName) → IsDetermined (asked_by command) }
 {}
 
-/// Two runs of a command do the same. Both read the same, and both come to their ends: neither a fault nor want of memory stops
-/// them.
+/// Two runs of a command do the same: they make the same writes, appends and puts, with the same bytes. Both have read the same, and
+/// both come to their ends: neither a fault nor want of memory stops them. This holds of real folders too.
 pub fn same_run_law()
     ensures { (command : CommandName) (before after later last : Outside) (status second n m k l : ℕ)
         → (one : Performs (asked_by command) before after status n m) → (other : Performs (asked_by command) later last second k l)
         → other.found ≡ one.found
-        → status ≤ NO → second ≤ NO → AreAlike before.world after.world later.world last.world status second }
+        → status ≤ NO → second ≤ NO → AreAlike (asked_by command) one.found before after later last status second }
 {}
 
 /// The blocks that `blocks` lists in `blocks.csv` are those of the boards of `joined`, of the rows of `chart` and of the feed that

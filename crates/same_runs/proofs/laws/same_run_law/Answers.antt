@@ -4,6 +4,6 @@ use Rattle.same_runs.proofs.RunLemmas.{alike}
 use Rattle.same_runs.proofs.laws.same_run_law.Goals as goal
 
 pub returns : goal.returns
-returns c = λ command before after later last status second n m k l one other same all all'.
-    alike (asked_by command) one.found other.found before.world after.world later.world last.world status second (determined command) same
-    (one.run.ended all) (other.run.ended all')
+returns c = λ command before after later last status second n m k l one other same few few'.
+    alike (asked_by command) one.found other.found before after later last status second (determined command) same few few' one.order
+    other.order
