@@ -6,6 +6,7 @@ use deadhead_matrix::Matrix;
 use deadhead_matrix::laws::plan_law;
 use desk_io::{Memory, Steps};
 use pair_graph::Pairs;
+use pair_search::Looks;
 use price_assign::Solver;
 use std::alloc::Global;
 use std::sync::ledger::Ledger;
@@ -43,7 +44,7 @@ pub fn schedule_of<L: Ledger>(
     let _slots = timetable.slots();
     let _places = matrix.places();
     let mut solver = Solver::open(alloc)?;
-    solver.solve(&Pairs::of(timetable, matrix), steps);
+    solver.solve(&Pairs::of(timetable, matrix), &mut Looks::new(), steps);
     let blocks = blocks_of(alloc, timetable, solver.plan().links())?;
     Ok(Schedule { solver, blocks })
 }

@@ -5,6 +5,7 @@ pub mod Fronts
 pub mod Groups
 pub mod Inverse
 pub mod Leads
+pub mod Looks
 pub mod Order
 pub mod Relinking
 pub mod Renamed

@@ -8,9 +8,10 @@ ghost use Rattle.pair_search.specs.Fronts.{Shows};
 ghost use Rattle.pair_search.specs.Groups.{IsSeen};
 ghost use Rattle.pair_search.specs.Search.{at, as_columns, problem_of, tree_of, AreLooked, IsGiven, IsTree, IsNext, IsGrown};
 ghost use Rattle.pair_search.specs.Side.{side_slots, place_weight};
-ghost use Rattle.pair_search.specs.Visits.{RowVisits, RowsVisit, VisitsOnce};
+ghost use Rattle.pair_search.specs.Visits.{IsOfOthers, RowLooks, Takes};
 
 use crate::limits::GREATEST_PRICE;
+use crate::looks::Looks;
 use crate::scan::nearest;
 use crate::side::Side;
 use crate::tree::Tree;
@@ -52,6 +53,7 @@ impl Tree {
         a: u16,
         leave: &mut [u64],
         enter: &[u64],
+        looks: &mut Looks,
         steps: &mut Steps<L>,
     )
         requires few { side_slots side.now ≤ MOST_SLOTS }
@@ -67,15 +69,14 @@ impl Tree {
         ensures tree { (before : List (Option ℕ)) → IsGiven (problem_of side.now a before leave.new enter.now)
             → IsTree (problem_of side.now a before leave.new enter.now) (tree_of self.new 1 0) }
         ensures shown { Shows self.new 0 None GREATEST_PRICE (first_front (place_weight side.now) a enter.now (side_slots side.now)) }
-        ensures visited { RowVisits (place_weight side.now a) side.now.groups side.now.count (replicate (side_slots side.now) FAR)
-            self.new.dist.items steps.old steps.new }
+        ensures visited { Takes (RowLooks side.now a 0 (side_slots side.now)) looks.old.list looks.new.list steps.old steps.new }
         ensures counted { steps.new ≤ steps.old + side_slots side.now }
     {
         leave[a as usize] = GREATEST_PRICE;
         self.clear(side.groups(), side.slots(), side.posts());
         self.rows[0] = a;
         self.far[0] = 0;
-        self.look_from(side, a, 0, GREATEST_PRICE, enter, steps);
+        self.look_from(side, a, 0, GREATEST_PRICE, enter, looks, steps);
     }
 
     // A row comes into the tree by a column, and all columns are looked at from it.
@@ -87,6 +88,7 @@ impl Tree {
         place: u16,
         leave: &[u64],
         enter: &[u64],
+        looks: &mut Looks,
         steps: &mut Steps<L>,
     )
         requires row { row < side_slots side.now }
@@ -113,8 +115,7 @@ impl Tree {
             (at self.old.dist.items column + at leave.now row) enter.now
             (as_columns self.old.dist.items self.old.parent.items (slice_set self.old.done.items column true))
             (as_columns self.new.dist.items self.new.parent.items (slice_set self.old.done.items column true)) }
-        ensures visited { RowVisits (place_weight side.now row) side.now.groups side.now.count self.old.dist.items self.new.dist.items
-            steps.old steps.new }
+        ensures visited { Takes (RowLooks side.now row 0 (side_slots side.now)) looks.old.list looks.new.list steps.old steps.new }
         ensures counted { steps.new ≤ steps.old + side_slots side.now }
     {
         let distance = self.dist[column as usize];
@@ -122,7 +123,7 @@ impl Tree {
         self.rows[place as usize] = row;
         self.far[place as usize] = distance;
         let start = distance + leave[row as usize];
-        self.look_from(side, row, place, start, enter, steps);
+        self.look_from(side, row, place, start, enter, looks, steps);
     }
 
     /// Grows from the first row, row by row by the nearest column, until the search ends.
@@ -132,6 +133,7 @@ impl Tree {
         before: &[Option<u16>],
         leave: &[u64],
         enter: &[u64],
+        looks: &mut Looks,
         steps: &mut Steps<L>,
     ) -> End
         requires before { length before.now ≡ side_slots side.now }
@@ -147,11 +149,7 @@ impl Tree {
             → Shows self.old 0 None (at leave.now (at self.old.rows.items 0)) front
             → Shows self.new result.from result.to result.fall
             (grown (place_weight side.now) (record { next = next; leave = leave.now; enter = enter.now }) (side_slots side.now) front) }
-        ensures visited { (first : List ℕ) (was : ℕ)
-            → RowsVisit (place_weight side.now) side.now.groups side.now.count self.old.rows.items 1 first self.old.dist.items was
-            steps.old
-            → VisitsOnce (place_weight side.now) side.now.groups side.now.count self.new.rows.items first self.new.dist.items was
-            steps.new }
+        ensures visited { Takes (IsOfOthers side.now (at self.old.rows.items 0)) looks.old.list looks.new.list steps.old steps.new }
         ensures counted { steps.new ≤ steps.old + side_slots side.now * side_slots side.now }
     {
         let mut size = 1;
@@ -169,7 +167,7 @@ impl Tree {
                     fall: distance,
                 };
             };
-            self.visit(side, row, column, size, leave, enter, steps);
+            self.visit(side, row, column, size, leave, enter, looks, steps);
             best = sooner(best, size, distance + leave[row as usize]);
             size += 1;
         }

@@ -1,5 +1,5 @@
 //! Laws of the definitions that the contracts cite. Each is the contract of a function that does nothing.
-ghost use Rattle.std.specs.Prelude.{◌≡◌, ℕ, ◌<◌, ◌≤◌, Bool, false, List, length, Option, None, Some};
+ghost use Rattle.std.specs.Prelude.{◌≡◌, ℕ, ◌+◌, ◌<◌, ◌≤◌, Bool, false, List, ◌∷◌, ◌++◌, length, Option, None, Some};
 ghost use Rattle.assignment_model.specs.Prices.{Plan};
 ghost use Rattle.pair_graph.specs.Pairs.{PairsView};
 ghost use Rattle.pair_search.specs.Arranged.{arranged, departing, slots_of, AreInOrder};
@@ -7,7 +7,9 @@ ghost use Rattle.pair_search.specs.Determined.{first_nearest, dist_from, leave_a
 ghost use Rattle.pair_search.specs.Order.{IsOrder};
 ghost use Rattle.pair_search.specs.Relinking.{IsShifted};
 ghost use Rattle.pair_search.specs.Search.{at, is_done, as_columns, AreLooked};
-ghost use Rattle.pair_search.specs.Side.{pairs_minute, pairs_post};
+ghost use Rattle.pair_search.specs.Side.{SideView, pairs_minute, pairs_post};
+ghost use Rattle.pair_search.specs.Visits.{SearchesOnce, Takes};
+ghost use Rattle.pair_search.specs.declared.look.Look.{Look};
 ghost use Rattle.pair_search.specs.declared.order.Column.{Column};
 
 /// What is picked, seen and shifted in a search is determined by its start. Of the columns that are not done a pick takes the
@@ -39,4 +41,13 @@ pub fn order_law()
     ensures departures { (pairs : PairsView) (columns : List Column) (places : List ℕ)
         → IsOrder (length pairs.moves) (pairs_minute pairs false) (λ _. None) columns places
         → AreInOrder (length pairs.moves) columns → slots_of columns ≡ departing pairs }
+{}
+
+/// A list that has a look twice is not that of a search. The looks of a call are those by which the list grew, and the steps are as
+/// many.
+pub fn looks_law()
+    ensures twice { (side : SideView) (before between after : List Look) (look : Look)
+        → SearchesOnce side (before ++ look ∷ (between ++ look ∷ after)) → ⊥ }
+    ensures grown { (side : SideView) (was looks : List Look) (paid total : ℕ) → Takes (SearchesOnce side) was (was ++ looks) paid total
+        → (SearchesOnce side looks) × (total ≡ paid + length looks) }
 {}

@@ -6,12 +6,13 @@
 //! links, and [`link_all`] adds all rows, as [`Departures`] has them in order. [`Lists`] has the memory of searches.
 //!
 //! The contract that the crates above use: links and prices that are matched and cover all rows but one do so with that row
-//! too, along the path of its definition. A search visits no pair twice, and each visit is a step.
+//! too, along the path of its definition. The looks that a search notes in [`Looks`] are each at a pair that fits, at a group or at
+//! a row. No two of them are alike, and each is a step.
 //!
 //! `price_assign` shows a use, in `src/plan.rt`.
 //!
 //! The contracts cite `Side` (the pairs, seen from one side), `Order` and `Groups` (how columns stand), `Assignment` and `Turned`
-//! (links and prices that are matched), and `Visits` (which pairs a search visits). `Determined` and `Arranged` say what a search
+//! (links and prices that are matched), and `Visits` (the looks of a search). `Determined` and `Arranged` say what a search
 //! finds, computed from its start. `Search`, `Leads`, `Relinking`, `Renamed`, `Fronts` and `Inverse` have terms
 //! for proofs alone.
 #![tactic(auto)]
@@ -25,6 +26,8 @@ mod limits;
 mod line;
 mod links;
 mod lists;
+mod look;
+mod looks;
 mod order;
 mod orders;
 mod relink;
@@ -37,6 +40,8 @@ mod tree;
 
 pub use groups::Group;
 pub use lists::Lists;
+pub use look::Look;
+pub use looks::Looks;
 pub use order::Column;
 pub use orders::{Departures, Order};
 pub use search::{link_all, search_befores, search_links};

@@ -1,13 +1,17 @@
-ghost use Rattle.std.specs.Prelude.{◌≡◌, ℕ, ◌+◌, ◌-◌, ◌*◌, ◌<◌, ◌≤◌, ◌⊎◌, true, false, List, length, vec_len, Some, IfSome, IfNone};
+ghost use Rattle.std.specs.Prelude.{◌≡◌, ℕ, ◌+◌, ◌-◌, ◌*◌, ◌<◌, ◌≤◌, ◌⊎◌, true, false, List, ◌++◌, map, length, vec_len, Some, IfSome, IfNone};
+ghost use Rattle.std.specs.List.{range_with_len};
 ghost use Rattle.pair_search.specs.Determined.{first_nearest};
 ghost use Rattle.pair_search.specs.Groups.{group_at, AreApproached, AreNear, AreReached, IsNearer, IsSeen, IsSpent};
 ghost use Rattle.pair_search.specs.Search.{at, is_done, as_columns, columns_of, AreLooked, Columns, IsNearest};
 ghost use Rattle.pair_search.specs.Side.{side_slots, line_weight, place_weight};
-ghost use Rattle.pair_search.specs.Visits.{AreVisited, IsVisited, RowVisits};
+ghost use Rattle.pair_search.specs.Visits.{RowLooks, Takes};
+ghost use Rattle.pair_search.specs.declared.look.Look.TheVariants.{Visited, Passed};
 
 use crate::leads::Lead;
 use crate::limits::{FAR, GREATEST_PRICE};
 use crate::line::Line;
+use crate::look::Look;
+use crate::looks::Looks;
 use crate::side::Side;
 use crate::tree::{Seen, Tree};
 use desk_io::Steps;
@@ -21,8 +25,9 @@ struct Approached {
     undone: bool,
 }
 
-// Approaches the columns between two places at a cost, from a place of the tree: each is visited once, which is a step.
+// Approaches the columns between two places at a cost, from a place of the tree: a row visits each once, which is a step.
 fn approach<L: Ledger>(
+    row: u16,
     first: u16,
     upto: u16,
     from: u16,
@@ -31,7 +36,8 @@ fn approach<L: Ledger>(
     done: &[bool],
     dist: &mut [u64],
     parent: &mut [u16],
-    visits: &mut Steps<L>,
+    looks: &mut Looks,
+    steps: &mut Steps<L>,
 ) -> Approached
     requires enter { length enter.now ≡ length dist.old }
     requires done { length done.now ≡ length dist.old }
@@ -44,12 +50,13 @@ fn approach<L: Ledger>(
     ensures approached { AreApproached first upto from cost enter.now (as_columns dist.old parent.old done.now)
         (as_columns dist.new parent.new done.now) result.near }
     ensures undone { result.undone ≡ false → (j : ℕ) → first ≤ j → j < upto → is_done done.now j ≡ true }
-    ensures counted { visits.new ≡ visits.old + (upto - first) }
+    ensures visited { looks.new.list ≡ looks.old.list ++ map (Visited row) (range_with_len first (upto - first)) }
+    ensures counted { steps.new ≡ steps.old + (upto - first) }
 {
     let mut near = FAR;
     let mut undone = false;
     for column in first..upto {
-        visits.tick();
+        looks.take(Look::Visited(row, column), steps);
         let place = column as usize;
         undone = undone | !done[place];
         let along = cost + enter[place] - GREATEST_PRICE;
@@ -157,6 +164,7 @@ impl Tree {
         line: &Line<'_>,
         group: usize,
         start: u64,
+        looks: &mut Looks,
         steps: &mut Steps<L>,
     ) -> usize
         requires group { group ≤ line.now.side.count }
@@ -166,6 +174,7 @@ impl Tree {
         ensures within { result ≤ line.now.side.count }
         ensures spent { (r : ℕ) (enter : List ℕ) → group ≤ r → r < result → IsSeen line.now.side enter self.now
             → IsSpent line.now (group_at line.now.side.groups r) start enter (columns_of self.now) }
+        ensures passed { looks.new.list ≡ looks.old.list ++ map (Passed line.now.row) (range_with_len group (result - group)) }
         ensures counted { steps.new ≡ steps.old + (result - group) }
     {
         let count = line.side.groups();
@@ -173,7 +182,7 @@ impl Tree {
             if !self.is_spent(line, next, start) {
                 return next;
             }
-            steps.tick();
+            looks.take(Look::Passed(line.row, next), steps);
         }
         count
     }
@@ -187,11 +196,14 @@ impl Tree {
         from: u16,
         start: u64,
         enter: &[u64],
+        looks: &mut Looks,
         steps: &mut Steps<L>,
     )
         requires slots { vec_len self.old.dist ≡ side_slots line.now.side }
         requires enter { length enter.now ≡ side_slots line.now.side }
         requires group { group < line.now.side.count }
+        requires columns { (group_at line.now.side.groups group).from < (group_at line.now.side.groups group).to }
+        requires within { (group_at line.now.side.groups group).to ≤ side_slots line.now.side }
         requires seen { IsSeen line.now.side enter.now self.old }
         requires start { start ≤ 2 * GREATEST_PRICE }
         requires low { (j k : ℕ) → line_weight line.now j ≡ Some k → at enter.now j ≤ GREATEST_PRICE }
@@ -203,11 +215,11 @@ impl Tree {
             → AreLooked (line_weight line.now) (group_at line.now.side.groups group).from from start enter.now was (columns_of self.old)
             → AreLooked (line_weight line.now) (group_at line.now.side.groups group).to from start enter.now was (columns_of self.new) }
         ensures seen { IsSeen line.now.side enter.now self.new }
-        ensures visited { IsVisited (line_weight line.now) (group_at line.now.side.groups group) self.old.dist.items self.new.dist.items
-            steps.old steps.new }
+        ensures visited { Takes (RowLooks line.now.side line.now.row (group_at line.now.side.groups group).from
+            (group_at line.now.side.groups group).to) looks.old.list looks.new.list steps.old steps.new }
     {
         let Some(reach) = line.reach_of(group) else {
-            steps.tick();
+            looks.take(Look::Passed(line.row, group), steps);
             return;
         };
         let was = self.seen[group];
@@ -215,10 +227,11 @@ impl Tree {
         let upto = cut(was, cost, line.side.group(group).to);
         let first = line.first_fit(group, reach, upto);
         if first >= upto {
-            steps.tick();
+            looks.take(Look::Passed(line.row, group), steps);
             return;
         }
         let found = approach(
+            line.row,
             first,
             upto,
             from,
@@ -227,6 +240,7 @@ impl Tree {
             &self.done,
             &mut self.dist,
             &mut self.parent,
+            looks,
             steps,
         );
         let missed = line.side.missed(group, first);
@@ -240,6 +254,7 @@ impl Tree {
         from: u16,
         start: u64,
         enter: &[u64],
+        looks: &mut Looks,
         steps: &mut Steps<L>,
     )
         requires slots { vec_len self.old.dist ≡ side_slots line.now.side }
@@ -254,16 +269,16 @@ impl Tree {
         ensures looked { AreLooked (line_weight line.now) (side_slots line.now.side) from start enter.now (columns_of self.old)
             (columns_of self.new) }
         ensures seen { IsSeen line.now.side enter.now self.new }
-        ensures visited { AreVisited (line_weight line.now) line.now.side.groups line.now.side.count self.old.dist.items
-            self.new.dist.items steps.old steps.new }
+        ensures visited { Takes (RowLooks line.now.side line.now.row 0 (side_slots line.now.side)) looks.old.list looks.new.list
+            steps.old steps.new }
         ensures counted { steps.new ≤ steps.old + side_slots line.now.side }
     {
         let side = line.side;
         let count = side.groups();
-        let mut group = self.pass(line, 0, start, steps);
+        let mut group = self.pass(line, 0, start, looks, steps);
         while group < count {
-            self.look(line, group, from, start, enter, steps);
-            group = self.pass(line, group + 1, start, steps);
+            self.look(line, group, from, start, enter, looks, steps);
+            group = self.pass(line, group + 1, start, looks, steps);
         }
     }
 
@@ -276,6 +291,7 @@ impl Tree {
         from: u16,
         start: u64,
         enter: &[u64],
+        looks: &mut Looks,
         steps: &mut Steps<L>,
     )
         requires row { row < side_slots side.now }
@@ -290,22 +306,21 @@ impl Tree {
         ensures looked { AreLooked (place_weight side.now row) (side_slots side.now) from start enter.now (columns_of self.old)
             (columns_of self.new) }
         ensures seen { IsSeen side.now enter.now self.new }
-        ensures visited { RowVisits (place_weight side.now row) side.now.groups side.now.count self.old.dist.items self.new.dist.items
-            steps.old steps.new }
+        ensures visited { Takes (RowLooks side.now row 0 (side_slots side.now)) looks.old.list looks.new.list steps.old steps.new }
         ensures counted { steps.new ≤ steps.old + side_slots side.now }
     {
         // Its clauses say that moves are of one day.
         let _slots = side.slots();
         let Some(stand) = side.stand(row) else {
-            steps.tick();
+            looks.take(Look::Led(row), steps);
             return;
         };
         let lead = self.leads[stand.post as usize];
         if start >= lead.start && stand.ready >= lead.ready {
-            steps.tick();
+            looks.take(Look::Led(row), steps);
             return;
         }
-        self.look_along(&side.line(row), from, start, enter, steps);
+        self.look_along(&side.line(row), from, start, enter, looks, steps);
         self.leads[stand.post as usize] = Lead {
             ready: stand.ready,
             start,

@@ -9,11 +9,12 @@ ghost use Rattle.pair_search.specs.Determined.{found, found_each};
 ghost use Rattle.pair_search.specs.Turned.{MayBeginTurned, IsFoundTurned};
 ghost use Rattle.pair_search.specs.Side.{side_slots, side_weight, place_weight};
 ghost use Rattle.pair_search.specs.Order.{slot_at, IsRenaming};
-ghost use Rattle.pair_search.specs.Visits.{SearchesOnce};
+ghost use Rattle.pair_search.specs.Visits.{AreSearches, SearchesOnce, Takes};
 
 use crate::invert::invert;
 use crate::links::{read_links, write_links};
 use crate::lists::{Lists, Placed};
+use crate::looks::Looks;
 use crate::order::Column;
 use crate::relink::relink;
 use crate::rename::{link_columns, link_places, price_columns, price_places};
@@ -33,6 +34,7 @@ fn search<L: Ledger>(
     enter: &mut [u64],
     before: &mut [Option<u16>],
     tree: &mut Tree,
+    looks: &mut Looks,
     steps: &mut Steps<L>,
 )
     requires few { side_slots side.now ≤ MOST_SLOTS }
@@ -52,12 +54,12 @@ fn search<L: Ledger>(
         → Covers (place_weight side.now) out None leave.new enter.new }
     ensures plan { ◌≡◌ {A = Plan} (record { next = next.new; leave = leave.new; enter = enter.new })
         (found (place_weight side.now) a (record { next = next.old; leave = leave.old; enter = enter.old })) }
-    ensures visited { SearchesOnce side.now steps.old steps.new }
+    ensures visited { Takes (SearchesOnce side.now) looks.old.list looks.new.list steps.old steps.new }
     ensures counted { steps.new ≤ steps.old + side_slots side.now * side_slots side.now + side_slots side.now }
 {
     invert(next, before);
-    tree.begin(side, a, leave, enter, steps);
-    let end = tree.grow(side, before, leave, enter, steps);
+    tree.begin(side, a, leave, enter, looks, steps);
+    let end = tree.grow(side, before, leave, enter, looks, steps);
     shift(a, end.fall, next, &tree.dist, leave, enter);
     relink(end, &tree.parent, &tree.rows, next);
 }
@@ -72,6 +74,7 @@ fn link_rows<L: Ledger>(
     enter: &mut [u64],
     before: &mut [Option<u16>],
     tree: &mut Tree,
+    looks: &mut Looks,
     steps: &mut Steps<L>,
 )
     requires few { side_slots side.now ≤ MOST_SLOTS }
@@ -86,13 +89,14 @@ fn link_rows<L: Ledger>(
     ensures covers { Covers (place_weight side.now) (λ _. false) None leave.new enter.new }
     ensures plan { ◌≡◌ {A = Plan} (record { next = next.new; leave = leave.new; enter = enter.new })
         (found_each (place_weight side.now) (slots_of departures.now) (bare (side_slots side.now))) }
+    ensures visited { Takes (AreSearches (side_slots side.now) side.now) looks.old.list looks.new.list steps.old steps.new }
     ensures counted { steps.new ≤ steps.old + side_slots side.now * (side_slots side.now * side_slots side.now + side_slots side.now) }
 {
     let slots = side.slots();
     for added in 0..slots {
         let last = slots - 1 - added;
         let a = departures[last as usize].slot;
-        search(side, a, next, leave, enter, before, tree, steps);
+        search(side, a, next, leave, enter, before, tree, looks, steps);
     }
 }
 
@@ -105,6 +109,7 @@ impl Placed {
         next: &mut [Option<u16>],
         leave: &mut [u64],
         enter: &mut [u64],
+        looks: &mut Looks,
         steps: &mut Steps<L>,
     )
         requires few { side_slots side.now ≤ MOST_SLOTS }
@@ -124,7 +129,7 @@ impl Placed {
         ensures plan { ◌≡◌ {A = Plan} (record { next = next.new; leave = leave.new; enter = enter.new })
             (found_by (slots_of side.now.columns) (side_weight side.now) a
             (record { next = next.old; leave = leave.old; enter = enter.old })) }
-        ensures visited { SearchesOnce side.now steps.old steps.new }
+        ensures visited { Takes (SearchesOnce side.now) looks.old.list looks.new.list steps.old steps.new }
         ensures counted { steps.new ≤ steps.old + side_slots side.now * side_slots side.now + side_slots side.now }
     {
         self.set_slots(side.slots());
@@ -141,6 +146,7 @@ impl Placed {
             entering,
             before,
             &mut self.tree,
+            looks,
             steps,
         );
         link_columns(side, placed, next);
@@ -155,6 +161,7 @@ impl Placed {
         next: &mut [Option<u16>],
         leave: &mut [u64],
         enter: &mut [u64],
+        looks: &mut Looks,
         steps: &mut Steps<L>,
     )
         requires renaming { (turn : ℕ → ℕ) × IsRenaming (side_slots side.now) (slot_at (side_slots side.now) departures.now) turn }
@@ -166,6 +173,7 @@ impl Placed {
         ensures covers { Covers (side_weight side.now) (λ _. false) None leave.new enter.new }
         ensures plan { ◌≡◌ {A = Plan} (record { next = next.new; leave = leave.new; enter = enter.new })
             (all_found (slots_of side.now.columns) (side_weight side.now) (slots_of departures.now)) }
+        ensures visited { Takes (AreSearches (side_slots side.now) side.now) looks.old.list looks.new.list steps.old steps.new }
         ensures counted { steps.new ≤ steps.old + side_slots side.now * (side_slots side.now * side_slots side.now + side_slots side.now) }
     {
         self.set_slots(side.slots());
@@ -180,6 +188,7 @@ impl Placed {
             entering,
             before,
             &mut self.tree,
+            looks,
             steps,
         );
         link_columns(side, placed, next);
@@ -195,6 +204,7 @@ pub fn search_links<L: Ledger>(
     leave: &mut Vec<u64>,
     enter: &mut Vec<u64>,
     lists: &mut Lists,
+    looks: &mut Looks,
     steps: &mut Steps<L>,
 )
     requires links { length links.old ≡ side_slots side.now }
@@ -215,13 +225,15 @@ pub fn search_links<L: Ledger>(
     ensures plan { ◌≡◌ {A = Plan} (record { next = links.new; leave = leave.new.items; enter = enter.new.items })
         (found_by (slots_of side.now.columns) (side_weight side.now) a
         (record { next = links.old; leave = leave.old.items; enter = enter.old.items })) }
-    ensures visited { SearchesOnce side.now steps.old steps.new }
+    ensures visited { Takes (SearchesOnce side.now) looks.old.list looks.new.list steps.old steps.new }
     ensures counted { steps.new ≤ steps.old + side_slots side.now * side_slots side.now + side_slots side.now }
 {
     lists.set_slots(side.slots());
     let next = lists.next.as_mut_slice();
     read_links(links, next);
-    lists.placed.search(side, a, next, leave, enter, steps);
+    lists
+        .placed
+        .search(side, a, next, leave, enter, looks, steps);
     write_links(next, links);
 }
 
@@ -233,6 +245,7 @@ pub fn search_befores<L: Ledger>(
     leave: &mut Vec<u64>,
     enter: &mut Vec<u64>,
     lists: &mut Lists,
+    looks: &mut Looks,
     steps: &mut Steps<L>,
 )
     requires links { length links.old ≡ side_slots side.now }
@@ -250,7 +263,7 @@ pub fn search_befores<L: Ledger>(
     ensures plan { ◌≡◌ {A = Plan} (record { next = links.new; leave = leave.new.items; enter = enter.new.items })
         (turned_plan (found_by (slots_of side.now.columns) (side_weight side.now) b
         (turned_plan (record { next = links.old; leave = leave.old.items; enter = enter.old.items })))) }
-    ensures visited { SearchesOnce side.now steps.old steps.new }
+    ensures visited { Takes (SearchesOnce side.now) looks.old.list looks.new.list steps.old steps.new }
     ensures counted { steps.new ≤ steps.old + side_slots side.now * side_slots side.now + side_slots side.now }
 {
     lists.set_slots(side.slots());
@@ -258,7 +271,9 @@ pub fn search_befores<L: Ledger>(
     let turned = lists.turned.as_mut_slice();
     read_links(links, turned);
     invert(turned, next);
-    lists.placed.search(side, b, next, enter, leave, steps);
+    lists
+        .placed
+        .search(side, b, next, enter, leave, looks, steps);
     invert(next, turned);
     write_links(turned, links);
 }
@@ -272,6 +287,7 @@ pub fn link_all<L: Ledger>(
     leave: &mut Vec<u64>,
     enter: &mut Vec<u64>,
     lists: &mut Lists,
+    looks: &mut Looks,
     steps: &mut Steps<L>,
 )
     requires links { links.old ≡ replicate (side_slots side.now) None }
@@ -286,12 +302,13 @@ pub fn link_all<L: Ledger>(
     ensures covers { Covers (side_weight side.now) (λ _. false) None leave.new.items enter.new.items }
     ensures plan { ◌≡◌ {A = Plan} (record { next = links.new; leave = leave.new.items; enter = enter.new.items })
         (all_found (slots_of side.now.columns) (side_weight side.now) (slots_of departures.now)) }
+    ensures visited { Takes (AreSearches (side_slots side.now) side.now) looks.old.list looks.new.list steps.old steps.new }
     ensures counted { steps.new ≤ steps.old + side_slots side.now * (side_slots side.now * side_slots side.now + side_slots side.now) }
 {
     lists.set_slots(side.slots());
     let next = lists.next.as_mut_slice();
     lists
         .placed
-        .link_all(side, departures, next, leave, enter, steps);
+        .link_all(side, departures, next, leave, enter, looks, steps);
     write_links(next, links);
 }

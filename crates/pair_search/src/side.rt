@@ -5,8 +5,8 @@ ghost use Rattle.pair_search.specs.Arranged.{arranged, slots_of};
 ghost use Rattle.pair_search.specs.Assignment.{AreWeights};
 ghost use Rattle.pair_search.specs.Groups.{group_at, group_pull, AreGroups, IsOrderOf};
 ghost use Rattle.pair_search.specs.Leads.{stand_of};
-ghost use Rattle.pair_search.specs.Order.{IsRenaming};
-ghost use Rattle.pair_search.specs.Side.{side_slots, side_slot, side_place, side_weight, IsSideOf};
+ghost use Rattle.pair_search.specs.Order.{IsOrder, IsRenaming};
+ghost use Rattle.pair_search.specs.Side.{pairs_minute, pairs_post, side_slots, side_slot, side_place, side_weight, IsSideOf};
 ghost use Rattle.trip_model.specs.Plain.{move_at, AreMoves};
 ghost use Rattle.trip_model.specs.declared.limits.TheConstants.{MOST_PLACES, MOST_SLOTS};
 
@@ -65,6 +65,8 @@ impl<'a> Side<'a> {
     ) -> Side<'a>
         requires { IsOrderOf pairs.now turned without order.now }
         ensures pairs { IsSideOf pairs.now turned without result }
+        ensures columns { IsOrder (length pairs.now.moves) (pairs_minute pairs.now turned) (pairs_post pairs.now turned without) result.columns
+            result.places }
         ensures slots { slots_of result.columns ≡ arranged pairs.now turned without }
         ensures groups { AreGroups (side_slots result) result.columns result.count result.groups }
     {

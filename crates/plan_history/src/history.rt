@@ -15,6 +15,7 @@ use crate::keep::keep;
 use crate::stand::{Changed, Stand, copy_stands};
 use desk_io::{Memory, Steps};
 use pair_graph::Pairs;
+use pair_search::Looks;
 use price_assign::{Plan, Solver};
 use price_repair::{after_add, after_take};
 use std::alloc::Global;
@@ -116,7 +117,7 @@ impl PlanHistory {
     {
         // Its clauses say that the network is one of one day.
         let _slots = pairs.slots();
-        self.solver.solve(pairs, steps);
+        self.solver.solve(pairs, &mut Looks::new(), steps);
     }
 
     /// Takes the memory that the next edit needs: for a change of each slot and of one more. Nothing else that is seen changes.

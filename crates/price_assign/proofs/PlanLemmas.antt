@@ -1,5 +1,5 @@
 -- Loose plans of pairs, seen from one side.
-use Rattle.std.proofs.Common.{◌≡◌, ℕ, true, false, List, length, Option, None, Some, refl, sym, ap, subst, ◌∙◌, arith}
+use Rattle.std.proofs.Common.{◌≡◌, ℕ, Bool, true, false, List, length, Option, None, Some, refl, sym, ap, subst, ◌∙◌, arith}
 use Rattle.std.proofs.lemmas.Option.{none-some}
 use Rattle.trip_model.specs.Network.{AreDepartures}
 use Rattle.assignment_model.specs.Prices.{Plan, IsCertified, IsDay, IsLoose}
@@ -8,9 +8,13 @@ use Rattle.pair_graph.specs.Pairs.{PairsView, pairs_network}
 use Rattle.pair_search.specs.Assignment.{IsMatched, Covers, MayBegin}
 use Rattle.pair_search.specs.declared.groups.Group.{Group}
 use Rattle.pair_search.specs.declared.order.Column.{Column}
-use Rattle.pair_search.specs.Arranged.{arranged, departing, weight_from, found_by, all_found, turned_plan}
-use Rattle.pair_search.specs.Side.{SideView, side_slots, side_weight, IsSideOf}
+use Rattle.pair_search.specs.declared.look.Look.{Look}
+use Rattle.pair_search.specs.Arranged.{arranged, departing, slots_of, weight_from, found_by, all_found, turned_plan}
+use Rattle.pair_search.specs.Groups.{AreGroups}
+use Rattle.pair_search.specs.Order.{IsOrder}
+use Rattle.pair_search.specs.Side.{SideView, pairs_minute, pairs_post, side_slots, side_weight, IsSideOf}
 use Rattle.pair_search.specs.Turned.{MayBeginTurned, IsFoundTurned}
+use Rattle.pair_search.specs.Visits.{AreOfSide, Takes}
 use Rattle.pair_search.proofs.SideLemmas.{IsWithout-side, weight-side}
 use Rattle.price_assign.specs.Found.{found_left, found_right, solved}
 use Rattle.price_assign.proofs.RightLemmas.{MayBegin-right, IsLoose-right}
@@ -119,3 +123,16 @@ solved-is pairs side order rows new is by turn found =
     found ∙ ap (λ o. all_found o (side_weight side) rows) by
     ∙ ap (λ (w : ℕ → ℕ → Option ℕ). all_found (arranged pairs false None) w rows) (weight-side pairs false None side is)
     ∙ ap (all_found (arranged pairs false None) (weight_from pairs false None)) turn
+
+-- looks over a side are such over the pairs that it is of
+pub Takes-of-side : (P : SideView → List Look → Type 0) (pairs : PairsView) (turned : Bool) (without : Option ℕ) (side : SideView)
+    → IsSideOf pairs turned without side
+    → IsOrder (length pairs.moves) (pairs_minute pairs turned) (pairs_post pairs turned without) side.columns side.places
+    → slots_of side.columns ≡ arranged pairs turned without → AreGroups (side_slots side) side.columns side.count side.groups
+    → (was now : List Look) (paid total : ℕ) → Takes (P side) was now paid total → Takes (AreOfSide P pairs turned without) was now paid total
+Takes-of-side P pairs turned without side is columns slots groups was now paid total takes = record {
+  looks = takes.looks;
+  after = takes.after;
+  steps = takes.steps;
+  are = record { side = side; is = is; columns = columns; slots = slots; groups = groups; are = takes.are };
+}

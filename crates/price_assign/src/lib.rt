@@ -6,7 +6,8 @@
 //! each by a search along a shortest augmenting path of the assignment problem.
 //!
 //! The contract that the crates above use: after `solve` the plan is certified, within a count of steps. A search takes a loose
-//! plan to one with one side less left out, along the path of its definition, and visits no pair twice.
+//! plan to one with one side less left out, along the path of its definition. It takes no look twice, and each look is a
+//! step. `solve` makes as many such searches as there are slots.
 //!
 //! `feed_schedule` shows a use, in `src/schedule.rt`.
 //!

@@ -2,14 +2,14 @@ ghost use Rattle.std.specs.Prelude.{◌≡◌, ◌+◌, ◌*◌, ◌<◌, ◌≤
 ghost use Rattle.assignment_model.specs.Paths.{IsLeftPath, IsRightPath};
 ghost use Rattle.assignment_model.specs.Prices.{IsCertified, IsLoose};
 ghost use Rattle.pair_graph.specs.Pairs.{pairs_network};
-ghost use Rattle.pair_search.specs.Visits.{SearchesSideOnce};
+ghost use Rattle.pair_search.specs.Visits.{AreOfSide, AreSearches, SearchesOnce, Takes};
 ghost use Rattle.price_assign.specs.Found.{found_left, found_right, solved};
 ghost use Rattle.price_assign.specs.Plans.{with_slots, with_entry};
 ghost use Rattle.trip_model.specs.declared.limits.TheConstants.{MOST_SLOTS};
 
 use desk_io::{Memory, Steps};
 use pair_graph::Pairs;
-use pair_search::{Departures, Lists, Order, Side, link_all, search_befores, search_links};
+use pair_search::{Departures, Lists, Looks, Order, Side, link_all, search_befores, search_links};
 use std::alloc::Global;
 use std::marker::Model;
 use std::sync::ledger::Ledger;
@@ -108,6 +108,7 @@ impl Plan {
         b: Option<u16>,
         order: &mut Order,
         lists: &mut Lists,
+        looks: &mut Looks,
         steps: &mut Steps<L>,
     )
         requires slots { length self.old.next ≡ length pairs.now.moves }
@@ -115,7 +116,7 @@ impl Plan {
         ensures loose { IsLoose (pairs_network pairs.now) self.new None b }
         ensures path { IsLeftPath self.old.next self.new.next a }
         ensures plan { self.new ≡ found_left pairs.now a b self.old }
-        ensures visited { SearchesSideOnce pairs.now false b steps.old steps.new }
+        ensures visited { Takes (AreOfSide SearchesOnce pairs.now false b) looks.old.list looks.new.list steps.old steps.new }
         ensures counted { steps.new ≤ steps.old + length pairs.now.moves * length pairs.now.moves + length pairs.now.moves }
     {
         // Its clauses say that the network is one of one day, along which departures rise.
@@ -129,6 +130,7 @@ impl Plan {
             &mut self.leave,
             &mut self.enter,
             lists,
+            looks,
             steps,
         );
     }
@@ -141,6 +143,7 @@ impl Plan {
         a: Option<u16>,
         order: &mut Order,
         lists: &mut Lists,
+        looks: &mut Looks,
         steps: &mut Steps<L>,
     )
         requires slots { length self.old.next ≡ length pairs.now.moves }
@@ -148,7 +151,7 @@ impl Plan {
         ensures loose { IsLoose (pairs_network pairs.now) self.new a None }
         ensures path { IsRightPath self.old.next self.new.next b }
         ensures plan { self.new ≡ found_right pairs.now b a self.old }
-        ensures visited { SearchesSideOnce pairs.now true a steps.old steps.new }
+        ensures visited { Takes (AreOfSide SearchesOnce pairs.now true a) looks.old.list looks.new.list steps.old steps.new }
         ensures counted { steps.new ≤ steps.old + length pairs.now.moves * length pairs.now.moves + length pairs.now.moves }
     {
         // Its clauses say that the network is one of one day, along which departures rise.
@@ -162,6 +165,7 @@ impl Plan {
             &mut self.leave,
             &mut self.enter,
             lists,
+            looks,
             steps,
         );
     }
@@ -173,11 +177,14 @@ impl Plan {
         departures: &mut Departures,
         order: &mut Order,
         lists: &mut Lists,
+        looks: &mut Looks,
         steps: &mut Steps<L>,
     )
         ensures slots { length self.new.next ≡ length pairs.now.moves }
         ensures certified { IsCertified (pairs_network pairs.now) self.new }
         ensures plan { self.new ≡ solved pairs.now }
+        ensures visited { Takes (AreOfSide (AreSearches (length pairs.now.moves)) pairs.now false None) looks.old.list looks.new.list
+            steps.old steps.new }
         ensures counted { steps.new ≤ steps.old + length
             pairs.now.moves * (length pairs.now.moves * length pairs.now.moves + length pairs.now.moves) }
     {
@@ -195,6 +202,7 @@ impl Plan {
             &mut self.leave,
             &mut self.enter,
             lists,
+            looks,
             steps,
         );
     }

@@ -2,7 +2,7 @@ ghost use Rattle.std.specs.Prelude.{◌≡◌, ◌+◌, ◌*◌, ◌<◌, ◌≤
 ghost use Rattle.assignment_model.specs.Paths.{IsLeftPath, IsRightPath};
 ghost use Rattle.assignment_model.specs.Prices.{IsCertified, IsLoose};
 ghost use Rattle.pair_graph.specs.Pairs.{pairs_network};
-ghost use Rattle.pair_search.specs.Visits.{SearchesSideOnce};
+ghost use Rattle.pair_search.specs.Visits.{AreOfSide, AreSearches, SearchesOnce, Takes};
 ghost use Rattle.price_assign.specs.Found.{found_left, found_right, solved};
 ghost use Rattle.price_assign.specs.Plans.{with_slots, with_entry};
 ghost use Rattle.trip_model.specs.declared.limits.TheConstants.{MOST_SLOTS};
@@ -10,7 +10,7 @@ ghost use Rattle.trip_model.specs.declared.limits.TheConstants.{MOST_SLOTS};
 use crate::Plan;
 use desk_io::{Memory, Steps};
 use pair_graph::Pairs;
-use pair_search::{Departures, Lists, Order};
+use pair_search::{Departures, Lists, Looks, Order};
 use std::alloc::Global;
 use std::marker::Model;
 use std::sync::ledger::Ledger;
@@ -84,10 +84,12 @@ impl Solver {
     }
 
     /// Makes a certified plan for the pairs, whatever the plan was. At most n^3 + n^2 steps for n slots.
-    pub fn solve<L: Ledger>(&mut self, pairs: &Pairs<'_>, steps: &mut Steps<L>)
+    pub fn solve<L: Ledger>(&mut self, pairs: &Pairs<'_>, looks: &mut Looks, steps: &mut Steps<L>)
         ensures slots { length self.new.next ≡ length pairs.now.moves }
         ensures certified { IsCertified (pairs_network pairs.now) self.new }
         ensures plan { self.new ≡ solved pairs.now }
+        ensures visited { Takes (AreOfSide (AreSearches (length pairs.now.moves)) pairs.now false None) looks.old.list looks.new.list
+            steps.old steps.new }
         ensures counted { let n = length pairs.now.moves in steps.new ≤ steps.old + n * n * n + n * n }
     {
         self.plan.solve(
@@ -95,6 +97,7 @@ impl Solver {
             &mut self.departures,
             &mut self.order,
             &mut self.lists,
+            looks,
             steps,
         );
     }
@@ -106,6 +109,7 @@ impl Solver {
         pairs: &Pairs<'_>,
         a: u16,
         b: Option<u16>,
+        looks: &mut Looks,
         steps: &mut Steps<L>,
     )
         requires slots { length self.old.next ≡ length pairs.now.moves }
@@ -113,11 +117,10 @@ impl Solver {
         ensures loose { IsLoose (pairs_network pairs.now) self.new None b }
         ensures path { IsLeftPath self.old.next self.new.next a }
         ensures plan { self.new ≡ found_left pairs.now a b self.old }
-        ensures visited { SearchesSideOnce pairs.now false b steps.old steps.new }
+        ensures visited { Takes (AreOfSide SearchesOnce pairs.now false b) looks.old.list looks.new.list steps.old steps.new }
         ensures counted { let n = length pairs.now.moves in steps.new ≤ steps.old + n * n + n }
     {
-        self.plan
-            .search_left(pairs, a, b, &mut self.order, &mut self.lists, steps);
+        self.plan.search_left(pairs, a, b, &mut self.order, &mut self.lists, looks, steps);
     }
 
     /// Adds the entering side of `b`, as [`Solver::search_left`] adds a leaving one. A search goes out from `b` over the pairs
@@ -127,6 +130,7 @@ impl Solver {
         pairs: &Pairs<'_>,
         b: u16,
         a: Option<u16>,
+        looks: &mut Looks,
         steps: &mut Steps<L>,
     )
         requires slots { length self.old.next ≡ length pairs.now.moves }
@@ -134,10 +138,9 @@ impl Solver {
         ensures loose { IsLoose (pairs_network pairs.now) self.new a None }
         ensures path { IsRightPath self.old.next self.new.next b }
         ensures plan { self.new ≡ found_right pairs.now b a self.old }
-        ensures visited { SearchesSideOnce pairs.now true a steps.old steps.new }
+        ensures visited { Takes (AreOfSide SearchesOnce pairs.now true a) looks.old.list looks.new.list steps.old steps.new }
         ensures counted { let n = length pairs.now.moves in steps.new ≤ steps.old + n * n + n }
     {
-        self.plan
-            .search_right(pairs, b, a, &mut self.turned, &mut self.lists, steps);
+        self.plan.search_right(pairs, b, a, &mut self.turned, &mut self.lists, looks, steps);
     }
 }

@@ -6,6 +6,7 @@ ghost use Rattle.price_repair.specs.Repaired.{left_added, right_added};
 
 use desk_io::Steps;
 use pair_graph::Pairs;
+use pair_search::Looks;
 use price_assign::Solver;
 use std::sync::ledger::Ledger;
 
@@ -26,7 +27,7 @@ pub(crate) fn add_leaving<L: Ledger>(
     ensures counted { let n = length pairs.now.moves in steps.new ≤ steps.old + n * n + n }
 {
     if let Some(a) = a {
-        solver.search_left(pairs, a, b, steps);
+        solver.search_left(pairs, a, b, &mut Looks::new(), steps);
     }
 }
 
@@ -48,6 +49,6 @@ pub(crate) fn add_entering<L: Ledger>(
     // Its clauses say that the network is one of one day, along which departures rise.
     let _slots = pairs.slots();
     if let Some(b) = b {
-        solver.search_right(pairs, b, None, steps);
+        solver.search_right(pairs, b, None, &mut Looks::new(), steps);
     }
 }

@@ -1,4 +1,4 @@
-use Rattle.std.proofs.Common.{◌≡◌, ℕ, ◌+◌, ◌-◌, ◌≤◌, ◌∙◌, List, drop, get_or, None, sym, ap, subst, arith}
+use Rattle.std.proofs.Common.{◌≡◌, ℕ, ◌+◌, ◌-◌, ◌≤◌, ◌∙◌, List, drop, get_or, None, refl, sym, ap, subst, arith}
 use Rattle.std.proofs.lemmas.List.{drop_all, get_or_default}
 use Rattle.pair_search.specs.Arranged.{slots_of, bare}
 use Rattle.pair_search.specs.Assignment.{IsMatched, Covers}
@@ -10,6 +10,8 @@ use Rattle.pair_search.proofs.AddLemmas.{IsMatched-none, IsMatched-all, MayBegin
 use Rattle.pair_search.proofs.ArrangedLemmas.{slots-length, slots-at}
 use Rattle.pair_search.proofs.LentLemmas.{plan-same}
 use Rattle.pair_search.proofs.PlacedLemmas.{found_each-more}
+use Rattle.pair_search.specs.Visits.{AreSearches, SearchesOnce, Takes}
+use Rattle.pair_search.proofs.VisitLemmas.{AreSearches-more, Takes-append, Takes-none}
 use Rattle.pair_search.proofs.search.link_rows.Goals as goal
 
 pub loop-added-init : goal.loop-added-init
@@ -31,6 +33,7 @@ loop-added-init g c =
           c.requires.next c.requires.leave c.requires.enter
           (sym (ap (λ rows. found_each (place_weight side) rows (bare n))
           (drop_all (n - 0) (slots_of c.args.departures.now) (omega (arith, slots-length c.args.departures.now, c.requires.all)))));
+      visited = Takes-none (AreSearches 0 side) refl c.args.looks.now.list c.args.steps.now;
       counted = omega arith;
     }
 
@@ -77,6 +80,10 @@ loop-added-preserved g c =
       plan = done.plan
           ∙ ap (found w _) (loop.invariant.plan ∙ ap (λ k. found_each w (drop k rows) (bare n)) (omega (arith, below)))
           ∙ found_each-more w rows (bare n) last _ n (omega (arith, below, slots-length c.args.departures.now, c.requires.all)) row;
+      visited =
+          Takes-append (AreSearches loop.added side) (SearchesOnce side) (AreSearches (loop.added + 1) side)
+          (AreSearches-more side loop.added) c.args.looks.now.list loop.looks.list c.search.new.looks.list c.args.steps.now loop.steps
+          c.search.new.steps loop.invariant.visited done.visited;
       counted = omega (arith, done.counted, loop.invariant.counted);
     }
 
@@ -103,3 +110,10 @@ returns-clause-plan g c =
     let loop = c.loop-added in
     let none : side_slots side - loop.added ≡ 0 = omega (arith, c.loop-added-test.false, c.slots-slots.ensures.count) in
     loop.invariant.plan ∙ ap (λ k. found_each (place_weight side) (drop k (slots_of c.args.departures.now)) (bare (side_slots side))) none
+
+pub returns-clause-visited : goal.returns-clause-visited
+returns-clause-visited g c =
+    let side = c.args.side.now in
+    let loop = c.loop-added in
+    subst (λ n. Takes (AreSearches n side) c.args.looks.now.list loop.looks.list c.args.steps.now loop.steps)
+    (omega (arith, c.loop-added-test.false, loop.auto.added-end, c.slots-slots.ensures.count)) loop.invariant.visited

@@ -5,6 +5,7 @@ use Rattle.pair_search.specs.Assignment.{IsMatched, Covers}
 use Rattle.pair_search.specs.Determined.{found_each}
 use Rattle.pair_search.specs.Order.{slot_at, stands_before, IsRenaming}
 use Rattle.pair_search.specs.Side.{side_slots, place_weight}
+use Rattle.pair_search.specs.Visits.{AreSearches, Takes}
 use Rattle.pair_search.proofs.search.link_rows.Given as goal
 
 abbrev pub invariant-loop-added : goal.invariant-loop-added
@@ -15,5 +16,6 @@ invariant-loop-added g l = record {
   covers : Covers (place_weight l.side) (stands_before turn (side_slots l.side - l.added)) None l.leave l.enter;
   plan : ◌≡◌ {A = Plan} (record { next = l.next; leave = l.leave; enter = l.enter })
       (found_each (place_weight l.side) (drop (side_slots l.side - l.added) (slots_of l.departures)) (bare (side_slots l.side)));
+  visited : Takes (AreSearches l.added l.side) l.initial.looks.list l.looks.list l.initial.steps l.steps;
   counted : l.steps ≤ l.initial.steps + l.added * (side_slots l.side * side_slots l.side + side_slots l.side);
 }

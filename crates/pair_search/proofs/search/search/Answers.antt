@@ -1,4 +1,4 @@
-use Rattle.std.proofs.Common.{◌≡◌, ℕ, ◌+◌, ◌-◌, ◌<◌, ◌≤◌, ◌∙◌, List, length, ap, replicate, Option, None, Some, Bool, refl, sym, subst}
+use Rattle.std.proofs.Common.{◌≡◌, ℕ, ◌+◌, ◌-◌, ◌<◌, ◌≤◌, ◌∙◌, List, length, ap, Option, None, Some, Bool, refl, sym, subst}
 use Rattle.std.proofs.Common.{⊎_elim, arith}
 use Rattle.std.proofs.lemmas.Bool.{cases_lt}
 use Rattle.std.proofs.lemmas.List.{get_or_past, get_or-set_same}
@@ -11,11 +11,12 @@ use Rattle.pair_search.specs.Fronts.{Shows}
 use Rattle.pair_search.specs.Relinking.{LeadsBack, IsShifted, IsTightBack, IsPassing}
 use Rattle.pair_search.specs.Search.{at, Problem, problem_of, IsTree, TreeView, tree_of}
 use Rattle.pair_search.specs.Side.{side_slots, place_weight}
+use Rattle.pair_search.specs.Visits.{IsOfOthers, RowLooks, SearchesOnce}
 use Rattle.pair_search.proofs.FoundLemmas.{last_front, found-over}
 use Rattle.pair_search.proofs.InverseLemmas.{inverse-before}
 use Rattle.pair_search.proofs.ShiftLemmas.{AreNextTrips-matched, enter-low, given-at, IsOver, IsOver-grown, enough, gain-low, covers-over}
 use Rattle.pair_search.proofs.ShiftLemmas.{LeadsBack-over, IsTightBack-over, IsPassing-over, free-over}
-use Rattle.pair_search.proofs.VisitLemmas.{RowsVisit-first}
+use Rattle.pair_search.proofs.VisitLemmas.{search-once, Takes-append}
 use Rattle.pair_search.proofs.search.search.Given.{Over}
 use Rattle.pair_search.proofs.search.search.Goals as goal
 
@@ -195,13 +196,12 @@ returns-clause-covers g c = λ out b begins.
 pub returns-clause-visited : goal.returns-clause-visited
 returns-clause-visited g c =
     let side = c.args.side.now in
-    let n = side_slots side in (
-      c.grow-end.new.self.rows.items,
-      c.grow-end.new.self.dist.items,
-      c.grow-end.ensures.visited (replicate n 67111745) c.args.steps.now
-          (RowsVisit-first (place_weight side) side.groups side.count c.begin.new.self.rows.items c.args.a (replicate n 67111745)
-          c.begin.new.self.dist.items c.args.steps.now c.begin.new.steps c.begin.ensures.first c.begin.ensures.visited),
-    )
+    let first = at c.begin.new.self.rows.items 0 in
+    Takes-append (RowLooks side c.args.a 0 (side_slots side)) (IsOfOthers side first) (SearchesOnce side)
+    (λ xs ys one rest. search-once side first xs ys
+    (subst (λ row. RowLooks side row 0 (side_slots side) xs) (sym c.begin.ensures.first) one) rest)
+    c.args.looks.now.list c.begin.new.looks.list c.grow-end.new.looks.list c.args.steps.now c.begin.new.steps c.grow-end.new.steps
+    c.begin.ensures.visited c.grow-end.ensures.visited
 
 pub returns-clause-plan : goal.returns-clause-plan
 returns-clause-plan g c =

@@ -2,18 +2,19 @@ use Rattle.std.proofs.Common.{◌≡◌, ◌∙◌, ◌<◌, ◌≤◌, ◌+◌,
 use Rattle.std.proofs.Common.{refl, sym, ap, subst, arith}
 use Rattle.std.proofs.Math.Nat.{mul-le-mul_left}
 use Rattle.std.proofs.lemmas.List.{get_or_read}
+use Rattle.std.proofs.lemmas.List.Elements.{All-nil}
 use Rattle.assignment_model.specs.Prices.{Plan}
 use Rattle.pair_search.specs.Determined.{first_nearest, grown, visited}
 use Rattle.pair_search.specs.Fronts.{IsShown, IsOnWay}
 use Rattle.pair_search.specs.Search.{at, is_done, as_columns, problem_of, Problem, TreeView, tree_of, AreLooked, HasEnded}
 use Rattle.pair_search.specs.Search.{IsNearest, IsNext}
 use Rattle.pair_search.specs.Side.{side_slots, place_weight}
-use Rattle.pair_search.specs.Visits.{RowsVisit}
+use Rattle.pair_search.specs.Visits.{IsOfOthers, RowLooks}
 use Rattle.pair_search.proofs.FrontLemmas.{IsOnWay-first, IsOnWay-row, IsShown-none, IsShown-column}
 use Rattle.pair_search.proofs.GroupLemmas.{AreNear-same, AreReached-same}
 use Rattle.pair_search.proofs.LentLemmas.{written}
 use Rattle.pair_search.proofs.ShownLemmas.{IsShown-come, IsShown-same}
-use Rattle.pair_search.proofs.VisitLemmas.{RowsVisit-more}
+use Rattle.pair_search.proofs.VisitLemmas.{once-none, IsOfTree, TreeLooks, TreeLooks-more, TreeLooks-others, Takes-append, Takes-none, Takes-weaker}
 use Rattle.pair_search.proofs.TreeLemmas.{tree-room, IsBest-first, IsBest-more, HasEnded-row, HasEnded-column}
 use Rattle.pair_search.proofs.tree.Tree.grow.Goals as goal
 
@@ -47,7 +48,9 @@ loop-column-init g c =
         posts = c.requires.seen.posts;
         led = c.requires.seen.led;
       };
-      visited = λ first steps begun. begun;
+      visited =
+          Takes-none (TreeLooks side was.rows.items 1) (record { once = once-none side; each = All-nil (IsOfTree was.rows.items 1) })
+          c.args.looks.now.list c.args.steps.now;
       counted = omega arith;
     }
 
@@ -126,9 +129,14 @@ returns-in_default-before-clause-shown g c = λ start front befores begun.
     (omega (arith, nearest.below, loop.invariant.best.low))))
 
 pub returns-in_default-before-clause-visited : goal.returns-in_default-before-clause-visited
-returns-in_default-before-clause-visited g c = λ first steps begun.
+returns-in_default-before-clause-visited g c =
+    let side = c.args.side.now in
     let loop = c.loop-column in
-    record { size = loop.size; apart = loop.invariant.tree.apart; visits = loop.invariant.visited first steps begun }
+    let tree = loop.invariant.tree in
+    let first = at c.args.self.now.rows.items 0 in
+    Takes-weaker (TreeLooks side loop.self.rows.items loop.size) (IsOfOthers side first)
+    (TreeLooks-others side loop.self.rows.items loop.size first (λ t some lt e. tree.apart 0 t some lt (tree.root.1 ∙ e)))
+    c.args.looks.now.list loop.looks.list c.args.steps.now loop.steps loop.invariant.visited
 
 pub returns-in_default-before-clause-counted : goal.returns-in_default-before-clause-counted
 returns-in_default-before-clause-counted g c =
@@ -292,12 +300,15 @@ loop-column-preserved g c =
           c.visit.ensures.looked)
           in-rows loop.invariant.best.within (λ j lt close. (loop.invariant.tree.reached j (omega (arith, lt, slots)) close).within)));
       seen = c.visit.ensures.seen;
-      visited = λ first steps begun.
-          subst (λ rows. RowsVisit (place_weight side) side.groups side.count rows (loop.size + 1) first c.visit.new.self.dist.items steps
-          c.visit.new.steps) (sym c.visit.ensures.rows)
-          (RowsVisit-more (place_weight side) side.groups side.count was.rows.items loop.size row first was.dist.items
-          c.visit.new.self.dist.items steps loop.steps c.visit.new.steps in-rows
-          (loop.invariant.visited first steps begun) c.visit.ensures.visited);
+      visited =
+          Takes-append (TreeLooks side was.rows.items loop.size) (RowLooks side row 0 (side_slots side))
+          (TreeLooks side c.visit.new.self.rows.items (loop.size + 1))
+          (TreeLooks-more side was.rows.items c.visit.new.self.rows.items loop.size row loop.invariant.tree.root.0 in-rows
+          c.visit.ensures.rows
+          (λ t lt. (c.visit.ensures.tree (at c.args.self.now.rows.items 0) loop.invariant.reach c.args.before.now c.requires.given
+          loop.invariant.tree next).apart t loop.size lt (omega arith)))
+          c.args.looks.now.list loop.looks.list c.visit.new.looks.list c.args.steps.now loop.steps c.visit.new.steps
+          loop.invariant.visited c.visit.ensures.visited;
       counted = omega (arith, loop.invariant.counted, c.visit.ensures.counted);
     }
 
@@ -337,9 +348,14 @@ returns-clause-shown g c = λ start front befores begun.
     c.in_default.ensures.picked)))
 
 pub returns-clause-visited : goal.returns-clause-visited
-returns-clause-visited g c = λ first steps begun.
+returns-clause-visited g c =
+    let side = c.args.side.now in
     let loop = c.loop-column in
-    record { size = loop.size; apart = loop.invariant.tree.apart; visits = loop.invariant.visited first steps begun }
+    let tree = loop.invariant.tree in
+    let first = at c.args.self.now.rows.items 0 in
+    Takes-weaker (TreeLooks side loop.self.rows.items loop.size) (IsOfOthers side first)
+    (TreeLooks-others side loop.self.rows.items loop.size first (λ t some lt e. tree.apart 0 t some lt (tree.root.1 ∙ e)))
+    c.args.looks.now.list loop.looks.list c.args.steps.now loop.steps loop.invariant.visited
 
 pub returns-clause-counted : goal.returns-clause-counted
 returns-clause-counted g c =

@@ -6,7 +6,8 @@ use Rattle.pair_search.specs.Fronts.{Shows, IsOnWay}
 use Rattle.pair_search.specs.Groups.{IsSeen}
 use Rattle.pair_search.specs.Search.{at, problem_of, tree_of, IsTree, IsBest}
 use Rattle.pair_search.specs.Side.{side_slots, place_weight}
-use Rattle.pair_search.specs.Visits.{RowsVisit}
+use Rattle.pair_search.specs.Visits.{Takes}
+use Rattle.pair_search.proofs.VisitLemmas.{TreeLooks}
 use Rattle.pair_search.proofs.tree.Tree.grow.Given as goal
 
 abbrev pub invariant-loop-column : goal.invariant-loop-column
@@ -21,10 +22,7 @@ invariant-loop-column g l = record {
       (grown (place_weight l.side) (record { next = next; leave = l.leave; enter = l.enter }) (side_slots l.side) front)
       l.size l.self.dist.items l.self.parent.items l.self.done.items l.self.rows.items l.best.from l.best.to l.best.fall;
   seen : IsSeen l.side l.enter l.self;
-  visited : (first : List ℕ) (was : ℕ)
-      → RowsVisit (place_weight l.side) l.side.groups l.side.count l.initial.self.rows.items 1 first l.initial.self.dist.items was
-      l.initial.steps
-      → RowsVisit (place_weight l.side) l.side.groups l.side.count l.self.rows.items l.size first l.self.dist.items was l.steps;
+  visited : Takes (TreeLooks l.side l.self.rows.items l.size) l.initial.looks.list l.looks.list l.initial.steps l.steps;
   counted : l.steps + side_slots l.side ≤ l.initial.steps + side_slots l.side * l.size;
 }
 

@@ -1,4 +1,6 @@
-use Rattle.std.proofs.Common.{◌≡◌, ◌+◌, ◌-◌, ◌<◌, ◌≤◌, ℕ, get_or, length, true, refl, sym, ap, subst, ◌∙◌, ⊎_elim, arith}
+use Rattle.std.specs.Prelude.{map}
+use Rattle.std.specs.List.{range_with_len}
+use Rattle.std.proofs.Common.{◌≡◌, ◌++◌, ◌+◌, ◌-◌, ◌<◌, ◌≤◌, ℕ, get_or, length, true, refl, sym, ap, subst, ◌∙◌, ⊎_elim, arith}
 use Rattle.std.proofs.lemmas.Bool.{both_ways, cases_lt}
 use Rattle.std.proofs.lemmas.List.{get_or_read}
 use Rattle.std.proofs.lemmas.Option.{none-some}
@@ -6,28 +8,38 @@ use Rattle.pair_search.specs.declared.groups.Group.{Group}
 use Rattle.pair_search.specs.declared.order.Column.{Column}
 use Rattle.pair_search.specs.declared.tree.Seen.{Seen}
 use Rattle.pair_search.specs.Groups.{group_at, group_pull, seen_at, AreGroups}
-use Rattle.pair_search.specs.Search.{at, is_done}
+use Rattle.pair_search.specs.Search.{is_done}
 use Rattle.pair_search.specs.Side.{LineView, side_slots, line_weight, reach_weight}
-use Rattle.pair_search.specs.Visits.{IsVisited}
+use Rattle.pair_search.specs.declared.look.Look.TheVariants.{Visited, Passed}
 use Rattle.pair_search.proofs.FitLemmas.{too-soon, weighs-same}
 use Rattle.pair_search.proofs.LeadLemmas.{AreLed-nearer}
 use Rattle.pair_search.proofs.LentLemmas.{written}
 use Rattle.pair_search.proofs.LookLemmas.{AreApproached-same, AreLooked-group, AreLooked-spent}
 use Rattle.pair_search.proofs.GroupLemmas.{AreNear-look, AreReached-look, length-seen}
-use Rattle.pair_search.proofs.VisitLemmas.{IsVisited-none}
+use Rattle.pair_search.proofs.VisitLemmas.{Takes-one, Takes-visits}
 use Rattle.pair_search.proofs.tree.Tree.look.Goals as goal
 
 pub returns-in_default-clause-visited : goal.returns-in_default-clause-visited
 returns-in_default-clause-visited g c =
     let line : LineView = c.args.line.now in
-    IsVisited-none (line_weight line) (group_at line.side.groups c.args.group) c.args.self.now.dist.items c.args.steps.now c.tick.new.self
-    c.tick.ensures
+    let group : Group = group_at line.side.groups c.args.group in
+    let row : c.line.inside.row ≡ line.row = ap (λ (l : LineView). l.row) c.line.view_is in
+    let inside : c.line.inside.row < side_slots line.side =
+    omega (arith, c.line.invariant.0, ap (λ (l : LineView). side_slots l.side) c.line.view_is) in
+    Takes-one line.side line.row group.from group.to (Passed c.line.inside.row c.args.group) c.requires.columns (inside, c.requires.group)
+    (row, omega arith, c.requires.columns) c.args.looks.now.list c.take.new.self.list c.args.steps.now c.take.new.steps
+    c.take.ensures.list c.take.ensures.counted
 
 pub returns-then-first-upto-clause-visited : goal.returns-then-first-upto-clause-visited
 returns-then-first-upto-clause-visited g c =
     let line : LineView = c.args.line.now in
-    IsVisited-none (line_weight line) (group_at line.side.groups c.args.group) c.args.self.now.dist.items c.args.steps.now
-    c.tick-then-first-upto.new.self c.tick-then-first-upto.ensures
+    let group : Group = group_at line.side.groups c.args.group in
+    let row : c.line.inside.row ≡ line.row = ap (λ (l : LineView). l.row) c.line.view_is in
+    let inside : c.line.inside.row < side_slots line.side =
+    omega (arith, c.line.invariant.0, ap (λ (l : LineView). side_slots l.side) c.line.view_is) in
+    Takes-one line.side line.row group.from group.to (Passed c.line.inside.row c.args.group) c.requires.columns (inside, c.requires.group)
+    (row, omega arith, c.requires.columns) c.args.looks.now.list c.take-then-first-upto.new.self.list c.args.steps.now
+    c.take-then-first-upto.new.steps c.take-then-first-upto.ensures.list c.take-then-first-upto.ensures.counted
 
 pub returns-then-first-upto-clause-looked : goal.returns-then-first-upto-clause-looked
 returns-then-first-upto-clause-looked g c = λ before l.
@@ -240,24 +252,16 @@ returns-clause-visited g c =
     let end : c.group.result.to ≡ group.to = ap (λ (x : Group). x.to) c.group.ensures.group
     ∙ ap (λ (l : LineView). (group_at l.side.groups c.args.group).to) c.line.view_is in
     let fit = c.first_fit-first.ensures in
+    let first = c.first_fit-first.result in
+    let upto = c.cut-upto.result in
     let after = fit.after c.if-first-upto.false in
-    let was = c.args.self.now in
-    let dists = written c.approach-found.new.dist was.dist.items was.dist.len (c.approach-found.auto.dist ∙ c.deref_mut.ensures.len) in
-    let a = c.approach-found.ensures.approached in
-    subst (λ dist'. IsVisited (line_weight line) group was.dist.items dist' c.args.steps.now c.approach-found.new.visits) (sym dists)
-    (record {
-      first = c.first_fit-first.result;
-      upto = c.cut-upto.result;
-      after = after;
-      within = omega (arith, c.cut-upto.ensures.within, end);
-      fits = λ j past lt none. none-some (reach_weight line group.post c.in-Some.reach)
-          (sym none ∙ fit.fits j (omega (arith, past, after)) past lt);
-      others = λ j out. ⊎_elim
-          (λ (nearer : at c.approach-found.new.dist j < at c.deref_mut.result.now j).
-          let b = a.between j nearer in
-          absurd (⊎_elim (λ before. omega (arith, before, b.0)) (λ past. omega (arith, past, b.1)) out))
-          (λ (far : at c.deref_mut.result.now j ≤ at c.approach-found.new.dist j). omega
-          (arith, far, a.nearer j, ap (λ xs. at xs j) c.deref_mut.ensures.value))
-          (cases_lt (at c.approach-found.new.dist j) (at c.deref_mut.result.now j));
-      steps = omega (arith, c.approach-found.ensures.counted, c.if-first-upto.false);
-    })
+    let row : c.line.inside.row ≡ line.row = ap (λ (l : LineView). l.row) c.line.view_is in
+    let inside : line.row < side_slots line.side =
+    omega (arith, row, c.line.invariant.0, ap (λ (l : LineView). side_slots l.side) c.line.view_is) in
+    Takes-visits line.side line.row group.from group.to first upto inside after (omega (arith, c.if-first-upto.false))
+    (omega (arith, c.cut-upto.ensures.within, end)) c.requires.within
+    (λ j past lt none. none-some (reach_weight line group.post c.in-Some.reach)
+    (sym none ∙ fit.fits j (omega (arith, past, after)) past lt))
+    c.args.looks.now.list c.approach-found.new.looks.list c.args.steps.now c.approach-found.new.steps
+    (subst (λ r. c.approach-found.new.looks.list ≡ c.args.looks.now.list ++ map (Visited r) (range_with_len first (upto - first))) row
+    c.approach-found.ensures.visited) c.approach-found.ensures.counted

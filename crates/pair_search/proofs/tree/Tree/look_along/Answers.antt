@@ -1,12 +1,12 @@
-use Rattle.std.proofs.Common.{◌≡◌, ◌∙◌, ◌+◌, ◌<◌, refl, sym, ap, subst, arith}
-use Rattle.pair_search.specs.Groups.{begins, AreGroups}
+use Rattle.std.proofs.Common.{◌∙◌, ◌+◌, ◌<◌, ◌≤◌, refl, sym, ap, subst, arith}
+use Rattle.pair_search.specs.Groups.{begins, group_at, AreGroups}
 use Rattle.pair_search.specs.Search.{columns_of, AreLooked}
 use Rattle.pair_search.specs.Side.{LineView, side_slots, line_weight}
-use Rattle.pair_search.specs.Visits.{AreVisited}
-use Rattle.pair_search.proofs.GroupLemmas.{begins-there}
+use Rattle.pair_search.specs.Visits.{RowLooks, Takes}
+use Rattle.pair_search.proofs.GroupLemmas.{begins-past, begins-there}
 use Rattle.pair_search.proofs.LookLemmas.{AreLooked-same}
-use Rattle.pair_search.proofs.PassLemmas.{AreLooked-passed, AreVisited-passed}
-use Rattle.pair_search.proofs.VisitLemmas.{AreVisited-more, steps-row}
+use Rattle.pair_search.proofs.PassLemmas.{AreLooked-passed}
+use Rattle.pair_search.proofs.VisitLemmas.{Takes-append, Takes-passed, row-append, row-wider}
 use Rattle.pair_search.proofs.tree.Tree.look_along.Goals as goal
 
 pub loop-group-init : goal.loop-group-init
@@ -32,8 +32,17 @@ loop-group-init g c =
           pass.within (λ r after before. pass.spent r enter after before c.requires.seen) none;
       seen = c.requires.seen;
       visited =
-          AreVisited-passed (line_weight line) side.groups 0 c.pass-group.result was.dist.items was.dist.items c.args.steps.now
-          c.args.steps.now c.pass-group.new.steps pass.after pass.counted (refl, refl);
+          subst (λ n. Takes (RowLooks side line.row n (begins (side_slots side) side.count side.groups c.pass-group.result))
+          c.args.looks.now.list c.pass-group.new.looks.list c.args.steps.now c.pass-group.new.steps) are.first
+          (Takes-passed side line.row 0 c.pass-group.result are
+          (omega (
+            arith,
+            c.line.invariant.0,
+            ap (λ (l : LineView). l.row) c.line.view_is,
+            ap (λ (l : LineView). side_slots l.side) c.line.view_is,
+          ))
+          (omega arith) pass.within c.args.looks.now.list c.pass-group.new.looks.list c.args.steps.now c.pass-group.new.steps pass.passed
+          pass.counted);
     }
 
 pub loop-group-preserved : goal.loop-group-preserved
@@ -65,33 +74,56 @@ loop-group-preserved g c =
           (begins-there (side_slots side) side.count side.groups loop.group inside) loop.invariant.looked)));
       seen = c.look.ensures.seen;
       visited =
-          AreVisited-passed (line_weight line) side.groups (loop.group + 1) next c.args.self.now.dist.items now.dist.items
-          c.args.steps.now c.look.new.steps c.pass-group-in-loop-group.new.steps pass.after pass.counted
-          (AreVisited-more (line_weight line) side.groups loop.group c.args.self.now.dist.items loop.self.dist.items now.dist.items
-          c.args.steps.now loop.steps c.look.new.steps loop.invariant.visited c.look.ensures.visited);
+          let begin = begins (side_slots side) side.count side.groups in
+          let group = group_at side.groups loop.group in
+          Takes-append (RowLooks side line.row 0 (begin (loop.group + 1))) (RowLooks side line.row (begin (loop.group + 1)) (begin next))
+          (RowLooks side line.row 0 (begin next)) (row-append side line.row 0 (begin (loop.group + 1)) (begin next))
+          c.args.looks.now.list c.look.new.looks.list c.pass-group-in-loop-group.new.looks.list
+          c.args.steps.now c.look.new.steps c.pass-group-in-loop-group.new.steps
+          (Takes-append (RowLooks side line.row 0 (begin loop.group)) (RowLooks side line.row group.from group.to)
+          (RowLooks side line.row 0 (begin (loop.group + 1)))
+          (λ xs ys a b. row-append side line.row 0 (begin loop.group) (begin (loop.group + 1)) xs ys a
+          (row-wider side line.row group.from group.to (begin loop.group) (begin (loop.group + 1)) ys
+          (omega (arith, begins-there (side_slots side) side.count side.groups loop.group inside))
+          (omega (arith, are.next loop.group inside)) b))
+          c.args.looks.now.list loop.looks.list c.look.new.looks.list c.args.steps.now loop.steps c.look.new.steps
+          loop.invariant.visited c.look.ensures.visited)
+          (Takes-passed side line.row (loop.group + 1) next are
+          (omega (
+            arith,
+            c.line.invariant.0,
+            ap (λ (l : LineView). l.row) c.line.view_is,
+            ap (λ (l : LineView). side_slots l.side) c.line.view_is,
+          ))
+          pass.after pass.within c.look.new.looks.list c.pass-group-in-loop-group.new.looks.list c.look.new.steps
+          c.pass-group-in-loop-group.new.steps pass.passed pass.counted);
     }
 
 pub returns-clause-visited : goal.returns-clause-visited
 returns-clause-visited g c =
     let line : LineView = c.args.line.now in
-    let loop = c.loop-group in
-    let all : loop.group ≡ line.side.count =
-    omega (
-      arith,
-      c.loop-group-test.false,
-      loop.invariant.within,
-      c.groups-count.ensures.count,
-      ap (λ (l : LineView). l.side.count) c.line.view_is,
-    ) in
-    subst (λ r. AreVisited (line_weight line) line.side.groups r c.args.self.now.dist.items loop.self.dist.items c.args.steps.now
-    loop.steps) all loop.invariant.visited
-
-pub returns-clause-counted : goal.returns-clause-counted
-returns-clause-counted g c =
-    let line : LineView = c.args.line.now in
     let side = line.side in
     let loop = c.loop-group in
+    let all : side.count ≤ loop.group =
+    omega (arith, c.loop-group-test.false, c.groups-count.ensures.count, ap (λ (l : LineView). l.side.count) c.line.view_is) in
+    subst (λ n. Takes (RowLooks side line.row 0 n) c.args.looks.now.list loop.looks.list c.args.steps.now loop.steps)
+    (begins-past (side_slots side) side.count side.groups loop.group all) loop.invariant.visited
+
+pub returns-clause-counted : goal.returns-clause-counted
+returns-clause-counted g c = let visited = returns-clause-visited g c in omega (arith, visited.steps, visited.are.few)
+
+pub look-requires-clause-columns : goal.look-requires-clause-columns
+look-requires-clause-columns g c =
+    let line : LineView = c.args.line.now in
     let are = subst (λ (l : LineView). AreGroups (side_slots l.side) l.side.columns l.side.count l.side.groups) c.line.view_is
     c.groups-count.ensures.groups in
-    steps-row (line_weight line) (side_slots side) side.columns side.count side.groups are c.args.self.now.dist.items loop.self.dist.items
-    c.args.steps.now loop.steps (returns-clause-visited g c)
+    are.after c.loop-group.group
+    (omega (arith, c.loop-group-test.true, c.groups-count.ensures.count, ap (λ (l : LineView). l.side.count) c.line.view_is))
+
+pub look-requires-clause-within : goal.look-requires-clause-within
+look-requires-clause-within g c =
+    let line : LineView = c.args.line.now in
+    let are = subst (λ (l : LineView). AreGroups (side_slots l.side) l.side.columns l.side.count l.side.groups) c.line.view_is
+    c.groups-count.ensures.groups in
+    are.within c.loop-group.group
+    (omega (arith, c.loop-group-test.true, c.groups-count.ensures.count, ap (λ (l : LineView). l.side.count) c.line.view_is))

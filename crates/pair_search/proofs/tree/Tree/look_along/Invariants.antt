@@ -3,7 +3,7 @@ use Rattle.std.specs.Prelude.{vec_len}
 use Rattle.pair_search.specs.Groups.{begins, IsSeen}
 use Rattle.pair_search.specs.Search.{columns_of, AreLooked}
 use Rattle.pair_search.specs.Side.{side_slots, line_weight}
-use Rattle.pair_search.specs.Visits.{AreVisited}
+use Rattle.pair_search.specs.Visits.{RowLooks, Takes}
 use Rattle.pair_search.proofs.tree.Tree.look_along.Given as goal
 
 abbrev pub invariant-loop-group : goal.invariant-loop-group
@@ -15,7 +15,8 @@ invariant-loop-group g l = record {
   looked : AreLooked (line_weight l.line) (begins (side_slots l.line.side) l.line.side.count l.line.side.groups l.group) l.from l.start
       l.enter (columns_of l.fn.self) (columns_of l.self);
   seen : IsSeen l.line.side l.enter l.self;
-  visited : AreVisited (line_weight l.line) l.line.side.groups l.group l.fn.self.dist.items l.self.dist.items l.fn.steps l.steps;
+  visited : Takes (RowLooks l.line.side l.line.row 0 (begins (side_slots l.line.side) l.line.side.count l.line.side.groups l.group))
+      l.fn.looks.list l.looks.list l.fn.steps l.steps;
 }
 
 abbrev pub decreases-loop-group : goal.decreases-loop-group

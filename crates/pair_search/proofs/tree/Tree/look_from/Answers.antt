@@ -1,4 +1,4 @@
-use Rattle.std.proofs.Common.{◌≡◌, ◌∙◌, ◌<◌, length, set, sym, ap, subst, arith}
+use Rattle.std.proofs.Common.{◌≡◌, ◌∙◌, ◌<◌, length, set, refl, sym, ap, subst, arith}
 use Rattle.std.proofs.lemmas.List.{get_or_read, length-set}
 use Rattle.std.proofs.lemmas.Option.{none-some}
 use Rattle.trip_model.specs.Plain.{move_at}
@@ -10,6 +10,9 @@ use Rattle.pair_search.specs.Search.{columns_of, AreLooked}
 use Rattle.pair_search.specs.Side.{LineView, line_weight, place_weight, side_slots}
 use Rattle.pair_search.proofs.LeadLemmas.{a-move, idle-row, no-move, AreLed-more}
 use Rattle.pair_search.proofs.LookLemmas.{AreLooked-same}
+use Rattle.pair_search.proofs.VisitLemmas.{Takes-one}
+use Rattle.pair_search.specs.Visits.{RowLooks, Takes}
+use Rattle.pair_search.specs.declared.look.Look.TheVariants.{Led}
 use Rattle.pair_search.proofs.tree.Tree.look_from.Goals as goal
 
 pub returns-in_default-clause-looked : goal.returns-in_default-clause-looked
@@ -74,3 +77,23 @@ returns-clause-seen g c =
           (AreLed-more side enter (columns_of was) (columns_of now) now.leads.items c.args.row c.args.from c.args.start m.made
           c.slots-slots.ensures.moves m.is within looked seen.led);
     }
+
+pub returns-in_default-clause-visited : goal.returns-in_default-clause-visited
+returns-in_default-clause-visited g c =
+    let side = c.args.side.now in
+    let some : 0 < side_slots side = omega (arith, c.requires.row) in
+    Takes-one side c.args.row 0 (side_slots side) (Led c.args.row) some c.requires.row (refl, omega arith, some)
+    c.args.looks.now.list c.take.new.self.list c.args.steps.now c.take.new.steps c.take.ensures.list c.take.ensures.counted
+
+pub returns-then-stand-lead-clause-visited : goal.returns-then-stand-lead-clause-visited
+returns-then-stand-lead-clause-visited g c =
+    let side = c.args.side.now in
+    let some : 0 < side_slots side = omega (arith, c.requires.row) in
+    Takes-one side c.args.row 0 (side_slots side) (Led c.args.row) some c.requires.row (refl, omega arith, some)
+    c.args.looks.now.list c.take-then-stand-lead.new.self.list c.args.steps.now c.take-then-stand-lead.new.steps
+    c.take-then-stand-lead.ensures.list c.take-then-stand-lead.ensures.counted
+
+pub returns-clause-visited : goal.returns-clause-visited
+returns-clause-visited g c =
+    subst (λ (line : LineView). Takes (RowLooks line.side line.row 0 (side_slots line.side)) c.args.looks.now.list
+    c.look_along.new.looks.list c.args.steps.now c.look_along.new.steps) c.line.ensures c.look_along.ensures.visited

@@ -7,7 +7,8 @@ use Rattle.pair_graph.specs.Pairs.{pairs_network}
 use Rattle.pair_search.specs.Arranged.{slots_of}
 use Rattle.price_assign.specs.Found.{found_left}
 use Rattle.pair_search.proofs.LooseLemmas.{IsLeftPath-loose}
-use Rattle.price_assign.proofs.PlanLemmas.{MayBegin-leaving, IsLoose-leaving, found-left}
+use Rattle.pair_search.specs.Visits.{SearchesOnce}
+use Rattle.price_assign.proofs.PlanLemmas.{Takes-of-side, MayBegin-leaving, IsLoose-leaving, found-left}
 use Rattle.price_assign.proofs.plan.Plan.search_left.Goals as goal
 
 pub search_links-requires-clause-begins : goal.search_links-requires-clause-begins
@@ -63,12 +64,9 @@ returns-clause-path g c =
     slots c.search_links.ensures.links loose (returns-clause-loose g c) c.search_links.ensures.path)
 
 pub returns-clause-visited : goal.returns-clause-visited
-returns-clause-visited g c = record {
-  side = c.of-side.result;
-  is = c.of-side.ensures.pairs;
-  groups = c.of-side.ensures.groups;
-  once = c.search_links.ensures.visited;
-}
+returns-clause-visited g c =
+    Takes-of-side SearchesOnce c.args.pairs.now false c.args.b c.of-side.result c.of-side.ensures.pairs c.of-side.ensures.columns c.of-side.ensures.slots
+    c.of-side.ensures.groups c.args.looks.now.list c.search_links.new.looks.list c.args.steps.now c.search_links.new.steps c.search_links.ensures.visited
 
 pub returns-clause-plan : goal.returns-clause-plan
 returns-clause-plan g c =

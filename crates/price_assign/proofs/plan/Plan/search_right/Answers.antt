@@ -1,4 +1,4 @@
-use Rattle.std.proofs.Common.{◌≡◌, ℕ, length, Some, sym, subst, arith}
+use Rattle.std.proofs.Common.{◌≡◌, ℕ, length, true, Some, sym, subst, arith}
 use Rattle.trip_model.specs.Order.{minute_left}
 use Rattle.trip_model.specs.Plain.{move_at}
 use Rattle.assignment_model.specs.Paths.{IsRightPath}
@@ -8,7 +8,8 @@ use Rattle.pair_search.specs.Arranged.{slots_of}
 use Rattle.price_assign.specs.Found.{found_right}
 use Rattle.pair_search.proofs.LooseLemmas.{AreNextTrips-loose}
 use Rattle.price_assign.proofs.RightLemmas.{IsRightPath-loose}
-use Rattle.price_assign.proofs.PlanLemmas.{MayBegin-entering, IsLoose-entering, found-right}
+use Rattle.pair_search.specs.Visits.{SearchesOnce}
+use Rattle.price_assign.proofs.PlanLemmas.{Takes-of-side, MayBegin-entering, IsLoose-entering, found-right}
 use Rattle.pair_search.specs.Side.{side_weight}
 use Rattle.price_assign.proofs.plan.Plan.search_right.Goals as goal
 
@@ -77,12 +78,9 @@ returns-clause-path g c =
     slots c.search_befores.ensures.links loose (returns-clause-loose g c) (c.search_befores.ensures.found c.args.a begins))
 
 pub returns-clause-visited : goal.returns-clause-visited
-returns-clause-visited g c = record {
-  side = c.of-side.result;
-  is = c.of-side.ensures.pairs;
-  groups = c.of-side.ensures.groups;
-  once = c.search_befores.ensures.visited;
-}
+returns-clause-visited g c =
+    Takes-of-side SearchesOnce c.args.pairs.now true c.args.a c.of-side.result c.of-side.ensures.pairs c.of-side.ensures.columns c.of-side.ensures.slots
+    c.of-side.ensures.groups c.args.looks.now.list c.search_befores.new.looks.list c.args.steps.now c.search_befores.new.steps c.search_befores.ensures.visited
 
 pub returns-clause-plan : goal.returns-clause-plan
 returns-clause-plan g c =
