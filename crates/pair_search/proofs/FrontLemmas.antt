@@ -235,11 +235,6 @@ IsShown-column w plan whole size column dist parent done rows place to fall way 
           best = ap (λ d. at d column) way.shown.far;
         })
 
--- rows are linked anew from the row at a place, which is lower than their number
-pub IsOnWayBack-first : (from : List ℕ) (most : ℕ) (next : List (Option ℕ)) (row : ℕ) (to : Option ℕ) (place : ℕ) → place < most
-    → IsOnWayBack from (linked_back from most next row to) next row to place
-IsOnWayBack-first from most next row to place lt = record { rows = most; enough = lt; rest = refl }
-
 -- the column that it had goes to the row from which it was reached
 pub IsOnWayBack-more : (from : List ℕ) (whole now : List (Option ℕ)) (row column row' : ℕ) (to : Option ℕ) (place place' : ℕ)
     → IsOnWayBack from whole now row to place

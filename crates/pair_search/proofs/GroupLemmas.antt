@@ -3,7 +3,7 @@ use Rattle.std.proofs.Common.{◌≡◌, ◌≢◌, ℕ, zero, suc, ◌+◌, ◌
 use Rattle.std.proofs.Common.{set, Option, None, Some, refl, sym, ap, subst, ◌∙◌, ⊎_elim, arith}
 use Rattle.std.specs.Option.{option_eq}
 use Rattle.std.proofs.lemmas.Bool.{both_ways, cases_eq, eqb-true, cases_lt, lt-ltb, le-ltb}
-use Rattle.std.proofs.lemmas.List.{get_or_past, get_or-replicate, get_or-set_same, get_or-set_other, length-set}
+use Rattle.std.proofs.lemmas.List.{get_or-replicate, get_or-set_same, get_or-set_other, length-set}
 use Rattle.pair_search.specs.declared.groups.Group.{Group}
 use Rattle.pair_search.specs.declared.order.Column.{Column}
 use Rattle.pair_search.specs.declared.tree.Seen.{Seen}
@@ -247,20 +247,6 @@ module _ (side : SideView) (are : AreGroups (side_slots side) side.columns side.
         ))
         (cases_eq r g);
   }
-
--- a column that is done no longer counts
-pub undone-before : (done : List Bool) (column j : ℕ) → is_done (set done column true) j ≡ false → is_done done j ≡ false
-undone-before done column j e = ⊎_elim
-    (λ (same : j ≡ column). ⊎_elim
-    (λ (inside : column < length done). absurd
-    (true-false (sym (ap (is_done (set done column true)) same ∙ get_or-set_same done column true false inside) ∙ e)))
-    (λ (past : length done ≤ column). get_or_past done j false (omega (arith, same, past)))
-    (cases_lt column (length done)))
-    (λ (ne : j ≡ column → ⊥). sym (get_or-set_other done column j true false ne) ∙ e)
-    (cases_eq j column)
-  where
-    true-false : true ≡ false → ⊥
-    true-false e = both_ways true e refl
 
 -- nothing is seen before a search
 module _ (n count : ℕ) (groups : List Group) (done : List Bool) (dist : List ℕ) (seen : List Seen) (room : count ≤ n)

@@ -1,11 +1,11 @@
 -- Columns whose ranks were sorted are in order.
 use Rattle.std.proofs.Common.{◌≡◌, ℕ, suc, ◌+◌, ◌-◌, ◌/◌, ◌%◌, ◌<◌, ◌≤◌, inl, inr, Bool, List, map, length, get_or}
-use Rattle.std.proofs.Common.{Option, None, Some, if◌then◌else◌, refl, sym, ap, subst, ◌∙◌, ⊎_elim, arith}
+use Rattle.std.proofs.Common.{Option, None, Some, if◌then◌else◌, sym, ap, subst, ◌∙◌, ⊎_elim, arith}
 use Rattle.std.specs.List.Sorted.{IsPermutation, IsNonDecreasing}
 use Rattle.std.proofs.lemmas.Bool.{cases_eq, cases_lt, eq-eqb, ne_eqb}
 use Rattle.std.proofs.lemmas.List.{get_or-map, get_or_default, length-map}
 use Rattle.std.proofs.lemmas.List.Sorted.{IsPermutation-map}
-use Rattle.pair_search.specs.Arranged.{column_of, column_rank, post_key, post_of_key, StandsBefore, AreInOrder}
+use Rattle.pair_search.specs.Arranged.{column_of, post_key, post_of_key, StandsBefore, AreInOrder}
 use Rattle.pair_search.specs.Order.{no_column, slot_at, IsRenaming}
 use Rattle.pair_search.specs.declared.order.Column.{Column}
 use Rattle.pair_search.proofs.ArrangedLemmas.{AreInOrder-next}
@@ -22,25 +22,6 @@ key-back k = ⊎_elim
     let more : suc (k - 1) ≡ k = omega (arith, ne) in
     ap (λ (b : Bool). post_key (if b then None else Some (k - 1))) (ne_eqb k 0 ne) ∙ more)
     (cases_eq k 0)
-
-post-back : (post : Option ℕ) → post_of_key (post_key post) ≡ post
-post-back None = refl
-post-back (Some post) =
-    ap (λ (b : Bool). if b then None else Some (suc post - 1)) (ne_eqb (suc post) 0 (λ e. absurd (omega (arith, e))))
-    ∙ ap Some (omega arith)
-
--- a rank is that of its column alone
-pub column_of-rank : (post : Option ℕ) (minute slot : ℕ) → minute < 65536 → slot < 65536
-    → column_of (column_rank post minute slot) ≡ column post minute slot
-column_of-rank post minute slot lm ls =
-    let rank = column_rank post minute slot in
-    let key : rank / 4294967296 ≡ post_key post = omega (arith, lm, ls) in
-    let within : rank / 65536 % 65536 ≡ minute = omega (arith, lm, ls) in
-    let last : rank % 65536 ≡ slot = omega (arith, lm, ls) in
-    ap (λ (k : ℕ). column (post_of_key k) (rank / 65536 % 65536) (rank % 65536)) key
-    ∙ ap (λ (p : Option ℕ). column p (rank / 65536 % 65536) (rank % 65536)) (post-back post)
-    ∙ ap (λ (m : ℕ). column post m (rank % 65536)) within
-    ∙ ap (column post minute) last
 
 -- a rank that is no lower than that of another slot is of a column behind that one
 stands-behind : (q r : ℕ) → (q % 65536 ≡ r % 65536 → ⊥) → q ≤ r → StandsBefore (column_of q) (column_of r)

@@ -81,15 +81,6 @@ same-stand (Some before) after e =
     same-next (Some i) None e = cc
     same-next (Some i) (Some j) e = ap Some (eqb-true i j e)
 
--- and the other way around
-pub stand-same : (stand : Stand) → same_stand (Some stand) stand ≡ true
-stand-same stand =
-    rw (same-next stand.next, eq-eqb stand.leave stand.leave refl, eq-eqb stand.enter stand.enter refl) refl
-  where
-    same-next : (a : Option ℕ) → option_eq nat_eq a a ≡ true
-    same-next None = refl
-    same-next (Some i) = eq-eqb i i refl
-
 -- what stands in a list of stands of a plan
 pub stands-within : (plan : Plan) (s : ℕ) → s < length plan.next → slice_get (stands plan) s ≡ Some (stand_at plan s)
 stands-within plan s h =
