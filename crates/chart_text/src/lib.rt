@@ -19,5 +19,5 @@ mod deficits;
 pub mod laws;
 
 pub use blocks::block_chart;
-pub use columns::COLUMN_MINUTES;
+pub use columns::{COLUMN_MINUTES, LAST_COLUMN};
 pub use deficits::deficit_chart;

@@ -1,7 +1,7 @@
 ghost use Rattle.std.specs.Prelude.{◌≡◌};
 
 use assignment_model::{MOST_DEADHEAD, VEHICLE_WEIGHT};
-use chart_text::COLUMN_MINUTES;
+use chart_text::{COLUMN_MINUTES, LAST_COLUMN};
 use claim_files::MOST_SHOWN;
 use deadhead_matrix::LONGEST_WALK;
 use desk_settings::{MOST_CLASS, MOST_PREFIX};
@@ -11,9 +11,10 @@ use gtfs_tables::{LAST_SECOND, MOST_BYTES, MOST_RECORDS};
 use joined_deficits::MOST_MOVES;
 use planner_desk::MOST_PLANNER_EDITS;
 use price_check::MOST_PRICE;
-use terminal_maxima::MOST_CHANGE;
+use terminal_maxima::{LEAVES, MOST_CHANGE};
 use trip_model::{
-    LAST_DEPARTURE, LAST_END, LAST_MINUTE, MOST_LAYOVER, MOST_PLACES, MOST_SLOTS, MOST_TOLERANCE,
+    LAST_DEPARTURE, LAST_END, LAST_MINUTE, MINUTES, MOST_LAYOVER, MOST_PLACES, MOST_SLOTS,
+    MOST_TOLERANCE,
 };
 use undo_log::UNDO_DEPTH;
 
@@ -39,6 +40,10 @@ pub struct Limits {
     pub last_end: u16,
     /// The last minute of a deficit function.
     pub last_minute: u16,
+    /// The minutes of a deficit function.
+    pub minutes: u16,
+    /// The leaves of a tree of changes, one for each minute.
+    pub leaves: usize,
     /// The minutes of a deadhead, of a pull-out and of a pull-in.
     pub deadhead: u16,
     /// The minutes of a least walk over all places.
@@ -65,6 +70,8 @@ pub struct Limits {
     pub change: u32,
     /// The minutes of a column of a chart.
     pub column: u16,
+    /// The last column of a chart.
+    pub last_column: u16,
     /// The trips of a generated feed.
     pub sample: u32,
 }
@@ -82,6 +89,8 @@ pub fn all_limits() -> Limits
       last_departure = 5999;
       last_end = 6240;
       last_minute = 8191;
+      minutes = 8192;
+      leaves = 8192;
       deadhead = 1440;
       walk = 735840;
       shift = 120;
@@ -95,6 +104,7 @@ pub fn all_limits() -> Limits
       moves = 8191;
       change = 65536;
       column = 10;
+      last_column = 630;
       sample = 4096;
     } }
 {
@@ -109,6 +119,8 @@ pub fn all_limits() -> Limits
         last_departure: LAST_DEPARTURE,
         last_end: LAST_END,
         last_minute: LAST_MINUTE,
+        minutes: MINUTES,
+        leaves: LEAVES,
         deadhead: MOST_DEADHEAD,
         walk: LONGEST_WALK,
         shift: MOST_SHIFT,
@@ -122,6 +134,7 @@ pub fn all_limits() -> Limits
         moves: MOST_MOVES,
         change: MOST_CHANGE,
         column: COLUMN_MINUTES,
+        last_column: LAST_COLUMN,
         sample: MOST_SAMPLE,
     }
 }
