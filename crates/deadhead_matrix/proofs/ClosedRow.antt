@@ -13,13 +13,6 @@ use Rattle.deadhead_matrix.specs.Rows.{far, dist_at, found_at, IsBounded}
 abbrev one_if : (ℕ → Bool) → ℕ → ℕ
 one_if p x = cond (p x) 1 0
 
-one_if-le : (p : ℕ → Bool) (x : ℕ) → one_if p x ≤ 1
-one_if-le p x = by (p x)
-  where
-    by : (b : Bool) → cond b 1 0 ≤ 1
-    by true = omega arith
-    by false = omega arith
-
 one_if-implied : (p q : ℕ → Bool) (x : ℕ) → (p x ≡ true → q x ≡ true) → one_if p x ≤ one_if q x
 one_if-implied p q x implied = by (p x) refl
   where

@@ -1,9 +1,9 @@
 -- What a matrix of entries and rows of minutes is seen as.
-use Rattle.std.proofs.Common.{◌≡◌, ℕ, ◌<◌, ◌≤◌, nat_lt, Bool, true, false, List, [], ◌∷◌, length, map, get_or, Option, None, Some}
+use Rattle.std.proofs.Common.{◌≡◌, ℕ, ◌<◌, List, [], ◌∷◌, length, map, get_or, Option, None, Some}
 use Rattle.std.proofs.Common.{if◌then◌else◌, refl, sym, ap, subst, ◌∙◌, arith}
 use Rattle.std.specs.List.{range_with_len}
-use Rattle.std.specs.Prelude.{IfSome, replicate}
-use Rattle.std.proofs.lemmas.Bool.{eq-eqb, ne_eqb, ltb-true}
+use Rattle.std.specs.Prelude.{replicate}
+use Rattle.std.proofs.lemmas.Bool.{eq-eqb, ne_eqb}
 use Rattle.std.proofs.lemmas.List.{get_or-map, length-map, ext_get_or}
 use Rattle.std.proofs.lemmas.List.Elements.{All-map}
 use Rattle.std.proofs.lemmas.List.FromFn.{get_or-map-range_with_len, length-map-range_with_len}
@@ -11,7 +11,7 @@ use Rattle.deadhead_matrix.specs.declared.entry.Entry.{Entry}
 use Rattle.deadhead_matrix.specs.declared.pulls.Pull.{Pull}
 use Rattle.deadhead_matrix.specs.declared.pulls.TheConstants.{NO_PULL}
 use Rattle.deadhead_matrix.specs.Walks.{IsWalk, walk_minutes, IsLeastWalk}
-use Rattle.deadhead_matrix.specs.Rows.{far, dist_at, found_at, walks_in, AreLeastRows}
+use Rattle.deadhead_matrix.specs.Rows.{far, found_at, walks_in, AreLeastRows}
 use Rattle.deadhead_matrix.specs.Matrix.{MatrixView, walk, standing, empty_matrix, matrix_from, AreLeastWalks, IsSquare}
 
 -- as many walks as rows
@@ -31,14 +31,6 @@ AreLeastWalks-from entries rows pulls are = λ a b a_in b_in.
     let a_row : a < length rows = omega (arith, a_in, length-walks entries rows pulls) in
     let b_row : b < length rows = omega (arith, b_in, length-walks entries rows pulls) in
     subst (λ m. IsLeastWalk entries a b m) (sym (walk-from entries rows pulls a b a_row b_row)) (are.least a b a_row)
-
--- where a place is no farther than the longest walk, no more minutes are found
-pub within-longest : (dist : List ℕ) (b : ℕ) → (dist_at dist b < far → dist_at dist b ≤ 735840) → IfSome (found_at dist b) (λ m. m ≤ 735840)
-within-longest dist b bound = by (nat_lt (dist_at dist b) far) refl
-  where
-    by : (test : Bool) → nat_lt (dist_at dist b) far ≡ test → IfSome (if test then Some (dist_at dist b) else None) (λ m. m ≤ 735840)
-    by true passed = bound (ltb-true (dist_at dist b) far passed)
-    by false passed = tt
 
 -- a walk of no entries goes nowhere
 nowhere : (es : List Entry) (a b : ℕ) → IsWalk [] a es b → (a ≡ b) × (walk_minutes es ≡ 0)

@@ -1,22 +1,16 @@
 -- The matrix without entries.
-use Rattle.std.proofs.Common.{◌≡◌, ℕ, zero, suc, ◌+◌, ◌<◌, ◌==◌, ◌&&◌, nat_le, Bool, true, false, List, [], ◌∷◌, length, map, replicate}
-use Rattle.std.proofs.Common.{get_or, Option, None, Some, if◌then◌else◌, refl, sym, ap, ◌∙◌, arith}
+use Rattle.std.proofs.Common.{◌≡◌, ℕ, zero, suc, ◌+◌, ◌<◌, ◌==◌, ◌&&◌, nat_le, Bool, true, false, List, [], map, replicate}
+use Rattle.std.proofs.Common.{get_or, Option, None, Some, if◌then◌else◌, refl, ap, ◌∙◌, arith}
 use Rattle.std.specs.List.{range_with_len}
-use Rattle.std.proofs.lemmas.Bool.{eq-eqb, ne_eqb}
-use Rattle.std.proofs.lemmas.List.FromFn.{get_or-map-range_with_len, length-map-range_with_len}
+use Rattle.std.proofs.lemmas.List.FromFn.{get_or-map-range_with_len}
 use Rattle.std.specs.Option.{is_some}
 use Rattle.trip_model.specs.declared.trip.Move.{Move}
 use Rattle.trip_model.specs.Plain.{move_at, meets, plain_network, AreMoves}
 use Rattle.deadhead_matrix.specs.Fitting.{in_time, empty_between, out_before, home_after, deadhead_network}
-use Rattle.deadhead_matrix.specs.declared.entry.Entry.{Entry}
 use Rattle.deadhead_matrix.specs.declared.pulls.Pull.{Pull}
 use Rattle.deadhead_matrix.specs.declared.pulls.TheConstants.{NO_PULL}
-use Rattle.deadhead_matrix.specs.Walks.{IsWalk}
-use Rattle.deadhead_matrix.specs.Matrix.{MatrixView, walk, standing, empty_matrix}
+use Rattle.deadhead_matrix.specs.Matrix.{walk, standing, empty_matrix}
 use Rattle.deadhead_matrix.specs.Pulls.{pull_at}
-
-pub length-empty : (places : ℕ) → length (empty_matrix places).walks ≡ places
-length-empty places = length-map-range_with_len (λ a. map (standing a) (range_with_len 0 places)) 0 places
 
 -- it has the walks that need no entries
 walk-empty : (places a b : ℕ) → a < places → b < places → walk (empty_matrix places) a b ≡ standing a b
@@ -24,21 +18,6 @@ walk-empty places a b a_in b_in =
     ap (λ row. get_or row b None) (get_or-map-range_with_len (λ a. map (standing a) (range_with_len 0 places)) 0 places a a [] a_in
     (omega arith))
     ∙ get_or-map-range_with_len (standing a) 0 places b b None b_in (omega arith)
-
-pub walk-same : (matrix : MatrixView) (places a b : ℕ) → empty_matrix places ≡ matrix → a < places → b < places → a ≡ b
-    → Some 0 ≡ walk matrix a b
-walk-same matrix places a b is a_in b_in same =
-    sym (ap (λ m. walk m a b) (sym is) ∙ walk-empty places a b a_in b_in ∙ ap (λ t. if t then Some 0 else None) (eq-eqb a b same))
-
-pub walk-other : (matrix : MatrixView) (places a b : ℕ) → empty_matrix places ≡ matrix → a < places → b < places → (a ≡ b → ⊥)
-    → None ≡ walk matrix a b
-walk-other matrix places a b is a_in b_in other =
-    sym (ap (λ m. walk m a b) (sym is) ∙ walk-empty places a b a_in b_in ∙ ap (λ t. if t then Some 0 else None) (ne_eqb a b other))
-
--- no list of no entries leads to another place
-pub no_walk : (entries es : List Entry) (a b : ℕ) → [] ≡ entries → (a ≡ b → ⊥) → IsWalk entries a es b → ⊥
-no_walk entries [] a b none other is = other is
-no_walk entries (e ∷ es) a b none other is = let within = is.0.1 in let empty = ap length none in omega (arith, within, empty)
 
 -- two moves: a vehicle that stands still is in time exactly where they meet
 in_time-standing : (places : ℕ) (a b : Move) → a.to < places → b.from < places

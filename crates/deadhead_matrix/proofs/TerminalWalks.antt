@@ -1,18 +1,20 @@
 -- Walks between places of one class are those of their terminals.
-use Rattle.std.proofs.Common.{◌≡◌, ◌≢◌, ℕ, ◌+◌, ◌<◌, ◌≤◌, ⊎_elim, Bool, true, false, List, [], ◌∷◌, length, get_or, Option, None, Some, Ok}
+use Rattle.std.proofs.Common.{◌≡◌, ◌≢◌, ℕ, ◌+◌, ◌<◌, ◌≤◌, ⊎_elim, Bool, true, false, List, [], ◌∷◌, length, get_or, Option, None, Some, Result, Ok, Err}
 use Rattle.std.proofs.Common.{refl, sym, ap, subst, ◌∙◌, arith}
-use Rattle.std.specs.Prelude.{◌↔◌, Contains}
+use Rattle.std.specs.Prelude.{◌↔◌, Contains, IfOk}
 use Rattle.std.proofs.lemmas.Bool.{cases_lt}
 use Rattle.std.proofs.lemmas.List.{get_or-map, length-map}
 use Rattle.std.proofs.lemmas.List.Elements.{All-contains}
 use Rattle.std.proofs.lemmas.List.Sums.{sum_by-cons}
 use Rattle.desk_io.specs.declared.shelf.Found.{Found}
+use Rattle.gtfs_tables.specs.declared.fault.FeedFault.{FeedFault}
+use Rattle.gtfs_tables.specs.Reading.{Gives}
 use Rattle.trip_model.specs.Place.{Place, IsPlace, class_of, place_in, terminal_place}
 use Rattle.trip_model.specs.Timetable.{TimetableView, IsTimetable, place_names}
 use Rattle.deadhead_matrix.specs.declared.entry.Entry.{Entry}
 use Rattle.deadhead_matrix.specs.Deadheads.{deadheads_of}
 use Rattle.deadhead_matrix.specs.Posts.{classes_of, place_for}
-use Rattle.deadhead_matrix.specs.Terminals.{Deadhead, IsAllowed, IsLeastTerminalWalk, IsTerminalWalk, terminal_at, terminal_minutes}
+use Rattle.deadhead_matrix.specs.Terminals.{AreTerminalWalks, Deadhead, IsAllowed, IsLeastTerminalWalk, IsTerminalWalk, terminal_at, terminal_minutes}
 use Rattle.deadhead_matrix.specs.Walks.{IsLeastWalk, IsWalk, walk_minutes}
 use Rattle.deadhead_matrix.proofs.OneClass.{HasEntry, IsFileRead, Joins, entries-one_class, file-read, walk-one_class}
 
@@ -124,3 +126,12 @@ pub two_classes-none : (found : Found) (t after : TimetableView) (entries : List
     → (a b : ℕ) → class_of after.places a ≢ class_of after.places b → IsLeastWalk entries a b None
 two_classes-none found t after entries valid e a b other es walk =
     other (walk-one_class after.places entries es a b (entries-one_class found t after entries valid e) walk)
+
+-- what is read of a file has the walks of its terminals
+pub walks-read : (found : Found) (t after : TimetableView) (read : Result (List Entry) FeedFault) → IsTimetable t → IsTimetable after
+    → Gives (λ (entries : List Entry). (after, entries)) read (deadheads_of found t) → IfOk read (AreTerminalWalks found after.places)
+walks-read found t after (Ok entries) valid valid_after gives = record {
+  one_class = one_class-terminals found t after entries valid valid_after gives;
+  two_classes = two_classes-none found t after entries valid gives;
+}
+walks-read found t after (Err refused) valid valid_after gives = tt

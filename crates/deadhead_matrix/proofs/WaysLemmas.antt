@@ -32,23 +32,6 @@ way-zeros n m a b = ⊎_elim
     (get_or_past (replicate n (replicate m 0)) a [] (omega (arith, length-replicate {A = List ℕ} n (replicate m 0)))))
     (cases_lt a n)
 
--- without entries
-pub AreTold-none : (ways : List (List ℕ)) → AreRows 512 ways → ((a b : ℕ) → way ways a b ≡ 0) → AreTold [] ways
-AreTold-none ways rows none = record {
-  rows = rows;
-  short = λ a b. let zero = none a b in omega arith;
-  told = record {
-    from = λ e within. absurd (nowhere e within);
-    to = λ e within. absurd (nowhere e within);
-    told = λ e within. absurd (nowhere e within);
-    lasting = λ e within. absurd (nowhere e within);
-    entry = λ a b leads. absurd (leads (none a b));
-  };
-}
-  where
-    nowhere : (e : Entry) → Contains [] e → ⊥
-    nowhere e within = let below = within.1 in omega arith
-
 -- an entry leads from one place to another where it is one of these
 both : (a b c d : ℕ) → ((a == c) && (b == d)) ≡ true → (a ≡ c) × (b ≡ d)
 both a b c d e = by (a == c) (b == d) refl refl e

@@ -1,12 +1,14 @@
 -- Walks of a vehicle that runs empty, from terminal to terminal, along the records of `deadheads.csv`.
-use Rattle.std.specs.Prelude.{◌≡◌, ◌⊎◌, ℕ, ◌+◌, ◌≤◌, List, [], ◌∷◌, sum_by, Option, None, Some, Ok}
+use Rattle.std.specs.Prelude.{◌≡◌, ◌≢◌, ◌⊎◌, ◌↔◌, ℕ, ◌+◌, ◌<◌, ◌≤◌, length, List, [], ◌∷◌, sum_by, Option, None, Some, Ok}
 use Rattle.desk_io.specs.declared.shelf.Found.{Found}
 use Rattle.gtfs_tables.specs.declared.paper.Paper.TheVariants as paper
 use Rattle.gtfs_tables.specs.Reading.{table_in}
 use Rattle.gtfs_tables.specs.Table.{TableView}
-use Rattle.trip_model.specs.Place.{Place, place_in}
+use Rattle.trip_model.specs.Place.{Place, class_of, place_in}
 use Rattle.deadhead_matrix.specs.declared.read.Columns.{Columns}
+use Rattle.deadhead_matrix.specs.declared.entry.Entry.{Entry}
 use Rattle.deadhead_matrix.specs.Deadheads.{columns_in, deadhead_in}
+use Rattle.deadhead_matrix.specs.Walks.{IsLeastWalk}
 
 -- a deadhead between two terminals
 pub record Deadhead : Type 0 where
@@ -52,3 +54,10 @@ IsLeastTerminalWalk found a b (Some m) = IsLeastTerminalTotal found a b m
 -- the terminal of the place of that number
 abbrev pub terminal_at : List Place → ℕ → List ℕ
 terminal_at places p = (place_in places p).terminal
+
+-- Along the entries between these places the least walk of two posts of one class is that of their terminals. Between posts of
+-- two classes there is none.
+pub record AreTerminalWalks (found : Found) (places : List Place) (entries : List Entry) : Type 0 where
+  pub one_class : (a b : ℕ) → a < length places → b < length places → class_of places a ≡ class_of places b → (m : Option ℕ)
+      → IsLeastWalk entries a b m ↔ IsLeastTerminalWalk found (terminal_at places a) (terminal_at places b) m
+  pub two_classes : (a b : ℕ) → class_of places a ≢ class_of places b → IsLeastWalk entries a b None

@@ -7,9 +7,11 @@ ghost use Rattle.deadhead_matrix.specs.Deadheads.{deadheads_of, has_entry, with_
 ghost use Rattle.deadhead_matrix.specs.Left.{timetable_left};
 ghost use Rattle.deadhead_matrix.specs.Named.{HasGained, IsNamed};
 ghost use Rattle.deadhead_matrix.specs.Rows.{way, AreRows, AreLeastRows};
+ghost use Rattle.deadhead_matrix.specs.Terminals.{AreTerminalWalks};
 
 use crate::distances::Distances;
 use crate::entry::Entry;
+use crate::laws::terminal_law;
 use crate::read::read_deadheads;
 use crate::through::least_rows;
 use crate::ways::Ways;
@@ -172,7 +174,13 @@ impl Deadheads {
         ensures left { result ≢ Err FeedFault.Memory → timetable.new ≡ timetable_left deadheads.now timetable.old }
         // Also after lack of memory: the timetable is as it was, but for places at the end of its list that records name.
         ensures gained { HasGained (IsNamed deadheads.now timetable.old) timetable.old timetable.new }
+        ensures walks { IfOk result (AreTerminalWalks deadheads.now timetable.new.places) }
     {
-        read_deadheads(alloc, deadheads, timetable)
+        terminal_law();
+        // Their clauses say that the timetable is valid, before and after.
+        let _before = timetable.places();
+        let read = read_deadheads(alloc, deadheads, timetable);
+        let _after = timetable.places();
+        read
     }
 }

@@ -3,12 +3,14 @@
 //! [`Deadheads::read`] reads what was found of `deadheads.csv` and adds the places that it names to the timetable; its records
 //! are seen as entries ([`Entry`]). [`Matrix::of`] makes the matrix of entries between all places, and [`Matrix::read`] both at
 //! once. [`Matrix::minutes`] looks up in how many minutes a vehicle can run empty from one place to another, along as many
-//! entries as it takes. [`Matrix::walks_from`] lends those from one place. [`Matrix::read_depot`] reads the pulls of places
-//! ([`Pulls`]) from what was found of `depot.csv`. They are the minutes in which a vehicle comes from the depot and goes back
-//! to it.
+//! entries as it takes. [`Matrix::walks_from`] lends those from one place. [`Pulls::read`] reads the pulls of places from what
+//! was found of `depot.csv`, and [`Matrix::set_pulls`] takes them over. They are the minutes in which a vehicle comes from the
+//! depot and goes back to it.
 //!
 //! The contract that the crates above use: the entries are those of the file, or the first refusal that is due. `minutes` is
 //! the least walk of the entries. The blocks of a plan for a timetable and a matrix are least ([`laws::plan_law`]).
+//!
+//! Laws for a reader, which nothing calls: [`laws::no_entries_law`], [`laws::one_matrix_law`] and [`laws::class_law`].
 //!
 //! `desk_feed` shows a use, in `src/matrix.rt`.
 //!
@@ -18,6 +20,7 @@
 //! - `Matrix`: what a matrix is seen as
 //! - `Deadheads`: the entries and the places of a file
 //! - `Posts`: the places of a terminal, one for each class
+//! - `Terminals`: walks from terminal to terminal, which walks between posts of one class take
 //! - `Left`: the places that are left where the file is refused
 //! - `Depot`, `Pulls`: the pulls of places
 //! - `Fitting`: which trips a vehicle can make one after the other

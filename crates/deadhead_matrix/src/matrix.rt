@@ -1,4 +1,4 @@
-ghost use Rattle.std.specs.Prelude.{◌≡◌, ◌≢◌, ℕ, ◌<◌, ◌≤◌, [], length, replicate, slice_index_or, All, Err, IfOk, OnErr, IfSome};
+ghost use Rattle.std.specs.Prelude.{◌≡◌, ◌≢◌, ℕ, ◌<◌, ◌≤◌, [], length, replicate, slice_index_or, All, Err, IfOk, IfSome};
 ghost use Rattle.gtfs_tables.specs.Papers.{IsWithinLimit};
 ghost use Rattle.gtfs_tables.specs.Reading.{Gives};
 ghost use Rattle.trip_model.specs.declared.limits.TheConstants.{MOST_PLACES};
@@ -6,7 +6,6 @@ ghost use Rattle.deadhead_matrix.specs.declared.limits.TheConstants.{LONGEST_WAL
 ghost use Rattle.assignment_model.specs.declared.limits.TheConstants.{MOST_DEADHEAD};
 ghost use Rattle.deadhead_matrix.specs.declared.pulls.TheConstants.{NO_PULL};
 ghost use Rattle.deadhead_matrix.specs.Deadheads as spec;
-ghost use Rattle.deadhead_matrix.specs.Depot.{pulls_of};
 ghost use Rattle.deadhead_matrix.specs.Left.{timetable_left};
 ghost use Rattle.deadhead_matrix.specs.Matrix.{AreLeastWalks, IsSquare, empty_matrix, walk};
 ghost use Rattle.deadhead_matrix.specs.Named.{HasGained, IsNamed};
@@ -133,20 +132,6 @@ impl Matrix {
         ensures { self.new ≡ record self.old { pulls = pulls } }
     {
         self.pulls = pulls;
-    }
-
-    /// Takes over the pulls of the places of the timetable by what was found of `depot.csv`, as [`Pulls::read`] reads it.
-    /// Where the file is refused, the pulls stay as they are.
-    pub fn read_depot(&mut self, depot: &Found, timetable: &Timetable) -> Result<(), FeedFault>
-        requires within { IsWithinLimit depot.now }
-        requires places { length self.old.walks ≡ length timetable.now.places }
-        ensures gives { Gives (λ _. self.new.pulls) result (pulls_of depot.now timetable.now) }
-        ensures kept { self.new ≡ record self.old { pulls = self.new.pulls } }
-        ensures err { OnErr result (self.new ≡ self.old) }
-    {
-        let pulls = Pulls::read(*self.rows.allocator(), depot, timetable)?;
-        self.set_pulls(pulls);
-        Ok(())
     }
 
     /// In how many minutes a vehicle runs empty from the depot to a place before its first trip.
