@@ -6,6 +6,8 @@
 //! The contract that the crates above use: the blocks of a certified plan are least ([`laws::certified_law`]). The laws of
 //! [`path_laws`] are of the paths along which a plan is repaired.
 //!
+//! Laws for a reader, which nothing calls: all of [`laws`] and of [`path_laws`].
+//!
 //! The contracts cite:
 //!
 //! - `Prices`: plans of next trips whose prices prove that they are least

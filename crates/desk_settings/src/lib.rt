@@ -13,6 +13,8 @@
 //! Each call answers by the definition of its name. Layovers are at most 240 minutes, and tolerances at most 60. The keys of
 //! `desk.toml` are judged in byte order, since those of a document ascend (`laws`).
 //!
+//! Laws for a reader, which nothing calls: [`laws::first_bad_key_law`].
+//!
 //! `desk_feed` shows a use, in `src/feed.rt`.
 //!
 //! The contracts cite:

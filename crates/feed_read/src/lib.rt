@@ -8,6 +8,8 @@
 //! The contract that the crates above use: the timetable is `base_of` the three, or the refusal is the first of the order
 //! of judging.
 //!
+//! Laws for a reader, which nothing calls: [`laws::ends_law`].
+//!
 //! `desk_feed` shows a use, in `src/feed.rt`.
 //!
 //! The contracts cite `Base`, the timetable of a feed. It uses these:

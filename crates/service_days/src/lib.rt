@@ -6,6 +6,8 @@
 //! The contract that the crates above use: a date is eight digits of a day that the calendar of `jiff` has. The answer is
 //! exactly the services that run on the date, each once, in byte order; or the first refusal of the two files.
 //!
+//! Laws for a reader, which nothing calls: [`laws::date_law`].
+//!
 //! `desk_feed` shows a use, in `src/feed.rt`.
 //!
 //! The contracts cite:

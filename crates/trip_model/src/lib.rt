@@ -28,7 +28,8 @@
 //! - `Links`: the blocks that links make
 //! - `Order`: slots by departure, and by end
 //!
-//! The laws of these are the contracts of [`laws`].
+//! The laws of these are the contracts of [`laws`]. Laws for a reader, which nothing calls: [`laws::first_maximum_law`],
+//! [`laws::steps_law`], [`laws::agreement_law`], [`laws::deficit_maximum_law`] and [`laws::before_law`].
 #![tactic(auto)]
 
 pub mod laws;
