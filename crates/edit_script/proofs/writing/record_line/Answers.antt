@@ -10,7 +10,7 @@ pub unreachable-requires : goal.unreachable-requires
 unfolding lib.Utf8.encode
 unreachable-requires c =
     let fields = map (λ field. field.now) c.args.fields.now in
-    let whole : c.as_str.result.now ≡ record_text fields = c.as_str.ensures ∙ c.in_ok-text.ensures ∙ c.in_ok-push.ensures.pushed
+    let whole : c.as_str.result.now ≡ record_text fields = c.as_str.ensures ∙ c.in_ok-text.ensures.text ∙ c.in_ok-push.ensures.pushed
     ∙ ap (λ text. text ++ record_text fields) c.new-records.ensures in
     c.in-None.ensures.cases (front_of fields) (whole ∙ record-ends fields)
 
@@ -18,7 +18,7 @@ pub returns : goal.returns
 returns c =
     let fields = map (λ field. field.now) c.args.fields.now in
     let bytes = c.as_str.result.now in
-    let whole : bytes ≡ record_text fields = c.as_str.ensures ∙ c.in_ok-text.ensures ∙ c.in_ok-push.ensures.pushed
+    let whole : bytes ≡ record_text fields = c.as_str.ensures ∙ c.in_ok-text.ensures.text ∙ c.in_ok-push.ensures.pushed
     ∙ ap (λ text. text ++ record_text fields) c.new-records.ensures in
     let cut : bytes ≡ c.in-Some.line.now ++ 10 ∷ [] =
     subst (λ (found : Option (Bor (List ℕ))). MatchOption found ((front : List ℕ) → bytes ≢ front ++ (10 ∷ []))
