@@ -2,6 +2,7 @@
 ghost use Rattle.std.specs.Prelude.{◌≡◌, ℕ, List, [], ◌∷◌, ◌++◌, Ok, Err, IsOk};
 ghost use Rattle.edit_script.specs.declared.edit.Edit.{Edit};
 ghost use Rattle.edit_script.specs.declared.fault.EditFault.{EditFault};
+ghost use Rattle.edit_script.specs.Folds.{Folds};
 ghost use Rattle.edit_script.specs.Laws as spec;
 ghost use Rattle.edit_script.specs.Machine.{IsAt, Numbered, edit_record, machine, no_edit_record, state_after};
 ghost use Rattle.edit_script.specs.Script.{ScriptView, opened, stepped};
@@ -31,4 +32,9 @@ pub fn machine_law()
     // a record of no form changes nothing
     ensures no_edit { (base : TimetableView) (records : List Numbered) (s : ScriptView) (number : ℕ) → IsAt base (machine base records) s
         → IsAt base (machine base (records ++ no_edit_record number ∷ [])) s }
+{}
+
+/// The edits that stand after any records are each accepted over those before it.
+pub fn folds_law()
+    ensures { (base : TimetableView) (records : List Numbered) → Folds base (machine base records).standing }
 {}

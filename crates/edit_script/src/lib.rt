@@ -16,6 +16,8 @@
 //! Stepped over records it stays at the state of the edit machine, whose timetable is the fold of the edits that stand
 //! ([`laws::machine_law`]).
 //!
+//! Laws for a reader, which nothing calls: [`laws::folds_law`]. The edits that stand are each accepted over those before it.
+//!
 //! `desk_feed` shows a use, in `src/script.rt`.
 //!
 //! The contracts cite:
