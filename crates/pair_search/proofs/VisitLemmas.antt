@@ -23,7 +23,7 @@ unlike-append P Q other (x ∷ xs) ys p q u v = (
   unlike-append P Q other xs ys (All-tail P x xs p) q u.1 v,
 )
 
-pub once-append : (side : SideView) (P Q : Look → Type 0) → ((x y : Look) → P x → Q y → x ≢ y) → (xs ys : List Look) → All P xs → All Q ys
+once-append : (side : SideView) (P Q : Look → Type 0) → ((x y : Look) → P x → Q y → x ≢ y) → (xs ys : List Look) → All P xs → All Q ys
     → SearchesOnce side xs → SearchesOnce side ys → SearchesOnce side (xs ++ ys)
 once-append side P Q other xs ys p q a b = record {
   each = All-append (IsLook side) xs ys a.each b.each;
@@ -43,7 +43,7 @@ row-none side row from to le = record {
 }
 
 -- a row takes one look
-pub row-one : (side : SideView) (row from to : ℕ) (look : Look) → from < to → IsLook side look → IsBetween side row from to look
+row-one : (side : SideView) (row from to : ℕ) (look : Look) → from < to → IsLook side look → IsBetween side row from to look
     → RowLooks side row from to (look ∷ [])
 row-one side row from to look lt is between = record {
   few = omega (arith, lt);
@@ -72,7 +72,7 @@ row-append side row from mid to xs ys a b = record {
 }
 
 -- a row visits columns that stand next to each other
-pub row-visits : (side : SideView) (row first m : ℕ) → row < side_slots side → first + m ≤ side_slots side
+row-visits : (side : SideView) (row first m : ℕ) → row < side_slots side → first + m ≤ side_slots side
     → ((j : ℕ) → first ≤ j → j < first + m → place_weight side row j ≢ None)
     → RowLooks side row first (first + m) (map (Visited row) (range_with_len first m))
 row-visits side row first zero inside within fits = row-none side row first (first + zero) (omega arith)
@@ -243,12 +243,6 @@ Takes-passed side row a b are inside le within was now paid total after steps = 
       (begins (side_slots side) side.count side.groups r) (map (Passed row) (range_with_len a (b - a)))) (omega (arith, le))
       (row-passes side row a (b - a) are inside (omega (arith, le, within)));
 }
-
--- no number from one on is listed
-pub listed-none : (f : ℕ → Look) (was : List Look) (first : ℕ) → was ≡ was ++ map f (range_with_len first (first - first))
-listed-none f was first =
-    let e : 0 ≡ first - first = omega arith in
-    subst (λ n. was ≡ was ++ map f (range_with_len first n)) e (sym (append-nil was))
 
 -- one more is listed
 pub listed-more : (f : ℕ → Look) (was mid now : List Look) (first column : ℕ) → first ≤ column
