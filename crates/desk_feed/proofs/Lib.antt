@@ -1,3 +1,4 @@
+mod FirstLemmas
 pub mod GivenLemmas
 pub mod OneMatrix
 pub mod PapersLemmas

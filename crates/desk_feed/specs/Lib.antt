@@ -1,6 +1,7 @@
 pub mod Commands
 pub mod Edited
 pub mod Feed
+pub mod First
 pub mod Judging
 pub mod Numbers
 pub mod Schedule

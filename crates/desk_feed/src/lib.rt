@@ -17,11 +17,14 @@
 //! refusal in the order of judging is put, and the run ends as refused. The timetable after the script is that of the edit
 //! machine, and so are the lines of its refused records.
 //!
+//! Laws for a reader, which nothing calls: [`laws::first_refusal_law`]. A refusal is that of the first file that is refused.
+//!
 //! `feed_commands` shows a use, in `src/deficits.rt`.
 //!
 //! The contracts cite:
 //!
 //! - `Feed`: what the papers say, or their first refusal
+//! - `First`: which refusal that is
 //! - `Judging`: what is made of that, and what a command asks that works on a feed
 //! - `Commands`: what a command is lent of a feed
 //! - `Showing`: what a command asks that puts a text
@@ -36,6 +39,7 @@
 mod command;
 mod feed;
 mod judging;
+pub mod laws;
 mod matrix;
 mod numbers;
 mod script;
