@@ -4,7 +4,7 @@ use Rattle.std.specs.Prelude.{OnErr, OnOk}
 use Rattle.std.proofs.lemmas.List.{append-nil}
 use Rattle.std.proofs.lemmas.List.Elements.{All-append, All-cons, All-nil}
 use Rattle.std.specs.Path.{path_join}
-use Rattle.desk_io.specs.System.{Asked, CreateNew, Look, Remove}
+use Rattle.desk_io.specs.System.{Asked, CreateNew, Remove}
 use Rattle.desk_io.specs.WholeFiles.{AsksToWrite, IsMadeBeside, IsReplaced, Spared, Spares, beside}
 use Rattle.desk_io.specs.declared.system_call.Refusal.{Refusal}
 use Rattle.desk_io.specs.declared.system_call.Refusal.TheVariants.{NotThere, Taken, Memory, Other}

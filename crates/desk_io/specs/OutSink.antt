@@ -1,6 +1,6 @@
 -- What standard output is seen as: it tells nothing of what it has taken, counts its faults, and tells which calls came, and what was
 -- asked of the system in each.
-use Rattle.std.specs.Prelude.{◌≡◌, ℕ, nat_lt, List, [], ◌∷◌, ◌++◌, Option, None, Some, Result, Ok, Err, if◌then◌else◌}
+use Rattle.std.specs.Prelude.{◌≡◌, ℕ, nat_lt, List, [], ◌∷◌, ◌++◌, None, Result, Ok, Err, if◌then◌else◌}
 use Rattle.desk_io.specs.History.{Call}
 use Rattle.desk_io.specs.Sink.{SinkState}
 use Rattle.desk_io.specs.System.{Asked, Print, count_by, refused_by}

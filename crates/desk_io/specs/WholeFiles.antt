@@ -1,5 +1,5 @@
 -- What is asked of the system to read a file, and to write one so that it is at each moment as before or whole.
-use Rattle.std.specs.Prelude.{◌≡◌, ◌⊎◌, ℕ, ◌+◌, ◌-◌, ◌^◌, min, Bool, true, false, List, [], ◌∷◌, ◌++◌, All, codes, Option, None, Some}
+use Rattle.std.specs.Prelude.{◌≡◌, ◌⊎◌, ℕ, ◌+◌, ◌-◌, ◌^◌, min, false, List, [], ◌∷◌, ◌++◌, All, codes, Option, None, Some}
 use Rattle.std.specs.Prelude.{Result, Ok, Err}
 use Rattle.std.specs.Fmt.{decimal}
 use Rattle.std.specs.Path.{path_join}
@@ -8,7 +8,7 @@ use Rattle.desk_io.specs.System.{Asked, Open, Read, Look, Create, CreateNew, Wri
 use Rattle.desk_io.specs.declared.shelf.Found.{Found}
 use Rattle.desk_io.specs.declared.shelf.Found.TheVariants.{Missing}
 use Rattle.desk_io.specs.declared.system_call.Refusal.{Refusal}
-use Rattle.desk_io.specs.declared.system_call.Refusal.TheVariants.{NotThere, Memory, Other}
+use Rattle.desk_io.specs.declared.system_call.Refusal.TheVariants.{NotThere, Memory}
 
 -- what a read answers where the file was not opened: one that is not there is missing
 abbrev pub unopened : Refusal → Result Found Refusal

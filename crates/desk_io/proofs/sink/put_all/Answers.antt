@@ -1,7 +1,7 @@
 use Rattle.std.proofs.Common.{arith, length-take, length-drop, sym, subst}
 use Rattle.std.proofs.lemmas.Result.{err_from_is_err_and}
 use Rattle.desk_io.specs.Sink.{PutsCome}
-use Rattle.desk_io.proofs.EachPut.{all_put, none_yet, put_failed, put_so_far}
+use Rattle.desk_io.proofs.EachPut.{all_put, put_failed, put_so_far}
 use Rattle.desk_io.proofs.PutsMore.{put_more}
 use Rattle.desk_io.proofs.sink.put_all.Goals as goal
 

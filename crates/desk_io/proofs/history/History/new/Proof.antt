@@ -1,7 +1,7 @@
 -- The empty struct is made, and no calls are picked.
 use Rattle.std.proofs.Common.{[], ◌∷◌, refl}
 use seplogic.Ra.Ura.{Ura}
-use mir.Val.{Val, vstruct, vnil}
+use mir.Val.{vstruct, vnil}
 use base.Logic.{SProp, ent, emp, via, fst∗}
 use prog.Memory.{Memory}
 use prog.Routine.{Routine}
