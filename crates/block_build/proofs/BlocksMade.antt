@@ -29,20 +29,6 @@ along-more links first s n at next slots more h is goes put so_far =
     ∙ sym (λ i. slots ++ along links (left i) (is i))
     ∙ so_far
 
--- a block whose last slot has no next
-pub along-end : (links : List (Option ℕ)) (first n : ℕ) (at : Option ℕ) (slots : List ℕ) → n < 8192 → at ≡ None
-    → slots ++ along links (8192 - n) at ≡ block_from links first → slots ≡ block_from links first
-along-end links first n at slots h is so_far =
-    let left : 8192 - n ≡ suc (8191 - n) = omega arith in
-    sym (append-nil slots) ∙ sym (λ i. slots ++ along links (left i) (is i)) ∙ so_far
-
--- a block of as many slots as there may be
-pub along-full : (links : List (Option ℕ)) (first n : ℕ) (at : Option ℕ) (slots : List ℕ) → 8192 ≡ n
-    → slots ++ along links (8192 - n) at ≡ block_from links first → slots ≡ block_from links first
-along-full links first n at slots all so_far =
-    let left : 8192 - n ≡ 0 = omega arith in
-    sym (append-nil slots) ∙ sym (λ i. slots ++ along links (left i) at) ∙ so_far
-
 -- the blocks after one slot more, which is the next of none or of one
 pub blocks-more : (links : List (Option ℕ)) (order : List ℕ) (n slot : ℕ) (follows : Bool) (blocks more : List (List ℕ)) (block : List ℕ)
     → n < length order → slot ≡ get_or order n 0
