@@ -47,13 +47,15 @@ claim_in read said = claimed_of (standing said) (found_of read.pages paper.Block
 abbrev pub checked : ReadView → FeedView → MatrixView → OutcomeView
 checked read said matrix = claim_outcome (refused_of said) (standing said) matrix (claim_in read said)
 
--- A claim against which no reason holds proves its blocks: it is a certificate, and they are least over all blockings.
+-- No reason holds against a claim exactly where it is a certificate. Then it proves its blocks: they are least over all blockings.
 abbrev pub Proves : TimetableView → MatrixView → Result ClaimedView ClaimFault → Type 0
-Proves timetable matrix read = (claimed : ClaimedView) → read ≡ Ok claimed → reason_of timetable matrix claimed ≡ None
+Proves timetable matrix read = (claimed : ClaimedView) → read ≡ Ok claimed
+    → (reason_of timetable matrix claimed ≡ None
     → IsCertificate (network_of timetable matrix) (length timetable.slots) claimed
-    × IsLeast (network_of timetable matrix) (blocks_in claimed.blocks)
+    × IsLeast (network_of timetable matrix) (blocks_in claimed.blocks))
+    × (IsCertificate (network_of timetable matrix) (length timetable.slots) claimed → reason_of timetable matrix claimed ≡ None)
 
--- The verdict by a matrix of the feed is put. A yes proves the blocks.
+-- The verdict by a matrix of the feed is put. It is yes exactly of a certificate, which proves the blocks.
 pub record IsChecked (read : ReadView) (said : FeedView) (outcome : OutcomeView) : Type 0 where
   pub matrix : MatrixView
   pub matrix_is : IsMatrixFor said matrix
