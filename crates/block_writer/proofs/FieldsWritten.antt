@@ -1,11 +1,11 @@
 -- Records of texts, as they are written one after the other.
-use Rattle.std.proofs.Common.{◌≡◌, ℕ, ◌+◌, ◌-◌, ◌<◌, ◌≤◌, inl, inr, List, [], ◌∷◌, ◌++◌, length, get_or, set, map, All, Result, Ok, Err}
+use Rattle.std.proofs.Common.{◌≡◌, ℕ, ◌+◌, ◌-◌, ◌<◌, inl, inr, List, [], ◌++◌, length, get_or, set, map, All, Result, Ok, Err}
 use Rattle.std.proofs.Common.{refl, sym, ap, subst, ◌∙◌, arith}
 use Rattle.std.specs.Prelude.{OnOk}
 use Rattle.std.specs.Borrow.{Bor}
 use Rattle.std.specs.Str.{IsUtf8}
-use Rattle.std.proofs.lemmas.Bool.{cases_lt, lt-ltb, le-ltb}
-use Rattle.std.proofs.lemmas.List.{get_or_past, map-append, map-set}
+use Rattle.std.proofs.lemmas.Bool.{cases_lt, lt-ltb}
+use Rattle.std.proofs.lemmas.List.{get_or_past, map-set}
 use Rattle.std.proofs.lemmas.Str.{IsUtf8-nil}
 use Rattle.gtfs_tables.specs.Writing.{record_text}
 use Rattle.block_writer.specs.Fields.{with_field}
@@ -24,18 +24,9 @@ pub seen-set : (fields : List (Bor (List ℕ))) (row : List (List ℕ)) (place :
 seen-set fields row place field seen = map-set (λ field. field.now) fields place field
     ∙ ap (λ (fields : List (List ℕ)). set fields place field.now) seen
 
--- the fields that are seen, with another at their end
-pub seen-more : (fields : List (Bor (List ℕ))) (row : List (List ℕ)) (field : Bor (List ℕ)) → map (λ field. field.now) fields ≡ row
-    → map (λ field. field.now) (fields ++ field ∷ []) ≡ row ++ field.now ∷ []
-seen-more fields row field seen = map-append (λ (field : Bor (List ℕ)). field.now) fields (field ∷ [])
-    ∙ ap (λ (fields : List (List ℕ)). fields ++ field.now ∷ []) seen
-
 -- a record with another field in a column that it has, and in a new one
 pub with-set : (row : List (List ℕ)) (place : ℕ) (field : List ℕ) → place < length row → set row place field ≡ with_field row place field
 with-set row place field within = rw (lt-ltb place (length row) within) refl
-
-pub with-more : (row : List (List ℕ)) (place : ℕ) (field : List ℕ) → length row ≤ place → row ++ field ∷ [] ≡ with_field row place field
-with-more row place field past = rw (le-ltb place (length row) past) refl
 
 -- the fields of a table of texts
 pub row-text : (rows : List (List (List ℕ))) (row : List (List ℕ)) (n : ℕ) → All (All IsUtf8) rows → n < length rows

@@ -1,6 +1,6 @@
 -- The records of a table, as they are written one after the other.
 use Rattle.std.proofs.Common.{◌≡◌, ℕ, inl, inr, ◌+◌, ◌-◌, ◌<◌, ◌≤◌, List, [], ◌++◌, length, get_or, map, Bool, true, false, Option}
-use Rattle.std.proofs.Common.{Some, None, ◌≢◌, refl, sym, ap, subst, ◌∙◌, arith, nat_lt, ◌&&◌}
+use Rattle.std.proofs.Common.{Some, None, ◌≢◌, refl, sym, ap, ◌∙◌, arith, nat_lt, ◌&&◌}
 use Rattle.std.specs.Prelude.{ℤ, pos, negsuc, unsigned_abs, ◌==◌, if◌then◌else◌}
 use Rattle.std.specs.List.{range_with_len}
 use Rattle.std.proofs.lemmas.Bool.{cases_Bool, cases_lt, eqb-true}
@@ -25,14 +25,6 @@ shifted-row offset arrival departure row other = elim (cases_Bool (unsigned_abs 
     no-minutes : (z : ℤ) → unsigned_abs z ≡ 0 → z ≡ pos 0
     no-minutes (pos n) none = ap pos none
     no-minutes (negsuc n) none = absurd (omega arith)
-
--- no rows are moved of one slot more
-pub none-more : (t : TimetableView) (base n : ℕ) (offset : ℤ) → ((k : ℕ) → k < n → offset_of t base (Some k) ≡ pos 0)
-    → offset ≡ offset_of t base (Some n) → offset ≡ pos 0 → (k : ℕ) → k < n + 1 → offset_of t base (Some k) ≡ pos 0
-none-more t base n offset before is none k below = elim (cases_lt k n) [
-  | inl earlier ↦ before k earlier
-  | inr last ↦ let same : n ≡ k = omega arith in subst (λ k. offset_of t base (Some k) ≡ pos 0) same (sym is ∙ none)
-]
 
 -- no rows are moved, of any slot
 pub none-moved : (t : TimetableView) (base n : ℕ) → length t.slots ≤ n → ((k : ℕ) → k < n → offset_of t base (Some k) ≡ pos 0)

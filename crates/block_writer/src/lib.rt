@@ -8,6 +8,8 @@
 //! The contract that the crates above use: a text has the records that were read, in their order. Nothing is replaced but the
 //! `block_id` of selected trips and the times of shifted ones. The text reads back as that table.
 //!
+//! Laws for a reader, which nothing calls: those of [`laws`].
+//!
 //! `write_command` shows a use, in `src/write.rt`.
 //!
 //! The contracts cite:
