@@ -7,6 +7,8 @@
 //! The contract that the crates above use: the stated blocks are a blocking of the timetable exactly where there is no misfit.
 //! They are least exactly where they are above the least by nothing ([`laws`]).
 //!
+//! Laws for a reader, which nothing calls: [`laws::above_law`] and [`laws::order_law`].
+//!
 //! `audit_command` shows a use, in `src/audit.rt`.
 //!
 //! The contracts cite:
