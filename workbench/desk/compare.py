@@ -16,11 +16,12 @@ from dataclasses import dataclass
 from pathlib import Path
 from typing import Any
 
+from desk.answers import ask
 from desk.compare_text import compare_text
 from desk.errors import DeskError
 from desk.files import read_bytes
 from desk.lines import LineNames
-from desk.plans import StatedBlock, ask, read_blocks, timetable
+from desk.plans import StatedBlock, read_blocks, timetable
 from desk.saved import FILES
 from desk.scripts import fields_of
 from desk.times import format_minute
@@ -97,7 +98,7 @@ def read_side(path: Path, other: Path, room: Path) -> Side:
         town = Town(lay_over(feed, blocks, room))
     stated = {block.name: block for block in read_blocks(blocks)}
     names = {trip: block.name for block in stated.values() for trip in block.trips}
-    return Side(str(path), town, ask("check", town.folder), stated, timetable(town.folder), names)
+    return Side(str(path), town, ask("check", town), stated, timetable(town), names)
 
 
 def _folder(path: Path) -> Path:

@@ -4,6 +4,8 @@ from __future__ import annotations
 from collections.abc import Iterator
 from typing import Any
 
+from desk.texts_written import verdict_text
+
 Found = dict[str, Any]
 
 
@@ -17,9 +19,7 @@ def _numbers(found: Found) -> list[str]:
     """What the program says of each, and how many trips and blocks differ."""
     lines = []
     for word, side in (("was", found["first"]), ("is", found["second"])):
-        check = side["check"]
-        said = f"no: {check['reason']}" if check["verdict"] == "no" else f"yes, vehicles {check['vehicles']}, minutes {check['minutes']}"
-        lines.append(f"{word} {side['plan']}: {said}")
+        lines.append(f"{word} {side['plan']}: {verdict_text(side['check'])}")
     trips = found["trips"]
     return lines + [
         f"blocks: {found['first']['blocks']} were, {found['second']['blocks']} are, {len(found['same'])} the same, "

@@ -2,6 +2,7 @@
 from __future__ import annotations
 
 import os
+import stat
 import tempfile
 from collections.abc import Iterator
 from contextlib import contextmanager
@@ -11,13 +12,30 @@ from typing import BinaryIO
 from desk.errors import DeskError
 
 
+KINDS = ((stat.S_ISFIFO, "a named pipe"), (stat.S_ISCHR, "a device"), (stat.S_ISBLK, "a device"), (stat.S_ISSOCK, "a socket"))
+"""What is neither a file nor a folder."""
+
+
 def reason(error: OSError) -> str:
     """Why a call of the operating system failed, in its words."""
     return error.strerror or str(error)
 
 
+def refuse_no_file(path: Path) -> None:
+    """A DeskError where a named pipe, a device or a socket stands, or a link to one. To read it may wait, or never end."""
+    try:
+        mode = os.stat(path).st_mode
+    except (OSError, ValueError):
+        return
+    kind = next((kind for is_kind, kind in KINDS if is_kind(mode)), None)
+    if kind:
+        kind = f"a link to {kind}" if os.path.islink(path) else kind
+        raise DeskError(f"{path} is {kind}, and a file would stand there: move it away")
+
+
 def read_bytes(path: Path) -> bytes:
     """The bytes of a file, or a DeskError that names it."""
+    refuse_no_file(path)
     try:
         return path.read_bytes()
     except OSError as error:

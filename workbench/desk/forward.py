@@ -10,11 +10,11 @@ import threading
 from collections.abc import Callable
 from typing import BinaryIO
 
+from desk.answers import read
 from desk.errors import DeskError, complain
 from desk.files import reason
 from desk.hints import DONE, hints_before, hints_of
 from desk.program import program_path
-from desk.texts import as_json
 
 WORDS = {
     "deficits": "where and when vehicles are missing at each terminal",
@@ -51,7 +51,7 @@ def run(arguments: argparse.Namespace) -> int:
     command, words = arguments.word, arguments.words
     before = without_mistakes(hints_before, command, words)
     status, text = ask([command, *words])
-    if not put(as_shown(command, words, text) if arguments.json and text else text):
+    if not put(as_shown(command, words, status, text) if arguments.json and text else text):
         return WRITE_FAULT
     for hint in (before if status in DONE else []) + without_mistakes(hints_of, command, words, status, text):
         complain(hint)
@@ -91,10 +91,11 @@ def pass_on(errors: BinaryIO) -> None:
         sys.stderr.flush()
 
 
-def as_shown(command: str, words: list[str], text: str) -> str:
-    """The text of a command as JSON. A text that has no such form is a DeskError."""
+def as_shown(command: str, words: list[str], status: int, text: str) -> str:
+    """The text of a command as JSON. A text that has no such form, or is not that of the status, is a DeskError."""
     folder = words[0] if len(words) == 1 and command != "sample" else None
-    return json.dumps(as_json(command, text.encode("utf-8", "surrogateescape"), folder), ensure_ascii=False, indent=2) + "\n"
+    said = read(command, status, text.encode("utf-8", "surrogateescape"), folder)
+    return json.dumps(said, ensure_ascii=False, indent=2) + "\n"
 
 
 def put(text: str) -> bool:

@@ -10,7 +10,8 @@ from dataclasses import dataclass
 from pathlib import Path
 from typing import NoReturn
 
-from desk import program, texts
+from desk import texts
+from desk.answers import ask
 from desk.errors import DeskError
 from desk.records import Records, open_records
 from desk.times import arrival_minute, departure_minute, format_minute
@@ -98,21 +99,9 @@ class Plan:
     refused: int
 
 
-def ask(command: str, folder: Path) -> texts.Json:
-    """What the program answers of a folder. A refused feed and a fault are DeskErrors with its words."""
-    outcome = program.run([command, folder])
-    if not outcome.text:
-        said = outcome.errors.decode("utf-8", "replace").strip().rpartition("\n")[2]
-        raise DeskError(f"{command} of {folder} ended with status {outcome.status}: {said or 'it said nothing'}")
-    parsed = texts.as_json(command, outcome.text)
-    if "feed_refused" in parsed:
-        raise DeskError(f"{folder}: feed refused: {parsed['feed_refused']}")
-    return parsed
-
-
-def timetable(folder: Path) -> dict[str, tuple[int, int]]:
+def timetable(town: Town) -> dict[str, tuple[int, int]]:
     """The minutes in which each trip that runs departs and ends, after the script, as `fixed` says them."""
-    trips = [trip for block in ask("fixed", folder)["blocks"] for trip in block["trips"]]
+    trips = [trip for block in ask("fixed", town)["blocks"] for trip in block["trips"]]
     return {trip["trip"]: (texts.minute_of(trip["departs"]), texts.minute_of(trip["ends"])) for trip in trips}
 
 
@@ -149,7 +138,7 @@ def read_boards(path: Path) -> dict[str, list[Leg]]:
 
 def read_plan(town: Town) -> Plan:
     """The plan that stands in a town. It is refused where its two files are not of one plan or `check` does not say yes."""
-    verdict = ask("check", town.folder)
+    verdict = ask("check", town)
     if verdict["verdict"] != "yes":
         raise DeskError(f"check says no: {verdict['reason']}: `./desk blocks {town.folder}` plans anew")
     stated = read_blocks(town.path("blocks.csv"))
@@ -189,7 +178,7 @@ class Rides:
     def __init__(self, town: Town) -> None:
         self.town = town
         self.trips = {trip.trip_id: trip for trip in town.day()}
-        self.times = timetable(town.folder)
+        self.times = timetable(town)
         self.pull_in = _pull_in(town)
 
     def block(self, stated: StatedBlock, legs: list[Leg]) -> Block:

@@ -14,7 +14,7 @@ from pathlib import Path
 from typing import TextIO
 
 from desk.errors import DeskError
-from desk.files import reason
+from desk.files import reason, refuse_no_file
 
 MOST_FIELD = 1 << 20
 """The most characters of a field: a quote that is never closed takes in all that is behind it."""
@@ -69,6 +69,7 @@ class Records:
 @contextmanager
 def open_records(path: Path) -> Iterator[Records]:
     """The records of a file, which is open inside the block. A file that cannot be opened is a DeskError."""
+    refuse_no_file(path)
     try:
         file = open(path, "rb", buffering=1 << 20)
     except FileNotFoundError as error:

@@ -13,9 +13,11 @@ import tempfile
 import time
 from pathlib import Path
 
-from desk import program
+from desk.answers import ask
 from desk.errors import DeskError, UsageError
 from desk.files import reason, read_bytes, sync_folder, write_whole
+from desk.texts import Json, as_json
+from desk.texts_written import as_text, verdict_text
 from desk.town import Town
 
 WORDS = {
@@ -62,15 +64,15 @@ def save(town: Town, name: str) -> int:
     if os.path.lexists(folder):
         raise DeskError(f"{name} is saved already: take another name, or remove the folder {folder}")
     files = standing(town)
-    outcome = program.run(["check", town.folder])
-    if outcome.status not in (0, 4):
-        raise DeskError(f"nothing is saved: {last_line(outcome.text or outcome.errors)}")
+    try:
+        said = ask("check", town)
+    except DeskError as error:
+        raise DeskError(f"nothing is saved: {error}") from error
     if standing(town) != files:
         raise DeskError("nothing is saved: the files of the town changed meanwhile")
-    make_version(folder, files | {VERDICT: outcome.text})
-    verdict = last_line(outcome.text)
-    sys.stdout.write(f"saved {name}: {verdict}\n")
-    return 0 if verdict.startswith("yes") else 1
+    make_version(folder, files | {VERDICT: as_text("check", said).encode("utf-8")})
+    sys.stdout.write(f"saved {name}: {verdict_text(said)}\n")
+    return 0 if said["verdict"] == "yes" else 1
 
 
 def standing(town: Town) -> dict[str, bytes]:
@@ -100,9 +102,9 @@ def make_version(folder: Path, files: dict[str, bytes]) -> None:
         raise DeskError(f"{folder} cannot be written: {reason(error)}") from error
 
 
-def last_line(text: bytes) -> str:
-    """The last line of what the program said, which is the verdict of `check`."""
-    return text.decode("utf-8", "replace").rstrip("\n").rpartition("\n")[2]
+def verdict_of(path: Path) -> Json:
+    """What `check` said of a version when it was saved."""
+    return as_json("check", read_bytes(path / VERDICT))
 
 
 def versions(town: Town) -> list[Path]:
@@ -114,13 +116,18 @@ def versions(town: Town) -> list[Path]:
 
 
 def list_versions(town: Town) -> int:
-    """Lists the versions with the time of each and what `check` said of it then."""
+    """Lists the versions with the time of each and what `check` said of it then. The status is 1 where that cannot be read."""
     if not town.folder.is_dir():
         raise DeskError(f"{town.folder} is no folder")
+    status = 0
     for path in versions(town):
         when = time.strftime("%Y-%m-%d %H:%M", time.localtime((path / VERDICT).stat().st_mtime))
-        sys.stdout.write(f"{path.name}  {when}  {last_line(read_bytes(path / VERDICT))}\n")
-    return 0
+        try:
+            said = verdict_text(verdict_of(path))
+        except DeskError:
+            said, status = f"its {VERDICT} is no text of `check`; `./desk saved {town.folder} {path.name}` asks anew", 1
+        sys.stdout.write(f"{path.name}  {when}  {said}\n")
+    return status
 
 
 def put_back(town: Town, name: str, replace: bool) -> int:
@@ -138,7 +145,9 @@ def put_back(town: Town, name: str, replace: bool) -> int:
                         f"and `./desk save {town.folder} NAME` saves them first")
     for file in changed:
         write_whole(town.path(file), files[file], replace=True)
-    outcome = program.run(["check", town.folder])
-    verdict = last_line(outcome.text or outcome.errors)
-    sys.stdout.write(f"{name} stands: {verdict}\n")
-    return 0 if verdict.startswith("yes") else 1
+    try:
+        said = ask("check", town)
+    except DeskError as error:
+        raise DeskError(f"{name} stands, and no verdict is known: {error}") from error
+    sys.stdout.write(f"{name} stands: {verdict_text(said)}\n")
+    return 0 if said["verdict"] == "yes" else 1

@@ -5,9 +5,9 @@ import threading
 from dataclasses import replace
 from pathlib import Path
 
-from desk import program
+from desk.answers import ask, tell
 from desk.compare import Side, partners, trips_that_differ
-from desk.day import Day, ask_in, read_day, scripts_of
+from desk.day import Day, read_day, scripts_of
 from desk.edits import Script, record_of, writing
 from desk.errors import DeskError, UsageError
 from desk.keeping import keep
@@ -72,7 +72,7 @@ class Session:
         if day.planners:
             script = with_edits(script, day.planners.standing)
         with room_of(day.town, {"edits.csv": script}) as room:
-            return {"word": word, "found": ask_in(room, day.town, word)}
+            return {"word": word, "found": ask(word, day.town, room)}
 
     def keep(self, asked: Json) -> Json:
         """Keeps what is new of the script in the journal."""
@@ -88,12 +88,12 @@ class Session:
             raise UsageError("this cannot be written")
         words, command = EXPORTS[what]
         with self.guard, writing(self.folder / "edits.csv"):
-            outcome = program.run([command, self.folder])
             if command == "blocks":
                 self._day = None
-            said = (outcome.text or outcome.errors).decode("utf-8", "replace").rstrip("\n").rpartition("\n")[2]
-            if outcome.status not in (0, 1):
-                raise DeskError(f"{words} could not be written: {said}")
+            try:
+                said = tell(command, self.folder).rstrip("\n").rpartition("\n")[2]
+            except DeskError as error:
+                raise DeskError(f"{words} could not be written: {error}") from error
             if command == "joined":
                 read_plan(Town(self.folder))
             return {"said": f"{words} in {self.folder.resolve()}: {said}", "day": self._view(self._read())}

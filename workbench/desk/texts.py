@@ -16,6 +16,7 @@ from desk.errors import DeskError
 from desk.records import record_text
 from desk.texts_names import refuse_hidden_ends
 from desk.texts_written import as_text
+from desk.town import Town
 
 Json = dict[str, Any]
 
@@ -83,8 +84,11 @@ class Lines:
         return text, more
 
 
-def as_json(command: str, text: bytes | str, folder: Path | str | None = None) -> Json:
-    """What the text of a command says. Where the folder of the feed is given, a name in it that would hide ends is refused."""
+def as_json(command: str, text: bytes | str, folder: Path | str | None = None, town: Town | None = None) -> Json:
+    """What the text of a command says. Where the folder of the feed is given, a name in it that would hide ends is refused.
+
+    With a town, the folder is a room with the feed of that town.
+    """
     try:
         text = text if isinstance(text, str) else text.decode("utf-8")
     except UnicodeDecodeError as error:
@@ -94,7 +98,7 @@ def as_json(command: str, text: bytes | str, folder: Path | str | None = None) -
     lines = Lines(command, text)
     found = lines.seen("feed refused: (.+)")
     if folder is not None and not found:
-        refuse_hidden_ends(command, Path(folder))
+        refuse_hidden_ends(command, town or Town(folder), Path(folder))
     parsed = {"feed_refused": found[1]} if found else READERS[command](lines)
     if lines.next() is not None:
         lines.refuse()

@@ -12,12 +12,10 @@ from desk.files import read_text
 from desk.records import open_records, records_of
 from desk.town import Town
 
-TRIPS = (("trips.txt", ("trip_id",)),)
-BLOCKS = (("trips.txt", ("trip_id", "block_id")),)
-PLACES = (("terminals.csv", ("terminal",)), ("deadheads.csv", ("from", "to")), ("stop_times.txt", ("stop_id",)))
+TRIPS, BLOCKS, PLACES = "trips", "blocks", "places"
 
-NAMES = {"fixed": TRIPS, "blocks": TRIPS, "audit": BLOCKS, "deficits": PLACES, "joined": PLACES, "chains": PLACES}
-"""The columns whose names each command puts as they are; of the others only names in scripts are."""
+NAMES = {"fixed": (TRIPS,), "blocks": (TRIPS,), "audit": (TRIPS, BLOCKS), "deficits": (PLACES,), "joined": (PLACES,), "chains": (PLACES,)}
+"""Which names of the day each command puts as they are; of the others only names in scripts are."""
 
 JOINED_BY_SEMICOLONS = ("fixed", "blocks", "chains")
 """The commands with lines whose parts are joined by `; `."""
@@ -27,31 +25,36 @@ EDITS = ("shift", "cancel", "restore", "extra")
 """The words of the edits that name a trip."""
 
 
-def refuse_hidden_ends(command: str, folder: Path) -> None:
-    """A DeskError where a name in the text of this command has a line end, or in lines with parts a `; `."""
-    for where, name in _names(command, folder):
+def refuse_hidden_ends(command: str, town: Town, folder: Path) -> None:
+    """A DeskError where a name in the text of this command has a line end, or in lines with parts a `; `.
+
+    The day is that of the town. The scripts stand in the folder, which is the town's or a room's.
+    """
+    for where, name in _names(command, town, folder):
         ends_in_part = command in JOINED_BY_SEMICOLONS and ("; " in name or name.endswith(";"))
         if "\n" in name or ends_in_part:
-            raise DeskError(f"{where}: the name {name!r} hides where names end in the text of {command}: it has no JSON")
+            raise DeskError(f"{where}: the name {name!r} hides where names end in the text of {command}: what it says cannot be told")
 
 
-def _names(command: str, folder: Path) -> Iterator[tuple[str, str]]:
+def _names(command: str, town: Town, folder: Path) -> Iterator[tuple[str, str]]:
     """Each name that the text of a command may put, with where it stands."""
-    for file, columns in NAMES.get(command, ()):
-        if (folder / file).is_file():
-            yield from _column_names(folder / file, columns)
+    kinds = NAMES.get(command, ())
+    for trip in town.day() if kinds else ():
+        names = {TRIPS: (trip.trip_id,), BLOCKS: (trip.block_id,), PLACES: (trip.start, trip.end)}
+        yield from ((f"trips.txt record {trip.record}", name) for kind in kinds for name in names[kind])
+    if PLACES in kinds and town.has("deadheads.csv"):
+        yield from _column_names(town.path("deadheads.csv"), ("from", "to"))
     yield from _script_names(folder / "edits.csv", 0)
     if command == "planners":
         yield from _script_names(folder / "planner_edits.csv", 1)
-    town = Town(folder)
     for name in (town.settings.get("block_prefix", ""), *town.table("classes").values()):
         yield "desk.toml", str(name)
 
 
 def _column_names(path: Path, columns: tuple[str, ...]) -> Iterator[tuple[str, str]]:
-    """The names in these columns of a file. One column need not be there."""
+    """The names in these columns of a file."""
     with open_records(path) as records:
-        places = [place for column in columns if (place := records.find(column)) is not None]
+        places = [records.column(column) for column in columns]
         for number, fields in records:
             for place in places:
                 yield f"{path.name} record {number}", fields[place]

@@ -130,9 +130,12 @@ def planners_lines(parsed: Json) -> list[str]:
 
 def check_lines(parsed: Json) -> list[str]:
     """The line of `check`."""
-    if parsed["verdict"] == "no":
-        return [f"no: {parsed['reason']}"]
-    return [f"yes, {vehicles_text(parsed)}"]
+    return [verdict_text(parsed)]
+
+
+def verdict_text(parsed: Json) -> str:
+    """The verdict of `check` on a plan."""
+    return f"no: {parsed['reason']}" if parsed["verdict"] == "no" else f"yes, {vehicles_text(parsed)}"
 
 
 WRITERS = {

@@ -7,7 +7,7 @@ from pathlib import Path, PurePosixPath
 from typing import BinaryIO
 
 from desk.errors import DeskError
-from desk.files import reason
+from desk.files import reason, refuse_no_file
 from desk.zips import DAMAGES, MOST_BYTES, Files, zip_files
 
 PIECE = 1 << 20
@@ -21,6 +21,7 @@ def unpack(feed: Path, agency: Path) -> list[str]:
     """Copies the files of the feed that lie beside its `trips.txt` into this folder, and gives their names."""
     if not feed.exists():
         raise DeskError(f"{feed} is not there")
+    refuse_no_file(feed)
     names, in_all = [], 0
     with (folder_files(feed) if feed.is_dir() else zip_files(feed)) as files:
         inside = feed_folder(feed, list(files))

@@ -11,7 +11,7 @@ from desk.plans import Block
 from desk.records import open_records
 from desk.scripts import Record, standing
 from desk.texts import Json, minute_of
-from desk.texts_written import edit_text, vehicles_text
+from desk.texts_written import edit_text, verdict_text
 from desk.town import Town
 
 PROVED = "No plan has fewer vehicles, and none with as many has fewer empty minutes: checked by prices."
@@ -50,9 +50,8 @@ def as_text(view: Json) -> str:
 
 def _verdict(verdict: Json) -> Json:
     """What `check` says, as its line and in words."""
-    if verdict["verdict"] == "yes":
-        return {"yes": True, "text": f"yes, {vehicles_text(verdict)}", "words": PROVED}
-    return {"yes": False, "text": f"no: {verdict['reason']}", "words": "The plan is not proved."}
+    yes = verdict["verdict"] == "yes"
+    return {"yes": yes, "text": verdict_text(verdict), "words": PROVED if yes else "The plan is not proved."}
 
 
 def _trips(day: Day, lines: LineNames) -> list[Json]:

@@ -6,9 +6,10 @@ import unittest
 from pathlib import Path
 from unittest import mock
 
-from desk import plans, program
+from desk import program
+from desk.answers import ask
 from desk.errors import DeskError
-from desk.plans import read_blocks, read_boards, read_plan
+from desk.plans import Block, read_blocks, read_boards, read_plan
 from desk.town import Town
 from tests.feeds import FolderTest, needs_program
 from tests.small_town import plan, rows, small_town, two_trips
@@ -121,7 +122,7 @@ class NotOfOnePlan(FolderTest):
         self.assertIn(old, text)
         (self.feed / name).write_text(text.replace(old, new))
 
-    def read_or_refuse(self, whole: tuple[plans.Block, ...]) -> None:
+    def read_or_refuse(self, whole: tuple[Block, ...]) -> None:
         """The plan must be the whole one, or be refused in words."""
         try:
             found = read_plan(Town(self.feed)).blocks
@@ -192,12 +193,12 @@ class NotOfOnePlan(FolderTest):
     def test_any_damage_is_refused_in_words_or_changes_nothing(self) -> None:
         chance = random.Random(3)
         whole = read_plan(Town(self.feed)).blocks
-        answers = {command: plans.ask(command, self.feed) for command in ("check", "fixed")}
+        answers = {command: ask(command, Town(self.feed)) for command in ("check", "fixed")}
         for name, turns in (("boards.csv", 400), ("blocks.csv", 8)):
             original = (self.feed / name).read_bytes()
             # The program does not read boards.csv, so its answers stay the same.
             same = name == "boards.csv"
-            with mock.patch("desk.plans.ask", (lambda command, _: answers[command]) if same else plans.ask):
+            with mock.patch("desk.plans.ask", (lambda command, _: answers[command]) if same else ask):
                 for _ in range(turns):
                     (self.feed / name).write_bytes(damaged(original, chance))
                     self.read_or_refuse(whole)

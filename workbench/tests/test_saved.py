@@ -86,7 +86,7 @@ class Versions(FolderTest):
         self.assertRegex(self.desk("save", self.feed, "one")[2], "^desk: prices.csv is not in .*blocks.*\n$")
         plan(self.feed)
         (self.feed / "deadheads.csv").write_text("from,to\n")
-        self.assertEqual(self.desk("save", self.feed, "one"), (1, "", "desk: nothing is saved: feed refused: deadheads.csv: no column minutes\n"))
+        self.assertEqual(self.desk("save", self.feed, "one"), (1, "", f"desk: nothing is saved: {self.feed}: feed refused: deadheads.csv: no column minutes\n"))
         self.assertFalse((self.feed / "saved").exists())
 
     def test_a_file_that_changes_meanwhile_is_not_saved(self) -> None:

@@ -218,7 +218,7 @@ class Refusals(FolderTest):
 
     def test_places_planners_and_edits_that_hide_ends(self) -> None:
         one = two_trips(self.room / "one", {"terminals.csv": 'stop_id,terminal\nA,"A max 0 at 00:00\nX"\n'})
-        self.refuse("deficits", "A max 0 at 00:00\nX max 0 at 00:00\nsum 0\n", "terminals.csv record 1", one)
+        self.refuse("deficits", "A max 0 at 00:00\nX max 0 at 00:00\nsum 0\n", "trips.txt record 1", one)
         self.assertEqual(texts.as_json("fixed", "fixed 0\n", one)["fixed"], 0)
         two = two_trips(self.room / "two", {"planner_edits.csv": '"bob\nc",cancel,U1\n'})
         self.refuse("planners", "planner 1: ok\nfixed 0, vehicles 0, minutes 0\n", "planner_edits.csv record 1", two)

@@ -1,0 +1,65 @@
+"""What the program answers of a town: the one place where the workbench makes something of its status and its text.
+
+Both are read together and strictly. An answer is given where the text is of the forms of its command, no name in it hides where a
+line or a name ends, and the status is the one with which the program puts such a text. All else is a DeskError.
+"""
+from __future__ import annotations
+
+from pathlib import Path
+
+from desk import program, texts
+from desk.errors import DeskError
+from desk.program import Outcome
+from desk.texts import Json
+from desk.town import Town
+
+DONE, RECORDS_REFUSED, FEED_REFUSED, NO = 0, 1, 3, 4
+"""The statuses of a run that has put its text: all done, all but refused records, none for the feed, and a `no`."""
+
+
+def ask(command: str, town: Town, room: Path | None = None) -> Json:
+    """What the program answers of a town, or of a room with its feed and other scripts. A refused feed is a DeskError."""
+    folder = town.folder if room is None else room
+    outcome = program.run([command, folder])
+    try:
+        said = read(command, outcome.status, _text(command, town.folder, outcome), folder, town)
+    except DeskError as error:
+        raise DeskError(str(error).replace(str(folder), str(town.folder))) from error
+    if "feed_refused" in said:
+        raise DeskError(f"{town.folder}: feed refused: {said['feed_refused']}")
+    return said
+
+
+def read(command: str, status: int, text: bytes, folder: Path | str | None, town: Town | None = None) -> Json:
+    """What a command says with this status and this text, of a folder of a feed, or of a room with the feed of a town."""
+    said = texts.as_json(command, text, folder, town)
+    if status != status_of(command, said):
+        raise DeskError(f"{command} ended with status {status}, and its text is that of status {status_of(command, said)}")
+    return said
+
+
+def tell(command: str, folder: Path) -> str:
+    """The text of a command that writes, where all is done but refused records. All else is a DeskError with the program's words."""
+    outcome = program.run([command, folder])
+    text = _text(command, folder, outcome).decode("utf-8", "replace")
+    if outcome.status not in (DONE, RECORDS_REFUSED):
+        raise DeskError(f"{command} of {folder} ended with status {outcome.status}: {text.rstrip()}")
+    return text
+
+
+def status_of(command: str, said: Json) -> int:
+    """The status with which the program puts a text that says this."""
+    if "feed_refused" in said:
+        return FEED_REFUSED
+    if said.get("verdict") == "no":
+        return NO
+    refused = bool(said.get("refused")) or not all(record["ok"] for record in said.get("records", []))
+    return RECORDS_REFUSED if refused and command != "check" else DONE
+
+
+def _text(command: str, folder: Path, outcome: Outcome) -> bytes:
+    """The text of a run. Where there is none, what it has put on standard error is a DeskError."""
+    if not outcome.text:
+        said = outcome.errors.decode("utf-8", "replace").strip().rpartition("\n")[2]
+        raise DeskError(f"{command} of {folder} ended with status {outcome.status}: {said or 'it said nothing'}")
+    return outcome.text
