@@ -7,10 +7,11 @@ so that it leaves its first stop then. T itself goes. The rules are those of the
 from __future__ import annotations
 
 from collections.abc import Iterable, Iterator
+from contextlib import contextmanager
 from dataclasses import dataclass, field
 from itertools import chain
 from pathlib import Path
-from typing import TextIO
+from typing import BinaryIO
 
 from desk.errors import DeskError
 from desk.limits import MOST_BYTES
@@ -134,23 +135,28 @@ def _write_trips(source: Path, target: Path, starts: Starts, repeats: Repeats) -
     The `block_id` of a repetition is empty: that of the pattern is not that of one vehicle.
     """
     met: set[str] = set()
-    with open_records(source) as records, _text_file(target) as file:
+    with open_records(source) as records, written(target) as file:
         trip, block = records.column("trip_id"), records.find("block_id")
-        file.write(record_text(records.header))
+        file.put(records.header)
         for number, fields in records:
             name = fields[trip]
             if name not in starts:
                 _refuse_name(f"{source.name} record {number}", name, starts)
-                file.write(record_text(fields))
+                file.put(fields)
                 continue
             met.add(name)
             if block is not None:
                 fields[block] = ""
+            file.refuse_repeats([replaced(fields, trip, repeat_name(name, starts[name][0].start))], starts[name])
             for start in chain(*starts[name]):
-                fields[trip] = repeat_name(name, start)
-                file.write(record_text(fields))
+                file.put(replaced(fields, trip, repeat_name(name, start)))
                 repeats.trips += 1
     return met
+
+
+def replaced(fields: list[str], at: int, field: str) -> list[str]:
+    """The fields of a record with another one at this place."""
+    return [*fields[:at], field, *fields[at + 1:]]
 
 
 def _refuse_name(place: str, name: str, starts: Starts) -> None:
@@ -162,16 +168,17 @@ def _refuse_name(place: str, name: str, starts: Starts) -> None:
 
 def _write_times(source: Path, target: Path, starts: Starts, leaves: dict[str, int | None]) -> None:
     """Writes `stop_times.txt` with the rows of the repetitions in place of those of their patterns."""
-    written = 0
-    with open_records(source) as records, _text_file(target) as file:
+    with open_records(source) as records, written(target) as file:
         trip = records.column("trip_id")
         times = records.column("arrival_time"), records.column("departure_time")
-        file.write(record_text(records.header))
+        file.put(records.header)
         for name, rows in _runs(records, trip, starts):
-            for fields in _moved(rows, trip, times, starts[name], leaves[name] or 0) if name in starts else rows:
-                written += file.write(record_text(fields))
-            if written > MOST_BYTES:
-                raise DeskError(f"frequencies.txt: stop_times.txt with all repetitions has more than {MOST_BYTES:,} bytes")
+            if name in starts:
+                first, *_ = starts[name]
+                file.refuse_repeats(list(_moved(rows, trip, times, [first[:1]], leaves[name] or 0)), starts[name])
+                rows = _moved(rows, trip, times, starts[name], leaves[name] or 0)
+            for fields in rows:
+                file.put(fields)
 
 
 def _runs(records: Records, trip: int, starts: Starts) -> Iterator[tuple[str, list[list[str]]]]:
@@ -209,6 +216,39 @@ def _moved_time(name: str, seconds: int) -> str:
     return format_time(max(0, seconds))
 
 
-def _text_file(path: Path) -> TextIO:
-    """A file of the room to write records into, which keeps bytes that are not UTF-8."""
-    return open(path, "w", encoding="utf-8", errors="surrogateescape", newline="")
+class Written:
+    """A file of the room that records are written into, of at most as many bytes as the program reads."""
+
+    def __init__(self, name: str, file: BinaryIO) -> None:
+        self.name = name
+        self.file = file
+        self.left = MOST_BYTES
+
+    def put(self, fields: list[str]) -> None:
+        """Writes a record, where there is room for it."""
+        record = _bytes_of(fields)
+        self.refuse(len(record))
+        self.left -= len(record)
+        self.file.write(record)
+
+    def refuse_repeats(self, rows: list[list[str]], starts: list[range]) -> None:
+        """A DeskError where there is no room for these rows at each of these starts, before one of them is written. All take as
+        many bytes, since each name and each time has as many digits."""
+        self.refuse(sum(len(_bytes_of(fields)) for fields in rows) * sum(map(len, starts)))
+
+    def refuse(self, size: int) -> None:
+        """A DeskError where there is no room for so many bytes."""
+        if size > self.left:
+            raise DeskError(f"frequencies.txt: {self.name} with all repetitions has more than {MOST_BYTES:,} bytes")
+
+
+@contextmanager
+def written(path: Path) -> Iterator[Written]:
+    """A file of the room to write records into."""
+    with open(path, "wb") as file:
+        yield Written(path.name, file)
+
+
+def _bytes_of(fields: list[str]) -> bytes:
+    """A record as it is written, with its bytes that are not UTF-8."""
+    return record_text(fields).encode("utf-8", "surrogateescape")

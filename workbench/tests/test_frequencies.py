@@ -132,3 +132,23 @@ class RefusedFrequencies(FolderTest):
         write_feed(self.room / "agency", {"frequencies.txt": HEAD + "P,06:00:00,07:00:00,600,\n"})
         with mock.patch("desk.frequencies.MOST_BYTES", 300), self.assertRaisesRegex(DeskError, "more than 300 bytes"):
             expand(self.room / "agency", self.room)
+
+    def test_bytes_are_counted_before_they_are_written(self) -> None:
+        """324,000 repetitions of a record of a megabyte would be 324 gigabytes, and nothing of them is written."""
+        long = "x" * 1_000_000
+        often = HEAD + "P,00:00:00,90:00:00,1,\n"
+        for file, trips, times in (("trips.txt", f"service_id,trip_id,trip_headsign\nW,P,{long}\n", TIMES),
+                                   ("stop_times.txt", TRIPS, TIMES.replace("B,20,", "B,20," + long))):
+            write_feed(self.room / "agency", {"frequencies.txt": often, "trips.txt": trips, "stop_times.txt": times})
+            with self.subTest(file), self.assertRaisesRegex(DeskError, f"^frequencies.txt: {file} with all repetitions has more than 536,870,912 bytes"):
+                expand(self.room / "agency", self.room)
+            self.assertLess((self.room / file).stat().st_size, 1000)
+
+    def test_as_many_bytes_as_the_program_reads_are_written(self) -> None:
+        write_feed(self.room / "agency", {"frequencies.txt": HEAD + "P,06:00:00,07:00:00,600,\n", "trips.txt": TRIPS, "stop_times.txt": TIMES})
+        expand(self.room / "agency", self.room)
+        most = max((self.room / name).stat().st_size for name in ("trips.txt", "stop_times.txt"))
+        with mock.patch("desk.frequencies.MOST_BYTES", most):
+            self.assertEqual(6, expand(self.room / "agency", self.room).trips)
+        with mock.patch("desk.frequencies.MOST_BYTES", most - 1), self.assertRaisesRegex(DeskError, f"stop_times.txt .* more than {most - 1} bytes"):
+            expand(self.room / "agency", self.room)
