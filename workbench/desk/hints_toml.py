@@ -11,7 +11,7 @@ from desk.hints_names import shown
 from desk.hints_tables import kind_of, save_as
 from desk.toml import UNCLOSED, TomlError, read_toml
 
-ENTRY = re.compile(r"""\s*(?P<key>"[^"]*"|'[^']*'|[^=:"']*?)\s*(?P<sign>[=:])\s*(?P<value>.*?)\s*""")
+ENTRY = re.compile(r"""(?P<key>"[^"]*"\s*|'[^']*'\s*|[^=:"']*)(?P<sign>[=:])(?P<value>.*)""")
 BARE = re.compile(r"[A-Za-z0-9_-]+(?:\.[A-Za-z0-9_-]+)*")
 WORDS = re.compile(r"[^\W\d_][\w -]*")
 CURLY = "“”„‘’«»"
@@ -84,9 +84,9 @@ def _mended(line: str) -> str | None:
     if line.startswith(("//", ";", "--")):
         return "a comment begins with `#`"
     entry = ENTRY.fullmatch(line.partition(" #")[0])
-    if entry is None or not entry["key"]:
+    key, value = (entry["key"].strip(), entry["value"].strip()) if entry else ("", "")
+    if entry is None or not key:
         return None
-    key, value = entry["key"], entry["value"]
     if not value:
         return f"a value is missing behind `{entry['sign']}`"
     if value.count('"') % 2:
@@ -107,8 +107,8 @@ def _value(value: str) -> str:
         return "[" + ", ".join(map(_value, items)) + "]"
     if WORDS.fullmatch(value) and value not in ("true", "false"):
         return f'"{value}"'
-    number = re.fullmatch(r"0*([0-9]+) *[A-Za-z.]*", value)
-    return number[1] if number else value
+    number = re.fullmatch(r"(?=[0-9])0*+([0-9]*+) *+[A-Za-z.]*+", value)
+    return number[1] or "0" if number else value
 
 
 def entry_line(path: Path, name: str) -> tuple[int, str] | None:

@@ -19,6 +19,9 @@ ESCAPE = re.compile(r"\\(?:(e)|x([0-9A-Fa-f]{2})|.)", re.DOTALL)
 TIME = re.compile(r"((?:[0-9]{4}-[0-9]{2}-[0-9]{2}[Tt])?[0-9]{2}:[0-9]{2})((?:[Zz]|[+-][0-9]{2}:[0-9]{2})?)")
 WHERE = re.compile(r" \(at (?:line ([0-9]+), column ([0-9]+)|end of document)\)")
 
+MOST_PARTS = 80
+"""The most parts of a key, as `a.b.c` has three. The library takes the square of their number of time, and the program reads no more."""
+
 UNCLOSED = "Unclosed inline table"
 """What the library says where neither a comma nor a brace stands behind an entry."""
 
@@ -40,6 +43,7 @@ def read_toml(text: str) -> dict[str, Any]:
 
     A number of too many digits is a ValueError, and tables that stand too deep in one another are a RecursionError.
     """
+    refuse_long_keys(text)
     try:
         return tomllib.loads(text)
     except tomllib.TOMLDecodeError:
@@ -48,6 +52,18 @@ def read_toml(text: str) -> dict[str, Any]:
         return tomllib.loads(older.text)
     except tomllib.TOMLDecodeError as error:
         raise older.error(str(error)) from error
+
+
+def refuse_long_keys(text: str) -> None:
+    """A RecursionError where a key has more parts than one may have."""
+    points = 0
+    for token in TOKEN.finditer(text):
+        if token[0][0] in "=,{}[]\n#":
+            points = 0
+        elif token[0][0] not in "\"' \t":
+            points += token[0].count(".")
+        if points >= MOST_PARTS:
+            raise RecursionError(f"a key has more than {MOST_PARTS} parts")
 
 
 class Older:

@@ -7,6 +7,7 @@ import unittest
 from typing import Any
 
 from desk import program
+from desk.hints_toml import toml_hints
 from desk.toml import TomlError, read_toml
 from tests.feeds import FolderTest, agency, needs_program, write_feed
 
@@ -63,6 +64,35 @@ class TomlTest(FolderTest):
         began = time.monotonic()
         self.assertEqual(read_toml("a = {b = 1," + "# #" * 20_000 + "\n" * 20_000 + "}"), {"a": {"b": 1}})
         self.assertLess(time.monotonic() - began, 5)
+
+    def test_40_kilobytes_are_read_in_a_second(self) -> None:
+        """Whatever stands in a `desk.toml` of that size, its hints are there in a second of the processor."""
+        size = 40_000
+        for text in (".".join("a" * (size // 2)) + " = 1", "a." * (size // 2), "[" + ".".join("a" * (size // 2)) + "]",
+                     " . ".join(['"a"'] * (size // 6)) + " = 1", "a" + " " * size + "b", "a = b" + " " * size + "c", "late = " + "0" * size + "!",
+                     "late = " + "9" * size, "a = " + "[" * size, "a = " + "{a=" * (size // 3), 'a = """' + '"" ' * (size // 3), "a = {" + " , " * (size // 3) + "}",
+                     "a = {b = 1\n" + "# x\n" * (size // 4), "services = [" + "a, " * (size // 3) + "]"):
+            (self.room / "desk.toml").write_text(text + "\n")
+            began = time.process_time()
+            hints = toml_hints(self.room / "desk.toml")
+            with self.subTest(text[:12]):
+                self.assertLess(time.process_time() - began, 1)
+                self.assertEqual(len(hints), 1)
+
+    def test_parts_of_a_key(self) -> None:
+        for count in (79, 80, 81):
+            for text in (".".join("a" * count) + " = 1.5", "[" + " . ".join(['"a.b"'] * count) + "]", "x = {y = 1.5, " + ".".join("a" * count) + " = 1}"):
+                with self.subTest(text, parts=count):
+                    if count > 80:
+                        self.assertRaises(RecursionError, read_toml, text)
+                    else:
+                        self.assertTrue(read_toml(text))
+
+    @needs_program
+    def test_the_program_reads_no_more_parts(self) -> None:
+        for count in (80, 81):
+            town = write_feed(self.room / "town", {**agency(), "desk.toml": ".".join("a" * count) + " = 1"})
+            self.assertEqual(program.run(["deficits", town]).text.decode(), f"feed refused: desk.toml: {'bad a' if count == 80 else 'not TOML'}\n")
 
     @needs_program
     def test_the_program_reads_the_same(self) -> None:
