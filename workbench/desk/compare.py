@@ -9,7 +9,6 @@ import argparse
 import json
 import os
 import sys
-import tempfile
 from collections import Counter
 from collections.abc import Callable
 from dataclasses import dataclass
@@ -22,6 +21,7 @@ from desk.errors import DeskError
 from desk.files import read_bytes
 from desk.lines import LineNames
 from desk.plans import StatedBlock, read_blocks, timetable
+from desk.rooms import own_room
 from desk.saved import FILES
 from desk.scripts import fields_of
 from desk.times import format_minute
@@ -70,8 +70,8 @@ def add_arguments(parser: argparse.ArgumentParser) -> None:
 def run(arguments: argparse.Namespace) -> int:
     """Prints what differs. The status is 1 where `check` says no to one of the plans."""
     first, second = version_of(arguments.town, arguments.other), version_of(arguments.other, arguments.town)
-    with tempfile.TemporaryDirectory(prefix="desk-") as room:
-        sides = [read_side(path, base, Path(room) / name)
+    with own_room() as room:
+        sides = [read_side(path, base, room / name)
                  for path, base, name in ((first, second, "first"), (second, first, "second"))]
         refuse_two_days(*sides)
         found = compare(*sides)

@@ -10,12 +10,16 @@ from desk.rooms import FEED_FILES, SCRIPTS
 READ = (*FEED_FILES, *SCRIPTS)
 """The files that a planner or an agency writes and the program reads."""
 
-OTHERS = frozenset("""
+GTFS = frozenset("""
 agency.txt stops.txt routes.txt fare_attributes.txt fare_rules.txt timeframes.txt rider_categories.txt fare_media.txt fare_products.txt
 fare_leg_rules.txt fare_leg_join_rules.txt fare_transfer_rules.txt areas.txt stop_areas.txt networks.txt route_networks.txt shapes.txt
 frequencies.txt transfers.txt pathways.txt levels.txt location_groups.txt location_group_stops.txt locations.geojson booking_rules.txt
-translations.txt feed_info.txt attributions.txt blocks.csv prices.csv boards.csv trips_blocks.txt stop_times_blocks.txt journal.db
-journal.db-journal journal.db-wal journal.db-shm""".split())
+translations.txt feed_info.txt attributions.txt""".split())
+"""The files of an agency's feed that the program does not read."""
+
+OTHERS = GTFS | frozenset("""
+blocks.csv prices.csv boards.csv trips_blocks.txt stop_times_blocks.txt journal.db journal.db-journal journal.db-wal journal.db-shm
+""".split())
 """Files that may stand in a folder and are not those that are meant: the agency's others, and those that the program writes."""
 
 COPY = re.compile(r"~|[._ -]?(?:\bbak|backup|old|orig|save|swp|tmp|copy( of)?|kopie|\([0-9]+\)|[0-9]+)(?![a-z])")

@@ -1,20 +1,20 @@
-"""The journal, `journal.db`, read from a copy: to open a database may change what stands in its folder."""
+"""The journal, `journal.db`, as the program reads it from a copy: to open a database may change what stands in its folder."""
 from __future__ import annotations
 
 import fcntl
 import os
 import shutil
 import sqlite3
-import tempfile
 from contextlib import closing
 from pathlib import Path
 
+from desk import program
 from desk.errors import DeskError
-from desk.files import reason
+from desk.files import read_bytes, reason, refuse_no_file
 from desk.limits import MOST_BYTES
+from desk.rooms import own_room
 
-BEGIN = b"SQLite format 3\0"
-"""How a database of SQLite begins. An empty file is one too."""
+JOURNAL = "journal.db"
 
 BESIDE = ("", "-wal", "-journal")
 """The files of a database, by what stands behind its name."""
@@ -24,47 +24,43 @@ LOCKED_FROM, LOCKED_BYTES = 0x40000000, 512
 
 MEANINGS = {
     "not a database": "it is no database: move it away, and `keep` makes a new one",
-    "no such table": "it is a database of something else, without the table of a journal: move it away",
     "no such column": "it is a database of something else, with another table: move it away",
     "malformed": "it is damaged: put a copy from before in its place"}
 """What words in an error of SQLite mean for a planner."""
 
 
-def journal_text(path: Path) -> str:
+def journal_text(path: Path) -> bytes:
     """All lines of the journal, each with a line end. A journal that cannot be read is a DeskError that says why."""
     try:
         why = fault_of(path)
         if why:
             raise DeskError(f"{path.name}: {why}")
-        with tempfile.TemporaryDirectory(prefix="desk-") as room:
+        with own_room() as room:
             for ending in BESIDE:
                 if Path(f"{path}{ending}").is_file():
-                    shutil.copyfile(f"{path}{ending}", f"{room}/{path.name}{ending}")
-            return _lines(f"{room}/{path.name}")
+                    shutil.copyfile(f"{path}{ending}", room / f"{JOURNAL}{ending}")
+            if program.run(["kept", room]).status:
+                raise DeskError(f"{path.name}: {_meaning(room / JOURNAL)}")
+            return read_bytes(room / "edits.csv")
     except OSError as error:
         raise DeskError(f"{path.name}: {reason(error)}") from error
+
+
+def _meaning(path: Path) -> str:
+    """Why the program cannot read a journal that no other program has open."""
+    try:
+        with closing(sqlite3.connect(path)) as database:
+            database.execute("SELECT line FROM journal ORDER BY seq").fetchall()
     except sqlite3.Error as error:
-        meaning = next((meaning for words, meaning in MEANINGS.items() if words in str(error)), str(error))
-        raise DeskError(f"{path.name}: {meaning}") from error
-
-
-def _lines(name: str) -> str:
-    """The lines of a journal that no other program has open."""
-    with closing(sqlite3.connect(name)) as database:
-        database.text_factory = bytes
-        rows = database.execute("SELECT line FROM journal ORDER BY seq").fetchall()
-    lines = [line if isinstance(line, bytes) else str(line).encode() for (line,) in rows]
-    return b"".join(line + b"\n" for line in lines).decode("utf-8", "surrogateescape")
+        return next((meaning for words, meaning in MEANINGS.items() if words in str(error)), str(error))
+    return "the program cannot read it: put a copy from before in its place"
 
 
 def fault_of(path: Path) -> str | None:
     """Why a file is no journal that can be read, as far as it tells without being opened as a database."""
     if path.is_dir():
         return "it is a folder, and the journal would stand there: move it away"
-    with open(path, "rb") as file:
-        begin = file.read(len(BEGIN))
-    if begin and begin != BEGIN:
-        return MEANINGS["not a database"]
+    refuse_no_file(path)
     if path.stat().st_size > MOST_BYTES:
         return f"it has more than {MOST_BYTES:,} bytes, and a journal has no more"
     return "another program has it open: end that one, and try again" if is_locked(path) else None
@@ -84,7 +80,7 @@ def is_locked(path: Path) -> bool:
 
 def journal_hints(folder: Path) -> list[str]:
     """Why the journal of a folder could not be read or appended to; none where nothing is known."""
-    path = folder / "journal.db"
+    path = folder / JOURNAL
     if not path.exists():
         return []
     try:

@@ -87,7 +87,7 @@ class Scripts:
         """The fields of the records of a script."""
         if source not in self._fields:
             path = self.town.path(FILES[source])
-            content = journal_text(path).encode("utf-8", "surrogateescape") if source == "journal" else read_bytes(path)
+            content = journal_text(path) if source == "journal" else read_bytes(path)
             self._fields[source] = fields_of(path.name, content)
         return self._fields[source]
 

@@ -1,17 +1,16 @@
 """The script beside the journal, and `keep` from the page: the edits that the journal does not have yet go into it.
 
-The script stays as it is. `keep` does all records of `edits.csv` again behind those of the journal. Where the script begins with
-the journal's records, or with its last ones, it is shortened to what is new while `keep` runs.
+`keep` does all records of `edits.csv` again behind those of the journal. Where the script begins with the journal's records, or with
+its last ones, the program keeps what is new from a room. So the planner's script is whole at each moment.
 """
 from __future__ import annotations
 
-from pathlib import Path
-
-from desk import program
-from desk.edits import Script
+from desk.answers import tell
+from desk.errors import DeskError
 from desk.files import read_bytes
 from desk.hints_edits import is_edit
-from desk.hints_journal import journal_text
+from desk.hints_journal import JOURNAL, journal_text
+from desk.rooms import room_of
 from desk.scripts import Record, fields_of
 from desk.times import format_minute, parse_minute
 from desk.town import Town
@@ -19,29 +18,27 @@ from desk.town import Town
 NOTHING = "All edits stand in the journal: there is nothing new to keep.\n"
 
 
-def keep(town: Town, script: Script, records: list[Record]) -> str:
+def keep(town: Town, records: list[Record]) -> str:
     """Keeps what is new of a script whose records the program has judged. Gives what `keep` puts."""
     edits = [record for record in records if record.ok and record.fields[0] != "show"]
     count = kept_already([canonical(record.fields) for record in edits], journal_records(town))
     if count == 0:
-        return run_keep(town)
+        return tell("keep", town.folder)
     if count == len(edits):
         return NOTHING
     fresh = "".join(record.text + "\n" for record in edits[count:])
-    with script.replaced(fresh.encode("utf-8", "surrogateescape")):
-        return run_keep(town)
-
-
-def run_keep(town: Town) -> str:
-    """What `keep` puts, or its fault."""
-    outcome = program.run(["keep", town.folder])
-    return (outcome.text or outcome.errors).decode("utf-8", "replace")
+    with room_of(town, {"edits.csv": fresh.encode("utf-8", "surrogateescape")}) as room:
+        # The program follows the link, and has the files of the journal beside the journal itself.
+        (room / JOURNAL).symlink_to(town.path(JOURNAL).resolve())
+        try:
+            return tell("keep", room)
+        except DeskError as error:
+            raise DeskError(str(error).replace(str(room), str(town.folder))) from error
 
 
 def journal_records(town: Town) -> list[tuple[str, ...]]:
     """The records of the journal, none where there is no journal."""
-    path: Path = town.path("journal.db")
-    return fields_of("journal", journal_text(path).encode("utf-8", "surrogateescape")) if path.is_file() else []
+    return fields_of("journal", journal_text(town.path(JOURNAL))) if town.has(JOURNAL) else []
 
 
 def canonical(fields: tuple[str, ...]) -> tuple[str, ...]:

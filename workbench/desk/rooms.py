@@ -1,16 +1,30 @@
-"""A room: a folder for one trial, with the files of a town as links and scripts of its own.
+"""A room: a folder of one run, with the files of a town as links and scripts of its own.
 
 The program runs in the room as it would in the town, and writes there. So a script is tried before it stands in the town.
 """
 from __future__ import annotations
 
+import fcntl
 import hashlib
+import os
+import re
+import shutil
+import stat
 import tempfile
+import time
 from collections.abc import Iterator, Mapping
-from contextlib import contextmanager
+from contextlib import contextmanager, suppress
+from functools import cache
 from pathlib import Path
 
+from desk.locks import is_taken
 from desk.town import Town
+
+PREFIX = "blockdesk-room-"
+"""How the names of rooms in the system's folder for such begin."""
+
+NEW = 60.0
+"""For how many seconds a room is left alone, since its run may not hold it yet."""
 
 FEED_FILES = ("desk.toml", "terminals.csv", "tolerances.csv", "calendar.txt", "calendar_dates.txt", "trips.txt",
               "stop_times.txt", "deadheads.csv", "depot.csv")
@@ -21,10 +35,48 @@ SCRIPTS = ("edits.csv", "planner_edits.csv")
 
 
 @contextmanager
+def own_room(folder: Path | None = None, prefix: str = PREFIX) -> Iterator[Path]:
+    """An empty folder of this run, which is gone behind the block. What killed runs have left beside it goes too.
+
+    The run holds a lock on it, by which it is told from one that nobody has.
+    """
+    folder = Path(tempfile.gettempdir()) if folder is None else folder
+    sweep(folder, prefix)
+    with tempfile.TemporaryDirectory(prefix=prefix, dir=folder, ignore_cleanup_errors=True) as name:
+        held = os.open(name, os.O_RDONLY | os.O_DIRECTORY)
+        try:
+            with suppress(OSError):
+                fcntl.flock(held, fcntl.LOCK_EX | fcntl.LOCK_NB)
+            yield Path(name)
+        finally:
+            os.close(held)
+
+
+@cache
+def sweep(folder: Path, prefix: str) -> None:
+    """Removes the rooms in a folder that killed runs of this user have left: those that nobody holds and that are not new."""
+    for path in folder.iterdir():
+        if re.fullmatch(re.escape(prefix) + "[a-z0-9_]{8}", path.name):
+            with suppress(OSError):
+                found = path.lstat()
+                if stat.S_ISDIR(found.st_mode) and found.st_uid == os.geteuid() and time.time() - found.st_mtime > NEW:
+                    _remove(path)
+
+
+def _remove(path: Path) -> None:
+    """Removes a room that nobody holds."""
+    held = os.open(path, os.O_RDONLY | os.O_DIRECTORY | os.O_NOFOLLOW)
+    try:
+        if is_taken(held):
+            shutil.rmtree(path, ignore_errors=True)
+    finally:
+        os.close(held)
+
+
+@contextmanager
 def room_of(town: Town, scripts: Mapping[str, bytes]) -> Iterator[Path]:
     """A folder with the feed of the town and with these scripts alone, which is gone behind the block."""
-    with tempfile.TemporaryDirectory(prefix="desk-") as name:
-        room = Path(name)
+    with own_room() as room:
         for file in FEED_FILES:
             if town.path(file).exists():
                 (room / file).symlink_to(town.path(file).resolve())

@@ -7,15 +7,14 @@ from __future__ import annotations
 import argparse
 import os
 import re
-import shutil
 import sys
-import tempfile
 import time
 from pathlib import Path
 
 from desk.answers import ask
 from desk.errors import DeskError, UsageError
 from desk.files import reason, read_bytes, sync_folder, write_whole
+from desk.rooms import own_room
 from desk.texts import Json, as_json
 from desk.texts_written import as_text, verdict_text
 from desk.town import Town
@@ -89,15 +88,12 @@ def make_version(folder: Path, files: dict[str, bytes]) -> None:
     """Makes the folder of a version whole: under another name first, and then renamed."""
     try:
         folder.parent.mkdir(exist_ok=True)
-        room = Path(tempfile.mkdtemp(prefix=".version-", dir=folder.parent))
-        try:
+        with own_room(folder.parent, ".version-") as room:
             room.chmod(0o755)
             for name, content in files.items():
                 write_whole(room / name, content)
             os.rename(room, folder)
             sync_folder(folder.parent)
-        finally:
-            shutil.rmtree(room, ignore_errors=True)
     except OSError as error:
         raise DeskError(f"{folder} cannot be written: {reason(error)}") from error
 

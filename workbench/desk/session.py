@@ -78,8 +78,8 @@ class Session:
         """Keeps what is new of the script in the journal."""
         if self.planner is not None or asked:
             raise UsageError("this cannot be kept")
-        with self.guard, writing(self.folder / "edits.csv") as script:
-            return {"said": keep(Town(self.folder), script, self._read().records)}
+        with self.guard, writing(self.folder / "edits.csv"):
+            return {"said": keep(Town(self.folder), self._read().records)}
 
     def export(self, asked: Json) -> Json:
         """Writes files of the plan into the town."""

@@ -8,8 +8,9 @@ import time
 from collections.abc import Callable
 from pathlib import Path
 
-from desk.edits import LOCK, record_of, writing
+from desk.edits import record_of, writing
 from desk.errors import DeskError, UsageError
+from desk.locks import LOCK
 from desk.scripts import Record, fields_of, standing, with_show
 from tests.feeds import FolderTest
 
@@ -139,45 +140,9 @@ class KillTest(FolderTest):
         until = time.monotonic() + 30
         while not path.exists() and time.monotonic() < until:
             time.sleep(0.01)
-        with self.assertRaisesRegex(DeskError, "another `desk open` is writing"), writing(path, wait=0.1):
+        with self.assertRaisesRegex(DeskError, "another `./desk` is writing"), writing(path, wait=0.1):
             self.fail("two writers hold one lock")
         self.kill(child)
         with writing(path, wait=0) as script:
             script.append(b"undo\n")
         self.assertEqual(path.read_bytes(), b"cancel,held\nundo\n")
-
-    def test_replaced(self) -> None:
-        """A script that another one replaces for a while comes back, also where the writer is killed meanwhile."""
-        path = self.room / "edits.csv"
-        path.write_bytes(b"cancel,A\ncancel,B\n")
-        with writing(path) as script, script.replaced(b"cancel,B\n"):
-            self.assertEqual(path.read_bytes(), b"cancel,B\n")
-        self.assertEqual(path.read_bytes(), b"cancel,A\ncancel,B\n")
-
-        self.kill_within_part(path)
-        with writing(path, wait=0) as script:
-            self.assertEqual(script.content, b"cancel,A\ncancel,B\n")
-        self.assertEqual(sorted(left.name for left in self.room.iterdir()), [LOCK, "edits.csv"])
-
-    def test_replaced_and_changed(self) -> None:
-        """Where somebody writes into the part that a killed writer has left, neither is lost."""
-        path = self.room / "edits.csv"
-        path.write_bytes(b"cancel,A\ncancel,B\n")
-        self.kill_within_part(path)
-        path.write_bytes(b"cancel,B\ncancel,C\n")
-        with writing(path, wait=0) as script:
-            self.assertEqual(script.content, b"cancel,B\ncancel,C\n")
-        self.assertEqual((self.room / "before-keep-edits.csv").read_bytes(), b"cancel,A\ncancel,B\n")
-
-    def kill_within_part(self, path: Path) -> None:
-        """Kills a writer while a part of the script stands in its place."""
-        def shorten() -> None:
-            with writing(path) as script, script.replaced(b"cancel,B\n"):
-                time.sleep(60)
-
-        child = self.in_child(shorten)
-        until = time.monotonic() + 30
-        while path.read_bytes() != b"cancel,B\n" and time.monotonic() < until:
-            time.sleep(0.01)
-        self.kill(child)
-        self.assertEqual(path.read_bytes(), b"cancel,B\n")

@@ -359,6 +359,7 @@ class TestFaults(HintsTest):
         self.assertEqual(program.run(["keep", self.town]).status, 7)
 
 
+@needs_program
 class TestJournals(HintsTest):
     """Hints on a journal that cannot be read or appended to."""
 
@@ -377,7 +378,7 @@ class TestJournals(HintsTest):
         self.assertEqual(self.hint("keep", 7, ""), f"{self.path}: it is no database: move it away, and `keep` makes a new one.")
 
     def test_a_database_of_something_else(self) -> None:
-        self.make("CREATE TABLE other(x)")
+        self.make("CREATE TABLE journal(x)")
         self.assertIn("a database of something else", self.hint("keep", 7, ""))
 
     def test_a_database_that_another_program_has_open(self) -> None:
