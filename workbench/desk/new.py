@@ -13,7 +13,7 @@ from desk.deadheads import Pace, find_depot
 from desk.errors import DeskError, UsageError
 from desk.hints_refusals import refusal_hints
 from desk.new_report import Report, counted
-from desk.new_room import left_as_they_were, settle, town_room
+from desk.new_room import carry_own, left_as_they_were, settle, town_room
 from desk.town import Town
 
 WORD = "new"
@@ -45,7 +45,7 @@ def run(arguments: argparse.Namespace) -> int:
             _make(room, arguments, report)
         except DeskError as error:
             raise _with_hints(error, Town(room / "agency")) from error
-        left = left_as_they_were(room, town)
+        left = [*left_as_they_were(room, town), *carry_own(room, town)]
         if left:
             report.draft(", ".join(left), "left as they were")
         settle(room, town)

@@ -8,7 +8,9 @@ from typing import BinaryIO
 
 from desk.errors import DeskError
 from desk.files import reason, refuse_no_file
-from desk.zips import DAMAGES, MOST_BYTES, Files, zip_files
+from desk.hints_files import GTFS
+from desk.new_room import AGENCY_FILES
+from desk.zips import DAMAGES, MOST_BYTES, MOST_FILES, Files, zip_files
 
 PIECE = 1 << 20
 """How many bytes are copied at a time."""
@@ -25,10 +27,12 @@ def unpack(feed: Path, agency: Path) -> list[str]:
     names, in_all = [], 0
     with (folder_files(feed) if feed.is_dir() else zip_files(feed)) as files:
         inside = feed_folder(feed, list(files))
-        for path, opened in files.items():
-            if path.parent == inside:
-                in_all += _copy(path.name, opened, agency / path.name, MOST_BYTES - in_all)
-                names.append(path.name)
+        beside = {path.name: opened for path, opened in files.items() if path.parent == inside}
+        if len(beside) > MOST_FILES:
+            raise DeskError(f"{feed}: {len(beside):,} files lie beside its trips.txt, and a feed has at most {MOST_FILES:,}")
+        for name, opened in beside.items():
+            in_all += _copy(name, opened, agency / name, MOST_BYTES - in_all)
+            names.append(name)
     return names
 
 
@@ -37,6 +41,9 @@ def folder_files(folder: Path) -> Iterator[Files]:
     """The files of a folder and of the folders in it, by their names."""
     try:
         paths = [*folder.iterdir(), *folder.glob("*/*")]
+        for path in paths:
+            if path.name in GTFS or path.name in AGENCY_FILES:
+                refuse_no_file(path)
         files = sorted(path for path in paths if path.is_file())
     except OSError as error:
         raise DeskError(f"{folder}: {reason(error)}") from error

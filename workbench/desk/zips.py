@@ -21,6 +21,9 @@ Files = dict[PurePosixPath, Callable[[], BinaryIO]]
 MOST_BYTES = 4 << 30
 """The most bytes that the files of a feed may have in all."""
 
+MOST_FILES = 1_000
+"""The most files of a feed, and the most entries of a zip."""
+
 DAMAGES = (zipfile.BadZipFile, zlib.error, lzma.LZMAError, struct.error, EOFError, NotImplementedError, RuntimeError,
            ValueError, OverflowError)
 """What the library raises of a zip that is damaged, encrypted, or of a kind that it does not know."""
@@ -48,6 +51,8 @@ def _judged(path: Path, archive: zipfile.ZipFile) -> Files:
     """The files of a zip whose entries are all judged."""
     files: Files = {}
     entries = archive.infolist()
+    if len(entries) > MOST_FILES:
+        raise DeskError(f"{path}: it has {len(entries):,} entries, and a feed has at most {MOST_FILES:,}")
     if sum(entry.file_size for entry in entries) > MOST_BYTES:
         raise DeskError(f"{path}: its files have more than {MOST_BYTES:,} bytes in all")
     for entry in entries:
@@ -75,4 +80,6 @@ def _name(path: Path, entry: zipfile.ZipInfo) -> PurePosixPath:
     parts = [part for part in name.split("/") if part not in ("", ".")]
     if name.startswith("/") or re.match("[A-Za-z]:", name) or ".." in parts or "\0" in name:
         raise DeskError(f"{path}: the name {name} in it leads out of the folder")
+    if not parts:
+        raise DeskError(f"{path}: the name {name!r} in it is that of no file")
     return PurePosixPath(*parts)

@@ -9,6 +9,7 @@ import tomllib
 from pathlib import Path
 from unittest import mock
 
+from desk.locks import LOCK
 from desk.new_settings import settings_text
 from desk.program import run
 from tests.feeds import FIRST_DAY, Feed, FolderTest, agency, demonstration, needs_program, table, write_feed, zip_feed
@@ -44,8 +45,8 @@ class NewTest(FolderTest):
         return (self.town / name).read_text(encoding="utf-8")
 
     def tree(self) -> dict[str, bytes]:
-        """All files of the town."""
-        return {str(path.relative_to(self.town)): path.read_bytes() for path in self.town.rglob("*") if path.is_file()}
+        """All files of the town, but for its lock."""
+        return {str(path.relative_to(self.town)): path.read_bytes() for path in self.town.rglob("*") if path.is_file() and path.name != LOCK}
 
 
 class MadeAgency(NewTest):

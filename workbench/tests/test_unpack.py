@@ -2,6 +2,8 @@
 from __future__ import annotations
 
 import os
+import re
+import shutil
 import stat
 import struct
 import warnings
@@ -147,6 +149,27 @@ class Refused(FolderTest):
                 archive.writestr(second, "b")
                 archive.close()
                 self.refused(self.room / "x.zip", "stands in it twice")
+
+    def test_more_entries_than_a_feed_has(self) -> None:
+        more = {f"{number}.txt": "" for number in range(1000 - len(demonstration()))}
+        for feed in (self.zip_of(more), write_feed(self.room / "folder", {**demonstration(), **more})):
+            self.assertEqual((1, ""), self.desk("new", feed, self.room / "towns" / "town")[::2])
+            shutil.rmtree(self.room / "towns" / "town")
+        self.refused(self.zip_of({**more, "one.txt": ""}), "it has 1,001 entries, and a feed has at most 1,000")
+        (self.room / "folder" / "one.txt").write_text("")
+        self.refused(self.room / "folder", "1,001 files lie beside its trips.txt, and a feed has at most 1,000")
+
+    def test_many_files_are_written_with_one_sync(self) -> None:
+        feed = self.zip_of({f"{number}.txt": "" for number in range(900)})
+        with mock.patch("os.sync", side_effect=os.sync) as once, mock.patch("os.fsync", side_effect=os.fsync) as each:
+            self.assertEqual(1, self.desk("new", feed, self.room / "towns" / "town")[0])
+        self.assertEqual(once.call_count, 1)
+        self.assertLess(each.call_count, 20)
+
+    def test_names_of_no_file(self) -> None:
+        for name in (".", "./.", "././/."):
+            with self.subTest(name):
+                self.refused(self.zip_of({name: "x"}), f"the name '{re.escape(name)}' in it is that of no file")
 
     def test_no_trips(self) -> None:
         feed = {name: text for name, text in demonstration().items() if name != "trips.txt"}
