@@ -7,11 +7,14 @@ import os
 import re
 import sys
 from collections.abc import Sequence
+from pathlib import Path
 from types import ModuleType
 from typing import NoReturn, TextIO
 
 from desk.errors import DeskError, UsageError, complain
 from desk.files import reason
+from desk.leftovers import mend
+from desk.pipes import refuse_pipes
 from desk.versions import version
 from desk import boards, compare, figures, forward, new, notes, page, saved, server
 
@@ -84,12 +87,23 @@ def with_signs(words: Sequence[str]) -> list[str]:
     return joined
 
 
+def towns_of(arguments: argparse.Namespace) -> list[Path]:
+    """The folders of towns among the words of a command line."""
+    named = [getattr(arguments, name, None) for name in ("town", "other")]
+    named += [] if arguments.word == "sample" else getattr(arguments, "words", [])
+    return [Path(name) for name in named if name is not None and os.path.isdir(name)]
+
+
 def run_words(words: Sequence[str]) -> int:
-    """Runs a command line, whose errors are raised, and gives its status."""
+    """Runs a command line, whose errors are raised, and gives its status. First it is seen that its towns are whole."""
     try:
         arguments = make_parser().parse_args(with_signs(words))
     except SystemExit:
         return 0
+    for town in towns_of(arguments):
+        refuse_pipes(town)
+        for told in mend(town):
+            complain(told)
     return arguments.run(arguments)
 
 

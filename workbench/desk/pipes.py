@@ -5,8 +5,9 @@ from pathlib import Path
 
 from desk.files import refuse_no_file
 from desk.hints_files import OTHERS, READ
+from desk.locks import LOCK
 
-NAMES = (*READ, *sorted(OTHERS))
+NAMES = (*READ, *sorted(OTHERS), LOCK)
 """The files of a town that the program or the workbench reads or writes."""
 
 FOLDERS = ("", "agency")
