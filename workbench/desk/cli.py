@@ -5,16 +5,18 @@ import argparse
 import io
 import os
 import re
+import signal
 import sys
-from collections.abc import Sequence
+from collections.abc import Mapping, Sequence
 from pathlib import Path
 from types import ModuleType
-from typing import NoReturn, TextIO
+from typing import Any, NoReturn, TextIO
 
 from desk.errors import DeskError, UsageError, complain
 from desk.files import reason
 from desk.leftovers import mend
 from desk.pipes import refuse_pipes
+from desk.terminal import shown_on_terminals
 from desk.versions import version
 from desk import boards, compare, figures, forward, new, notes, page, saved, server
 
@@ -25,6 +27,9 @@ Each has `add_arguments(parser)` and `run(arguments) -> int`. One of a single wo
 has `WORDS`, a table from each word to its help. `arguments.word` is the word that was given, and `add_arguments` finds it as
 `parser.get_default("word")`.
 """
+
+ENDS = (signal.SIGINT, signal.SIGTERM, signal.SIGHUP)
+"""The signals that end a command: Ctrl+C, a plain `kill`, and the end of its terminal."""
 
 DESCRIPTION = """\
 From an agency's zip to a plan: drafts what the program reads, tells what looks wrong, and draws.
@@ -116,12 +121,37 @@ def release_output() -> None:
 
 
 def main(words: Sequence[str]) -> int:
-    """Runs a command line and gives its status. No error ends with a traceback."""
+    """Runs a command line and gives its status. No error ends with a traceback, and no signal but a kill without what was begun
+    being put away."""
+    before = {number: signal.getsignal(number) for number in ENDS}
+    try:
+        for number, handler in before.items():
+            if handler is signal.SIG_DFL:
+                signal.signal(number, signal.default_int_handler)
+        return answer(words)
+    except KeyboardInterrupt:
+        restore(before)
+        complain("stopped")
+        return 1
+    finally:
+        restore(before)
+
+
+def restore(handlers: Mapping[int, Any]) -> None:
+    """Handles signals as before."""
+    for number, handler in handlers.items():
+        if handler is not None:
+            signal.signal(number, handler)
+
+
+def answer(words: Sequence[str]) -> int:
+    """Runs a command line and gives its status. Its errors are told in words."""
     if isinstance(sys.stdout, io.TextIOWrapper):
         sys.stdout.reconfigure(encoding="utf-8", errors="surrogateescape")
     try:
-        status = run_words(words)
-        print(end="", flush=True)
+        with shown_on_terminals():
+            status = run_words(words)
+            print(end="", flush=True)
         return status
     except DeskError as error:
         complain(str(error))
@@ -131,8 +161,6 @@ def main(words: Sequence[str]) -> int:
     except OSError as error:
         complain(f"{error.filename}: {reason(error)}" if error.filename else reason(error))
         release_output()
-    except KeyboardInterrupt:
-        complain("stopped")
     except MemoryError:
         complain("there is not enough memory")
     except Exception as error:  # pylint: disable=broad-except

@@ -78,8 +78,13 @@ def ask(words: list[str]) -> tuple[int, str]:
     with running:
         passing = threading.Thread(target=pass_on, args=(running.stderr,))
         passing.start()
-        text = running.stdout.read()
-        passing.join()
+        try:
+            text = running.stdout.read()
+        except KeyboardInterrupt:
+            running.terminate()
+            raise
+        finally:
+            passing.join()
     status = running.returncode
     return status if status >= 0 else 128 - status, text.decode("utf-8", "surrogateescape")
 

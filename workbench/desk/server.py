@@ -12,6 +12,7 @@ from desk import program
 from desk.edits import writing
 from desk.errors import DeskError, UsageError
 from desk.files import reason
+from desk.rooms import own_room
 from desk.session import Session
 from desk.web import WebServer
 
@@ -62,12 +63,23 @@ def run_directly() -> None:
 
 
 def serve(server: WebServer, browser: bool) -> None:
-    """Says where the page is, and answers until Ctrl+C."""
-    sys.stdout.write(f"open {server.address} in a browser of this machine; Ctrl+C ends\n")
-    sys.stdout.flush()
-    if browser:
-        webbrowser.open(server.address)
-    try:
-        server.serve_forever()
-    except KeyboardInterrupt:
-        sys.stdout.write("\n")
+    """Says where the page is, and answers until Ctrl+C. What is then being written is written to its end."""
+    with own_room() as room:
+        try:
+            sys.stdout.write(f"open {server.address} in a browser of this machine; Ctrl+C ends\n")
+            sys.stdout.flush()
+            if browser:
+                webbrowser.open(handed_over(server.address, room).as_uri())
+            server.serve_forever()
+        except KeyboardInterrupt:
+            sys.stdout.write("\n")
+        server.session.close()
+
+
+def handed_over(address: str, room: Path) -> Path:
+    """A file that leads to an address, and that no other user can read. All could read the words of the browser's command line."""
+    path = room / "open.html"
+    with open(os.open(path, os.O_WRONLY | os.O_CREAT | os.O_EXCL, 0o600), "w", encoding="utf-8") as file:
+        file.write(f'<!DOCTYPE html>\n<meta charset="utf-8"><meta name="referrer" content="no-referrer"><title>blockdesk</title>\n'
+                   f'<meta http-equiv="refresh" content="0; url={address}"><a href="{address}">the day</a>\n')
+    return path

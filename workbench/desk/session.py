@@ -11,6 +11,7 @@ from desk.day import Day, read_day, scripts_of
 from desk.edits import Script, record_of, writing
 from desk.errors import DeskError, UsageError
 from desk.keeping import keep
+from desk.pipes import refuse_pipes
 from desk.plans import StatedBlock, read_plan
 from desk.rooms import FEED_FILES, room_of, state_of
 from desk.scripts import Record, with_edits, with_record
@@ -20,6 +21,9 @@ from desk.view import as_view
 
 SUGGESTIONS = ("shifts", "chains", "audit")
 EXPORTS = {"blocks": ("blocks.csv and prices.csv", "blocks"), "boards": ("boards.csv", "joined"), "feed": ("the written feed", "write")}
+MOST_SECONDS = 10.0
+"""For how many seconds an edit is waited for when the page ends."""
+
 CHANGED = "Another program has changed the folder. It is read again, and nothing was written: look, and then edit again."
 
 
@@ -87,6 +91,7 @@ class Session:
         if self.planner is not None or not isinstance(what, str) or what not in EXPORTS:
             raise UsageError("this cannot be written")
         words, command = EXPORTS[what]
+        refuse_pipes(self.folder)
         with self.guard, writing(self.folder / "edits.csv"):
             if command == "blocks":
                 self._day = None
@@ -98,6 +103,10 @@ class Session:
                 read_plan(Town(self.folder))
             return {"said": f"{words} in {self.folder.resolve()}: {said}", "day": self._view(self._read())}
 
+    def close(self) -> None:
+        """Waits for what is being written. Nothing is written behind it."""
+        self.guard.acquire(timeout=MOST_SECONDS)
+
     def _read(self) -> Day:
         """The day, which is read again where the folder has changed."""
         town = self._current_town()
@@ -107,6 +116,7 @@ class Session:
 
     def _current_town(self) -> Town:
         """The town, whose feed is read again where it has changed."""
+        refuse_pipes(self.folder)
         state = state_of(Town(self.folder), FEED_FILES)
         if self._town is None or self._town[0] != state:
             self._town = state, Town(self.folder)

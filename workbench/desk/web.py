@@ -7,10 +7,14 @@ from __future__ import annotations
 
 import hmac
 import json
+import socket
+import time
 from collections.abc import Callable
+from contextlib import suppress
 from http import HTTPStatus
 from http.server import BaseHTTPRequestHandler, ThreadingHTTPServer
 from pathlib import Path
+from typing import Any
 
 from desk.errors import DeskError, UsageError, one_line
 from desk.session import Session
@@ -24,6 +28,9 @@ KINDS = {".html": "text/html; charset=utf-8", ".css": "text/css; charset=utf-8",
 JSON_KIND = "application/json"
 MOST_BODY = 65_536
 """The most bytes of the body of a request."""
+
+MOST_LINES, MOST_SECONDS, PAUSE = 64, 30, 0.1
+"""How many lines are waited for, how many seconds for each, and for how many nothing is tried where no line can be had."""
 
 POLICY = ("default-src 'none'; script-src 'self'; style-src 'self'; img-src data:; connect-src 'self'; "
           "base-uri 'none'; form-action 'none'; frame-ancestors 'none'")
@@ -42,7 +49,10 @@ class Refusal(Exception):
 
 
 class WebServer(ThreadingHTTPServer):
-    """The server of one session on 127.0.0.1, with its token and the page's own files."""
+    """The server of one session on 127.0.0.1, with its token and the page's own files.
+
+    `waiting` has the lines whose request has not come whole, each with the second since which it is waited for.
+    """
 
     daemon_threads = True
     request_queue_size = 64
@@ -50,12 +60,50 @@ class WebServer(ThreadingHTTPServer):
     def __init__(self, session: Session, token: str, port: int = 0) -> None:
         self.session = session
         self.token = token
+        self.waiting: dict[socket.socket, float] = {}
         self.pages = {path.name: (KINDS[path.suffix], path.read_bytes()) for path in STATIC.iterdir() if path.suffix in KINDS}
         self.pages[""] = self.pages["index.html"]
         self.asked: dict[str, Callable[[], Json]] = {"day": session.day, "state": session.state}
         self.told: dict[str, Callable[[Json], Json]] = {
             "edit": session.edit, "suggest": session.suggest, "keep": session.keep, "export": session.export}
         super().__init__(("127.0.0.1", port), Handler)
+
+    def get_request(self) -> tuple[socket.socket, Any]:
+        """The next line. Where there are too many, or none can be had, the one that is waited for longest is given up."""
+        try:
+            line, address = super().get_request()
+        except OSError:
+            if not self.give_up_oldest():
+                time.sleep(PAUSE)
+            raise
+        if len(self.waiting) >= MOST_LINES:
+            self.give_up_oldest()
+        self.waiting[line] = time.monotonic()
+        return line, address
+
+    def service_actions(self) -> None:
+        """Gives up each line whose request has not come whole in time."""
+        for line, since in list(self.waiting.items()):
+            if time.monotonic() - since > MOST_SECONDS:
+                self.give_up(line)
+
+    def give_up_oldest(self) -> bool:
+        """Gives up the line that is waited for longest, and says whether there is one."""
+        oldest = next(iter(list(self.waiting)), None)
+        if oldest is not None:
+            self.give_up(oldest)
+        return oldest is not None
+
+    def give_up(self, line: socket.socket) -> None:
+        """Waits no longer for the request of a line, whose handler then ends."""
+        self.waiting.pop(line, None)
+        with suppress(OSError):
+            line.shutdown(socket.SHUT_RDWR)
+
+    def shutdown_request(self, request: socket.socket) -> None:  # type: ignore[override]
+        """Closes a line."""
+        self.waiting.pop(request, None)
+        super().shutdown_request(request)
 
     def handle_error(self, *unused: object) -> None:
         """A line that breaks off is nobody's mistake, and nothing is put of it."""
@@ -75,7 +123,7 @@ class Handler(BaseHTTPRequestHandler):
     """A request."""
 
     server: WebServer
-    timeout = 30
+    timeout = MOST_SECONDS
     server_version = "desk"
     sys_version = ""
 
@@ -110,11 +158,16 @@ class Handler(BaseHTTPRequestHandler):
             raise Refusal(HTTPStatus.FORBIDDEN, "the request is for another host")
         if any(origin != f"http://{hosts[0]}" for origin in origins) or len(origins) != 1 and self.command == "POST":
             raise Refusal(HTTPStatus.FORBIDDEN, "the request comes from another origin")
-        if self.headers.get("Sec-Fetch-Site", "none") not in ("same-origin", "none"):
+        if self.headers.get("Sec-Fetch-Site", "none") not in ("same-origin", "none") and not self._is_visit():
             raise Refusal(HTTPStatus.FORBIDDEN, "the request comes from another site")
         token = self.path.split("/")[1] if self.path.startswith("/") else ""
         if not hmac.compare_digest(token.encode("utf-8", "surrogateescape"), self.server.token.encode()):
             raise Refusal(HTTPStatus.NOT_FOUND, "the address is not the one that `./desk open` has put")
+
+    def _is_visit(self) -> bool:
+        """Whether somebody comes to the page itself from elsewhere, as from the file that `--browser` hands over."""
+        how = tuple(self.headers.get(f"Sec-Fetch-{name}") for name in ("Mode", "Dest"))
+        return self.command == "GET" and self._name == "" and how == ("navigate", "document")
 
     @property
     def _name(self) -> str:
@@ -123,6 +176,7 @@ class Handler(BaseHTTPRequestHandler):
 
     def _get(self) -> tuple[str, bytes]:
         """A file of the page, or what is asked of the session."""
+        self.server.waiting.pop(self.connection, None)
         if self._name in self.server.asked:
             return JSON_KIND, as_text(self.server.asked[self._name]()).encode()
         if self._name not in self.server.pages or not self.path.endswith("/" + self._name):
@@ -144,8 +198,10 @@ class Handler(BaseHTTPRequestHandler):
             raise Refusal(HTTPStatus.LENGTH_REQUIRED, "the length of the body is not told")
         if len(length) > 9 or int(length) > MOST_BODY:
             raise Refusal(HTTPStatus.REQUEST_ENTITY_TOO_LARGE, "the body is too long")
+        content = self.rfile.read(int(length))
+        self.server.waiting.pop(self.connection, None)
         try:
-            body = json.loads(self.rfile.read(int(length)))
+            body = json.loads(content)
         except (ValueError, RecursionError) as error:
             raise Refusal(HTTPStatus.BAD_REQUEST, "the body is not JSON") from error
         if not isinstance(body, dict):
@@ -153,12 +209,18 @@ class Handler(BaseHTTPRequestHandler):
         return body
 
     def _put(self, status: HTTPStatus, kind: str, body: bytes) -> None:
-        """Puts an answer with the headers that keep the page to itself."""
+        """Puts an answer."""
         self.send_response(status)
-        for name, value in {"Content-Type": kind, "Content-Length": str(len(body)), **HEADERS}.items():
-            self.send_header(name, value)
+        self.send_header("Content-Type", kind)
+        self.send_header("Content-Length", str(len(body)))
         self.end_headers()
         self.wfile.write(body)
+
+    def end_headers(self) -> None:
+        """Ends the headers of each answer, those of the library too, with the ones that keep the page to itself."""
+        for name, value in HEADERS.items():
+            self.send_header(name, value)
+        super().end_headers()
 
     def log_message(self, *unused: object) -> None:
         """Nothing is logged: an address has the token."""

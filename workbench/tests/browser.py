@@ -85,9 +85,13 @@ class Browser:
     def _tell(self, name: str, body: Json) -> Json:
         return self._ask("POST", name, body)
 
+    def visit(self, address: str) -> None:
+        """Opens a page that never says that it is ready."""
+        self._tell("/url", {"url": address})
+
     def open(self, address: str) -> None:
         """Opens a page, and waits until it is ready."""
-        self._tell("/url", {"url": address})
+        self.visit(address)
         self.wait(lambda: self.run("return document.body.classList.contains('ready')"))
 
     def run(self, script: str, *arguments: Json) -> Json:

@@ -9,6 +9,7 @@ from pathlib import Path
 from desk.page import static_page
 from desk.plans import read_blocks
 from desk.program import ROOT, run
+from desk.server import handed_over
 from desk.session import Session
 from desk.view import as_text, as_view
 from desk.web import WebServer
@@ -334,6 +335,23 @@ class OpenTest(ServedTest):
     def setUp(self) -> None:
         super().setUp()
         self.serve_example("small_town")
+
+    def test_from_the_file_that_is_handed_over(self) -> None:
+        """The file that `--browser` hands over leads to the page, which works as from its address."""
+        self.browser.open(handed_over(self.server.address, self.room).as_uri())
+        self.assertEqual(self.browser.run("return location.href"), self.server.address)
+        self.assertEqual(len(self.browser.texts("#numbers dd")), 3)
+        self.assertEqual(self.browser.errors(), [])
+
+    def test_boards_are_drawn_in_their_style(self) -> None:
+        """The policy of the page lets its own style through."""
+        for command in ("blocks", "joined"):
+            run([command, self.town])
+        path = self.room / "boards.html"
+        self.assertEqual(self.desk("boards", self.town, "-o", path)[0], 0)
+        self.browser.visit(path.as_uri())
+        self.assertEqual(self.browser.run("return getComputedStyle(document.querySelector('td.time')).whiteSpace"), "nowrap")
+        self.assertEqual(self.browser.errors(), [])
 
     def test_as_the_program_says(self) -> None:
         """Numbers, blocks, trips and deficits of the page are those of the program."""

@@ -2,6 +2,7 @@
 from __future__ import annotations
 
 import os
+import signal
 import subprocess
 import sys
 from unittest import mock
@@ -10,7 +11,7 @@ from desk import cli
 from desk.errors import DeskError, one_line
 from desk.program import ROOT
 from desk.versions import UNKNOWN, version
-from tests.feeds import FolderTest, demonstration, write_feed
+from tests.feeds import FolderTest, demonstration, write_feed, zip_feed
 
 LAUNCHER = ROOT / "desk"
 
@@ -66,6 +67,40 @@ class Words(FolderTest):
             with self.subTest(message), mock.patch("desk.new.run", side_effect=error):
                 self.assertEqual((status, "", message), self.desk("new", "a", "b"))
         self.assertEqual("caf\\udce9 é", one_line("caf\udce9 é"))
+
+
+class Ends(FolderTest):
+    """Signals that end a command."""
+
+    def test_what_was_begun_is_put_away(self) -> None:
+        for number in cli.ENDS:
+            before = signal.getsignal(number)
+            with self.subTest(number), mock.patch("desk.new_steps.draft_settings", side_effect=lambda *unused: os.kill(os.getpid(), number)):
+                # A signal that nobody minds ends the process of the tests.
+                signal.signal(number, signal.SIG_DFL)
+                try:
+                    ended = self.desk("new", zip_feed(self.room / "feed.zip", demonstration()), self.room / "town")
+                    self.assertEqual(signal.getsignal(number), signal.SIG_DFL)
+                finally:
+                    signal.signal(number, before)
+                self.assertEqual((1, "", "desk: stopped\n"), ended)
+                self.assertEqual(["feed.zip"], os.listdir(self.room))
+
+    def test_a_signal_that_is_ignored_stays_so(self) -> None:
+        before = signal.signal(signal.SIGHUP, signal.SIG_IGN)
+        self.addCleanup(signal.signal, signal.SIGHUP, before)
+        with mock.patch("desk.new.run", side_effect=lambda *unused: os.kill(os.getpid(), signal.SIGHUP) or 0):
+            self.assertEqual((0, "", ""), self.desk("new", "a", "b"))
+
+    def test_no_traceback_while_the_modules_are_read(self) -> None:
+        """Here a module of the library takes long to be read, and Ctrl+C comes meanwhile."""
+        (self.room / "argparse.py").write_text("print('reading', flush=True)\nimport time\ntime.sleep(60)\n")
+        with subprocess.Popen([LAUNCHER, "--help"], stdout=subprocess.PIPE, stderr=subprocess.PIPE, text=True,
+                              env={**os.environ, "PYTHONPATH": str(self.room)},
+                              preexec_fn=lambda: signal.signal(signal.SIGINT, signal.SIG_DFL)) as running:
+            self.assertEqual("reading\n", running.stdout.readline())
+            running.send_signal(signal.SIGINT)
+            self.assertEqual((-signal.SIGINT, ""), (running.wait(60), running.stderr.read()))
 
 
 class Launcher(FolderTest):

@@ -4,20 +4,27 @@ from __future__ import annotations
 import contextlib
 import http.client
 import json
+import os
 import re
+import resource
 import shutil
 import signal
 import socket
+import stat
 import subprocess
 import threading
+import time
+import urllib.parse
 from pathlib import Path
 from typing import Any
+from unittest import mock
 
 from desk.errors import DeskError, UsageError
 from desk.keeping import NOTHING, canonical
 from desk.program import ROOT
+from desk.rooms import own_room
 from desk.session import CHANGED, Session
-from desk.web import MOST_BODY, STATIC, WebServer
+from desk.web import HEADERS, MOST_BODY, MOST_LINES, STATIC, WebServer
 from tests.feeds import FolderTest, needs_program
 
 TOKEN = "the-token-of-the-tests"
@@ -164,6 +171,53 @@ class WebTest(FolderTest):
         for method in ("PUT", "DELETE", "OPTIONS", "HEAD", "TRACE", "CONNECT", "PATCH", "get"):
             self.assertEqual(self.ask(method, f"/{TOKEN}/day")[0], 501, method)
 
+    def test_each_answer_keeps_the_page_to_itself(self) -> None:
+        """The headers of a page stand on errors too, also on those of the library."""
+        names = [name.lower() for name in HEADERS]
+        for method, path, status in (("GET", f"/{TOKEN}/", 200), ("GET", "/", 404), ("PUT", "/", 501), ("POST", f"/{TOKEN}/edit", 403)):
+            answered, headers, _ = self.ask(method, path)
+            self.assertEqual((answered, [headers.get(name) for name in names]), (status, list(HEADERS.values())), method)
+        with socket.create_connection(("127.0.0.1", self.server.server_port), timeout=30) as line:
+            line.sendall(b"GET / x HTTP/1.1\r\n\r\n")
+            said = line.makefile("rb").read()
+        self.assertIn(b" 400 ", said.partition(b"\r\n")[0])
+        self.assertIn(b"Content-Security-Policy: default-src 'none'", said)
+
+    def test_a_visit(self) -> None:
+        """From elsewhere the page itself can be come to by its address, as from a file, and nothing else."""
+        visit = {"Sec-Fetch-Site": "cross-site", "Sec-Fetch-Mode": "navigate", "Sec-Fetch-Dest": "document"}
+        self.assertEqual(self.ask("GET", f"/{TOKEN}/", visit)[0], 200)
+        for name in ("day", "main.js", "index.html"):
+            self.assertEqual(self.ask("GET", f"/{TOKEN}/{name}", visit)[0], 403, name)
+        for other in ({"Sec-Fetch-Dest": "iframe"}, {"Sec-Fetch-Mode": "no-cors"}, {"Origin": "http://evil.example"}):
+            self.assertEqual(self.ask("GET", f"/{TOKEN}/", visit | other)[0], 403, other)
+        self.assertEqual(self.ask("GET", "/no-token/", visit)[0], 404)
+        self.assertEqual(self.tell("", b"{}", **{name.replace("-", "_"): value for name, value in visit.items()}), 403)
+
+    def test_lines_that_say_nothing(self) -> None:
+        """As many lines as may be are waited for, the oldest goes first, and the page is answered meanwhile."""
+        with contextlib.ExitStack() as ended:
+            lines = [ended.enter_context(socket.create_connection(("127.0.0.1", self.server.server_port), timeout=30)) for _ in range(MOST_LINES + 30)]
+            self.assertEqual(self.ask("GET", f"/{TOKEN}/")[0], 200)
+            self.assertLessEqual(len(self.server.waiting), MOST_LINES)
+            self.assertEqual(lines[0].recv(1), b"")
+            lines[-1].sendall(f"GET /{TOKEN}/ HTTP/1.1\r\nHost: {self.host}\r\n\r\n".encode())
+            self.assertIn(b" 200 ", lines[-1].makefile("rb").readline())
+
+    def test_a_line_that_says_a_byte_now_and_then(self) -> None:
+        """A request that does not come whole in time is given up, however often something of it comes."""
+        with mock.patch("desk.web.MOST_SECONDS", 1), socket.create_connection(("127.0.0.1", self.server.server_port), timeout=30) as line:
+            began = time.monotonic()
+            with contextlib.suppress(OSError):
+                while time.monotonic() - began < 20:
+                    line.sendall(b"G")
+                    line.settimeout(0.2)
+                    with contextlib.suppress(TimeoutError):
+                        if line.recv(1) == b"":
+                            break
+            self.assertLess(time.monotonic() - began, 15)
+        self.assertEqual(self.ask("GET", f"/{TOKEN}/")[0], 200)
+
     def test_errors(self) -> None:
         """Errors are words on one line, and names in JSON never end a script."""
         self.assertEqual(json.loads(self.ask("GET", f"/{TOKEN}/state")[2]), {"error": "two\\nlines"})
@@ -221,6 +275,76 @@ class OpenTest(FolderTest):
             self.assertEqual(day["numbers"], {"fixed": 2, "vehicles": 1, "minutes": 45})
             running.send_signal(signal.SIGINT)
             self.assertEqual((running.wait(30), running.stderr.read()), (0, ""))
+
+    def opened(self, ended: contextlib.ExitStack, *words: str, **more: Any) -> tuple[subprocess.Popen[str], str, str]:
+        """`desk open` of a town that runs, with its host and its path."""
+        town = self.room / "town"
+        shutil.copytree(ROOT / "examples" / "depot", town, ignore=shutil.ignore_patterns("expected"))
+        running = ended.enter_context(subprocess.Popen([ROOT / "desk", "open", town, *words], stdout=subprocess.PIPE, stderr=subprocess.PIPE, text=True, **more))
+        ended.callback(running.kill)
+        found = re.match(r"open http://([0-9.:]+)(/[\w-]+/) in", running.stdout.readline())
+        return running, found[1], found[2]
+
+    def test_without_descriptors(self) -> None:
+        """Where no line can be had, the processor is left alone, and the page is answered."""
+        limit = lambda: resource.setrlimit(resource.RLIMIT_NOFILE, (40, 40))
+        with contextlib.ExitStack() as ended:
+            running, host, path = self.opened(ended, preexec_fn=limit)
+            for _ in range(200):
+                ended.enter_context(socket.create_connection(("127.0.0.1", int(host.partition(":")[2])), timeout=30))
+            time.sleep(1)
+            before = self.seconds(running.pid)
+            time.sleep(2)
+            self.assertLess(self.seconds(running.pid) - before, 1)
+            connection = http.client.HTTPConnection(host, timeout=60)
+            connection.request("GET", path)
+            self.assertEqual(connection.getresponse().status, 200)
+            connection.close()
+
+    def seconds(self, process: int) -> float:
+        """The seconds of the processor that a process has taken."""
+        fields = Path(f"/proc/{process}/stat").read_text().rpartition(")")[2].split()
+        return (int(fields[11]) + int(fields[12])) / os.sysconf("SC_CLK_TCK")
+
+    def test_each_end_leaves_no_room(self) -> None:
+        """Ended by its terminal or by a plain kill it takes its rooms away. What was killed is taken away by the next one."""
+        rooms = self.room / "rooms"
+        rooms.mkdir()
+        for end in (signal.SIGHUP, signal.SIGTERM, signal.SIGKILL):
+            with self.subTest(end), contextlib.ExitStack() as ended:
+                running, _, _ = self.opened(ended, preexec_fn=lambda: signal.signal(signal.SIGHUP, signal.SIG_DFL), env={**os.environ, "TMPDIR": str(rooms)})
+                self.assertEqual(len(list(rooms.iterdir())), 1)
+                running.send_signal(end)
+                running.wait(60)
+            left = list(rooms.iterdir())
+            self.assertEqual(len(left), end == signal.SIGKILL)
+            shutil.rmtree(self.room / "town")
+        os.utime(left[0], (0, 0))
+        with mock.patch("tempfile.gettempdir", return_value=str(rooms)), own_room() as room:
+            self.assertEqual(list(rooms.iterdir()), [room])
+
+    def test_browser(self) -> None:
+        """The browser is handed a file that no other user can read, and the token stands in no command line."""
+        town = self.room / "town"
+        shutil.copytree(ROOT / "examples" / "depot", town, ignore=shutil.ignore_patterns("expected"))
+        seen: list[str] = []
+
+        def look(address: str) -> None:
+            """What a browser is started with, and what stands in the file."""
+            path = Path(urllib.parse.unquote(address.removeprefix("file://")))
+            modes = [stat.S_IMODE(where.stat().st_mode) for where in (path, path.parent)]
+            seen.extend((address, path.read_text(), oct(modes[0]), oct(modes[1])))
+            raise KeyboardInterrupt
+
+        with mock.patch("webbrowser.open", look), mock.patch.dict(os.environ):
+            _, text, _ = self.desk("open", town, "--browser")
+        token = re.search(r"http://127\.0\.0\.1:\d+/([\w-]{32})/", text)
+        address, page, *modes = seen
+        self.assertRegex(address, "^file:///")
+        self.assertNotIn(token[1], address)
+        self.assertIn(f'<meta http-equiv="refresh" content="0; url={token[0]}">', page)
+        self.assertEqual(modes, ["0o600", "0o700"])
+        self.assertFalse(Path(address.removeprefix("file://")).exists())
 
     def test_refused_feed(self) -> None:
         """A feed that the program refuses is an error before a page is served."""
