@@ -7,6 +7,7 @@ from collections.abc import Iterator
 from desk.board_rows import Board, Row
 from desk.lines import LineNames
 from desk.plans import Plan, Ride
+from desk.policy import checksum
 from desk.times import format_minute, format_time
 from desk.town import Town
 
@@ -58,7 +59,9 @@ def boards_page(town: Town, plan: Plan, boards: list[Board], lines: LineNames) -
     """The page."""
     title = f"Running boards: {_named(town)}, {day_text(town)}"
     sections = [_summary(town, plan, boards, lines), *(_section(town, board, lines) for board in boards)]
-    return (f'<!DOCTYPE html>\n<html lang="en">\n<head><meta charset="utf-8"><title>{escaped(title)}</title>\n'
+    policy = f"default-src 'none'; style-src {checksum(STYLE)}; base-uri 'none'; form-action 'none'"
+    return (f'<!DOCTYPE html>\n<html lang="en">\n<head><meta charset="utf-8">'
+            f'<meta http-equiv="Content-Security-Policy" content="{policy}"><title>{escaped(title)}</title>\n'
             f"<style>{STYLE}</style></head>\n<body>\n" + "\n".join(sections) + "\n</body></html>\n")
 
 

@@ -2,8 +2,6 @@
 from __future__ import annotations
 
 import argparse
-import base64
-import hashlib
 import re
 import sys
 from pathlib import Path
@@ -12,6 +10,7 @@ from desk.cli import complain
 from desk.day import Day, read_day
 from desk.errors import DeskError
 from desk.files import refuse_if_there, write_whole
+from desk.policy import checksum
 from desk.town import Town
 from desk.view import as_text, as_view
 from desk.web import STATIC
@@ -72,11 +71,6 @@ def replace_once(text: str, part: str, by: str) -> str:
     if not found or part in behind:
         raise DeskError(f"{STATIC / 'index.html'}: {part} has to stand in it once")
     return before + by + behind
-
-
-def checksum(text: str) -> str:
-    """How a policy names a style or a script by its bytes."""
-    return f"'sha256-{base64.b64encode(hashlib.sha256(text.encode()).digest()).decode()}'"
 
 
 def joined_script() -> str:

@@ -1,8 +1,11 @@
 """Tests of the running boards: the page is read back, and each time is sought in the agency's files."""
 from __future__ import annotations
 
+import base64
 import csv
+import hashlib
 import io
+import re
 import shutil
 import tempfile
 import unittest
@@ -234,6 +237,15 @@ class TwoTrips(FolderTest):
                 found = self.boards({"stop_times.txt": head + column + "\n" + (between + rest).format(*marks)})
                 self.assertEqual("".join(row["from"] for row in found if row["kind"] == "point" and row["trip_id"] == "U1"), points)
                 self.assertEqual([row["leaves"] for row in found if row["kind"] == "point" and row["from"] == "M"], ["06:11:00"])
+
+    def test_the_page_may_load_nothing_but_its_own_style(self) -> None:
+        self.boards({})
+        text = self.desk("boards", self.room / "feed")[1]
+        style = re.search("<style>(.*?)</style>", text, re.S)
+        checksum = base64.b64encode(hashlib.sha256(style[1].encode()).digest()).decode()
+        policy = f"default-src 'none'; style-src 'sha256-{checksum}'; base-uri 'none'; form-action 'none'"
+        self.assertIn(f'<meta http-equiv="Content-Security-Policy" content="{policy}">', text.partition("<style>")[0])
+        self.assertNotIn(" style=", text)
 
     def test_names_that_a_page_must_not_take_for_its_own(self) -> None:
         name = "<script>alert(1)</script>&\"'"

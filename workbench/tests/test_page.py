@@ -7,8 +7,9 @@ import shutil
 from pathlib import Path
 
 from desk.day import read_day
-from desk.page import IMPORT, checksum, joined_script, static_page
+from desk.page import IMPORT, joined_script, static_page
 from desk.plans import StatedBlock, read_blocks
+from desk.policy import checksum
 from desk.program import ROOT, run
 from desk.texts import Json
 from desk.town import Town
