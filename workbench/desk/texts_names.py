@@ -9,7 +9,7 @@ from pathlib import Path
 
 from desk.errors import DeskError
 from desk.files import read_text
-from desk.records import open_records, records_of
+from desk.records import records_of
 from desk.town import Town
 
 TRIPS, BLOCKS, PLACES = "trips", "blocks", "places"
@@ -42,22 +42,13 @@ def _names(command: str, town: Town, folder: Path) -> Iterator[tuple[str, str]]:
     for trip in town.day() if kinds else ():
         names = {TRIPS: (trip.trip_id,), BLOCKS: (trip.block_id,), PLACES: (trip.start, trip.end)}
         yield from ((f"trips.txt record {trip.record}", name) for kind in kinds for name in names[kind])
-    if PLACES in kinds and town.has("deadheads.csv"):
-        yield from _column_names(town.path("deadheads.csv"), ("from", "to"))
+    if PLACES in kinds:
+        yield from ((f"deadheads.csv record {record}", name) for name, record in town.deadhead_places.items())
     yield from _script_names(folder / "edits.csv", 0)
     if command == "planners":
         yield from _script_names(folder / "planner_edits.csv", 1)
-    for name in (town.settings.get("block_prefix", ""), *town.table("classes").values()):
-        yield "desk.toml", str(name)
-
-
-def _column_names(path: Path, columns: tuple[str, ...]) -> Iterator[tuple[str, str]]:
-    """The names in these columns of a file."""
-    with open_records(path) as records:
-        places = [records.column(column) for column in columns]
-        for number, fields in records:
-            for place in places:
-                yield f"{path.name} record {number}", fields[place]
+    if kinds:
+        yield from (("desk.toml", str(name)) for name in (town.settings.get("block_prefix", ""), *town.table("classes").values()))
 
 
 def _script_names(path: Path, word: int) -> Iterator[tuple[str, str]]:

@@ -96,6 +96,19 @@ class Town:
             return {fields[stop]: fields[terminal] for _, fields in records}
 
     @cached_property
+    def deadhead_places(self) -> dict[str, int]:
+        """The places that `deadheads.csv` names, each with its first record."""
+        if not self.has("deadheads.csv"):
+            return {}
+        found: dict[str, int] = {}
+        with open_records(self.path("deadheads.csv")) as records:
+            ends = [records.column(name) for name in ("from", "to")]
+            for number, fields in records:
+                for end in ends:
+                    found.setdefault(fields[end], number)
+        return found
+
+    @cached_property
     def stops(self) -> dict[str, Stop]:
         """The agency's stops by their names in `stop_id`; none where there is no `stops.txt`."""
         path = self.agency_path("stops.txt")
