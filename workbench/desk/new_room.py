@@ -7,13 +7,14 @@ from __future__ import annotations
 
 import json
 import os
+import re
 import shutil
 from collections.abc import Iterator
 from contextlib import ExitStack, contextmanager
 from pathlib import Path
 
 from desk.errors import DeskError
-from desk.files import new_mode, read_bytes, reason, sync_folder, write_whole
+from desk.files import new_mode, read_bytes, reason, refuse_no_file, sync_folder, write_whole
 from desk.hints_files import GTFS
 from desk.locks import locked
 from desk.rooms import own_room
@@ -67,6 +68,8 @@ def carry_own(room: Path, town: Path) -> list[str]:
         if path.name in GTFS or path.name in AGENCY_FILES or os.path.lexists(target):
             continue
         try:
+            if not path.is_symlink():
+                refuse_no_file(path)
             if path.is_dir() and not path.is_symlink():
                 shutil.copytree(path, target, symlinks=True)
             else:
@@ -120,17 +123,30 @@ def undo(town: Path) -> str:
     if not before.is_dir():
         return ""
     if (before / STEPS).is_file():
-        steps = json.loads(read_bytes(before / STEPS))
-        for name in {*steps["was"], *steps["made"]}:
+        was, made = _steps(before)
+        for name in {*was, *made}:
             if os.path.lexists(before / name):
                 _remove(town / name)
                 os.rename(before / name, town / name)
-            elif name not in steps["was"]:
+            elif name not in was:
                 _remove(town / name)
         sync_folder(town)
         (before / STEPS).unlink()
     before.rmdir()
     return f"{town} stands as it was before a `./desk new --replace` that was cut off"
+
+
+def _steps(before: Path) -> tuple[list[str], list[str]]:
+    """Which files stood in a town and which come, by the list that stands aside. A list of another form is a DeskError."""
+    try:
+        steps = json.loads(read_bytes(before / STEPS))
+        was, made = steps["was"], steps["made"]
+        in_form = not before.is_symlink() and all(re.fullmatch(r"[^./\0][^/\0]*", name) for name in [*was, *made])
+    except (ValueError, TypeError, KeyError):
+        in_form = False
+    if not in_form:
+        raise DeskError(f"{before / STEPS} is none that `./desk new` writes: look what stands in {before}, and move it away")
+    return was, made
 
 
 def _remove(path: Path) -> None:

@@ -1,6 +1,6 @@
 """`./desk notes TOWN`: what the program accepts in silence and a planner would want to know.
 
-Nothing is planned here, and the program is not run. Each note names its file, its record, what was found and what to do.
+Nothing is planned here, and of the program it is asked only what a journal says. Each note names its file, its record, what was found and what to do.
 """
 from __future__ import annotations
 

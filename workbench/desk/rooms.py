@@ -55,7 +55,10 @@ def own_room(folder: Path | None = None, prefix: str = PREFIX) -> Iterator[Path]
 @cache
 def sweep(folder: Path, prefix: str) -> None:
     """Removes the rooms in a folder that killed runs of this user have left: those that nobody holds and that are not new."""
-    for path in folder.iterdir():
+    paths: list[Path] = []
+    with suppress(OSError):
+        paths += folder.iterdir()
+    for path in paths:
         if re.fullmatch(re.escape(prefix) + "[a-z0-9_]{8}", path.name):
             with suppress(OSError):
                 found = path.lstat()

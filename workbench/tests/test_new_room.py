@@ -3,13 +3,14 @@ from __future__ import annotations
 
 import fcntl
 import os
+import shutil
 import signal
 import time
 from pathlib import Path
 from unittest import mock
 
 from desk.files import new_mode
-from desk.new_room import BEFORE, settle, town_room
+from desk.new_room import BEFORE, STEPS, settle, town_room
 from tests.feeds import FIRST_DAY, FolderTest, agency, demonstration, write_feed, zip_feed
 
 Standing = dict[str, bytes | None]
@@ -96,6 +97,24 @@ class AllOrNone(FolderTest):
         self.assertGreater(told, 8)
         self.replace()
         self.assertEqual(standing(self.town), self.after)
+
+    def test_a_list_that_leads_out_of_the_town(self) -> None:
+        """Towns come from anybody. A list that `new` has not written is refused, and nothing is moved or removed by it."""
+        write_feed(self.room / "mine", {"a.txt": "mine"})
+        before = standing(self.room / "mine")
+        for text in ('{"was": [], "made": ["../mine"]}', '{"was": [], "made": [".."]}', '{"was": [], "made": ["."]}', '{"was": [], "made": [""]}',
+                     f'{{"was": ["{self.room}/mine"], "made": []}}', '{"was": [], "made": [7]}', '{"was": [], "made": "..a"}', '{"was": 7, "made": 7}', "[]", "{}", "x", '{"was": [], "made": ["a\\u0000"]}'):
+            write_feed(self.town / BEFORE, {STEPS: text})
+            with self.subTest(text):
+                status, _, errors = self.desk("saved", self.town)
+                self.assertEqual(status, 1)
+                self.assertRegex(errors, "steps.json is none that `./desk new` writes: look what stands in ")
+                self.assertEqual((standing(self.room / "mine"), (self.town / "edits.csv").read_text()), (before, "show\n"))
+        shutil.rmtree(self.town / BEFORE)
+        write_feed(self.room / "mine", {STEPS: '{"was": ["a.txt"], "made": []}'})
+        (self.town / BEFORE).symlink_to(self.room / "mine")
+        self.assertEqual(self.desk("saved", self.town)[0], 1)
+        self.assertTrue((self.room / "mine" / "a.txt").is_file())
 
     def test_a_folder_in_the_place_of_a_file(self) -> None:
         """It is refused before anything is made, and what stands in it stays."""
