@@ -121,8 +121,7 @@ def release_output() -> None:
 
 
 def main(words: Sequence[str]) -> int:
-    """Runs a command line and gives its status. No error ends with a traceback, and no signal but a kill without what was begun
-    being put away."""
+    """Runs a command line and gives its status. No error ends with a traceback, and after Ctrl+C what was begun is put away."""
     before = {number: signal.getsignal(number) for number in ENDS}
     try:
         for number, handler in before.items():

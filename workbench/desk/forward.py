@@ -77,14 +77,15 @@ def ask(words: list[str]) -> tuple[int, str]:
         raise DeskError(f"the program cannot be run with these words: {error}") from error
     with running:
         passing = threading.Thread(target=pass_on, args=(running.stderr,))
-        passing.start()
         try:
+            passing.start()
             text = running.stdout.read()
         except KeyboardInterrupt:
             running.terminate()
             raise
         finally:
-            passing.join()
+            if passing.is_alive():
+                passing.join()
     status = running.returncode
     return status if status >= 0 else 128 - status, text.decode("utf-8", "surrogateescape")
 

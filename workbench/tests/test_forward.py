@@ -86,14 +86,14 @@ class TestAnyProgram(FolderTest):
             self.assertEqual(running.communicate()[0], b"done\n")
 
     def test_ctrl_c_ends_the_program_too(self) -> None:
-        self.fake(body=f"#!/bin/sh\necho begun >&2\ntrap 'kill $!; touch {self.room}/ended; exit 1' TERM\nsleep 60 &\nwait\n")
+        self.fake(body="#!/bin/sh\necho $$ >&2\nexec sleep 60\n")
         with subprocess.Popen([ROOT / "desk", "blocks", self.room], stdout=subprocess.PIPE, stderr=subprocess.PIPE,
                               preexec_fn=lambda: signal.signal(signal.SIGINT, signal.SIG_DFL)) as running:
-            self.assertEqual(running.stderr.readline(), b"begun\n")
+            process = int(running.stderr.readline())
             running.send_signal(signal.SIGINT)
-            self.assertEqual(running.wait(60), 1)
+            self.assertEqual(running.wait(30), 1)
             self.assertEqual(running.stderr.readline(), b"desk: stopped\n")
-        self.assertTrue((self.room / "ended").exists())
+        self.assertRaises(ProcessLookupError, os.kill, process, 0)
 
     def test_its_words_are_passed_on(self) -> None:
         self.fake(body='#!/bin/sh\nprintf "%s|" "$@"\n')

@@ -70,7 +70,7 @@ class KeepingTest(FolderTest):
         (town / "edits.csv").write_text("cancel,U1\ncancel,U2\n")
         before = {path.name for path in town.iterdir()}
         slow = self.room / "slow"
-        slow.write_text(f'#!/bin/sh\nif [ "$1" = keep ]; then touch {self.room}/keeps; exec sleep 60; fi\nexec "{program.program_path()}" "$@"\n')
+        slow.write_text(f'#!/bin/sh\nif [ "$1" = keep ]; then touch {self.room}/keeps; exec sleep 20; fi\nexec "{program.program_path()}" "$@"\n')
         slow.chmod(0o755)
         for end in (signal.SIGHUP, signal.SIGTERM, signal.SIGKILL):
             (self.room / "keeps").unlink(missing_ok=True)
