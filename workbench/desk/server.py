@@ -6,6 +6,7 @@ import os
 import secrets
 import sys
 import webbrowser
+from contextlib import suppress
 from pathlib import Path
 
 from desk import program
@@ -72,7 +73,8 @@ def serve(server: WebServer, browser: bool) -> None:
                 webbrowser.open(handed_over(server.address, room).as_uri())
             server.serve_forever()
         except KeyboardInterrupt:
-            sys.stdout.write("\n")
+            with suppress(OSError):  # Its terminal may be gone.
+                sys.stdout.write("\n")
         server.session.close()
 
 

@@ -425,6 +425,18 @@ class SessionTest(FolderTest):
             self.session.day()
         self.assertEqual(self.script(), 'cancel,"U1\n')
 
+    def test_a_pipe_that_comes_meanwhile(self) -> None:
+        """A named pipe in the place of a file is an error by its name, and nothing waits for it."""
+        state = self.session.day()["day"]["state"]
+        (self.town / "deadheads.csv").unlink()
+        os.mkfifo(self.town / "deadheads.csv")
+        edit = {"edit": "shift", "trip": "U2", "shift": 1, "state": state}
+        for asked in (self.session.day, lambda: self.session.edit(edit), lambda: self.session.keep({}),
+                      lambda: self.session.suggest({"word": "shifts"}), lambda: self.session.export({"what": "blocks"})):
+            with self.assertRaisesRegex(DeskError, "deadheads.csv is a named pipe"):
+                asked()
+        self.assertEqual(self.script(), "")
+
     def test_suggestions(self) -> None:
         """The suggestions are those of the program, of the day as it stands."""
         self.assertEqual(self.session.suggest({"word": "shifts"})["found"], {"refused": [], "shifts": [], "sum": 2})
