@@ -39,7 +39,7 @@ def refuse_hidden_ends(command: str, town: Town, folder: Path) -> None:
 def _names(command: str, town: Town, folder: Path) -> Iterator[tuple[str, str]]:
     """Each name that the text of a command may put, with where it stands."""
     kinds = NAMES.get(command, ())
-    for trip in town.day() if kinds else ():
+    for trip in town.day() if PLACES in kinds else town.selected.values() if kinds else ():
         names = {TRIPS: (trip.trip_id,), BLOCKS: (trip.block_id,), PLACES: (trip.start, trip.end)}
         yield from ((f"trips.txt record {trip.record}", name) for kind in kinds for name in names[kind])
     if PLACES in kinds:

@@ -136,7 +136,7 @@ class Town:
 
     @cached_property
     def _day(self) -> list[DayTrip]:
-        trips = self._selected()
+        trips = self.selected
         with open_records(self.path("stop_times.txt")) as records:
             _read_ends(records, trips)
         for trip in trips.values():
@@ -145,8 +145,9 @@ class Town:
             trip.end = self.terminal(trip.last_stop) + post
         return list(trips.values())
 
-    def _selected(self) -> dict[str, DayTrip]:
-        """The trips that `trips.txt` has of the selected services, by their names."""
+    @cached_property
+    def selected(self) -> dict[str, DayTrip]:
+        """The trips that `trips.txt` has of the selected services, by their names. `day` gives them their ends and times."""
         listed, running = self.selects()
         classes = self.table("classes")
         trips: dict[str, DayTrip] = {}

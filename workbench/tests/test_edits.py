@@ -6,7 +6,6 @@ import random
 import signal
 import time
 from collections.abc import Callable
-from pathlib import Path
 
 from desk.edits import record_of, writing
 from desk.errors import DeskError, UsageError
