@@ -50,56 +50,68 @@ fn adding(sum: i32) -> MaxPrefix
     }
 }
 
-// A tree of sums with 5 at place 7, -3 at place 4096 and 4 at place 8191. It asks for the greatest prefix sum, and for the
-// first places to reach 5, 6 and 7, the last of these from place 8.
+// A value that is looked for, the first place to reach it, and the first from place 8 on.
+type Row = (i32, Option<u16>, Option<u16>);
+
+const ROWS: &[Row] = &[
+    (5, Some(7), Some(8)),
+    (6, Some(8191), Some(8191)),
+    (7, None, None),
+];
+
+// A tree of sums with 5 at place 7, -3 at place 4096 and 4 at place 8191: its greatest prefix sum, and the first places to reach
+// a value, in the ledger that the blank becomes.
 fn found<L: Ledger>(
     alloc: Global,
-    steps: &mut Steps<L>,
-) -> Result<(i32, [Option<u16>; 4]), Memory> {
-    let mut tree: Tree<MaxPrefix> = Tree::open(alloc)?;
-    tree.set(7, adding(5), steps);
-    tree.set(4096, adding(-3), steps);
-    tree.set(8191, adding(4), steps);
-    let first = [
-        tree.first_reaching(5),
-        tree.first_reaching(6),
-        tree.first_reaching(7),
-        tree.first_from(8, 6),
-    ];
-    Ok((tree.greatest_prefix(), first))
-}
-
-// The greatest of the leaves of a tree with 7 at place 0 and 9 at place 8191. Then that of the tree with 1 in the place of the
-// 9.
-fn greatest<L: Ledger>(alloc: Global, steps: &mut Steps<L>) -> Result<(u16, u16), Memory> {
-    let mut tree: Tree<u16> = Tree::open(alloc)?;
-    tree.set(0, 7, steps);
-    tree.set(8191, 9, steps);
-    let before = tree.whole();
-    tree.set(8191, 1, steps);
-    Ok((before, tree.whole()))
-}
-
-// What both trees answer, in the ledger that the blank becomes.
-fn answers<L: Ledger>(
-    alloc: Global,
+    value: i32,
     blank: Blank,
-) -> Result<(i32, [Option<u16>; 4], u16, u16), Memory>
+) -> Result<(i32, Option<u16>, Option<u16>), Memory>
     requires name { blank.name ≡ L.name }
     requires parts { blank.parts ≡ L.parts }
     requires shared { 0 < blank.parts }
 {
     let mut steps = Steps::<L>::open(blank);
-    let (high, first) = found(alloc, &mut steps)?;
-    let (before, after) = greatest(alloc, &mut steps)?;
-    Ok((high, first, before, after))
+    let mut tree: Tree<MaxPrefix> = Tree::open(alloc)?;
+    tree.set(7, adding(5), &mut steps);
+    tree.set(4096, adding(-3), &mut steps);
+    tree.set(8191, adding(4), &mut steps);
+    Ok((
+        tree.greatest_prefix(),
+        tree.first_reaching(value),
+        tree.first_from(8, value),
+    ))
 }
 
 #[test]
-fn a_tree_answers_at_two_summaries(rt: HostRuntime) -> Result<(), Fail> {
-    let (high, first, before, after) = answers::<Brand>(rt.alloc(), Blank::new(1))?;
-    assert_eq!(rt; high, 6);
-    assert_eq!(rt; first, [Some(7), Some(8191), None, Some(8191)]);
-    assert_eq!(rt; (before, after), (9, 7));
+fn a_tree_of_sums_finds_places(rt: HostRuntime) -> Result<(), Fail> {
+    let alloc = rt.alloc();
+    for (value, first, later) in ROWS.iter().copied() {
+        let answers = found::<Brand>(alloc, value, Blank::new(1))?;
+        assert!(rt; answers == (6, first, later));
+    }
+    Ok(())
+}
+
+// The greatest of the leaves of a tree with 7 at place 0 and 9 at place 8191. Then that of the tree with 1 in the place of the
+// 9.
+fn greatest<L: Ledger>(alloc: Global, blank: Blank) -> Result<(u16, u16), Memory>
+    requires name { blank.name ≡ L.name }
+    requires parts { blank.parts ≡ L.parts }
+    requires shared { 0 < blank.parts }
+{
+    let mut steps = Steps::<L>::open(blank);
+    let mut tree: Tree<u16> = Tree::open(alloc)?;
+    tree.set(0, 7, &mut steps);
+    tree.set(8191, 9, &mut steps);
+    let before = tree.whole();
+    tree.set(8191, 1, &mut steps);
+    Ok((before, tree.whole()))
+}
+
+#[test]
+fn a_tree_of_greatest_leaves(rt: HostRuntime) -> Result<(), Fail> {
+    let (before, after) = greatest::<Brand>(rt.alloc(), Blank::new(1))?;
+    assert!(rt; before == 9);
+    assert!(rt; after == 7);
     Ok(())
 }
