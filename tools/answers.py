@@ -29,10 +29,8 @@ COMMANDS = {"deficits": [], "fixed": [], "blocks": ["blocks.csv", "prices.csv"],
 OF_A_FEED = [command for command in COMMANDS if command not in ("keep", "kept")]
 # The database and its log. Of the two only the lines count.
 JOURNAL = ("journal.db", "journal.db-wal")
-# Whether a killed run leaves each of its files as before or whole. Of a program that writes in place it may be cut too.
-WHOLE_FILES = False
 # A file that the program makes beside the one that it writes, and that a killed run may leave. `FILE` is the name of that one.
-BESIDE = r"\.?FILE[.~-][\w.~-]+"
+BESIDE = r"\.FILE\.\d+"
 MOST_SECONDS, MOST_MIB = 60, 6000
 
 # The line of standard error with each status. Where there is none, nothing is put there.
@@ -152,10 +150,9 @@ def half_done(command: str, before: Standing, whole: Standing, after: Standing) 
     """What is wrong with a folder in which a run of a command was killed or met a fault: each file is as before or whole."""
     wrong = []
     for name in sorted(before.keys() | after.keys()):
-        is_, own = after.get(name), name in COMMANDS[command]
-        as_whole = own and is_ == whole.get(name)
-        cut = own and not WHOLE_FILES and isinstance(is_, bytes) and isinstance(whole.get(name), bytes) and whole[name].startswith(is_)
-        if not (is_ == before.get(name) or as_whole or cut or left_beside(command, name)):
+        is_ = after.get(name)
+        as_whole = name in COMMANDS[command] and is_ == whole.get(name)
+        if not (is_ == before.get(name) or as_whole or left_beside(command, name)):
             wrong.append(f"{name} is neither as before nor whole")
     return wrong
 
