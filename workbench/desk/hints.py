@@ -4,6 +4,7 @@ The program's texts stay as they are. Each hint is one line, and where nothing i
 """
 from __future__ import annotations
 
+import re
 from collections.abc import Sequence
 from pathlib import Path
 
@@ -15,10 +16,16 @@ from desk.hints_refusals import refusal_hints
 from desk.hints_scripts import script_hints
 from desk.keeping import compared
 from desk.limits import MOST_TRIPS
+from desk.notes_days import no_trips
+from desk.notes_note import View
 from desk.town import Town
+from desk.unlisted import told, unlisted_of_plan
 
 DONE = (0, 1)
 """The statuses of the program where it has done all but records that are refused."""
+
+NOTHING = re.compile(r"\b(fixed|vehicles|sum) 0\b")
+"""The numbers of a day without trips."""
 
 USAGE, REFUSED, READ_FAULT, WRITE_FAULT, KEEPER_FAULT = 2, 3, 5, 6, 7
 """The statuses of the program with hints."""
@@ -26,8 +33,6 @@ USAGE, REFUSED, READ_FAULT, WRITE_FAULT, KEEPER_FAULT = 2, 3, 5, 6, 7
 
 def hints_of(command: str, words: Sequence[str], status: int, text: str) -> list[str]:
     """The hints of a run of the program: its command, the words behind that, its status and what it put."""
-    if status == 0:
-        return []
     if status == USAGE:
         return usage_hints(command, words)
     if command not in COMMANDS or len(words) != 1:
@@ -70,6 +75,13 @@ def _written_over(town: Town) -> list[str]:
     return hints
 
 
+def _beside(command: str, town: Town, text: str) -> list[str]:
+    """What a planner should know beside the answer of a run that was done: a day without trips, terminals without a depot."""
+    if NOTHING.search(text):
+        return [note.text for note in no_trips(View(town))]
+    return told(unlisted_of_plan(town)) if command == "blocks" else []
+
+
 def _hints(command: str, town: Town, status: int, text: str) -> list[str]:
     """The hints of a run over a town, by its status."""
     if status == REFUSED:
@@ -80,7 +92,8 @@ def _hints(command: str, town: Town, status: int, text: str) -> list[str]:
         return write_hints(command, town.folder)
     if status == KEEPER_FAULT:
         return keeper_hints(town.folder)
-    return script_hints(town, text) + (claim_hints(town, text) if command == "check" else [])
+    refused = script_hints(town, text) if status else []
+    return refused + (claim_hints(town, text) if command == "check" and status else []) + (_beside(command, town, text) if status in DONE else [])
 
 
 def usage_hints(command: str, words: Sequence[str]) -> list[str]:

@@ -26,7 +26,7 @@ class Places:
     @cached_property
     def _by_name(self) -> dict[str, str]:
         """The terminal of each name that `stops.txt` gives to a stop in words."""
-        return {stop.name: self.town.terminal(name) for name, stop in self.town.stops.items() if stop.name}
+        return {stop.name: self.stations.get(name) or self.town.terminal(name) for name, stop in self.town.stops.items() if stop.name}
 
     @cached_property
     def _terminals(self) -> Known:

@@ -11,7 +11,7 @@ from collections import Counter
 from collections.abc import Callable, Iterator, Sequence
 from pathlib import Path
 
-from desk import (notes_days, notes_files, notes_minutes, notes_places, notes_scripts, notes_settings, notes_trips,
+from desk import (notes_days, notes_depot, notes_files, notes_minutes, notes_places, notes_scripts, notes_settings, notes_trips,
                   notes_ways)
 from desk.errors import DeskError, one_line
 from desk.files import reason
@@ -25,9 +25,9 @@ WORD = "notes"
 HELP = "what looks wrong in a town and the program accepts in silence"
 
 CHECKS: tuple[Callable[[View], Iterator[Note]], ...] = (
-    notes_files.names, notes_days.no_trips, notes_days.services, notes_days.all_days, notes_settings.layovers,
+    notes_files.names, notes_days.no_trips, notes_days.services, notes_days.all_days, notes_depot.unlisted, notes_settings.layovers,
     notes_settings.classes, notes_trips.repeated, notes_trips.no_block_id, notes_trips.other_days_blocks,
-    notes_trips.tolerances, notes_places.terminals, notes_places.deadheads, notes_places.depot, notes_ways.unreached,
+    notes_trips.tolerances, notes_places.terminals, notes_places.deadheads, notes_depot.names, notes_depot.extras, notes_ways.unreached,
     notes_ways.slow, notes_ways.one_way, notes_minutes.misses, notes_scripts.journal)
 """What is looked for, in the order of the notes. The first of them needs no file."""
 

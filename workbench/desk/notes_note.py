@@ -1,17 +1,22 @@
 """A note, and the view of a town that the notes are taken from."""
 from __future__ import annotations
 
-from collections.abc import Callable
-from pathlib import Path
+from collections.abc import Callable, Iterable
 from typing import Any, NamedTuple
 
 from desk.errors import DeskError
+from desk.files import read_bytes
+from desk.hints_edits import is_edit
+from desk.hints_forms import KEYS
 from desk.hints_names import Finding
 from desk.hints_places import Places
+from desk.hints_scripts import edit_of
 from desk.hints_trips import TripFile
 from desk.limits import MOST_TRIPS
 from desk.notes_deadheads import Way, read_ways
-from desk.records import open_records
+from desk.records import first_records
+from desk.rooms import SCRIPTS
+from desk.scripts import fields_of
 from desk.town import DayTrip, Town
 
 
@@ -29,6 +34,15 @@ class Note(NamedTuple):
         """The note as one line."""
         place = self.file if self.record is None else f"{self.file} record {self.record}"
         return f"{place}: {self.found}. {self.do}."
+
+
+class Extra(NamedTuple):
+    """An end of an extra trip of a script: the file, the record, the trip and the terminal."""
+
+    file: str
+    record: int
+    trip: str
+    place: str
 
 
 def note_of(kind: str, file: str, record: int | None, finding: Finding) -> Note:
@@ -65,6 +79,25 @@ class View:
         return self._once("repeats", lambda: first_records(self.town.agency_path("frequencies.txt"), "trip_id"))
 
     @property
+    def pulls(self) -> dict[str, int]:
+        """The terminals of `depot.csv`, each with its record."""
+        return self._once("pulls", lambda: first_records(self.town.path("depot.csv"), "terminal"))
+
+    @property
+    def extras(self) -> list[Extra]:
+        """The ends of the extra trips of both scripts."""
+        return self._once("extras", lambda: [extra for name in SCRIPTS for extra in read_extras(self.town, name)])
+
+    @property
+    def former(self) -> set[str]:
+        """The names in `depot.csv` and [layovers] that are no place of any day, as that of a terminal that was renamed."""
+        return self._once("former", self._former)
+
+    def lacking(self, listed: Iterable[str]) -> list[str]:
+        """The terminals of the day that are not listed."""
+        return sorted(self.places.day - set(listed))
+
+    @property
     def trips(self) -> TripFile:
         """What `trips.txt` has, with the trips that other files name."""
         return self._once("trips", lambda: TripFile(self.town, self._asked()))
@@ -94,6 +127,12 @@ class View:
                 continue
         return asked
 
+    def _former(self) -> set[str]:
+        """Finds the names. One at which an extra trip runs is a place of its own, where `depot.csv` lacks no terminal."""
+        kept = set() if self.lacking(self.pulls) else {extra.place for extra in self.extras}
+        return {name for name in (*self.pulls, *self.town.table("layovers"))
+                if name not in kept and name not in KEYS and not self.places.is_known(name)}
+
     def _day(self) -> list[DayTrip]:
         """Reads the trips of the day."""
         if len(self.trips.selected) > MOST_TRIPS:
@@ -101,13 +140,11 @@ class View:
         return self.town.day()
 
 
-def first_records(path: Path, column: str) -> dict[str, int]:
-    """The names in a column of a file, each with its first record; none where the file is not there."""
-    if not path.is_file():
-        return {}
-    found: dict[str, int] = {}
-    with open_records(path) as records:
-        at = records.column(column)
-        for number, fields in records:
-            found.setdefault(fields[at], number)
+def read_extras(town: Town, script: str) -> list[Extra]:
+    """The ends of the extra trips of a script; none where the file is not there."""
+    found = []
+    for number, fields in enumerate(fields_of(script, read_bytes(town.path(script))) if town.has(script) else (), 1):
+        edit = edit_of("planner" if script == "planner_edits.csv" else "record", fields)
+        if edit[0] == "extra" and is_edit(edit):
+            found += [Extra(script, number, edit[1], town.of_post(place)) for place in edit[2:4]]
     return found

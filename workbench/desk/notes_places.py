@@ -1,12 +1,13 @@
-"""Notes on names that are no place: in `deadheads.csv`, `depot.csv` and `terminals.csv`."""
+"""Notes on names that are no place: in `deadheads.csv` and `terminals.csv`."""
 from __future__ import annotations
 
 from collections import Counter
-from collections.abc import Iterable, Iterator
+from collections.abc import Iterable, Iterator, Sequence
 
 from desk.hints_names import Finding, Known, advice, difference, folded, shown
 from desk.notes_deadheads import Way
-from desk.notes_note import Note, View, first_records, note_of
+from desk.notes_note import Note, View, note_of
+from desk.records import first_records
 
 SURE = 0.85
 """How alike the name of a place on the way must be to a terminal for a note on a typing error."""
@@ -20,10 +21,12 @@ def deadheads(view: View) -> Iterator[Note]:
     counts = Counter(name for way in ways for name in (way.start, way.end))
     first = _first((way.record, name) for way in ways for name in (way.start, way.end))
     between = _between(ways)
+    lacking = view.lacking(first)
+    renamed = set(first) if lacking and not view.pulls else view.former
     for name, record in first.items():
         if name not in between:
-            finding = _without_effect(_about(view, name), counts[name])
-        elif finding := view.places.about(name, SURE):
+            finding = without_effect(about(view, name, lacking), counts[name])
+        elif finding := view.places.about(name, SURE) or (about(view, name, lacking) if name in renamed else None):
             finding = Finding(f"{finding.found}; the program takes it for another place, on the way", finding.do)
         if finding is not None:
             yield note_of("no-such-place", "deadheads.csv", record, finding)
@@ -47,37 +50,27 @@ def _first(pairs: Iterable[tuple[int, str]]) -> dict[str, int]:
     return found
 
 
-def _about(view: View, name: str) -> Finding | None:
-    """What is wrong with a name; None where it is a place of some day."""
+def about(view: View, name: str, lacking: Sequence[str] = ()) -> Finding | None:
+    """What is wrong with a name; None where it is a place of some day. Its file lacks these terminals of the day."""
     finding = view.places.about(name)
     if finding is None and not view.places.is_known(name):
-        finding = no_place(name)
+        finding = no_place(name, lacking)
     return finding
 
 
-def no_place(name: str) -> Finding:
-    """That nothing is known of a name."""
-    return Finding(f"{shown(name)} is no place of the feed", "Write a terminal of terminals.csv, or a stop that it does not list")
+def no_place(name: str, lacking: Sequence[str] = ()) -> Finding:
+    """That nothing is known of a name. Where its file lacks one terminal of the day, it may be the old name of that one."""
+    do = f"Write {shown(lacking[0])}, if that is its name now" if len(lacking) == 1 else \
+        "Write a terminal of terminals.csv, or a stop that it does not list"
+    return Finding(f"{shown(name)} is no place of the feed", do)
 
 
-def _without_effect(finding: Finding | None, records: int) -> Finding | None:
+def without_effect(finding: Finding | None, records: int) -> Finding | None:
     """A finding with the number of records that have no effect."""
     if finding is None:
         return None
     effect = "the record has no effect" if records == 1 else f"{records} records have no effect"
     return Finding(f"{finding.found}; {effect}", finding.do)
-
-
-def depot(view: View) -> Iterator[Note]:
-    """Each name of `depot.csv` that is no place of any day."""
-    names = first_records(view.town.path("depot.csv"), "terminal")
-    if not names or not view.day:
-        return
-    named = {name for way in view.ways for name in (way.start, way.end)}
-    for name, record in names.items():
-        finding = None if name in named else _without_effect(_about(view, name), 1)
-        if finding is not None:
-            yield note_of("no-such-place", "depot.csv", record, finding)
 
 
 def terminals(view: View) -> Iterator[Note]:
@@ -96,6 +89,6 @@ def terminals(view: View) -> Iterator[Note]:
     ends = [stop for trip in view.day for stop in (trip.first_stop, trip.last_stop)]
     known = Known([*view.town.stops, *ends])
     for name, record in stops.items():
-        finding = None if name in known else _without_effect(advice(name, known), 1)
+        finding = None if name in known else without_effect(advice(name, known), 1)
         if finding is not None:
             yield note_of("no-such-stop", "terminals.csv", record, finding)

@@ -190,13 +190,13 @@ class Rides:
         self.refuse_gaps(stated.name, legs)
         classes = bool(self.town.table("classes"))
         vehicle_class = rides[0].start.rpartition("/")[2] if classes else None
-        return Block(stated.name, vehicle_class, tuple(rides), self.pull_in.get(self.terminal(rides[-1].end), 0))
+        return Block(stated.name, vehicle_class, tuple(rides), self.pull_in.get(self.town.of_post(rides[-1].end), 0))
 
     def ride(self, leg: Leg, empty: int, empty_from: str) -> Ride:
         """The ride of a trip's record. A record that is not of the feed as it stands is a DeskError."""
         if self.times.get(leg.trip) != (leg.leaves, leg.arrives):
             self.refuse(leg, "has other times than the timetable after the script")
-        trip, layover, shift = self.trips.get(leg.trip), self.town.layover(self.terminal(leg.end)), 0
+        trip, layover, shift = self.trips.get(leg.trip), self.town.layover(self.town.of_post(leg.end)), 0
         if trip is not None:
             if trip.departure is None or trip.arrival is None:
                 self.refuse(leg, "has no time at an end")
@@ -213,10 +213,6 @@ class Rides:
             if before.end != after.start or before.arrives > after.leaves or not after.trip and before.arrives != after.leaves:
                 raise DeskError(f"boards.csv: block {name}: what leaves {after.start} at {format_minute(after.leaves)} does "
                                 "not follow on what stands before it")
-
-    def terminal(self, place: str) -> str:
-        """The terminal of a place: where vehicles are of classes it stands before the last slash."""
-        return place.rpartition("/")[0] if self.town.table("classes") else place
 
     def refuse(self, leg: Leg, why: str) -> NoReturn:
         """Refuses a trip of the boards that is not of the feed as it stands."""

@@ -80,6 +80,18 @@ def open_records(path: Path) -> Iterator[Records]:
         yield Records(path.name, lines)
 
 
+def first_records(path: Path, column: str) -> dict[str, int]:
+    """The names in a column of a file, each with its first record; none where the file is not there."""
+    if not path.is_file():
+        return {}
+    found: dict[str, int] = {}
+    with open_records(path) as records:
+        at = records.column(column)
+        for number, fields in records:
+            found.setdefault(fields[at], number)
+    return found
+
+
 def records_of(name: str, text: str) -> Records:
     """The records of a text. Errors in it have this name."""
     return Records(name, io.StringIO(text.removeprefix("\ufeff"), newline=""))

@@ -118,6 +118,10 @@ class Town:
         """The terminal of a stop: that of `terminals.csv`, else one that is named as the stop."""
         return self.terminals.get(stop, stop)
 
+    def of_post(self, place: str) -> str:
+        """The terminal of a place: where vehicles are of classes it stands before the last slash."""
+        return place.rpartition("/")[0] if self.table("classes") else place
+
     def layover(self, terminal: str) -> int:
         """The minutes that a vehicle stays at a terminal, by `desk.toml`."""
         value = self.table("layovers").get(terminal, self.settings.get("layover", 0))

@@ -7,12 +7,15 @@ from desk.boards_page import day_text
 from desk.day import Day, Published
 from desk.figures import block_figures
 from desk.lines import LineNames
+from desk.notes_days import no_trips
+from desk.notes_note import View
 from desk.plans import Block
 from desk.records import open_records
 from desk.scripts import Record, standing
 from desk.texts import Json, minute_of
 from desk.texts_written import edit_text, verdict_text
 from desk.town import Town
+from desk.unlisted import told, unlisted
 
 PROVED = "No plan has fewer vehicles, and none with as many has fewer empty minutes: checked by prices."
 
@@ -39,7 +42,15 @@ def as_view(day: Day) -> Json:
         "undo": done[-1].text if done else None,
         "redo": undone[-1].text if undone else None,
         "planners": _planners(day),
+        "warnings": _warnings(day),
     }
+
+
+def _warnings(day: Day) -> list[str]:
+    """What a planner should know beside the numbers: that no trip is selected, or the terminals that `depot.csv` does not list."""
+    if not day.published:
+        return [note.text for note in no_trips(View(day.town))]
+    return told(unlisted(day.town, ((block.rides[0].start, block.rides[-1].end) for block in day.blocks)))
 
 
 def as_text(view: Json) -> str:

@@ -135,6 +135,16 @@ class TestSilentMistakes(NotesTest):
 class TestDays(NotesTest):
     """Notes on the day and its services."""
 
+    @needs_program
+    def test_a_wrong_year_is_told_below_the_answers_of_the_program(self) -> None:
+        town = write_feed(self.room / "town", silent_feed("a date outside the calendar") | {"edits.csv": ""})
+        for command in ("blocks", "check", "fixed", "deficits", "joined", "audit"):
+            with self.subTest(command):
+                status, _, errors = self.desk(command, town)
+                self.assertEqual(status, 0)
+                self.assertRegex(errors, r"^desk: desk.toml: no trip is selected on 20270907, a Tuesday; the calendars go from 20260901 to "
+                                 r"20261231\. Write another date\. Trips run on 20261231 \(Thursday, 3 trips\)\.\n$")
+
     def toml(self, text: str) -> list[Note]:
         """The notes of the clean town with this `desk.toml`."""
         return self.notes(desk__toml=text)
@@ -294,6 +304,31 @@ class TestPlaces(NotesTest):
         note = self.only("no-such-place", self.notes(depot__csv=CLEAN["depot.csv"] + "Nowhere,1,1\n"))
         self.assertEqual((note.file, note.record), ("depot.csv", 5))
 
+    def test_a_renamed_terminal_is_noted_in_every_file_that_has_the_old_name(self) -> None:
+        """A planner writes "Port" in place of "Harbour" in terminals.csv, and leaves the other files."""
+        toml = CLEAN["desk.toml"] + "Harbour = 2\n"
+        script = "extra,E1,Harbour,Station,10:00,10:30\n"
+        ways = CLEAN["deadheads.csv"].replace('Harbour,"Station', 'Depot,"Station')
+        notes = self.notes(terminals__csv=CLEAN["terminals.csv"].replace("Harbour", "Port"), desk__toml=toml, edits__csv=script,
+                           planner_edits__csv=f"ann,{script}", deadheads__csv=ways)
+        found = {note.file: note for note in notes if note.kind in ("no-such-place", "no-such-key")}
+        self.assertEqual(set(found), {"deadheads.csv", "depot.csv", "desk.toml", "edits.csv", "planner_edits.csv"})
+        for note in found.values():
+            self.assertIn('"Harbour" is no place of the feed', note.found)
+        self.assertEqual([found[name].do for name in ("deadheads.csv", "depot.csv")], ['Write "Port", if that is its name now'] * 2)
+        self.assertEqual((found["depot.csv"].record, found["edits.csv"].record), (2, 1))
+
+    def test_a_renamed_terminal_without_a_depot(self) -> None:
+        feed = {name: text for name, text in CLEAN.items() if name not in ("depot.csv", "edits.csv")}
+        feed["terminals.csv"] = feed["terminals.csv"].replace("Harbour", "Port")
+        feed["deadheads.csv"] = "".join(line for line in feed["deadheads.csv"].splitlines(True) if "Depot" not in line)
+        note = self.only("no-such-place", self.notes(feed))
+        self.assertEqual((note.record, note.do), (1, 'Write "Port", if that is its name now'))
+
+    def test_a_place_of_extra_trips_alone_has_no_note(self) -> None:
+        feed = CLEAN | {"edits.csv": "extra,E1,Depot,Station,10:00,10:30\n", "depot.csv": CLEAN["depot.csv"] + "Depot,0,0\n"}
+        self.assertEqual(self.notes(feed), [])
+
     def test_two_spellings_of_a_terminal(self) -> None:
         note = self.only("two-spellings", self.notes(terminals__csv=CLEAN["terminals.csv"].replace("stn_b,Station", "stn_b,station")))
         self.assertEqual(note.record, 2)
@@ -301,6 +336,47 @@ class TestPlaces(NotesTest):
     def test_a_stop_that_is_misspelt(self) -> None:
         note = self.only("no-such-stop", self.notes(terminals__csv=CLEAN["terminals.csv"].replace("zoo_1", "Zoo_1")))
         self.assertIn('"zoo_1"', note.do)
+
+
+@needs_program
+class TestDepot(NotesTest):
+    """Terminals of the day that `depot.csv` forgets, which the program takes for a depot next door."""
+
+    def depot(self, *gone: str) -> str:
+        """The `depot.csv` of the clean town without the records of some terminals."""
+        return "".join(line for line in CLEAN["depot.csv"].splitlines(True) if not line.startswith(gone))
+
+    def test_a_record_that_is_taken_out_is_told_with_its_pulls(self) -> None:
+        """One vehicle makes the three trips: out to the station, and home from the hospital."""
+        self.assertEqual(self.notes(depot__csv=self.depot("Zoo")), [], "no trip of the day is there")
+        notes = self.notes(depot__csv=self.depot('"Station', "Harbour"))
+        found = [(note.file, note.record, note.found) for note in notes]
+        self.assertEqual(found, [
+            ("depot.csv", None, 'no record of "Harbour", so the ways out and home take 0 minutes: 0 pull-outs end and 0 pull-ins begin there'),
+            ("depot.csv", None, 'no record of "Station, Hospital", so the ways out and home take 0 minutes: '
+                                "0 pull-outs end and 1 pull-in begins there")])
+        self.assertEqual({note.kind for note in notes}, {"no-depot-record"})
+
+    def test_vehicles_of_classes_are_added_up(self) -> None:
+        toml = CLEAN["desk.toml"] + '[classes]\nline_1 = "big"\n'
+        note = self.only("no-depot-record", self.notes(desk__toml=toml, depot__csv=self.depot("Station,")))
+        self.assertIn("2 pull-outs end and 1 pull-in begins there", note.found)
+
+    def test_an_extra_trip_ends_where_no_other_does(self) -> None:
+        note = self.only("no-depot-record", self.notes(edits__csv="extra,E1,Station,Depot,20:00,20:30\n"))
+        self.assertIn('no record of "Depot", so the ways out and home take 0 minutes: 0 pull-outs end and 1 pull-in begins there', note.found)
+
+    def test_a_town_without_a_depot_has_no_such_note(self) -> None:
+        self.assertEqual(self.notes({name: text for name, text in CLEAN.items() if name != "depot.csv"}), [])
+
+    def test_blocks_says_so_below_its_answer(self) -> None:
+        town = write_feed(self.room / "town", CLEAN | {"depot.csv": self.depot("Station,")})
+        status, text, errors = self.desk("blocks", town)
+        self.assertEqual((status, text.splitlines()[-1]), (0, "fixed 1, vehicles 1, minutes 8"))
+        self.assertEqual(errors, 'desk: depot.csv has no record of "Station", so the ways out and home take 0 minutes: 1 pull-out ends and '
+                                 "0 pull-ins begin there. Write one, if the depot does not lie there.\n")
+        write_feed(town, {"depot.csv": CLEAN["depot.csv"]})
+        self.assertEqual(self.desk("blocks", town)[2], "")
 
 
 class TestWays(NotesTest):
@@ -425,18 +501,18 @@ class TestAnswers(NotesTest):
     """How notes are printed."""
 
     def test_the_text_and_the_status(self) -> None:
-        town = write_feed(self.room / "town", silent_feed("a platform in the depot"))
+        town = write_feed(self.room / "town", silent_feed("a platform in the deadheads"))
         status, text, errors = self.desk("notes", town)
         self.assertEqual(status, 1)
         self.assertNotIn("desk:", errors)
-        self.assertEqual(text, 'depot.csv record 1: "stn_b" is a platform of the terminal "Station"; the record has no effect. '
+        self.assertEqual(text, 'deadheads.csv record 7: "stn_a" is a platform of the terminal "Station"; the record has no effect. '
                                'Write "Station".\nnotes 1\n')
 
     def test_a_clean_town_has_status_0(self) -> None:
         self.assertEqual(self.desk("notes", write_feed(self.room / "town", CLEAN))[:2], (0, "notes 0\n"))
 
     def test_json(self) -> None:
-        town = write_feed(self.room / "town", silent_feed("a platform in the depot"))
+        town = write_feed(self.room / "town", silent_feed("no blocks of today"))
         status, text, _ = self.desk("notes", town, "--json")
         self.assertEqual(status, 1)
         self.assertEqual([sorted(note) for note in json.loads(text)["notes"]], [["do", "file", "found", "kind", "record"]])

@@ -158,3 +158,14 @@ class PageTest(FolderTest):
         (folder / "desk.toml").write_text("services = []\n")
         view = as_view(read_day(Town(folder)))
         self.assertEqual((view["blocks"], view["trips"], view["numbers"]), ([], [], {"fixed": 0, "vehicles": 0, "minutes": 0}))
+        self.assertEqual(view["warnings"], ["desk.toml: `services` selects no trip. List services of trips.txt: \"W\"."])
+
+    def test_warnings(self) -> None:
+        """A terminal without a record in `depot.csv` stands beside the numbers. Its one vehicle leaves from A and ends at A."""
+        folder = self.town("depot")
+        (folder / "depot.csv").write_text("terminal,pull_out,pull_in\nA,10,15\nB,1,1\nC,1,1\n")
+        self.assertEqual(as_view(read_day(Town(folder)))["warnings"], [])
+        (folder / "depot.csv").write_text("terminal,pull_out,pull_in\nB,1,1\nC,1,1\n")
+        self.assertEqual(as_view(read_day(Town(folder)))["warnings"], [
+            'depot.csv has no record of "A", so the ways out and home take 0 minutes: 1 pull-out ends and 1 pull-in begins there. '
+            "Write one, if the depot does not lie there."])

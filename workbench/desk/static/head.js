@@ -32,6 +32,8 @@ export function showHead(view, before) {
   }
   const mark = html("span", { class: verdict.yes ? "yes" : "no", "aria-hidden": "true" }, verdict.yes ? "✓ " : "✗ ");
   byId("verdict").replaceChildren(mark, verdict.words);
+  byId("warnings").replaceChildren(...view.warnings.map((words) => html("li", {}, words)));
+  byId("warnings").hidden = !view.warnings.length;
   byId("run").textContent = runWords(view);
 }
 
