@@ -40,6 +40,12 @@ class Span:
         """Whether the record says that its service runs on this date."""
         return self.first <= date <= self.last and date.weekday() in self.weekdays
 
+    def meets(self, other: Span) -> bool:
+        """Whether both records have a common day."""
+        begin, last = max(self.first, other.first), min(self.last, other.last)
+        days = range(min(7, (last - begin).days + 1))
+        return any((begin.weekday() + day) % 7 in self.weekdays & other.weekdays for day in days)
+
 
 @dataclass
 class Calendars:
@@ -54,6 +60,13 @@ class Calendars:
         """The services that run on this date."""
         usual = {service for service, span in self.spans.items() if span.runs_on(date)}
         return usual - self.removed.get(date, set()) | self.added.get(date, set())
+
+    def may_run_together(self, first: str, second: str) -> bool:
+        """Whether two services have a common day, where exceptions that take days away are not counted."""
+        one, other = self.spans.get(first), self.spans.get(second)
+        if one is not None and other is not None and one.meets(other):
+            return True
+        return any({first, second} <= self.services_on(date) for date in (*self.added, *self.removed))
 
     def services(self) -> set[str]:
         """All services that the calendars name."""

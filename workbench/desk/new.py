@@ -15,6 +15,7 @@ from desk.hints_refusals import refusal_hints
 from desk.new_report import Report, counted
 from desk.new_room import carry_own, left_as_they_were, settle, town_room
 from desk.town import Town
+from desk.unlisted import lacking
 
 WORD = "new"
 HELP = "make a town of an agency's feed: unpack it, choose a day, draft terminals, deadheads and the depot"
@@ -62,17 +63,18 @@ def _with_hints(error: DeskError, agency: Town) -> DeskError:
 
 def _make(room: Path, arguments: argparse.Namespace, report: Report) -> None:
     """Makes all files of the town in the room."""
-    new_steps.unpack_feed(arguments.feed, room, report)
+    trips = new_steps.unpack_feed(arguments.feed, room, report)
     date = new_steps.choose_day(room, arguments.date, report)
     town = Town(room, {} if date is None else {"date": format_date(date)})
-    terminals = new_steps.draft_places(town, report)
+    new_steps.judge_left_out(town, trips, report)
+    terminals = new_steps.draft_places(town, trips, report)
     depot = find_depot(arguments.depot, terminals, town.stops) if arguments.depot is not None else None
     new_steps.draft_settings(town, date, terminals, report)
     new_steps.draft_running(town, terminals, depot, Pace(arguments.detour, arguments.speed), report)
     new_steps.judge_limits(town, terminals, report)
     day = f"on {date:%A} {date}" if date else "without a date"
     report.title = (f"{arguments.town}: {counted(len(town.day()), 'trip')} {day}, between "
-                    f"{counted(len(terminals), 'terminal')}, from {arguments.feed}")
+                    f"{counted(len(lacking(Town(room), ())), 'terminal')}, from {arguments.feed}")
 
 
 def _date(text: str) -> datetime.date:

@@ -12,14 +12,18 @@ WIDTH = 120
 TOLD = 4
 """How many names of a list the report has."""
 
+MOST_LEFT = 200
+"""How many trips that are left out the report has, each on a line."""
+
 
 @dataclass
 class Report:
-    """The lines of the report, collected on the way. Each item names its file first."""
+    """The lines of the report, collected on the way. Each item names its file first; `left` has the trips that are left out."""
 
     town: str
     title: str = ""
     days: list[str] = field(default_factory=list)
+    left: list[str] = field(default_factory=list)
     drafted: list[str] = field(default_factory=list)
     problems: list[str] = field(default_factory=list)
     looks: list[str] = field(default_factory=list)
@@ -41,6 +45,11 @@ class Report:
         lines = [one_line(self.title), ""]
         if self.days:
             lines += ["Trips by day:", *(f"  {day}" for day in self.days), ""]
+        if self.left:
+            lines += ["Left out, since the program would refuse them; agency/ has them:"]
+            lines += [line for trip in self.left[:MOST_LEFT] for line in _folded(trip, "  ")]
+            more = len(self.left) - MOST_LEFT
+            lines += [f"  and {more:,} more: `./desk notes {one_line(self.town)}/agency --json` has all", ""] if more > 0 else [""]
         lines.append("Drafted:")
         for item in self.drafted:
             lines += _folded(item, "  ")

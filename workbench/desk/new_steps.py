@@ -3,8 +3,10 @@ from __future__ import annotations
 
 import datetime
 import shutil
-from collections.abc import Sequence
+from collections.abc import Iterator, Sequence
+from contextlib import contextmanager
 from pathlib import Path
+from tempfile import TemporaryDirectory
 
 from desk.calendars import read_calendars
 from desk.dates import Days, check_date, choose, fortnight, today, trips_by_service
@@ -12,20 +14,20 @@ from desk.deadheads import Depot, Pace, Way, draft_pulls, draft_ways, pulls_text
 from desk.errors import DeskError
 from desk.files import write_whole
 from desk.frequencies import Repeats, expand
+from desk.left_out import REWRITTEN, SortedTrips, sort_trips, write_without
 from desk.limits import MOST_BYTES, MOST_EMPTY_MINUTES, MOST_PLACES, MOST_TRIPS
 from desk.new_report import TOLD, Report, counted, some
 from desk.new_room import AGENCY_FILES
 from desk.new_settings import LAYOVER, settings_text
-from desk.records import is_utf8
 from desk.stations import NEAR, Terminal, draft_terminals, terminals_text
 from desk.town import Town
 from desk.unpack import unpack
 
 
-def unpack_feed(feed: Path, room: Path, report: Report) -> None:
-    """Copies the agency's files into `agency/`, and beside it those that the program reads.
+def unpack_feed(feed: Path, room: Path, report: Report) -> SortedTrips:
+    """Copies the agency's files into `agency/`, and beside it those that the program reads, without trips that it would refuse.
 
-    Trips that `frequencies.txt` repeats are written out beside it.
+    Trips that `frequencies.txt` repeats are written out beside it. Gives all trips of the agency.
     """
     agency = room / "agency"
     agency.mkdir()
@@ -33,16 +35,47 @@ def unpack_feed(feed: Path, room: Path, report: Report) -> None:
     if "stop_times.txt" not in names:
         raise DeskError(f"{feed}: no stop_times.txt beside its trips.txt")
     report.draft("agency/", f"{counted(len(names), 'file')} of {feed}, unchanged")
-    if "frequencies.txt" in names:
-        _tell_repeats(expand(agency, room), report)
-    copied = [name for name in AGENCY_FILES if name in names and not (room / name).exists()]
-    for name in copied:
-        shutil.copyfile(agency / name, room / name)
+    trips = sort_trips(agency)
+    with _sound(agency, trips, room) as source:
+        if "frequencies.txt" in names:
+            _tell_repeats(expand(source, room), report)
+        copied = [name for name in AGENCY_FILES if name in names and not (room / name).exists()]
+        for name in copied:
+            shutil.copyfile(agency / name if source is agency or name not in REWRITTEN else source / name, room / name)
     if copied:
         report.draft(", ".join(copied), "copied from agency/")
+    _tell_left_out(trips, report)
     for name in AGENCY_FILES:
         if (room / name).exists() and (room / name).stat().st_size > MOST_BYTES:
             report.mend(name, f"it has more than {MOST_BYTES:,} bytes, and the program reads no more")
+    return trips
+
+
+@contextmanager
+def _sound(agency: Path, trips: SortedTrips, room: Path) -> Iterator[Path]:
+    """The folder of the agency, or where the program would refuse some of it one with the files of the other trips."""
+    if not trips.left and not trips.strays:
+        yield agency
+        return
+    with TemporaryDirectory(dir=room) as folder:
+        write_without(agency, Path(folder), trips)
+        yield Path(folder)
+
+
+def _tell_left_out(trips: SortedTrips, report: Report) -> None:
+    """Tells which trips were left out, and why."""
+    report.left = [f"{left.trip or '(no name)'}, service {left.service}: {left.why}" for left in trips.left]
+    if trips.strays:
+        report.look("stop_times.txt", f"{counted(trips.strays, 'record')} of no trip left out, which the program would refuse")
+
+
+def judge_left_out(town: Town, trips: SortedTrips, report: Report) -> None:
+    """Tells how many of the trips that were left out would run on the day."""
+    listed, running = town.selects()
+    of_day = sum((listed is None or left.service in listed) and (running is None or left.service in running) for left in trips.left)
+    if trips.left:
+        report.mend("trips.txt", f"{counted(len(trips.left), 'trip')} left out, as listed above, and {of_day:,} of them would run on that "
+                    "day. Ask the agency to mend them.")
 
 
 def _tell_repeats(repeats: Repeats, report: Report) -> None:
@@ -80,12 +113,16 @@ def choose_day(room: Path, asked: datetime.date | None, report: Report) -> datet
     return date
 
 
-def draft_places(town: Town, report: Report) -> list[Terminal]:
-    """Drafts `terminals.csv` from the stops at which trips of the day begin or end."""
-    ends = list(dict.fromkeys(stop for trip in town.day() for stop in (trip.first_stop, trip.last_stop) if stop))
-    if not all(map(is_utf8, ends)):
-        raise DeskError("stop_times.txt: a stop_id is not UTF-8, and the program refuses it; ask the agency for UTF-8")
+def draft_places(town: Town, trips: SortedTrips, report: Report) -> list[Terminal]:
+    """Drafts `terminals.csv` from the stops at which trips begin or end, of the day and of all others."""
+    ends = _all_ends(town, trips)
     terminals = draft_terminals(ends, town.stops)
+    if len(terminals) > MOST_PLACES:
+        ends = _ends(town)
+        of_day = draft_terminals(ends, town.stops)
+        report.look("terminals.csv", f"the trips of all days have {len(terminals):,} terminals, more than {MOST_PLACES}, so those of this "
+                    "day alone are drafted. For another day run `./desk new` with --more.")
+        terminals = of_day
     if not town.stops:
         report.mend("stops.txt", "it is missing or has no stop, so terminals.csv and deadheads.csv are not drafted")
         return terminals
@@ -101,6 +138,18 @@ def draft_places(town: Town, report: Report) -> list[Terminal]:
         report.mend("terminals.csv", f"stops.txt lacks {counted(len(missing), 'stop')} where trips begin or end: "
                     + some(missing))
     return terminals
+
+
+def _ends(town: Town) -> list[str]:
+    """The stops at which trips of the day begin or end."""
+    return list(dict.fromkeys(stop for trip in town.day() for stop in (trip.first_stop, trip.last_stop) if stop))
+
+
+def _all_ends(town: Town, trips: SortedTrips) -> list[str]:
+    """The stops at which trips of the day begin or end, and then those of other days of the calendar."""
+    running = town.calendars.services() if town.calendars.found else None
+    others = (stop for name, ends in trips.ends.items() if running is None or trips.services[name] in running for stop in ends)
+    return list(dict.fromkeys([*_ends(town), *others]))
 
 
 def _kinds(terminals: Sequence[Terminal], by_name: int) -> str:

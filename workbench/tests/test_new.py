@@ -276,6 +276,109 @@ class OtherFeeds(NewTest):
         self.assertNotIn("is a place there too", text)
 
 
+BAD = table("trip_id,arrival_time,departure_time,stop_id,stop_sequence,timepoint", [
+    ("still", "08:00:00", "08:00:00", "edge", 1, 1), ("still", "08:00:00", "08:00:00", "college_1", 2, 1),
+    ("back", "23:50:00", "23:50:00", "edge", 1, 1), ("back", "00:10:00", "00:10:00", "college_1", 2, 1),
+    ("alone", "08:00:00", "08:00:00", "edge", 1, 1),
+    ("untimed", "08:00:00", "08:00:00", "edge", 1, 1), ("untimed", "", " ", "college_1", 2, 1),
+    ("twice", "08:00:00", "08:00:00", "edge", 7, 1), ("twice", "08:10:00", "08:10:00", "between", 9, 1),
+    ("twice", "08:20:00", "08:20:00", "college_1", 7, 1),
+    ("stopless", "08:00:00", "08:00:00", "edge", 1, 1), ("stopless", "08:10:00", "08:10:00", "", 2, 1),
+    ("stopless", "08:20:00", "08:20:00", "college_1", 3, 1),
+    ("short", "08:00:00", "08:00:00", "edge", 1, 1), ("short", "08:20", "08:20:00", "college_1", 2, 1),
+    ("again", "08:00:00", "08:00:00", "edge", 1, 1), ("again", "08:20:00", "08:20:00", "college_1", 2, 1),
+    ("downward", "08:20:00", "08:20:00", "college_1", 9, 1), ("downward", "08:00:00", "08:00:00", "edge", 2, 1),
+]).partition("\n")[2]
+"""Rows of trips that the program refuses, but for the last two: one of them once, and one whose rows come backward."""
+
+LEFT_OUT = {
+    "still": "it departs at 08:00:00 and arrives at 08:00:00", "back": "it departs at 23:50:00 and arrives at 00:10:00",
+    "alone": "it has one row in stop_times.txt", "rowless": "it has no row in stop_times.txt", "untimed": "it has no time at its last stop",
+    "twice": "two rows of stop_times.txt have its stop_sequence 7", "stopless": "record 3108 of stop_times.txt has no stop_id",
+    "short": "record 3111 of stop_times.txt has a bad arrival_time", "again": "record 1041 of trips.txt is a trip of that name too",
+    "comma": "record 1045 of trips.txt has 8 fields and the header 6"}
+"""Why each of them is left out."""
+
+
+def with_bad_trips() -> Feed:
+    """The made agency with trips that the program refuses."""
+    feed = agency()
+    names = ["still", "back", "alone", "rowless", "untimed", "twice", "stopless", "short", "again", "again", "again", "downward"]
+    services = ["weekday"] * 9 + ["saturday", "weekday", "weekday"]
+    records = [("line_5", service, name, "", 0, "") for name, service in zip(names, services)]
+    rows = "".join(",".join(map(str, record)) + "\r\n" for record in records) + "line_5,weekday,comma,To A, B, and C,0,\r\n"
+    return feed | {"trips.txt": feed["trips.txt"] + rows, "stop_times.txt": feed["stop_times.txt"] + BAD.replace("\n", "\r\n")}
+
+
+class BadTrips(NewTest):
+    """One trip that the program refuses does not stop the others."""
+
+    def test_each_is_left_out_by_name_and_reason(self) -> None:
+        text = self.new(with_bad_trips(), status=1)
+        listed = text.partition("Left out, since the program would refuse them; agency/ has them:\n")[2].partition("\n\n")[0]
+        expected = {f"{name}, service weekday: {why}" for name, why in LEFT_OUT.items()}
+        self.assertEqual(expected, {line.strip() for line in listed.splitlines()})
+        self.assertIn("trips.txt: 10 trips left out, as listed above, and 10 of them would run on that day", text)
+        self.assertIn("604 trips on Wednesday 2026-09-02", text)
+        for name in ("trips.txt", "stop_times.txt"):
+            self.assertEqual(with_bad_trips()[name].encode(), (self.town / "agency" / name).read_bytes())
+            self.assertNotRegex(self.read(name), "still|back|alone|rowless|untimed|twice|stopless|short|comma")
+        self.assertEqual(["line_5,weekday,again,,0,", "line_5,saturday,again,,0,", "line_5,weekday,downward,,0,"],
+                         self.read("trips.txt").splitlines()[-3:])
+
+    @needs_program
+    def test_the_program_plans_the_others(self) -> None:
+        self.new(with_bad_trips(), status=1)
+        self.assertEqual(0, run(["blocks", self.town]).status)
+
+    @needs_program
+    def test_the_program_refuses_each_of_them(self) -> None:
+        """What is left out, and nothing else, is what the program refuses."""
+        rows = {name: [line for line in BAD.splitlines() if line.startswith(f"{name},")] for name in (*LEFT_OUT, "downward")}
+        for name, of_trip in rows.items():
+            if name in ("again", "comma"):
+                continue
+            with self.subTest(name):
+                feed = {"trips.txt": f"service_id,trip_id\nW,{name}\n",
+                        "stop_times.txt": "trip_id,arrival_time,departure_time,stop_id,stop_sequence,timepoint\n" + "\n".join(of_trip) + "\n"}
+                self.assertEqual(0 if name == "downward" else 3, run(["fixed", write_feed(self.room / name, feed)]).status)
+
+    def test_a_repeated_trip_that_is_refused(self) -> None:
+        feed = demonstration()
+        feed["stop_times.txt"] = feed["stop_times.txt"].replace("STBA,6:20:00,6:20:00", "STBA,5:20:00,5:20:00")
+        text = self.new(feed, status=1)
+        self.assertIn("\n  STBA, service FULLW: it departs at 06:00:00 and arrives at 05:20:00\n", text)
+        self.assertIn("2 trips that frequencies.txt repeats became 104", text)
+        self.assertNotIn("so it is not repeated", text)
+
+    def test_rows_of_no_trip(self) -> None:
+        feed = agency()
+        feed["stop_times.txt"] += "nobody,08:00:00,08:00:00,edge,1,1,one, two\r\n"
+        self.assertIn("stop_times.txt: 1 record of no trip left out, which the program would refuse", self.new(feed))
+        self.assertNotIn("nobody", self.read("stop_times.txt"))
+
+
+class AllDays(NewTest):
+    """Terminals, deadheads and the depot are drafted for all days of the calendar."""
+
+    FEED = {
+        "stops.txt": table("stop_id,stop_name,stop_lat,stop_lon", [("a", "Abbey", 52.0, 1.0), ("b", "Bridge", 52.1, 1.0), ("z", "Zoo", 52.2, 1.0),
+                                                                   ("o", "Old Town", 52.3, 1.0)]),
+        "calendar_dates.txt": table("service_id,date,exception_type", [("W", 20260907, 1), ("H", 20261026, 1)]),
+        "trips.txt": table("service_id,trip_id", [("W", "w1"), ("W", "w2"), ("H", "h1"), ("never", "n1")]),
+        "stop_times.txt": table("trip_id,arrival_time,departure_time,stop_id,stop_sequence", [
+            (trip, time, time, stop, number) for trip, stops in (("w1", "ab"), ("w2", "ba"), ("h1", "az"), ("n1", "ao"))
+            for number, (time, stop) in enumerate(zip(("06:00:00", "07:00:00"), stops))])}
+    """A feed in which the holiday alone has trips to the zoo, and no day has some to the old town."""
+
+    def test_another_date_needs_no_other_draft(self) -> None:
+        text = self.new(self.FEED, "--depot", "52,1.01")
+        self.assertIn("2 trips on Monday 2026-09-07, between 2 terminals", text)
+        self.assertEqual("stop_id,terminal\na,Abbey\nb,Bridge\nz,Zoo\n", self.read("terminals.csv"))
+        self.assertEqual({"Abbey", "Bridge", "Zoo"}, {line.split(",")[0] for line in self.read("depot.csv").splitlines()[1:]})
+        self.assertEqual(4 * 3, len(self.read("deadheads.csv").splitlines()) - 1)
+
+
 class Settings(NewTest):
     """The draft of `desk.toml`."""
 

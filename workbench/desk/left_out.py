@@ -1,0 +1,116 @@
+"""The trips that the program would refuse, and an agency's files without them."""
+from __future__ import annotations
+
+from collections.abc import Callable, Iterator
+from dataclasses import dataclass, field
+from functools import cache
+from pathlib import Path
+from typing import NamedTuple
+
+from desk.calendars import Calendars, read_calendars
+from desk.errors import DeskError
+from desk.records import is_utf8, open_records, record_text
+from desk.survey import Survey
+
+REWRITTEN = ("trips.txt", "stop_times.txt", "frequencies.txt")
+"""The files with records of single trips that the program, or `new`, reads."""
+
+
+class LeftOut(NamedTuple):
+    """A trip that the program refuses: its record in `trips.txt`, its name and its service, and why."""
+
+    record: int
+    trip: str
+    service: str
+    why: str
+
+
+@dataclass
+class SortedTrips:
+    """The trips of a feed: those that the program takes, with the stops at which each begins and ends, and the others.
+
+    `strays` counts the rows of no trip for which the program would refuse the whole file.
+    """
+
+    ends: dict[str, tuple[str, str]] = field(default_factory=dict)
+    services: dict[str, str] = field(default_factory=dict)
+    left: list[LeftOut] = field(default_factory=list)
+    strays: int = 0
+
+
+def sort_trips(feed: Path) -> SortedTrips:
+    """Looks at each trip of a feed, of whatever day. Stops that are not UTF-8 are a DeskError."""
+    found, records = SortedTrips(), _trip_records(feed)
+    names = {record.trip for record in records if not record.why}
+    survey = Survey(feed / "stop_times.txt", names)
+    found.strays = survey.strays
+    if not survey.is_utf8:
+        raise DeskError("stop_times.txt: a stop_id is not UTF-8, and the program refuses it; ask the agency for UTF-8")
+    for record in _with_twice(records, read_calendars(feed)):
+        rows = survey.trips.get(record.trip)
+        why = record.why or (rows.why if rows else "")
+        if why or rows is None:
+            found.left.append(record._replace(why=why))
+        else:
+            found.ends[record.trip] = rows.first_stop, rows.last_stop
+            found.services.setdefault(record.trip, record.service)
+    return found
+
+
+def write_without(feed: Path, target: Path, found: SortedTrips) -> None:
+    """Writes the files of a feed that name trips into a folder, without the trips that are left out and without strays."""
+    numbers = {left.record for left in found.left}
+    gone = {left.trip for left in found.left} - set(found.ends)
+    for name in REWRITTEN:
+        if (feed / name).is_file():
+            _write(feed / name, target / name, numbers if name == "trips.txt" else set(), gone)
+
+
+def _write(source: Path, target: Path, numbers: set[int], gone: set[str]) -> None:
+    """Writes a file without the records of these numbers or trips, and without those that are wider than the header."""
+    with open_records(source) as records, open(target, "w", encoding="utf-8", errors="surrogateescape", newline="") as file:
+        trip, width = records.column("trip_id"), len(records.header)
+        file.write(record_text(records.header))
+        for number, fields in records:
+            if number not in numbers and fields[trip] not in gone and len(fields) <= width and is_utf8(fields[trip]):
+                file.write(record_text(fields))
+
+
+def _trip_records(feed: Path) -> list[LeftOut]:
+    """The records of `trips.txt`, each with why it is refused by itself; that is empty where it is not."""
+    found = []
+    with open_records(feed / "trips.txt") as records:
+        service, trip = records.column("service_id"), records.column("trip_id")
+        width = len(records.header)
+        for number, fields in records:
+            why = ""
+            if len(fields) > width:
+                why = f"record {number} of trips.txt has {len(fields)} fields and the header {width}"
+            elif not fields[trip]:
+                why = f"record {number} of trips.txt has no trip_id"
+            elif not is_utf8(fields[trip] + fields[service]):
+                why = "its trip_id or its service_id is not UTF-8"
+            found.append(LeftOut(number, fields[trip], fields[service], why))
+    return found
+
+
+def _with_twice(records: list[LeftOut], calendars: Calendars) -> Iterator[LeftOut]:
+    """The records, where one that has the name of another before it on a common day is refused for that."""
+    before: dict[str, list[LeftOut]] = {}
+    together = _together(calendars)
+    for record in records:
+        same = before.setdefault(record.trip, [])
+        other = next((other for other in same if together(other.service, record.service)), None)
+        if record.why or other is None:
+            same += [] if record.why else [record]
+            yield record
+        else:
+            yield record._replace(why=f"record {other.record} of trips.txt is a trip of that name too")
+
+
+def _together(calendars: Calendars) -> Callable[[str, str], bool]:
+    """Whether two services may run on one day. Where there are no calendars, all of them do."""
+    @cache
+    def found(first: str, second: str) -> bool:
+        return first == second or not calendars.found or calendars.may_run_together(first, second)
+    return found
