@@ -7,7 +7,7 @@ import math
 from collections.abc import Callable
 from pathlib import Path
 
-from desk import new_steps
+from desk import new_more, new_steps
 from desk.calendars import format_date, parse_date
 from desk.deadheads import Pace, find_depot
 from desk.errors import DeskError, UsageError
@@ -32,7 +32,9 @@ def add_arguments(parser: argparse.ArgumentParser) -> None:
     parser.add_argument("--detour", type=_number(1, 10), default=1.3, metavar="FACTOR",
                         help="how much longer a way is than the straight line; else 1.3")
     parser.add_argument("--depot", metavar="LAT,LON", help="where the depot is, as 52.1,-0.45, or the stop_id of a stop")
-    parser.add_argument("--replace", action="store_true", help="write the files anew that TOWN has already")
+    again = parser.add_mutually_exclusive_group()
+    again.add_argument("--replace", action="store_true", help="write the files anew that TOWN has already")
+    again.add_argument("--more", action="store_true", help="keep the planner's files of TOWN, and add what FEED or --date needs")
 
 
 def run(arguments: argparse.Namespace) -> int:
@@ -41,9 +43,11 @@ def run(arguments: argparse.Namespace) -> int:
     if arguments.feed.resolve() == town:
         raise UsageError(f"{arguments.town} is the feed itself: name another folder for the town")
     report = Report(str(arguments.town))
-    with town_room(town, arguments.replace) as room:
+    if arguments.more and not town.is_dir():
+        raise UsageError(f"{arguments.town} is not there: without --more it is made")
+    with town_room(town, arguments.replace or arguments.more) as room:
         try:
-            _make(room, arguments, report)
+            (_make_more if arguments.more else _make)(room, arguments, report)
         except DeskError as error:
             raise _with_hints(error, Town(room / "agency")) from error
         left = [*left_as_they_were(room, town), *carry_own(room, town)]
@@ -75,6 +79,21 @@ def _make(room: Path, arguments: argparse.Namespace, report: Report) -> None:
     day = f"on {date:%A} {date}" if date else "without a date"
     report.title = (f"{arguments.town}: {counted(len(town.day()), 'trip')} {day}, between "
                     f"{counted(len(lacking(Town(room), ())), 'terminal')}, from {arguments.feed}")
+
+
+def _make_more(room: Path, arguments: argparse.Namespace, report: Report) -> None:
+    """Makes the files of the town in the room with those of its planner, to which it adds what the feed or the date needs."""
+    own = Town(arguments.town)
+    trips = new_steps.unpack_feed(arguments.feed, room, report)
+    town = new_more.keep_settings(own, room, arguments.date, report)
+    if arguments.date:
+        new_more.check_asked(town, arguments.date)
+    new_more.judge_day(town, report)
+    new_steps.judge_left_out(town, trips, report)
+    terminals = new_more.add_places(own, town, trips, report)
+    new_more.add_running(own, town, terminals, arguments.depot, Pace(arguments.detour, arguments.speed), report)
+    new_steps.judge_limits(town, terminals, report)
+    report.title = f"{arguments.town}: {counted(len(town.day()), 'trip')}, with what {arguments.feed} needs"
 
 
 def _date(text: str) -> datetime.date:

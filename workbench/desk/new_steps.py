@@ -115,7 +115,7 @@ def choose_day(room: Path, asked: datetime.date | None, report: Report) -> datet
 
 def draft_places(town: Town, trips: SortedTrips, report: Report) -> list[Terminal]:
     """Drafts `terminals.csv` from the stops at which trips begin or end, of the day and of all others."""
-    ends = _all_ends(town, trips)
+    ends = all_ends(town, trips)
     terminals = draft_terminals(ends, town.stops)
     if len(terminals) > MOST_PLACES:
         ends = _ends(town)
@@ -145,7 +145,7 @@ def _ends(town: Town) -> list[str]:
     return list(dict.fromkeys(stop for trip in town.day() for stop in (trip.first_stop, trip.last_stop) if stop))
 
 
-def _all_ends(town: Town, trips: SortedTrips) -> list[str]:
+def all_ends(town: Town, trips: SortedTrips) -> list[str]:
     """The stops at which trips of the day begin or end, and then those of other days of the calendar."""
     running = town.calendars.services() if town.calendars.found else None
     others = (stop for name, ends in trips.ends.items() if running is None or trips.services[name] in running for stop in ends)

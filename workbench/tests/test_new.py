@@ -379,6 +379,68 @@ class AllDays(NewTest):
         self.assertEqual(4 * 3, len(self.read("deadheads.csv").splitlines()) - 1)
 
 
+class More(NewTest):
+    """`--more` adds what a date or a feed needs, and keeps what a planner has corrected."""
+
+    OWN = {
+        "desk.toml": '# mine\ndate = "20260907"  # a Monday\nlayover = 3\n',
+        "terminals.csv": "terminal,note,stop_id\nOld Abbey,,a\nBridge,mine,b",
+        "deadheads.csv": "minutes,from,to\r\n99,Old Abbey,Bridge\r\n",
+        "depot.csv": "terminal,pull_out,pull_in\nOld Abbey,3,4\nBridge,5,6\n",
+        "edits.csv": "cancel,w1\n"}
+    """What the planner has corrected in a town of the first day: a name, minutes, columns in another order, and no way back."""
+
+    def setUp(self) -> None:
+        super().setUp()
+        self.feed = AllDays.FEED
+        write_feed(self.town, {**self.feed, **self.OWN})
+
+    def test_a_feed_with_another_terminal(self) -> None:
+        text = self.new(self.feed, "--more", "--depot", "52,1.01")
+        self.assertEqual(self.OWN["desk.toml"], self.read("desk.toml"))
+        self.assertEqual(self.OWN["terminals.csv"] + "\nZoo,,z\n", self.read("terminals.csv"))
+        ways = self.read("deadheads.csv").splitlines()
+        self.assertEqual(["minutes,from,to", "99,Old Abbey,Bridge"], ways[:2])
+        names, fresh = ("Old Abbey", "Bridge", "Zoo", "Depot"), {"Zoo", "Depot"}
+        expected = [(start, end) for start in names for end in names if start != end and fresh & {start, end}]
+        self.assertEqual(sorted(expected), sorted(tuple(way.split(",")[1:]) for way in ways[2:]))
+        # 22.25 km by 1.3 at 25 km/h are 69.4 minutes
+        self.assertEqual(self.OWN["depot.csv"] + "Zoo,70,70\n", self.read("depot.csv"))
+        self.assertEqual("cancel,w1\n", self.read("edits.csv"))
+        self.assertIn("terminals.csv: 1 record added behind those that were there", text)
+
+    def test_another_date(self) -> None:
+        self.new(self.feed, "--more", "--depot", "52,1.01", "--date", "20261026")
+        self.assertEqual(self.OWN["desk.toml"].replace("20260907", "20261026"), self.read("desk.toml"))
+        before = self.tree()
+        text = self.new(self.feed, "--more", "--depot", "52,1.01")
+        self.assertEqual(before, self.tree(), "nothing more is needed")
+        self.assertIn("deadheads.csv: as it was", text)
+        ended, _, errors = self.desk("new", self.room / "feed.zip", self.town, "--more", "--date", "20261027")
+        self.assertEqual((1, before), (ended, self.tree()))
+        self.assertIn("no trip runs on 2026-10-27", errors)
+
+    def test_without_a_depot_the_missing_records_are_told(self) -> None:
+        self.assertIn("depot.csv: 1 terminal without a record: Zoo. Say by --depot where the depot is", self.new(self.feed, "--more", status=1))
+        self.assertEqual(self.OWN["depot.csv"], self.read("depot.csv"))
+
+    def test_a_feed_without_trips_on_the_date(self) -> None:
+        feed = {**self.feed, "calendar_dates.txt": "service_id,date,exception_type\nW,20270907,1\n"}
+        self.assertIn("no trip runs on 2026-09-07; the calendars go from 2027-09-07 to 2027-09-07", self.new(feed, "--more", status=1))
+
+    def test_what_is_no_town(self) -> None:
+        self.town = self.room / "nowhere"
+        self.refused(self.feed, "nowhere is not there: without --more it is made", "--more", status=2)
+
+    @needs_program
+    def test_a_terminal_is_never_forgotten_again(self) -> None:
+        """A town of one day, as older drafts made it: with another date the depot is next door, and with --more it is not."""
+        self.new(self.feed, "--more", "--depot", "52,1.01", "--date", "20261026")
+        (self.town / "edits.csv").unlink()
+        # from Old Abbey to the zoo: 3 minutes out and 70 home
+        self.assertEqual(b"fixed 1, vehicles 1, minutes 73\n", run(["blocks", self.town]).text)
+
+
 class Settings(NewTest):
     """The draft of `desk.toml`."""
 
