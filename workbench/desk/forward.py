@@ -13,7 +13,7 @@ from typing import BinaryIO
 from desk.answers import read
 from desk.errors import DeskError, complain
 from desk.files import reason
-from desk.hints import DONE, hints_before, hints_of
+from desk.hints import DONE, hints_before, hints_of, questions_before
 from desk.program import program_path
 
 WORDS = {
@@ -43,6 +43,8 @@ def add_arguments(parser: argparse.ArgumentParser) -> None:
     metavar, text = ("N", "how many trips") if sample else ("TOWN", "the folder of the feed")
     parser.add_argument("words", nargs="*", metavar=metavar, help=text)
     parser.add_argument("--json", action="store_true", help="the text as JSON")
+    if parser.get_default("word") == "keep":
+        parser.add_argument("--yes", action="store_true", help="keep also what the journal has already, without a question")
     parser.epilog = "The text and the status are those of `./blockdesk`, which is proved. Hints on standard error are not."
 
 
@@ -50,12 +52,24 @@ def run(arguments: argparse.Namespace) -> int:
     """Runs the program, passes on what it puts, and says what helps. The status is that of the program."""
     command, words = arguments.word, arguments.words
     before = without_mistakes(hints_before, command, words)
+    questions = [] if command == "keep" and arguments.yes else without_mistakes(questions_before, command, words)
+    if questions and not is_agreed(questions):
+        complain("nothing was kept. Take out what is kept, or give --yes.")
+        return 1
     status, text = ask([command, *words])
     if not put(as_shown(command, words, status, text) if arguments.json and text else text):
         return WRITE_FAULT
     for hint in (before if status in DONE else []) + without_mistakes(hints_of, command, words, status, text):
         complain(hint)
     return status
+
+
+def is_agreed(questions: list[str]) -> bool:
+    """Asks a planner whether a run is wanted. Where nobody answers it is not."""
+    for question in questions:
+        complain(question)
+    print("desk: Do it? [y/N] ", end="", file=sys.stderr, flush=True)
+    return sys.stdin.readline().strip().lower() in ("y", "yes")
 
 
 def without_mistakes(find: Callable[..., list[str]], *found: object) -> list[str]:

@@ -5,7 +5,7 @@ The program's texts stay as they are. Each hint is one line, and where nothing i
 from __future__ import annotations
 
 import re
-from collections.abc import Sequence
+from collections.abc import Callable, Sequence
 from pathlib import Path
 
 from desk.errors import DeskError
@@ -44,10 +44,19 @@ def hints_of(command: str, words: Sequence[str], status: int, text: str) -> list
 
 
 def hints_before(command: str, words: Sequence[str]) -> list[str]:
-    """Hints before a run that cannot be found after it: what `keep` does twice, and what `kept` writes over."""
-    finds = {"keep": _kept_twice, "kept": _written_over}
+    """Hints before a run that cannot be found after it: what `kept` writes over."""
+    return _before("kept", _written_over, command, words)
+
+
+def questions_before(command: str, words: Sequence[str]) -> list[str]:
+    """What a run would do that nobody may want: what `keep` does twice."""
+    return _before("keep", _kept_twice, command, words)
+
+
+def _before(of: str, find: Callable[[Town], list[str]], command: str, words: Sequence[str]) -> list[str]:
+    """What a function finds in the town of a command, where it is this one."""
     try:
-        return finds[command](Town(words[0])) if command in finds and len(words) == 1 and Path(words[0]).is_dir() else []
+        return find(Town(words[0])) if command == of and len(words) == 1 and Path(words[0]).is_dir() else []
     except (DeskError, OSError):
         return []
 
@@ -58,8 +67,7 @@ def _kept_twice(town: Town) -> list[str]:
     if not count:
         return []
     records = "record 1 of edits.csv" if count == 1 else f"records 1 to {count} of edits.csv"
-    return [f"the journal had {records} already, and `keep` has put them there a second time. "
-            f"`./desk notes {town.folder}` tells so before it is done."]
+    return [f"the journal has {records} already, and `keep` does the same a second time."]
 
 
 def _written_over(town: Town) -> list[str]:

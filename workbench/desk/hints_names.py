@@ -13,6 +13,9 @@ MOST_SHOWN = 60
 CUTOFF = 0.7
 """How alike two names must be for one to be called the nearest of the other, from 0 to 1."""
 
+LEAST_FRONT, MOST_BEGUN = 3, 4
+"""How many characters the front of a name has at least, and how many names with it are told at the most."""
+
 MOST_COMPARED = 50_000
 """About how many names are compared for the nearest ones, so that a file of foreign names takes no minutes."""
 
@@ -58,6 +61,12 @@ class Known:
         found = self._folded.get(folded(name))
         return found if found != name else None
 
+    def begun_by(self, name: str) -> list[str]:
+        """The known names of which this one is the first word or words."""
+        front = name.casefold()
+        found = [known for known in self.names if known.casefold().startswith(front) and not known[len(name):len(name) + 1].isalnum()]
+        return found if len(front) >= LEAST_FRONT else []
+
     def nearest(self, name: str, cutoff: float = CUTOFF) -> str | None:
         """The known name that is nearest to this one; None where none is near, or where too many were compared before."""
         if not name or len(name) > MOST_SHOWN or self._left <= 0:
@@ -81,6 +90,10 @@ def advice(name: str, known: Known, cutoff: float = CUTOFF) -> Finding | None:
     meant = known.alike(name)
     if meant is not None:
         return Finding(f"{shown(name)} differs from {shown(meant)} {difference(name, meant)} alone", f"Write {shown(meant)}")
+    begun = known.begun_by(name) if cutoff == CUTOFF else []
+    if begun:
+        return Finding(f"{shown(name)} is unknown, and is the front of {' and of '.join(map(shown, begun[:MOST_BEGUN]))}",
+                       f"Write {' or '.join(map(shown, begun[:MOST_BEGUN]))}, if that is meant")
     near = known.nearest(name, cutoff)
     if near is None:
         return None

@@ -12,9 +12,11 @@ from desk.hints_edits import is_edit, wrong, wrong_of_planner
 from desk.hints_journal import journal_text
 from desk.hints_names import shown
 from desk.hints_places import Places
+from desk.hints_tables import kind_of, save_as
 from desk.hints_trips import TripFile
 from desk.limits import MOST_TRIPS
 from desk.records import open_records
+from desk.rooms import SCRIPTS
 from desk.scripts import fields_of
 from desk.texts import OF_A_TRIP, OF_NO_TRIP
 from desk.times import format_minute, format_time, parse_minute
@@ -49,6 +51,9 @@ def refused_in(text: str) -> list[Refused]:
 def script_hints(town: Town, text: str) -> list[str]:
     """A line for each refused record of a text, where something is known of it."""
     refused = refused_in(text)
+    foreign = {name: kind for name in {FILES[record.source] for record in refused} & set(SCRIPTS) if (kind := kind_of(town.path(name)))}
+    if foreign:
+        return [f"{name}: {kind}. {save_as(town.path(name))}." for name, kind in sorted(foreign.items())]
     scripts = Scripts(town, refused[:MOST_HINTS])
     lines = [f"{FILES[record.source]} record {record.number}: {why}" for record in refused[:MOST_HINTS] if (why := scripts.why(record))]
     more = len(refused) - MOST_HINTS

@@ -121,6 +121,8 @@ def record_hints(path: Path, number: int, text: str) -> list[str]:
     value = fields[header.index(column)]
     if what == "bad" and column in FIELDS:
         return [f"{place}: `{column}` has {shown(value)}. It must be {FIELDS[column]}.{_of_value(column, value)}"]
+    if what == "empty" and not any(fields):
+        return [f"{place}: it has commas alone. Take it out."]
     if what == "empty":
         return [f"{place}: `{column}` is empty, or the record has too few commas: {shown(','.join(fields))}."]
     return []

@@ -91,6 +91,8 @@ def _mended(line: str) -> str | None:
         return f"a value is missing behind `{entry['sign']}`"
     if value.count('"') % 2:
         return "a double quote is not closed"
+    if point := re.fullmatch("([0-9]+),[0-9]+", value):
+        return f"minutes are whole numbers without a comma: write `{key} = {int(point[1])}` or `{key} = {int(point[1]) + 1}`"
     name, meant = _name(key), _value(value)
     return None if (name, entry["sign"], meant) == (key, "=", value) else f"write `{name} = {meant}`"
 

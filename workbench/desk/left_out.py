@@ -17,12 +17,18 @@ REWRITTEN = ("trips.txt", "stop_times.txt", "frequencies.txt")
 
 
 class LeftOut(NamedTuple):
-    """A trip that the program refuses: its record in `trips.txt`, its name and its service, and why."""
+    """A trip that the program refuses: its record in `trips.txt`, its name and its service, and why.
+
+    `row` is a record of `file` that it refuses. `on_any_day` says that it does so also where the trip does not run.
+    """
 
     record: int
     trip: str
     service: str
-    why: str
+    why: str = ""
+    file: str = "trips.txt"
+    row: int | None = None
+    on_any_day: bool = False
 
 
 @dataclass
@@ -48,11 +54,12 @@ def sort_trips(feed: Path) -> SortedTrips:
         raise DeskError("stop_times.txt: a stop_id is not UTF-8, and the program refuses it; ask the agency for UTF-8")
     for record in _with_twice(records, read_calendars(feed)):
         rows = survey.trips.get(record.trip)
-        why = record.why or (rows.why if rows else "")
-        if why or rows is None:
-            found.left.append(record._replace(why=why))
+        if record.why or rows is None:
+            found.left.append(record)
+        elif rows.why:
+            found.left.append(record._replace(why=rows.why, file="stop_times.txt", row=rows.record, on_any_day=rows.is_wide))
         else:
-            found.ends[record.trip] = rows.first_stop, rows.last_stop
+            found.ends[record.trip] = rows.start[0], rows.end[0]
             found.services.setdefault(record.trip, record.service)
     return found
 
@@ -83,14 +90,14 @@ def _trip_records(feed: Path) -> list[LeftOut]:
         service, trip = records.column("service_id"), records.column("trip_id")
         width = len(records.header)
         for number, fields in records:
-            why = ""
+            why, on_any_day = "", True
             if len(fields) > width:
                 why = f"record {number} of trips.txt has {len(fields)} fields and the header {width}"
-            elif not fields[trip]:
-                why = f"record {number} of trips.txt has no trip_id"
             elif not is_utf8(fields[trip] + fields[service]):
                 why = "its trip_id or its service_id is not UTF-8"
-            found.append(LeftOut(number, fields[trip], fields[service], why))
+            elif not fields[trip]:
+                why, on_any_day = f"record {number} of trips.txt has no trip_id", False
+            found.append(LeftOut(number, fields[trip], fields[service], why, row=number, on_any_day=on_any_day))
     return found
 
 

@@ -3,11 +3,15 @@ from __future__ import annotations
 
 from bisect import bisect_right
 from collections.abc import Iterator
+from pathlib import Path
 
 from desk.hints_names import shown
 from desk.notes_note import Note, View
 from desk.times import arrival_minute, departure_minute, format_time
 from desk.town import DayTrip
+
+KIND = "whole-minutes"
+"""The kind of these notes."""
 
 
 def misses(view: View) -> Iterator[Note]:
@@ -23,6 +27,16 @@ def misses(view: View) -> Iterator[Note]:
             just = missed(ended[trip.start], trip)
             if just:
                 yield _note(view, trip, just)
+
+
+def in_one(notes: list[Note], folder: Path) -> list[Note]:
+    """The notes of a town in this folder, where those on whole minutes are one with their number."""
+    several = [note for note in notes if note.kind == KIND]
+    if len(several) < 2:
+        return notes
+    one = Note(KIND, "stop_times.txt", None, f"{len(several)} trips depart where other vehicles are free by the second, and by whole "
+               "minutes are one minute too late", f"`./desk notes {folder} --minutes` lists them")
+    return [one if note is several[0] else note for note in notes if note.kind != KIND or note is several[0]]
 
 
 def _seconds(end: tuple[int, DayTrip]) -> int:
@@ -48,7 +62,7 @@ def _note(view: View, trip: DayTrip, just: list[DayTrip]) -> Note:
     first, layover = just[0], layover_of(view, just[0])
     more = f" and {len(just) - 1} more" if len(just) > 1 else ""
     stay = f" with a layover of {layover} minutes" if layover else ""
-    return Note("whole-minutes", "stop_times.txt", None,
+    return Note(KIND, "stop_times.txt", None,
                 f"{shown(trip.trip_id)} departs at {format_time(trip.departure or 0)} and {shown(first.trip_id)}{more} arrives there at "
                 f"{format_time(first.arrival or 0)}{stay}: in whole minutes that is one minute too late",
                 f"Where one vehicle may make both, write `shift,{trip.trip_id},+1` into edits.csv, or a shorter layover")

@@ -32,8 +32,13 @@ class Note(NamedTuple):
     @property
     def text(self) -> str:
         """The note as one line."""
+        begin = "feed refused: " if self.kind == "refused" else ""
         place = self.file if self.record is None else f"{self.file} record {self.record}"
-        return f"{place}: {self.found}. {self.do}."
+        return f"{begin}{place}: {self.found}. {self.do}." if place else f"{self.found}. {self.do}."
+
+    def repeats(self, refused: Note) -> bool:
+        """Whether it says of a file, which cannot be read, what a refusal says of it too."""
+        return self.kind == "unreadable" and self.file == refused.file and (self.record == refused.record or self.found == refused.found)
 
 
 class Extra(NamedTuple):
@@ -53,8 +58,10 @@ def note_of(kind: str, file: str, record: int | None, finding: Finding) -> Note:
 class View:
     """A town as the notes see it. What cannot be read is tried once, and is the same DeskError each time that it is asked."""
 
-    def __init__(self, town: Town) -> None:
+    def __init__(self, town: Town, ask: Callable[[Town], str | None] = lambda town: None) -> None:
+        """The view of a town. `ask` gives the program's refusal of it, or None."""
         self.town = town
+        self._ask = ask
         self._found: dict[str, Any] = {}
 
     def _once(self, name: str, read: Callable[[], Any]) -> Any:
@@ -67,6 +74,11 @@ class View:
         if isinstance(self._found[name], DeskError):
             raise self._found[name]
         return self._found[name]
+
+    @property
+    def refusal(self) -> str | None:
+        """The program's refusal, behind `feed refused: `; None where it takes the feed."""
+        return self._once("refusal", lambda: self._ask(self.town))
 
     @property
     def tolerances(self) -> dict[str, int]:

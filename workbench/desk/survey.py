@@ -16,30 +16,36 @@ BEYOND = 1 << 62
 """A sequence above all others."""
 
 
+End = tuple[str, "int | None", "int | None"]
+"""The stop of a row, and its arrival and departure in seconds; None where it has no such time."""
+
+
 @dataclass(slots=True)
 class Rows:
-    """What the rows of a trip say. `why` is empty where the program takes them; `record` is a row that it refuses."""
+    """What the rows of a trip say. `why` is empty where the program takes them; `record` is a row that it refuses.
+
+    `is_wide` says that one of them has more fields than the header.
+    """
 
     count: int = 0
     first: int = BEYOND
     last: int = BAD
-    first_stop: str = ""
-    last_stop: str = ""
-    departs: int | None = None
-    arrives: int | None = None
+    start: End = "", None, None
+    end: End = "", None, None
     is_ascending: bool = True
     why: str = ""
     record: int | None = None
+    is_wide: bool = False
 
-    def add(self, sequence: int, stop: str, departs: int | None, arrives: int | None) -> None:
-        """Takes in a row. Its times are those of a trip that begins, or ends, with it."""
-        self.count += 1
-        if sequence < self.first:
-            self.first, self.first_stop, self.departs = sequence, stop, departs
-        if sequence > self.last:
-            self.last, self.last_stop, self.arrives = sequence, stop, arrives
-        else:
-            self.is_ascending = False
+    @property
+    def departs(self) -> int | None:
+        """When the trip departs: as its first row departs, or where this has no such time as it arrives."""
+        return self.start[1] if self.start[2] is None else self.start[2]
+
+    @property
+    def arrives(self) -> int | None:
+        """When the trip arrives: as its last row arrives, or where this has no such time as it departs."""
+        return self.end[2] if self.end[1] is None else self.end[1]
 
     def refuse(self, why: str, record: int | None = None) -> None:
         """Takes note of why the trip is refused, where nothing is known before."""
@@ -65,24 +71,27 @@ class Survey:
 
     def _read(self) -> None:
         """Reads the file once."""
-        sequences, times, stops = Sequences(), Times(), Stops()
+        sequences, times, stops, rows_of = Sequences(), Times(), Stops(), self.trips.get
         with open_records(self.path) as records:
             trip, arrives, departs, stop, place = (
                 records.column(name) for name in ("trip_id", "arrival_time", "departure_time", "stop_id", "stop_sequence"))
             width = len(records.header)
             for number, fields in records:
-                rows = self.trips.get(fields[trip])
+                rows = rows_of(fields[trip])
                 if rows is None:
                     self.strays += len(fields) > width or not is_utf8(fields[trip])
                     continue
-                arrival, departure, sequence = times[fields[arrives]], times[fields[departs]], sequences[fields[place]]
-                if len(fields) > width:
-                    rows.refuse(f"record {number} of stop_times.txt has {len(fields)} fields and the header {width}", number)
-                elif stops[fields[stop]]:
-                    rows.refuse(f"record {number} of stop_times.txt has {stops[fields[stop]]}", number)
-                elif BAD in (sequence, arrival, departure):
-                    rows.refuse(f"record {number} of stop_times.txt has a bad {_bad(sequence, arrival)}", number)
-                rows.add(sequence, fields[stop], arrival if departure is None else departure, departure if arrival is None else arrival)
+                sequence, arrival, departure = sequences[fields[place]], times[fields[arrives]], times[fields[departs]]
+                if len(fields) > width or sequence == BAD or arrival == BAD or departure == BAD or stops[fields[stop]]:
+                    rows.refuse(_why(number, fields, width, stops[fields[stop]], (sequence, arrival)), number)
+                    rows.is_wide |= len(fields) > width
+                rows.count += 1
+                if sequence > rows.last:
+                    rows.last, rows.end = sequence, (fields[stop], arrival, departure)
+                else:
+                    rows.is_ascending = False
+                if sequence < rows.first:
+                    rows.first, rows.start = sequence, (fields[stop], arrival, departure)
         self.is_utf8 = all(map(is_utf8, stops))
 
     def _find_twice(self, names: list[str]) -> None:
@@ -115,9 +124,15 @@ def _judge(rows: Rows) -> None:
         rows.refuse(f"it departs at {format_time(rows.departs)} and arrives at {format_time(rows.arrives)}")
 
 
-def _bad(sequence: int, arrival: int | None) -> str:
-    """The first column of a row whose field is not of its grammar."""
-    return "stop_sequence" if sequence == BAD else "arrival_time" if arrival == BAD else "departure_time"
+def _why(number: int, fields: list[str], width: int, wrong_stop: str, found: tuple[int, int | None]) -> str:
+    """Why a row is refused, of which the sequence and the arrival were found."""
+    begin = f"record {number} of stop_times.txt has"
+    if len(fields) > width:
+        return f"{begin} {len(fields)} fields and the header {width}"
+    if wrong_stop:
+        return f"{begin} {wrong_stop}"
+    column = "stop_sequence" if found[0] == BAD else "arrival_time" if found[1] == BAD else "departure_time"
+    return f"{begin} a bad {column}"
 
 
 class Sequences(dict[str, int]):

@@ -22,11 +22,9 @@ Feed = dict[str, str]
 BUILT = ROOT / "crates" / "blockdesk" / "out" / "blockdesk"
 """The program as it is built in this repository. Tests never build it."""
 
-if "BLOCKDESK" not in os.environ and os.access(BUILT, os.X_OK):
-    os.environ["BLOCKDESK"] = str(BUILT)
+os.environ.setdefault("BLOCKDESK", str(BUILT))
 
-needs_program = unittest.skipUnless(
-    "BLOCKDESK" in os.environ and os.access(program_path(), os.X_OK), "the program is not built")
+needs_program = unittest.skipUnless(os.access(program_path(), os.X_OK), "the program is not built")
 """Marks a test or a class of tests that runs the program. It is skipped where the program is not there."""
 
 

@@ -207,13 +207,21 @@ class TestTheProgram(FolderTest):
         self.assertEqual((copies[1] / "edits.csv").read_bytes(), b"")
         self.assertIn(b"there was no journal in", through.stderr)
 
-    def test_keep_twice_gives_the_same_text_and_a_hint(self) -> None:
+    def test_keep_twice_asks_first(self) -> None:
         feed = write_feed(self.room / "feed", CLEAN | {"edits.csv": "shift,W1,+1\ncancel,W9\n"})
         program.run(["keep", feed])
-        alone, through, _ = self.both("keep", feed)
-        self.assertEqual((through.returncode, through.stdout), (alone.status, alone.text))
-        self.assertEqual(alone.status, 1)
-        self.assertIn(b"the journal had record 1 of edits.csv already", through.stderr)
+        kept = (feed / "journal.db").read_bytes()
+        for answer in ("", "n\n", "what?\n"):
+            with unittest.mock.patch("sys.stdin", io.StringIO(answer)):
+                status, text, errors = self.desk("keep", feed)
+            self.assertEqual((status, text, (feed / "journal.db").read_bytes()), (1, "", kept))
+            self.assertIn("the journal has record 1 of edits.csv already, and `keep` does the same a second time", errors)
+            self.assertIn("nothing was kept", errors)
+        with unittest.mock.patch("sys.stdin", io.StringIO("y\n")):
+            self.assertEqual(self.desk("keep", feed)[1].splitlines()[-1], "kept 2 records")
+        with unittest.mock.patch("sys.stdin", None):
+            self.assertEqual(self.desk("keep", feed, "--yes")[:2], (1, "journal 2 records\nrecord 1: refused, W1: outside tolerance (+3)\n"
+                                                                       "record 2: refused, W9: unknown trip\nkept 2 records\n"))
 
     def test_a_fault_gives_the_same_line_and_a_hint(self) -> None:
         feed = write_feed(self.room / "feed", CLEAN)

@@ -11,7 +11,7 @@ from pathlib import Path
 from unittest import mock
 
 from desk import program
-from desk.hints import hints_before, hints_of
+from desk.hints import hints_before, hints_of, questions_before
 from desk.hints_edits import wrong
 from desk.hints_machine import read_hints, write_hints
 from tests.feeds import Feed, FolderTest, needs_program, table, write_feed, zip_feed
@@ -137,6 +137,15 @@ REFUSED: list[tuple[str, dict[str, str | bytes], str, str]] = [
      "deadheads.csv record 11: duplicate", '"Station" and "Harbour" stood before, in record 1'),
     ("a way to itself", {"deadheads.csv": FEED["deadheads.csv"] + "Zoo,Zoo,5\n"},
      "deadheads.csv record 11: same terminal", '"Zoo" stands in `from` and in `to`'),
+    ("a line of commas alone", {"depot.csv": FEED["depot.csv"] + ",,\n"},
+     "depot.csv record 5: empty terminal", "it has commas alone. Take it out"),
+    ("a stop twice", {"terminals.csv": FEED["terminals.csv"] + "stn_a,Station\n"},
+     "terminals.csv record 6: duplicate", '"stn_a" stood before, in record 1'),
+    ("a layover in capitals", toml("Layover = 5"), "desk.toml: bad Layover", "The nearest one is `layover`"),
+    ("a layover with a comma", toml("layover = 5,5"),
+     "desk.toml: not TOML", "whole numbers without a comma: write `layover = 5` or `layover = 6`"),
+    ("a layover of a terminal with a comma", changed("desk.toml", "Zoo = 3", "Zoo = 3,5"),
+     "desk.toml: not TOML", "write `Zoo = 3` or `Zoo = 4`"),
     ("a record that is too short", {"depot.csv": FEED["depot.csv"] + "Park,5\n"},
      "depot.csv record 5: empty pull_in", "too few commas"),
     ("a name in Latin-1", {"depot.csv": b"terminal,pull_out,pull_in\nCaf\xe9,5,5\n"},
@@ -174,6 +183,7 @@ EDITS: list[tuple[str, str, str]] = [
     ("cancel,s1", "s1: unknown trip", 'of service "saturday", record 4 of trips.txt, is not selected'),
     ("extra,X1,stn_a,Harbour,08:00,08:30", "X1: unknown place from", '"stn_a" is a platform of the terminal "Station"'),
     ("extra,X1,Station,Harbor,08:00,08:30", "X1: unknown place to", 'the nearest known name is "Harbour"'),
+    ("extra,X1,\"Station, Hosp\",Harbour,08:00,08:30", "X1: unknown place from", 'Write "Station, Hospital"'),
     ("extra,X1,Station,Zoo,08:00,08:30", "X1: unknown place to", 'no trip of the day begins or ends at "Zoo"'),
     ("extra,X1,Station,Harbour,23:50,00:20", "X1: not forward", "write `24:20`"),
     ("extra,W2,Station,Harbour,08:00,08:30", "W2: trip exists", "record 2 of trips.txt is a trip of that name"),
@@ -216,6 +226,16 @@ class TestRefusals(HintsTest):
                 write_feed(self.room / "town", FEED | files)
                 outcome = program.run(["deficits", self.room / "town"])
                 self.assertEqual((outcome.status, outcome.text), (3, f"feed refused: {said}\n".encode()))
+
+    @needs_program
+    def test_notes_begins_with_each_of_them(self) -> None:
+        """`notes` says what the program says, with its hint, and never that there is nothing to note."""
+        for name, files, said, words in REFUSED:
+            with self.subTest(name):
+                status, text, _ = self.desk("notes", write_feed(self.room / "town", FEED | files))
+                first = text.splitlines()[0]
+                self.assertEqual((status, first.startswith(f"feed refused: {said}. ")), (1, True), first)
+                self.assertIn(words, first)
 
     def test_nothing_is_said_where_nothing_is_known(self) -> None:
         town = write_feed(self.room / "town", FEED)
@@ -440,15 +460,15 @@ class TestJournals(HintsTest):
                               ("cancel,W3\nshow\nshift,W1,1\n", ["records 1 to 3 of edits.csv"])):
             with self.subTest(script):
                 (self.town / "edits.csv").write_text(script)
-                hints = hints_before("keep", [str(self.town)])
+                hints = questions_before("keep", [str(self.town)])
                 self.assertEqual([word in hint for hint, word in zip(hints, words, strict=True)], [True] * len(words))
         (self.town / "edits.csv").unlink()
-        self.assertEqual(hints_before("keep", [str(self.town)]), [])
+        self.assertEqual(questions_before("keep", [str(self.town)]), [])
 
     def test_nothing_is_said_before_another_command_or_of_a_journal_that_cannot_be_read(self) -> None:
         for command, words in (("blocks", [str(self.town)]), ("keep", [str(self.town)]), ("kept", []), ("kept", [str(self.room / "nowhere")])):
             with self.subTest(command, words=words):
-                self.assertEqual(hints_before(command, words), [])
+                self.assertEqual(hints_before(command, words) + questions_before(command, words), [])
         self.path.write_bytes(b"no database" * 200)
         (self.town / "edits.csv").write_text("cancel,W2\n")
         self.assertEqual(hints_before("kept", [str(self.town)]), [])
@@ -514,6 +534,26 @@ class TestEdits(HintsTest):
     def test_what_is_known_already_is_not_said_again(self) -> None:
         self.assertEqual(self.script("undo\nredo\nrestore,W1\n", "record 1: refused: nothing to undo\nrecord 2: refused: nothing to redo\n"
                                                                  "record 3: refused, W1: not cancelled\n"), [])
+
+    @needs_program
+    def test_a_script_in_utf16(self) -> None:
+        for name, command in (("edits.csv", "blocks"), ("planner_edits.csv", "planners")):
+            for encoding in ("utf-16", "utf-16-le"):
+                with self.subTest(name, encoding=encoding):
+                    record = "ann,cancel,W1\ncancel,W2\n" if command == "planners" else "cancel,W1\ncancel,W2\n"
+                    town = write_feed(self.room / f"{command} {encoding}", FEED | {name: record.encode(encoding)})
+                    self.assertEqual(self.desk(command, town)[2], f"desk: {name}: it is UTF-16. Save it as CSV in UTF-8, with commas.\n")
+
+    def test_a_name_that_is_the_front_of_a_terminal(self) -> None:
+        terminals = FEED["terminals.csv"].replace("har_1,Harbour", 'har_1,"Airport, Terminal 1"')
+        for name, words in (("Airport", 'is the front of "Airport, Terminal 1". Write "Airport, Terminal 1", if that is meant'),
+                            ("airport", 'Write "Airport, Terminal 1"')):
+            with self.subTest(name):
+                write_feed(self.room / "town", FEED | {"terminals.csv": terminals, "edits.csv": f"extra,X1,{name},Station,08:00,08:30\n"})
+                self.assertIn(words, self.hint("fixed", 1, "record 1: refused, X1: unknown place from\n"))
+        terminals += 'x,"Airport, Terminal 2"\n'
+        write_feed(self.room / "town", {"terminals.csv": terminals})
+        self.assertIn('Write "Airport, Terminal 1" or "Airport, Terminal 2"', self.hint("fixed", 1, "record 1: refused, X1: unknown place from\n"))
 
     def test_no_more_hints_than_can_be_read(self) -> None:
         text = "".join(f"record {number}: refused: not an edit\n" for number in range(1, 101))

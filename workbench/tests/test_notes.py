@@ -2,10 +2,12 @@
 from __future__ import annotations
 
 import json
+import os
 import sqlite3
 import unittest
 from contextlib import closing
 from pathlib import Path
+from unittest import mock
 
 from desk import program
 from desk.errors import DeskError
@@ -83,6 +85,7 @@ def silent_feed(name: str) -> Feed:
     return CLEAN | {file: CLEAN[file].replace(right, wrong, 1)}
 
 
+@needs_program
 class NotesTest(FolderTest):
     """A test of the notes of a town."""
 
@@ -460,11 +463,62 @@ class TestTrips(NotesTest):
         self.assertIn('"W3" departs at 06:58:40 and "W2" arrives there at 06:50:10 with a layover of 8 minutes', note.found)
         self.assertIn("shift,W3,+1", note.do)
 
+    def test_many_of_them_are_one_line_unless_asked_for(self) -> None:
+        times = CLEAN["stop_times.txt"].replace("06:50:30", "06:50:10").replace("07:00:00", "06:58:40").replace("06:20:00", "06:24:30")
+        write_feed(self.room / "town", CLEAN | {"stop_times.txt": times.replace("06:30:00,06:30:00", "06:29:40,06:29:40")})
+        self.assertEqual(self.desk("notes", self.room / "town")[1],
+                         "stop_times.txt: 2 trips depart where other vehicles are free by the second, and by whole minutes are one minute too "
+                         f"late. `./desk notes {self.room / 'town'} --minutes` lists them.\nnotes 1\n")
+        text = self.desk("notes", self.room / "town", "--minutes")[1]
+        self.assertEqual((text.count("in whole minutes that is one minute too late"), text.splitlines()[-1]), (2, "notes 2"))
+
     def test_trips_that_fit_or_miss_by_more_have_no_such_note(self) -> None:
         for arrives, departs in (("06:50:00", "06:58:40"), ("06:50:10", "06:59:00"), ("06:50:10", "06:58:05"), ("06:50:50", "06:58:40")):
             with self.subTest(f"{arrives} {departs}"):
                 times = CLEAN["stop_times.txt"].replace("06:50:30", arrives).replace("07:00:00", departs)
                 self.assertEqual(self.notes(stop_times__txt=times), [])
+
+
+class TestRefused(NotesTest):
+    """The program's refusal is the first note, and no bad trip hides behind another."""
+
+    ROWS = {
+        "still": ("06:00:00,06:00:00,stn_a,1", "06:00:00,06:00:00,har_1,2"), "alone": ("06:00:00,06:00:00,stn_a,1",),
+        "untimed": ("06:00:00,06:00:00,stn_a,1", ",,har_1,2"), "twice": ("06:00:00,06:00:00,stn_a,1", "07:00:00,07:00:00,har_1,1"),
+        "stopless": ("06:00:00,06:00:00,,1", "07:00:00,07:00:00,har_1,2"), "short": ("06:00,06:00:00,stn_a,1", "07:00:00,07:00:00,har_1,2")}
+
+    def feed(self, *names: str, service: str = "weekday") -> Feed:
+        """The clean town with some of these trips."""
+        trips = "".join(f"line_1,{service},{name},x.{name}\n" for name in names)
+        rows = "".join(f"{name},{row}\n" for name in names for row in self.ROWS[name])
+        return CLEAN | {"trips.txt": CLEAN["trips.txt"] + trips, "stop_times.txt": CLEAN["stop_times.txt"] + rows}
+
+    def test_all_of_them_are_told_once(self) -> None:
+        """The program refuses the row of the last trip first, since it judges the rows before whole trips."""
+        notes = self.notes(self.feed("still", "alone", "untimed", "twice", "short", "stopless"))
+        self.assertEqual((notes[0].kind, notes[0].file, notes[0].record, notes[0].found), ("refused", "stop_times.txt", 16, "bad arrival_time"))
+        others = [note for note in notes if note.kind == "refused-trip"]
+        self.assertEqual([note.found.split('"')[1] for note in others], ["still", "alone", "untimed", "twice", "stopless"])
+        self.assertIn("record 18 of stop_times.txt has no stop_id", others[-1].found)
+
+    def test_one_that_the_program_names_is_told_once(self) -> None:
+        notes = self.notes(self.feed("still", "alone"))
+        self.assertEqual([note.text for note in notes[:1]], [
+            'feed refused: stop_times.txt: trip still not forward. stop_times.txt: trip "still" departs at "06:00:00", record 9, and arrives at '
+            '"06:00:00", record 10. After midnight the hours go on, as 24:05:00.'])
+        self.assertIn('trip "alone" of service "weekday" is refused: it has one row', self.only("refused-trip", notes).found)
+
+    def test_a_trip_of_another_day_has_no_note(self) -> None:
+        self.assertEqual(self.notes(self.feed("still", service="saturday")), [])
+        feed = self.feed()
+        feed["trips.txt"] += "line_1,saturday,S2,Zoo, North\nline_1,saturday,S3,Zoo, South\n"
+        notes = self.notes(feed)
+        self.assertEqual((notes[0].found, notes[0].record), ("too many fields", 5))
+        self.assertIn('trip "S3" of service "saturday" is refused: record 6 of trips.txt has 5 fields', self.only("refused-trip", notes).found)
+
+    def test_a_program_that_cannot_be_run_is_told(self) -> None:
+        with mock.patch.dict(os.environ, {"BLOCKDESK": str(self.room / "nothing")}):
+            self.assertIn("nothing cannot be run", self.only("unreadable", self.notes()).text)
 
 
 class TestScripts(NotesTest):
@@ -526,16 +580,17 @@ class TestAnswers(NotesTest):
 
     def test_a_file_that_cannot_be_read_is_a_note_and_others_are_told(self) -> None:
         notes = self.notes(deadheads__csv="from;to;minutes\nStation;Harbour;9\n", depot__csv=CLEAN["depot.csv"].replace("Harbour", "har_1"))
-        note = self.only("unreadable", notes)
-        self.assertEqual((note.file, note.found), ("deadheads.csv", "no column from"))
+        note = self.only("refused", notes)
+        self.assertEqual((note, note.file, note.found), (notes[0], "deadheads.csv", "no column from"))
         self.assertIn("semicolons", note.do)
+        self.assertIn('"har_1" is a platform', self.only("no-such-place", notes).found)
 
     def test_settings_that_are_not_toml(self) -> None:
         for text, words in (("layover: 5\n", "line 1"), ("layover = " + "9" * 5000, "too large"), ("x = " + "[" * 5000, "too deep"),
                             ("layover = 0x" + "f" * 5000, "too large")):
             with self.subTest(words):
                 note, = self.notes(desk__toml=text)
-                self.assertEqual((note.kind, note.file), ("unreadable", "desk.toml"))
+                self.assertEqual((note.kind, note.file, note.found), ("refused", "desk.toml", "not TOML"))
                 self.assertIn(words, note.do)
 
     def test_settings_of_the_newer_toml_are_read(self) -> None:
@@ -547,12 +602,13 @@ class TestAnswers(NotesTest):
 
     def test_a_feed_without_trips_txt(self) -> None:
         notes = self.notes({name: text for name, text in CLEAN.items() if name != "trips.txt"} | {"Trips.txt": CLEAN["trips.txt"]})
-        self.assertIn("Rename it", self.only("unreadable", notes).do)
+        self.assertIn("Rename it", self.only("refused", notes).do)
         self.assertEqual(self.only("file-name", notes).file, "Trips.txt")
 
     def test_more_trips_than_may_be_planned(self) -> None:
         trips = table("service_id,trip_id,block_id", [("weekday", f"T{number}", "x") for number in range(5000)])
-        note = self.only("unreadable", self.notes(trips__txt=trips))
+        note = self.only("refused", self.notes(trips__txt=trips))
+        self.assertEqual((note.file, note.record, note.found), ("trips.txt", 4097, "too many trips"))
         self.assertIn("5000 trips", note.do)
 
     def test_what_is_no_folder_is_an_error_in_words(self) -> None:

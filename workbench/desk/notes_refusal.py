@@ -1,0 +1,64 @@
+"""The program's own refusal of a town, which is the first note, and behind it all other trips that it would refuse."""
+from __future__ import annotations
+
+from collections.abc import Iterator
+
+from desk import program
+from desk.errors import DeskError
+from desk.hints_machine import read_hints
+from desk.hints_names import shown
+from desk.hints_refusals import LINE, OF_A_TRIP, refusal_hints
+from desk.left_out import LeftOut, sort_trips
+from desk.notes_note import Note, View
+from desk.town import Town
+
+REFUSED, READ_FAULT = 3, 5
+"""The statuses of the program where it refuses a feed, and where it cannot read a file."""
+
+
+def refusal_of(town: Town) -> str | None:
+    """The program's refusal of a town, behind `feed refused: `; None where it takes it. A file that cannot be read is a DeskError."""
+    outcome = program.run(["deficits", town.folder])
+    if outcome.status == READ_FAULT:
+        raise DeskError(" ".join(read_hints("deficits", town.folder)).removesuffix(".") or "the program cannot read a file")
+    text = outcome.text.decode("utf-8", "surrogateescape")
+    return text.removeprefix("feed refused: ").removesuffix("\n") if outcome.status == REFUSED else None
+
+
+def refusal(view: View) -> Iterator[Note]:
+    """What the program says, with its hint."""
+    if view.refusal is not None:
+        yield refusal_note("refused", view.town, view.refusal)
+
+
+def refusal_note(kind: str, town: Town, message: str) -> Note:
+    """The note of a message that begins with its file."""
+    found = LINE.fullmatch(message)
+    if found is None:
+        return Note("unreadable", "", None, message, "Look at the file")
+    do = " ".join(refusal_hints(town, message)).removesuffix(".")
+    return Note(kind, found[1], int(found[2]) if found[2] else None, found[3],
+                do or f"Mend the file; `./desk blocks {town.folder}` says how the program reads it")
+
+
+def trips(view: View) -> Iterator[Note]:
+    """Each trip of the day that the program would refuse, but for the one that it names."""
+    if view.refusal is None:
+        return
+    found = LINE.fullmatch(view.refusal)
+    named = OF_A_TRIP.fullmatch(found[3]) if found else None
+    sorted_trips = sort_trips(view.town.folder)
+    for left in sorted_trips.left:
+        is_named = named[1] == left.trip if named else found and (found[1], found[2]) == (left.file, str(left.row))
+        if not is_named and _counts(view.town, left):
+            yield Note("refused-trip", left.file, left.row, f"trip {shown(left.trip)} of service {shown(left.service)} is refused: {left.why}",
+                       "The agency mends it, or `./desk new` leaves it out")
+    if sorted_trips.strays:
+        yield Note("refused-trip", "stop_times.txt", None, f"{sorted_trips.strays} records of no trip are refused",
+                   "Take them out, or let `./desk new` do it")
+
+
+def _counts(town: Town, left: LeftOut) -> bool:
+    """Whether the program refuses the feed for a trip: it is of the day, or what is wrong with it is wrong on any day."""
+    listed, running = town.selects()
+    return left.on_any_day or (listed is None or left.service in listed) and (running is None or left.service in running)
