@@ -75,7 +75,7 @@ def _too_many_trips(town: Town) -> list[str]:
     trips = TripFile(town)
     found = f"desk.toml selects {len(trips.selected)} trips, and {MOST_TRIPS} may be."
     if town.date is not None:
-        return [f"{found} List some of the day's services in `services`, and plan the others in a folder of their own."]
+        return [f"{found} `./desk part {town.folder} --by agency`, or `--by routes`, makes smaller towns of it."]
     return [f"{found} Write the date of one day, as `date = \"{_a_date(town, trips)}\"`."]
 
 

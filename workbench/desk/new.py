@@ -55,7 +55,7 @@ def run(arguments: argparse.Namespace) -> int:
             report.draft(", ".join(left), "left as they were")
         settle(room, town)
     print(report.text(), end="")
-    return 1 if report.problems else 0
+    return 1 if report.problems or report.first else 0
 
 
 def _with_hints(error: DeskError, agency: Town) -> DeskError:

@@ -18,10 +18,14 @@ MOST_LEFT = 200
 
 @dataclass
 class Report:
-    """The lines of the report, collected on the way. Each item names its file first; `left` has the trips that are left out."""
+    """The lines of the report, collected on the way. Each item names its file first.
+
+    `left` has the trips that are left out, and `first` what is said before all else.
+    """
 
     town: str
     title: str = ""
+    first: list[str] = field(default_factory=list)
     days: list[str] = field(default_factory=list)
     left: list[str] = field(default_factory=list)
     drafted: list[str] = field(default_factory=list)
@@ -43,6 +47,8 @@ class Report:
     def text(self) -> str:
         """The report as it is printed."""
         lines = [one_line(self.title), ""]
+        if self.first:
+            lines += [*(line for text in self.first for line in _folded(text, "")), ""]
         if self.days:
             lines += ["Trips by day:", *(f"  {day}" for day in self.days), ""]
         if self.left:

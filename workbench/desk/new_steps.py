@@ -19,6 +19,7 @@ from desk.limits import MOST_BYTES, MOST_EMPTY_MINUTES, MOST_PLACES, MOST_TRIPS
 from desk.new_report import TOLD, Report, counted, some
 from desk.new_room import AGENCY_FILES
 from desk.new_settings import LAYOVER, settings_text
+from desk.parts import proposals
 from desk.stations import NEAR, Terminal, draft_terminals, terminals_text
 from desk.town import Town
 from desk.unpack import unpack
@@ -236,8 +237,8 @@ def judge_limits(town: Town, terminals: Sequence[Terminal], report: Report) -> N
     """Tells where the day has more than the program plans."""
     trips = len(town.day())
     if trips > MOST_TRIPS:
-        report.mend("trips.txt", f"{trips:,} trips run on that day, and the program plans at most {MOST_TRIPS:,}. List "
-                    "services in desk.toml, or take routes out of trips.txt.")
+        report.first = [f"trips.txt: {trips:,} trips run on that day, and the program plans at most {MOST_TRIPS:,}. Part the town:",
+                        *(f"  {text}" for text in proposals(town, report.town))]
     if len(terminals) > MOST_PLACES:
         report.mend("terminals.csv", f"{len(terminals):,} terminals are more than the {MOST_PLACES} that the program plans "
                     "with. Give stops that are one place the same terminal.")

@@ -8,7 +8,7 @@ from __future__ import annotations
 import csv
 import io
 import re
-from collections.abc import Iterable, Iterator, Sequence
+from collections.abc import Callable, Iterable, Iterator, Sequence
 from contextlib import contextmanager
 from pathlib import Path
 from typing import TextIO
@@ -90,6 +90,16 @@ def first_records(path: Path, column: str) -> dict[str, int]:
         for number, fields in records:
             found.setdefault(fields[at], number)
     return found
+
+
+def copy_records(source: Path, target: Path, column: str, keeps: Callable[[str], bool]) -> None:
+    """Writes a file with those records alone whose field in this column is kept."""
+    with open_records(source) as records, open(target, "w", encoding="utf-8", errors="surrogateescape", newline="") as file:
+        at = records.column(column)
+        file.write(record_text(records.header))
+        for _, fields in records:
+            if keeps(fields[at]):
+                file.write(record_text(fields))
 
 
 def records_of(name: str, text: str) -> Records:

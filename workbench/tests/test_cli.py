@@ -148,7 +148,7 @@ class Launcher(FolderTest):
         self.assertEqual((0, ""), (ran.returncode, ran.stderr))
 
     def test_texts_of_any_locale(self) -> None:
-        feed = {**demonstration(), "stops.txt": demonstration()["stops.txt"].replace("Bullfrog (Demo)", "Grenoble-Échirolles")}
+        feed = {**demonstration(), "stops.txt": demonstration()["stops.txt"].replace("Amargosa Valley (Demo)", "Grenoble-Échirolles")}
         write_feed(self.room / "feed", feed)
         ran = self.launch("new", "feed", "town", env={**os.environ, "LC_ALL": "C", "PYTHONUTF8": "0"}, encoding="utf-8")
-        self.assertIn("Grenoble-Échirolles 181", ran.stdout)
+        self.assertIn("Grenoble-Échirolles 218", ran.stdout)
