@@ -9,6 +9,7 @@ from collections.abc import Callable, Sequence
 from pathlib import Path
 
 from desk.errors import DeskError
+from desk.hints_audit import audit_hints
 from desk.hints_claims import claim_hints
 from desk.hints_forms import COMMANDS
 from desk.hints_machine import keeper_hints, read_hints, write_hints
@@ -87,6 +88,8 @@ def _beside(command: str, town: Town, text: str) -> list[str]:
     """What a planner should know beside the answer of a run that was done: a day without trips, terminals without a depot."""
     if NOTHING.search(text):
         return [note.text for note in no_trips(View(town))]
+    if command == "audit":
+        return audit_hints(town, text)
     return told(unlisted_of_plan(town)) if command == "blocks" else []
 
 
@@ -101,7 +104,9 @@ def _hints(command: str, town: Town, status: int, text: str) -> list[str]:
     if status == KEEPER_FAULT:
         return keeper_hints(town.folder)
     refused = script_hints(town, text) if status else []
-    return refused + (claim_hints(town, text) if command == "check" and status else []) + (_beside(command, town, text) if status in DONE else [])
+    if status not in DONE and command != "audit":
+        return refused + claim_hints(town, text)
+    return refused + _beside(command, town, text)
 
 
 def usage_hints(command: str, words: Sequence[str]) -> list[str]:

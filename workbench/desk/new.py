@@ -73,8 +73,8 @@ def _make(room: Path, arguments: argparse.Namespace, report: Report) -> None:
     new_steps.judge_left_out(town, trips, report)
     terminals = new_steps.draft_places(town, trips, report)
     depot = find_depot(arguments.depot, terminals, town.stops) if arguments.depot is not None else None
-    new_steps.draft_settings(town, date, terminals, report)
     new_steps.draft_running(town, terminals, depot, Pace(arguments.detour, arguments.speed), report)
+    new_steps.draft_settings(town, date, terminals, report)
     new_steps.judge_limits(town, terminals, report)
     day = f"on {date:%A} {date}" if date else "without a date"
     report.title = (f"{arguments.town}: {counted(len(town.day()), 'trip')} {day}, between "

@@ -2,7 +2,7 @@
 from __future__ import annotations
 
 import datetime
-from collections.abc import Sequence
+from collections.abc import Mapping, Sequence
 
 LAYOVER = 5
 """The layover that is drafted, in minutes."""
@@ -39,19 +39,25 @@ block_prefix = "B"
 # Layovers of single terminals, by the names of terminals.csv, in quotes where a name is more than one word.
 [layovers]
 # {terminal} = 8
-
+{layovers}
 # Vehicles of classes that no block mixes: the class that a route needs, by route_id. Take the marks of both lines away.
 # [classes]
 # {route} = "big"
 """
 
+_FITTING = """\
+# The greatest ones, up to the layover above, with which vehicles can make the blocks of today. `audit` says so.
+"""
 
-def settings_text(date: datetime.date | None, services: Sequence[str], terminal: str, route: str) -> str:
-    """The text of `desk.toml` for a day, with services, a terminal and a route of the feed as examples."""
+
+def settings_text(date: datetime.date | None, services: Sequence[str], terminal: str, route: str,
+                  layovers: Mapping[str, int] | None = None) -> str:
+    """The text of `desk.toml` for a day, with services, a terminal and a route of the feed as examples, and with these layovers."""
     head = _NO_DAY if date is None else _DAY.format(name=f"a {date:%A}", date=f"{date:%Y%m%d}")
     shown = ", ".join(_quoted(name) for name in services[:NAMES_SHOWN]) or '"weekday", "school"'
+    lines = "".join(f"{_quoted(name)} = {minutes}\n" for name, minutes in (layovers or {}).items())
     return head + _REST.format(services=shown, layover=LAYOVER, terminal=_quoted(terminal or "Station"),
-                               route=_quoted(route or "line_1"))
+                               layovers=_FITTING + lines if lines else "", route=_quoted(route or "line_1"))
 
 
 def _quoted(name: str) -> str:

@@ -4,7 +4,7 @@ from __future__ import annotations
 import datetime
 import shutil
 from collections.abc import Iterator, Sequence
-from contextlib import contextmanager
+from contextlib import contextmanager, suppress
 from pathlib import Path
 from tempfile import TemporaryDirectory
 
@@ -14,6 +14,7 @@ from desk.deadheads import Depot, Pace, Way, draft_pulls, draft_ways, pulls_text
 from desk.errors import DeskError
 from desk.files import write_whole
 from desk.frequencies import Repeats, expand
+from desk.layovers import fitting
 from desk.left_out import REWRITTEN, SortedTrips, sort_trips, write_without
 from desk.limits import MOST_BYTES, MOST_EMPTY_MINUTES, MOST_PLACES, MOST_TRIPS
 from desk.new_report import TOLD, Report, counted, some
@@ -173,12 +174,29 @@ def _look_at_neighbours(terminals: Sequence[Terminal], report: Report) -> None:
 
 
 def draft_settings(town: Town, date: datetime.date | None, terminals: Sequence[Terminal], report: Report) -> None:
-    """Drafts `desk.toml`, with names of the feed as examples."""
+    """Drafts `desk.toml`, with names of the feed as examples, and with the layovers of the blocks of today."""
     services = list(dict.fromkeys(trip.service_id for trip in town.day()))
     route = next((trip.route_id for trip in town.day() if trip.route_id), "")
-    terminal = terminals[0].name if terminals else ""
-    write_whole(town.path("desk.toml"), settings_text(date, services, terminal, route))
-    report.look("desk.toml", f"a vehicle stays {LAYOVER} minutes at each terminal; [layovers] has others")
+    layovers = _draft_layovers(town, report)
+    terminal = next((terminal.name for terminal in terminals if terminal.name not in layovers), "")
+    write_whole(town.path("desk.toml"), settings_text(date, services, terminal, route, layovers))
+
+
+def _draft_layovers(town: Town, report: Report) -> dict[str, int]:
+    """The layovers below that of all terminals with which the blocks of today can run; none where `audit` cannot be asked."""
+    usual = f"a vehicle stays {LAYOVER} minutes at each terminal"
+    found = None
+    if any(trip.block_id for trip in town.day()) and len(town.day()) <= MOST_TRIPS:
+        with suppress(DeskError):
+            found = fitting(Town(town.folder, {**town.settings, "layover": LAYOVER}))
+    if found is None:
+        report.look("desk.toml", f"{usual}; [layovers] has others")
+        return {}
+    less = [f"{name} {minutes}" for name, minutes in sorted(found.layovers.items())]
+    never = f", but for {counted(len(found.never), 'pair')} of trips that no layover mends" if found.never else ""
+    report.look("desk.toml", f"{usual}{f' but {some(less)}' if less else ''}: with more the blocks of today would not run, as `audit` says"
+                f"{never}" if less or found.never else f"{usual}; the blocks of today can run so, as `audit` says")
+    return dict(sorted(found.layovers.items()))
 
 
 def draft_running(town: Town, terminals: Sequence[Terminal], depot: Depot | None, pace: Pace, report: Report) -> None:

@@ -7,6 +7,7 @@ from collections.abc import Iterator
 from desk.hints_names import Finding, shown
 from desk.notes_note import Note, View
 from desk.records import open_records
+from desk.unblocked import unblocked
 
 PREFIXES = ("B", "V", "D", "W", "X", "Y", "Z", "BD", "VD", "NEW", "PLAN")
 """Prefixes of block names. The first free one is named."""
@@ -38,8 +39,10 @@ def no_block_id(view: View) -> Iterator[Note]:
         yield Note("no-block-id", "trips.txt", None, "it has no column `block_id`, so `audit` takes each trip for a block of its own", do)
     else:
         count = f"{len(trips.without_block)} of {len(trips.selected)} trips of the day"
+        found = unblocked(view.town, trips)
         yield Note("no-block-id", "trips.txt", trips.without_block[0],
-                   f"{count} have no `block_id`, so `audit` takes each of them for a block of its own", do)
+                   f"{count} have no `block_id`, so `audit` takes each of them for a block of its own: {found.text}",
+                   do if found.others else "Count them off where `audit` says how many vehicles are above the least")
 
 
 def other_days_blocks(view: View) -> Iterator[Note]:

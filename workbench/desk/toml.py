@@ -5,9 +5,11 @@ r"""TOML 1.1, which the program reads. The library reads TOML 1.0, so what only 
 """
 from __future__ import annotations
 
+import json
 import re
 import tomllib
 from bisect import bisect_left
+from collections.abc import Mapping
 from typing import Any
 
 TOKEN = re.compile(r'''"""(?:[^\\]|\\.)*?"{3,5}|\'\'\'.*?'{3,5}|"(?:[^"\\\n]|\\.)*"|'[^'\n]*'|["'].*|'''
@@ -157,3 +159,24 @@ def as_older_value(token: str) -> str:
 def _as_older_escape(found: re.Match[str]) -> str:
     """An escape as the older version has it."""
     return r"\u001B" if found[1] else rf"\u00{found[2]}" if found[2] else found[0]
+
+
+def toml_text(settings: Mapping[str, Any]) -> str:
+    """Settings as a text of TOML: texts, whole numbers, lists of texts, and tables of texts and whole numbers."""
+    tables = {key: value for key, value in settings.items() if isinstance(value, dict)}
+    lines = [f"{_quoted(key)} = {_value_text(value)}" for key, value in settings.items() if key not in tables]
+    for key, table in tables.items():
+        lines += [f"[{_quoted(key)}]", *(f"{_quoted(name)} = {_value_text(value)}" for name, value in table.items())]
+    return "".join(line + "\n" for line in lines)
+
+
+def _value_text(value: Any) -> str:
+    """A value of TOML."""
+    if isinstance(value, list):
+        return "[" + ", ".join(map(_value_text, value)) + "]"
+    return _quoted(value) if isinstance(value, str) else str(value)
+
+
+def _quoted(text: str) -> str:
+    """A text in double quotes."""
+    return json.dumps(text, ensure_ascii=False).replace("\x7f", "\\u007F")

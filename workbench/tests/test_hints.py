@@ -14,7 +14,7 @@ from desk import program
 from desk.hints import hints_before, hints_of, questions_before
 from desk.hints_edits import wrong
 from desk.hints_machine import read_hints, write_hints
-from tests.feeds import Feed, FolderTest, needs_program, table, write_feed, zip_feed
+from tests.feeds import Feed, FolderTest, demonstration, needs_program, table, write_feed, zip_feed
 from tests.test_notes import CLEAN
 
 FEED: Feed = {name: text for name, text in CLEAN.items() if name != "edits.csv"}
@@ -476,6 +476,42 @@ class TestJournals(HintsTest):
     def test_nothing_is_known_of_a_journal_in_order(self) -> None:
         self.make("CREATE TABLE journal(seq INTEGER PRIMARY KEY, line TEXT NOT NULL)")
         self.assertEqual(hints_of("keep", [str(self.town)], 7, ""), [])
+
+
+@needs_program
+class TestAudit(HintsTest):
+    """Hints on the blocks of today: the layovers with which they can run, and trips without `block_id`."""
+
+    def audit(self, departs: str, **changed: str) -> tuple[int, list[str]]:
+        """The status and the hints of the clean town, where W3 departs from the station then, after W2 that is there at 06:51."""
+        times = FEED["stop_times.txt"].replace("07:00:00,07:00:00", f"{departs},{departs}")
+        trips = FEED["trips.txt"].replace("today.2", "today.1")
+        files = {"stop_times.txt": times, "trips.txt": trips} | {name.replace("__", "."): text for name, text in changed.items()}
+        status, _, errors = self.desk("audit", write_feed(self.room / "town", FEED | files))
+        return status, errors.splitlines()
+
+    def test_layovers_with_which_the_blocks_can_run(self) -> None:
+        """With 8 minutes W2 is free at 06:59, so four less are needed."""
+        self.assertEqual(self.audit("06:55:00"), (4, ["desk: with these layovers today's blocks can run, as `audit` says: \"Station\" = 4. "
+                                                      "Write them below [layovers] of desk.toml."]))
+        toml_text = FEED["desk.toml"].replace("Station = 8", "Station = 4")
+        self.assertEqual(self.audit("06:55:00", desk__toml=toml_text), (0, []))
+
+    def test_pairs_that_no_layover_mends(self) -> None:
+        self.assertEqual(self.audit("06:45:00"), (4, ['desk: 1 pair does not fit with any layover: the first is "W2" to "W3", 14 minutes too late. '
+                                                      "Are times, deadheads and terminals right?"]))
+        far = FEED["stop_times.txt"].replace("W3,07:00:00,07:00:00,stn_b", "W3,07:00:00,07:00:00,zoo_1")
+        self.assertIn('"W2" to "W3", no way leads there', self.audit("07:00:00", stop_times__txt=far)[1][0])
+
+    def test_repeated_trips_are_told_apart_from_those_of_the_agency(self) -> None:
+        feed = demonstration() | {"trips.txt": demonstration()["trips.txt"].replace("to Airport,1,2", "to Airport,1,")}
+        for name, changed_feed, words in (("one", demonstration(), "136 stated blocks are single trips without `block_id`: all of them repeat a trip of"),
+                                          ("two", feed, "137 stated blocks are single trips without `block_id`: 136 of them repeat a trip of "
+                                                        "frequencies.txt, and 1 have none from the agency")):
+            with self.subTest(name):
+                self.desk("new", zip_feed(self.room / f"{name}.zip", changed_feed), self.room / name)
+                self.assertIn(words, self.desk("audit", self.room / name)[2])
+                self.assertIn(words.partition(": ")[2], self.desk("notes", self.room / name)[1])
 
 
 class TestEdits(HintsTest):

@@ -9,6 +9,7 @@ import tomllib
 from pathlib import Path
 from unittest import mock
 
+from desk.errors import DeskError
 from desk.locks import LOCK
 from desk.new_settings import settings_text
 from desk.program import run
@@ -441,8 +442,48 @@ class More(NewTest):
         self.assertEqual(b"fixed 1, vehicles 1, minutes 73\n", run(["blocks", self.town]).text)
 
 
+@needs_program
+class Layovers(NewTest):
+    """The greatest layovers up to 5 with which the blocks of today can run are drafted."""
+
+    def feed(self, *trips: tuple[str, str, str, str]) -> Feed:
+        """A feed of trips of one block: the first stop with its time, and the last one with its time."""
+        return AllDays.FEED | {
+            "trips.txt": table("service_id,trip_id,block_id", [("W", f"t{number}", "X") for number in range(len(trips))]),
+            "stop_times.txt": table("trip_id,arrival_time,departure_time,stop_id,stop_sequence", [
+                (f"t{number}", f"{time}:00", f"{time}:00", stop, at) for number, trip in enumerate(trips)
+                for at, (stop, time) in enumerate(((trip[0], trip[1]), (trip[2], trip[3])))])}
+
+    def test_what_today_leaves(self) -> None:
+        """Three minutes at the bridge, and ten at the abbey."""
+        text = self.new(self.feed(("a", "06:00", "b", "07:00"), ("b", "07:03", "a", "08:00"), ("a", "08:10", "b", "09:00"), ("b", "09:04", "a", "10:00")))
+        said = tomllib.loads(self.read("desk.toml"))
+        self.assertEqual((5, {"Bridge": 3}), (said["layover"], said["layovers"]))
+        self.assertIn("a vehicle stays 5 minutes at each terminal but Bridge 3: with more the blocks of today would not run, as `audit` says", text)
+        self.assertNotIn("not fit", run(["audit", self.town]).text.decode())
+
+    def test_an_empty_way_between(self) -> None:
+        """From the bridge to the abbey 11.12 km by 1.3 at 25 km/h are 34.7 minutes: 35 of 37, which leaves 2 at the bridge."""
+        self.new(self.feed(("a", "06:00", "b", "07:00"), ("a", "07:37", "b", "08:00")))
+        self.assertEqual({"Bridge": 2}, tomllib.loads(self.read("desk.toml"))["layovers"])
+
+    def test_pairs_that_no_layover_mends_change_nothing(self) -> None:
+        text = self.new(self.feed(("a", "06:00", "b", "07:00"), ("b", "06:50", "a", "08:00"), ("a", "08:04", "b", "09:00")))
+        self.assertEqual({"Abbey": 4}, tomllib.loads(self.read("desk.toml"))["layovers"])
+        self.assertIn("but for 1 pair of trips that no layover mends", text)
+
+    def test_today_fits_as_it_is(self) -> None:
+        self.assertIn("the blocks of today can run so, as `audit` says", self.new(self.feed(("a", "06:00", "b", "07:00"), ("b", "07:05", "a", "08:00"))))
+
+
 class Settings(NewTest):
-    """The draft of `desk.toml`."""
+    """The draft of `desk.toml`, where nothing is known of the blocks of today."""
+
+    def setUp(self) -> None:
+        super().setUp()
+        patch = mock.patch("desk.new_steps.fitting", side_effect=DeskError("nobody is asked"))
+        patch.start()
+        self.addCleanup(patch.stop)
 
     def test_what_is_said_and_what_is_explained(self) -> None:
         self.new(agency())

@@ -8,7 +8,7 @@ from typing import Any
 
 from desk import program
 from desk.hints_toml import toml_hints
-from desk.toml import TomlError, read_toml
+from desk.toml import TomlError, read_toml, toml_text
 from tests.feeds import FolderTest, agency, needs_program, write_feed
 
 READ: list[tuple[str, Any]] = [
@@ -93,6 +93,11 @@ class TomlTest(FolderTest):
         for count in (80, 81):
             town = write_feed(self.room / "town", {**agency(), "desk.toml": ".".join("a" * count) + " = 1"})
             self.assertEqual(program.run(["deficits", town]).text.decode(), f"feed refused: desk.toml: {'bad a' if count == 80 else 'not TOML'}\n")
+
+    def test_what_is_written_reads_back(self) -> None:
+        said = {"date": "20260907", "layovers": {'The "Gate"\\': 3, "a.b\t\x7f\x00": 0, "Zürich 🚌": 240}, "services": ["a", "b\n"], "layover": 5,
+                "classes": {}}
+        self.assertEqual(read_toml(toml_text(said)), said)
 
     @needs_program
     def test_the_program_reads_the_same(self) -> None:

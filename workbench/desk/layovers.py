@@ -1,0 +1,70 @@
+"""The greatest layovers with which vehicles can make the blocks that a feed states, as `audit` says."""
+from __future__ import annotations
+
+from collections.abc import Iterator, Mapping
+from contextlib import contextmanager
+from dataclasses import dataclass, field
+from pathlib import Path
+from typing import Any
+
+from desk.errors import DeskError
+from desk.files import read_bytes
+from desk.plans import ask
+from desk.rooms import room_of
+from desk.texts import Json
+from desk.toml import toml_text
+from desk.town import Town
+
+
+@dataclass
+class Fitting:
+    """Which layovers are less than those of the town, by terminals, and the pairs of trips that none mends."""
+
+    layovers: dict[str, int] = field(default_factory=dict)
+    never: list[Json] = field(default_factory=list)
+
+
+def fitting(town: Town, misfits: list[Json] | None = None) -> Fitting:
+    """The layovers with which the stated blocks can run. `misfits` are those that `audit` says with the layovers as they are.
+
+    A DeskError where `audit` cannot be asked, or where it says of other layovers what was not to be expected.
+    """
+    misfits = audit(town, town.settings).get("misfits", []) if misfits is None else misfits
+    found, ends = Fitting(), {trip.trip_id: town.terminal(trip.last_stop) for trip in town.day()}
+    for misfit in misfits:
+        terminal = ends.get(misfit["first"])
+        layover = 0 if terminal is None else town.layover(terminal)
+        if terminal is None or misfit["short"] is None or misfit["short"] > layover:
+            found.never.append(misfit)
+        else:
+            found.layovers[terminal] = min(found.layovers.get(terminal, layover), layover - misfit["short"])
+    if found.layovers:
+        left = audit(town, with_layovers(town.settings, found.layovers)).get("misfits", [])
+        if {_pair(misfit) for misfit in left} != {_pair(misfit) for misfit in found.never}:
+            raise DeskError("audit: with other layovers other pairs do not fit than was to be expected")
+    return found
+
+
+def audit(town: Town, settings: Mapping[str, Any]) -> Json:
+    """What `audit` says of a town with these settings in place of its own."""
+    with room_with(town, settings) as room:
+        return ask("audit", room)
+
+
+@contextmanager
+def room_with(town: Town, settings: Mapping[str, Any]) -> Iterator[Path]:
+    """A room with the feed and the script of a town, and with these settings."""
+    with room_of(town, {"edits.csv": read_bytes(town.path("edits.csv"))} if town.has("edits.csv") else {}) as room:
+        (room / "desk.toml").unlink(missing_ok=True)
+        (room / "desk.toml").write_text(toml_text(settings), encoding="utf-8")
+        yield room
+
+
+def with_layovers(settings: Mapping[str, Any], layovers: Mapping[str, int]) -> dict[str, Any]:
+    """Settings with these layovers of terminals beside those that they have."""
+    return {**settings, "layovers": {**settings.get("layovers", {}), **layovers}}
+
+
+def _pair(misfit: Json) -> tuple[str, str]:
+    """The two trips that do not fit."""
+    return misfit["first"], misfit["second"]
