@@ -6,7 +6,7 @@ from dataclasses import dataclass, field
 from pathlib import Path
 
 from desk.errors import DeskError
-from desk.records import open_records
+from desk.records import is_blank, open_records
 
 WEEKDAYS = ("monday", "tuesday", "wednesday", "thursday", "friday", "saturday", "sunday")
 """The columns of `calendar.txt` for the days of a week, in the order of `date.weekday()`."""
@@ -100,6 +100,8 @@ def _read_spans(path: Path, calendars: Calendars) -> None:
         days = [records.column(name) for name in WEEKDAYS]
         ends = records.column("start_date"), records.column("end_date")
         for number, fields in records:
+            if is_blank(fields):
+                continue
             weekdays = frozenset(day for day, at in enumerate(days) if fields[at].strip(" ") == "1")
             first, last = (_date_in(path.name, number, records.header[at], fields[at]) for at in ends)
             calendars.spans[fields[service]] = Span(weekdays, first, last)
@@ -110,6 +112,8 @@ def _read_exceptions(path: Path, calendars: Calendars) -> None:
     with open_records(path) as records:
         service, on, kind = (records.column(name) for name in ("service_id", "date", "exception_type"))
         for number, fields in records:
+            if is_blank(fields):
+                continue
             date = _date_in(path.name, number, "date", fields[on])
             if fields[kind].strip(" ") not in ("1", "2"):
                 raise DeskError(f"{path.name} record {number}: bad exception_type")

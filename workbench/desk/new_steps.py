@@ -3,6 +3,7 @@ from __future__ import annotations
 
 import datetime
 import shutil
+import statistics
 from collections.abc import Iterator, Sequence
 from contextlib import contextmanager, suppress
 from pathlib import Path
@@ -15,7 +16,7 @@ from desk.errors import DeskError
 from desk.files import write_whole
 from desk.frequencies import Repeats, expand
 from desk.layovers import fitting
-from desk.left_out import REWRITTEN, SortedTrips, sort_trips, write_without
+from desk.left_out import SortedTrips, sort_trips, write_without
 from desk.limits import MOST_BYTES, MOST_EMPTY_MINUTES, MOST_PLACES, MOST_TRIPS
 from desk.new_report import TOLD, Report, counted, some
 from desk.new_room import AGENCY_FILES
@@ -24,6 +25,9 @@ from desk.parts import proposals
 from desk.stations import NEAR, Terminal, draft_terminals, terminals_text
 from desk.town import Town
 from desk.unpack import unpack
+
+FAR, MUCH_FARTHER = 15_000.0, 4
+"""How many metres a terminal lies from the nearest other one at least, and how many times as far as is usual, to be told of."""
 
 
 def unpack_feed(feed: Path, room: Path, report: Report) -> SortedTrips:
@@ -43,7 +47,7 @@ def unpack_feed(feed: Path, room: Path, report: Report) -> SortedTrips:
             _tell_repeats(expand(source, room), report)
         copied = [name for name in AGENCY_FILES if name in names and not (room / name).exists()]
         for name in copied:
-            shutil.copyfile(agency / name if source is agency or name not in REWRITTEN else source / name, room / name)
+            shutil.copyfile(source / name, room / name)
     if copied:
         report.draft(", ".join(copied), "copied from agency/")
     _tell_left_out(trips, report)
@@ -56,7 +60,7 @@ def unpack_feed(feed: Path, room: Path, report: Report) -> SortedTrips:
 @contextmanager
 def _sound(agency: Path, trips: SortedTrips, room: Path) -> Iterator[Path]:
     """The folder of the agency, or where the program would refuse some of it one with the files of the other trips."""
-    if not trips.left and not trips.strays:
+    if trips.is_sound:
         yield agency
         return
     with TemporaryDirectory(dir=room) as folder:
@@ -67,6 +71,11 @@ def _sound(agency: Path, trips: SortedTrips, room: Path) -> Iterator[Path]:
 def _tell_left_out(trips: SortedTrips, report: Report) -> None:
     """Tells which trips were left out, and why."""
     report.left = [f"{left.trip or '(no name)'}, service {left.service}: {left.why}" for left in trips.left]
+    for name in AGENCY_FILES:
+        if trips.blanks[name]:
+            report.look(name, f"{counted(trips.blanks[name], 'record')} of commas alone left out")
+        if trips.trailing[name]:
+            report.look(name, f"{counted(trips.trailing[name], 'record')} with a comma too many at the end, which is left out")
     if trips.strays:
         report.look("stop_times.txt", f"{counted(trips.strays, 'record')} of no trip left out, which the program would refuse")
 
@@ -108,6 +117,12 @@ def choose_day(room: Path, asked: datetime.date | None, report: Report) -> datet
     date, why = (asked, "as asked") if asked else choose(days, today())
     report.days = fortnight(days, date)
     report.draft("desk.toml", f"{date:%A} {date}, {why}; a layover of {LAYOVER} minutes")
+    if not (room / "calendar.txt").exists():
+        report.look("calendar_dates.txt", f"it is alone, without calendar.txt: {counted(len(calendars.added), 'date')} in it, and trips run on no "
+                    "others")
+    never = sum(count for service, count in days.trips.items() if service not in calendars.services())
+    if never:
+        report.look("trips.txt", f"{counted(never, 'trip')} of services that no calendar has never run")
     if days.range and days.range[1] < today():
         report.mend("desk.toml", f"the calendars end on {days.range[1]}, before today. Ask the agency for its newest feed.")
     if days.count(date) != days.usual(date):
@@ -135,6 +150,7 @@ def draft_places(town: Town, trips: SortedTrips, report: Report) -> list[Termina
     if by_name:
         report.look("terminals.csv", f"is each of these one place for a vehicle? {some(by_name)}")
     _look_at_neighbours(terminals, report)
+    _look_far(terminals, report)
     missing = [stop for stop in ends if stop not in town.stops]
     if missing:
         report.mend("terminals.csv", f"stops.txt lacks {counted(len(missing), 'stop')} where trips begin or end: "
@@ -171,6 +187,19 @@ def _look_at_neighbours(terminals: Sequence[Terminal], report: Report) -> None:
              if first.point and second.point and first.point.is_within(NEAR, second.point)]
     if close:
         report.look("terminals.csv", f"these lie within {NEAR:.0f} metres and are not one terminal: {some(close)}")
+
+
+def _look_far(terminals: Sequence[Terminal], report: Report) -> None:
+    """Tells of terminals that lie far from all others, since their coordinates may be wrong."""
+    points = [(terminal.name, terminal.point) for terminal in terminals if terminal.point]
+    if not 2 < len(points) <= MOST_PLACES:
+        return
+    nearest = {name: min(point.metres_to(other) for number, (_, other) in enumerate(points) if number != at)
+               for at, (name, point) in enumerate(points)}
+    usual = statistics.median(nearest.values())
+    far = [f"{name} {metres / 1000:.0f} km" for name, metres in nearest.items() if metres >= FAR and metres >= MUCH_FARTHER * usual]
+    if far:
+        report.look("terminals.csv", f"these lie far from all others: {some(far)}. Are their coordinates in stops.txt right?")
 
 
 def draft_settings(town: Town, date: datetime.date | None, terminals: Sequence[Terminal], report: Report) -> None:

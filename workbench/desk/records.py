@@ -123,6 +123,16 @@ def is_utf8(text: str) -> bool:
     return True
 
 
+def is_blank(fields: Sequence[str]) -> bool:
+    """Whether a record has commas alone, as a spreadsheet writes an empty line."""
+    return not any(field.strip() for field in fields)
+
+
+def is_wide(fields: Sequence[str], width: int) -> bool:
+    """Whether a record has more than empty fields behind those of a header so wide."""
+    return len(fields) > width and any(fields[width:])
+
+
 def record_text(fields: Sequence[str]) -> str:
     """A record as it is written: in quotes only where a field needs them, with a line feed at its end."""
     text = ",".join(fields)

@@ -6,7 +6,7 @@ from collections.abc import Collection
 from dataclasses import dataclass
 from pathlib import Path
 
-from desk.records import is_utf8, open_records
+from desk.records import is_utf8, is_wide, open_records
 from desk.times import format_time, is_no_time, parse_time
 
 BAD = -1
@@ -56,13 +56,14 @@ class Rows:
 class Survey:
     """The rows of all trips of these names.
 
-    `strays` counts records of other trips for which the program refuses the file. `is_utf8` says whether all stops of the trips are.
+    `strays` counts records of other trips for which the program refuses the file, and `trailing` those with empty fields behind those
+    of the header. `is_utf8` says whether all stops of the trips are.
     """
 
     def __init__(self, path: Path, names: Collection[str]) -> None:
         self.path = path
         self.trips = {name: Rows() for name in names}
-        self.strays = 0
+        self.strays = self.trailing = 0
         self.is_utf8 = True
         self._read()
         self._find_twice([name for name, rows in self.trips.items() if not rows.is_ascending and not rows.why])
@@ -78,13 +79,15 @@ class Survey:
             width = len(records.header)
             for number, fields in records:
                 rows = rows_of(fields[trip])
+                if len(fields) > width:
+                    self.trailing += not is_wide(fields, width)
                 if rows is None:
-                    self.strays += len(fields) > width or not is_utf8(fields[trip])
+                    self.strays += is_wide(fields, width) or not is_utf8(fields[trip])
                     continue
                 sequence, arrival, departure = sequences[fields[place]], times[fields[arrives]], times[fields[departs]]
-                if len(fields) > width or sequence == BAD or arrival == BAD or departure == BAD or stops[fields[stop]]:
+                if is_wide(fields, width) or sequence == BAD or arrival == BAD or departure == BAD or stops[fields[stop]]:
                     rows.refuse(_why(number, fields, width, stops[fields[stop]], (sequence, arrival)), number)
-                    rows.is_wide |= len(fields) > width
+                    rows.is_wide |= is_wide(fields, width)
                 rows.count += 1
                 if sequence > rows.last:
                     rows.last, rows.end = sequence, (fields[stop], arrival, departure)
@@ -127,7 +130,7 @@ def _judge(rows: Rows) -> None:
 def _why(number: int, fields: list[str], width: int, wrong_stop: str, found: tuple[int, int | None]) -> str:
     """Why a row is refused, of which the sequence and the arrival were found."""
     begin = f"record {number} of stop_times.txt has"
-    if len(fields) > width:
+    if is_wide(fields, width):
         return f"{begin} {len(fields)} fields and the header {width}"
     if wrong_stop:
         return f"{begin} {wrong_stop}"

@@ -1,0 +1,75 @@
+"""The feed that is handed over, read again: its blocks are least, and each trip is there once, at its times and in its block."""
+from __future__ import annotations
+
+from collections import Counter
+from collections.abc import Iterable
+from pathlib import Path
+from tempfile import TemporaryDirectory
+
+from desk.day import Day
+from desk.errors import DeskError
+from desk.plans import ask
+from desk.published_feed import Handover
+from desk.records import open_records
+from desk.times import arrival_minute, departure_minute
+from desk.toml import toml_text
+from desk.town import Town
+from desk.unpack import unpack
+
+PLANNER_FILES = ("terminals.csv", "deadheads.csv", "depot.csv")
+"""The planner's files with which the feed is read again."""
+
+
+def judge(day: Day, feed: Path, made: Handover) -> None:
+    """A DeskError where a feed does not say what the plan says, or where its blocks are not least."""
+    with TemporaryDirectory(prefix="desk-") as name:
+        folder = Path(name)
+        unpack(feed, folder)
+        for file in PLANNER_FILES:
+            (folder / file).unlink(missing_ok=True)
+            if day.town.has(file):
+                (folder / file).symlink_to(day.town.path(file).resolve())
+        settings = dict(day.town.settings)
+        if isinstance(settings.get("services"), list):
+            settings["services"] = [*settings["services"], made.service]
+        (folder / "desk.toml").write_text(toml_text(settings), encoding="utf-8")
+        _judge_trips(day, Town(folder), made)
+        _judge_blocks(day, folder, made)
+
+
+def _judge_trips(day: Day, town: Town, made: Handover) -> None:
+    """Judges that each trip is there once, between its places, at its minutes and in its block."""
+    wanted = {ride.name: (ride.start, ride.departs, ride.end, ride.arrives, block.name)
+              for block in day.blocks for ride in block.rides if ride.name not in made.unlisted}
+    found = {trip.trip_id: (trip.start, departure_minute(trip.departure or 0), trip.end, arrival_minute(trip.arrival or 0), trip.block_id)
+             for trip in town.day()}
+    wrong = next((name for name in [*wanted, *found] if wanted.get(name) != found.get(name)), None)
+    if wrong is not None:
+        raise DeskError(f"nothing is written: trip {wrong} is not in the feed as it is in the plan: {found.get(wrong)} and {wanted.get(wrong)}")
+    names = Counter(_names(day.town)) - Counter(made.cancelled) + Counter(list(made.extras))
+    if Counter(_names(town)) != names:
+        raise DeskError("nothing is written: the feed has other trips of other days than the town")
+
+
+def _names(town: Town) -> Iterable[str]:
+    """The trips of all days."""
+    with open_records(town.path("trips.txt")) as records:
+        at = records.column("trip_id")
+        return [fields[at] for _, fields in records]
+
+
+def _judge_blocks(day: Day, folder: Path, made: Handover) -> None:
+    """Judges that `audit` says of the blocks that they are least, and as many as those of the plan where no trip is left out."""
+    said = ask("audit", folder)
+    why = ""
+    if said["verdict"] == "no":
+        first = said["misfits"][0]
+        why = f"no vehicle makes {first['second']} after {first['first']}"
+    elif said["verdict"] != "least":
+        what, number = next(iter(said["above"].items()))
+        why = f"above by {number} {what}"
+    elif not made.unlisted and (said["vehicles"], said["minutes"]) != day.cost[1:]:
+        why = f"it says {said['vehicles']} vehicles and {said['minutes']} minutes"
+    if why:
+        left = "".join(f"; extra trip {name} is left out: {reason}" for name, reason in made.unlisted.items())
+        raise DeskError(f"nothing is written: `audit` of the feed does not say `least`: {why}{left}")
