@@ -70,9 +70,9 @@ def _why_not(town: Town, name: str, listed: dict[str, tuple[str, str]], routes: 
 
 
 def _stop_of(town: Town, ride: Ride, first: bool) -> str:
-    """The stop at which most trips of the day begin, or end, at a terminal of an extra trip; else any stop of that."""
+    """The stop at which most trips of the day begin, or end, at a terminal of an extra trip; else any stop of that, or none."""
     terminal = town.of_post(ride.start if first else ride.end)
-    ends = Counter(trip.first_stop if first else trip.last_stop for trip in town.day())
-    near = [stop for stop, _ in ends.most_common() if town.terminal(stop) == terminal]
-    others = [stop for stop, of in town.terminals.items() if of == terminal] or [stop for stop in town.stops if stop == terminal]
-    return next(iter(near + others), "")
+    begin = Counter(trip.first_stop for trip in town.day()).most_common()
+    end = Counter(trip.last_stop for trip in town.day()).most_common()
+    ends = [stop for stop, _ in (begin + end if first else end + begin)]
+    return next((stop for stop in (*ends, *town.terminals, *town.stops) if town.terminal(stop) == terminal), "")
