@@ -11,11 +11,11 @@ from desk import new_more, new_steps
 from desk.calendars import format_date, parse_date
 from desk.deadheads import Pace, find_depot
 from desk.errors import DeskError, UsageError
+from desk.hints_places import Places
 from desk.hints_refusals import refusal_hints
 from desk.new_report import Report, counted
 from desk.new_room import carry_own, left_as_they_were, settle, town_room
 from desk.town import Town
-from desk.unlisted import lacking
 
 WORD = "new"
 HELP = "make a town of an agency's feed: unpack it, choose a day, draft terminals, deadheads and the depot"
@@ -78,7 +78,7 @@ def _make(room: Path, arguments: argparse.Namespace, report: Report) -> None:
     new_steps.judge_limits(town, terminals, report)
     day = f"on {date:%A} {date}" if date else "without a date"
     report.title = (f"{arguments.town}: {counted(len(town.day()), 'trip')} {day}, between "
-                    f"{counted(len(lacking(Town(room), ())), 'terminal')}, from {arguments.feed}")
+                    f"{counted(len(Places(Town(room), town.day()).day), 'terminal')}, from {arguments.feed}")
 
 
 def _make_more(room: Path, arguments: argparse.Namespace, report: Report) -> None:

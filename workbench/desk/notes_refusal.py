@@ -12,8 +12,8 @@ from desk.left_out import LeftOut, sort_trips
 from desk.notes_note import Note, View
 from desk.town import Town
 
-REFUSED, READ_FAULT = 3, 5
-"""The statuses of the program where it refuses a feed, and where it cannot read a file."""
+DONE, REFUSED, READ_FAULT = (0, 1), 3, 5
+"""The statuses of the program where it takes a feed, where it refuses it, and where it cannot read a file."""
 
 
 def refusal_of(town: Town) -> str | None:
@@ -22,6 +22,8 @@ def refusal_of(town: Town) -> str | None:
     if outcome.status == READ_FAULT:
         raise DeskError(" ".join(read_hints("deficits", town.folder)).removesuffix(".") or "the program cannot read a file")
     text = outcome.text.decode("utf-8", "surrogateescape")
+    if outcome.status not in (*DONE, REFUSED) or not text.endswith("\n"):
+        raise DeskError(f"the program ended with status {outcome.status}: {outcome.errors.decode('utf-8', 'replace').strip() or 'it said nothing'}")
     return text.removeprefix("feed refused: ").removesuffix("\n") if outcome.status == REFUSED else None
 
 

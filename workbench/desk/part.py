@@ -47,13 +47,18 @@ def run(arguments: argparse.Namespace) -> int:
     for number, (part, folder) in enumerate(zip(parts, folders), 1):
         make_part(town, part, folder, f"{town.settings.get('block_prefix', 'B')}{number}-")
         more = f", more than the {MOST_TRIPS:,} that the program plans" if part.trips > MOST_TRIPS else ""
-        sys.stdout.write(f"{arguments.town.with_name(folder.name)}: {counted(part.trips, 'trip')} of the day on "
+        sys.stdout.write(f"{_shown(arguments.town, folder)}: {counted(part.trips, 'trip')} of the day on "
                          f"{counted(len(part.routes), 'route')}{more}\n")
     left = [name for name in LEFT if town.has(name)]
     if left:
         sys.stdout.write(f"left in {arguments.town} alone: {', '.join(left)}\n")
-    sys.stdout.write(f"Next: ./desk notes {arguments.town.with_name(folders[0].name)}\n")
+    sys.stdout.write(f"Next: ./desk notes {_shown(arguments.town, folders[0])}\n")
     return 1 if any(part.trips > MOST_TRIPS for part in parts) else 0
+
+
+def _shown(town: Path, folder: Path) -> Path:
+    """The folder of a part, as the town beside it was named."""
+    return town.with_name(folder.name) if town.name not in ("", "..") else folder
 
 
 def make_part(town: Town, part: Part, folder: Path, prefix: str) -> None:

@@ -2,7 +2,7 @@
 from __future__ import annotations
 
 from collections import Counter
-from collections.abc import Iterable
+from collections.abc import Iterable, Sequence
 from typing import NamedTuple
 
 from desk import program
@@ -15,6 +15,9 @@ from desk.town import Town
 
 MOST_TOLD = 10
 """How many terminals are told one by one below an answer."""
+
+Ends = tuple[str, str]
+"""The places from and to which a trip runs."""
 
 
 class Unlisted(NamedTuple):
@@ -32,42 +35,30 @@ class Unlisted(NamedTuple):
                 f"{_counted(self.homes, 'pull-in begins', 'pull-ins begin')} there")
 
 
-def unlisted(town: Town, ends: Iterable[tuple[str, str]]) -> list[Unlisted]:
-    """The terminals without a record, by the places at which the blocks of a plan begin and end. None without `depot.csv`."""
+def unlisted(town: Town, blocks: Iterable[Sequence[Ends]]) -> list[Unlisted]:
+    """The terminals of a plan without a record, by the ends of the trips of each block. None where there is no `depot.csv`."""
     if not town.has("depot.csv"):
         return []
     listed = first_records(town.path("depot.csv"), "terminal")
     outs: Counter[str] = Counter()
     homes: Counter[str] = Counter()
-    for start, end in ends:
-        outs[town.of_post(start)] += 1
-        homes[town.of_post(end)] += 1
-    names = dict.fromkeys([*lacking(town, listed), *outs, *homes])
-    return [Unlisted(name, outs[name], homes[name]) for name in names if name not in listed]
-
-
-def lacking(town: Town, listed: Iterable[str]) -> list[str]:
-    """The terminals at which trips of the day begin or end and that a file does not list, by their names."""
-    ends = {town.terminal(stop) for trip in town.day() for stop in (trip.first_stop, trip.last_stop)}
-    return sorted(ends - set(listed))
+    names: set[str] = set()
+    for trips in blocks:
+        outs[town.of_post(trips[0][0])] += 1
+        homes[town.of_post(trips[-1][1])] += 1
+        names.update(town.of_post(place) for ends in trips for place in ends)
+    return [Unlisted(name, outs[name], homes[name]) for name in sorted(names) if name not in listed]
 
 
 def unlisted_of_plan(town: Town) -> list[Unlisted]:
-    """The terminals without a record, of the plan that the program makes. It is asked where there may be one."""
+    """The terminals without a record, of the plan that the program makes in a room; none where it makes none."""
     if not town.has("depot.csv"):
         return []
-    script = read_bytes(town.path("edits.csv")) if town.has("edits.csv") else b""
-    if not lacking(town, first_records(town.path("depot.csv"), "terminal")) and b"extra" not in script:
-        return []
-    return unlisted(town, _ends_of_plan(town, script))
-
-
-def _ends_of_plan(town: Town, script: bytes) -> list[tuple[str, str]]:
-    """The places at which the blocks of the plan begin and end; none where there is no plan."""
-    with room_of(town, {"edits.csv": script}) as room:
+    with room_of(town, {"edits.csv": read_bytes(town.path("edits.csv"))} if town.has("edits.csv") else {}) as room:
         if program.run(["joined", room]).status not in (0, 1):
             return []
-        return [(legs[0].start, legs[-1].end) for legs in read_boards(room / "boards.csv").values()]
+        boards = read_boards(room / "boards.csv").values()
+    return unlisted(town, [[(leg.start, leg.end) for leg in legs if leg.trip] for legs in boards])
 
 
 def told(found: list[Unlisted]) -> list[str]:

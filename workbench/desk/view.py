@@ -50,7 +50,7 @@ def _warnings(day: Day) -> list[str]:
     """What a planner should know beside the numbers: that no trip is selected, or the terminals that `depot.csv` does not list."""
     if not day.published:
         return [note.text for note in no_trips(View(day.town))]
-    return told(unlisted(day.town, ((block.rides[0].start, block.rides[-1].end) for block in day.blocks)))
+    return told(unlisted(day.town, ([(ride.start, ride.end) for ride in block.rides] for block in day.blocks)))
 
 
 def as_text(view: Json) -> str:
