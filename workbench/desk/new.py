@@ -13,6 +13,7 @@ from desk.deadheads import Pace, find_depot
 from desk.errors import DeskError, UsageError
 from desk.hints_places import Places
 from desk.hints_refusals import refusal_hints
+from desk.new_left_out import judge_left_out
 from desk.new_report import Report, counted
 from desk.new_room import carry_own, left_as_they_were, settle, town_room
 from desk.town import Town
@@ -70,7 +71,7 @@ def _make(room: Path, arguments: argparse.Namespace, report: Report) -> None:
     trips = new_steps.unpack_feed(arguments.feed, room, report)
     date = new_steps.choose_day(room, arguments.date, report)
     town = Town(room, {} if date is None else {"date": format_date(date)})
-    new_steps.judge_left_out(town, trips, report)
+    judge_left_out(town, trips, report)
     terminals = new_steps.draft_places(town, trips, report)
     depot = find_depot(arguments.depot, terminals, town.stops) if arguments.depot is not None else None
     new_steps.draft_running(town, terminals, depot, Pace(arguments.detour, arguments.speed), report)
@@ -89,7 +90,7 @@ def _make_more(room: Path, arguments: argparse.Namespace, report: Report) -> Non
     if arguments.date:
         new_more.check_asked(town, arguments.date)
     new_more.judge_day(town, report)
-    new_steps.judge_left_out(town, trips, report)
+    judge_left_out(town, trips, report)
     terminals = new_more.add_places(own, town, trips, report)
     new_more.add_running(own, town, terminals, arguments.depot, Pace(arguments.detour, arguments.speed), report)
     new_steps.judge_limits(town, terminals, report)

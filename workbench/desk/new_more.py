@@ -23,6 +23,9 @@ from desk.town import Town
 Record = Mapping[str, str]
 """A record by its columns."""
 
+DATE = re.compile(rb"(?m)^[ \t]*date[ \t]*=[ \t]*(?:\"[^\"\n]*\"|'[^'\n]*'|[^#\r\n]*?)(?=[ \t]*(?:#|\r?$))")
+"""The key of the date with its value, without a comment behind it."""
+
 
 def keep_settings(own: Town, room: Path, asked: datetime.date | None, report: Report) -> Town:
     """The town in the room, with the planner's `desk.toml`. With a date that is asked its line says that one."""
@@ -41,7 +44,7 @@ def with_date(text: bytes, date: datetime.date) -> bytes:
     """The text of a `desk.toml` with another date, in the line that it has for it, or in one above all others."""
     text = re.sub(rb"(?m)^(# The day that is planned, a )\w+day\b", rb"\g<1>" + f"{date:%A}".encode(), text, count=1)
     line = f'date = "{format_date(date)}"'.encode()
-    changed, count = re.subn(rb"(?m)^[ \t]*date[ \t]*=[ \t]*(?:\"[^\"\n]*\"|'[^'\n]*'|[^#\r\n]*?)(?=[ \t]*(?:#|\r?$))", line, text, count=1)
+    changed, count = DATE.subn(line, text, count=1)
     return changed if count else line + b"\n" + text
 
 

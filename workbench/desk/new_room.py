@@ -25,7 +25,7 @@ AGENCY_FILES = ("trips.txt", "stop_times.txt", "calendar.txt", "calendar_dates.t
 PLANNER_FILES = ("desk.toml", "terminals.csv", "deadheads.csv", "depot.csv")
 """The planner's files that are drafted."""
 
-OTHER_FILES = ("tolerances.csv", "edits.csv", "planner_edits.csv", "journal.db")
+OTHER_FILES = ("tolerances.csv", "edits.csv", "planner_edits.csv", "extras.csv", "journal.db")
 """The planner's files that are not drafted."""
 
 AGENCY = "agency"

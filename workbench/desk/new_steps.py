@@ -3,11 +3,8 @@ from __future__ import annotations
 
 import datetime
 import shutil
-import statistics
-from collections.abc import Iterator, Sequence
-from contextlib import contextmanager, suppress
+from collections.abc import Sequence
 from pathlib import Path
-from tempfile import TemporaryDirectory
 
 from desk.calendars import read_calendars
 from desk.dates import Days, check_date, choose, fortnight, today, trips_by_service
@@ -15,19 +12,17 @@ from desk.deadheads import Depot, Pace, Way, draft_pulls, draft_ways, pulls_text
 from desk.errors import DeskError
 from desk.files import write_whole
 from desk.frequencies import Repeats, expand
-from desk.layovers import fitting
-from desk.left_out import SortedTrips, sort_trips, write_without
+from desk.left_out import SortedTrips, sort_trips
 from desk.limits import MOST_BYTES, MOST_EMPTY_MINUTES, MOST_PLACES, MOST_TRIPS
+from desk.new_layovers import layovers_of_today
+from desk.new_left_out import sound_feed, tell_left_out
 from desk.new_report import TOLD, Report, counted, some
 from desk.new_room import AGENCY_FILES
 from desk.new_settings import LAYOVER, settings_text
 from desk.parts import proposals
-from desk.stations import NEAR, Terminal, draft_terminals, terminals_text
+from desk.stations import NEAR, Terminal, draft_terminals, far_terminals, terminals_text
 from desk.town import Town
 from desk.unpack import unpack
-
-FAR, MUCH_FARTHER = 15_000.0, 4
-"""How many metres a terminal lies from the nearest other one at least, and how many times as far as is usual, to be told of."""
 
 
 def unpack_feed(feed: Path, room: Path, report: Report) -> SortedTrips:
@@ -42,7 +37,7 @@ def unpack_feed(feed: Path, room: Path, report: Report) -> SortedTrips:
         raise DeskError(f"{feed}: no stop_times.txt beside its trips.txt")
     report.draft("agency/", f"{counted(len(names), 'file')} of {feed}, unchanged")
     trips = sort_trips(agency)
-    with _sound(agency, trips, room) as source:
+    with sound_feed(agency, trips, room) as source:
         if "frequencies.txt" in names:
             _tell_repeats(expand(source, room), report)
         copied = [name for name in AGENCY_FILES if name in names and not (room / name).exists()]
@@ -50,43 +45,11 @@ def unpack_feed(feed: Path, room: Path, report: Report) -> SortedTrips:
             shutil.copyfile(source / name, room / name)
     if copied:
         report.draft(", ".join(copied), "copied from agency/")
-    _tell_left_out(trips, report)
+    tell_left_out(trips, report)
     for name in AGENCY_FILES:
         if (room / name).exists() and (room / name).stat().st_size > MOST_BYTES:
             report.mend(name, f"it has more than {MOST_BYTES:,} bytes, and the program reads no more")
     return trips
-
-
-@contextmanager
-def _sound(agency: Path, trips: SortedTrips, room: Path) -> Iterator[Path]:
-    """The folder of the agency, or where the program would refuse some of it one with the files of the other trips."""
-    if trips.is_sound:
-        yield agency
-        return
-    with TemporaryDirectory(dir=room) as folder:
-        write_without(agency, Path(folder), trips)
-        yield Path(folder)
-
-
-def _tell_left_out(trips: SortedTrips, report: Report) -> None:
-    """Tells which trips were left out, and why."""
-    report.left = [f"{left.trip or '(no name)'}, service {left.service}: {left.why}" for left in trips.left]
-    for name in AGENCY_FILES:
-        if trips.blanks[name]:
-            report.look(name, f"{counted(trips.blanks[name], 'record')} of commas alone left out")
-        if trips.trailing[name]:
-            report.look(name, f"{counted(trips.trailing[name], 'record')} with a comma too many at the end, which is left out")
-    if trips.strays:
-        report.look("stop_times.txt", f"{counted(trips.strays, 'record')} of no trip left out, which the program would refuse")
-
-
-def judge_left_out(town: Town, trips: SortedTrips, report: Report) -> None:
-    """Tells how many of the trips that were left out would run on the day."""
-    listed, running = town.selects()
-    of_day = sum((listed is None or left.service in listed) and (running is None or left.service in running) for left in trips.left)
-    if trips.left:
-        report.mend("trips.txt", f"{counted(len(trips.left), 'trip')} left out, as listed above, and {of_day:,} of them would run on that "
-                    "day. Ask the agency to mend them.")
 
 
 def _tell_repeats(repeats: Repeats, report: Report) -> None:
@@ -118,8 +81,8 @@ def choose_day(room: Path, asked: datetime.date | None, report: Report) -> datet
     report.days = fortnight(days, date)
     report.draft("desk.toml", f"{date:%A} {date}, {why}; a layover of {LAYOVER} minutes")
     if not (room / "calendar.txt").exists():
-        report.look("calendar_dates.txt", f"it is alone, without calendar.txt: {counted(len(calendars.added), 'date')} in it, and trips run on no "
-                    "others")
+        report.look("calendar_dates.txt", f"it is alone, without calendar.txt: {counted(len(calendars.added), 'date')} in it, and "
+                    "trips run on no others")
     never = sum(count for service, count in days.trips.items() if service not in calendars.services())
     if never:
         report.look("trips.txt", f"{counted(never, 'trip')} of services that no calendar has never run")
@@ -150,7 +113,9 @@ def draft_places(town: Town, trips: SortedTrips, report: Report) -> list[Termina
     if by_name:
         report.look("terminals.csv", f"is each of these one place for a vehicle? {some(by_name)}")
     _look_at_neighbours(terminals, report)
-    _look_far(terminals, report)
+    far = [f"{name} {metres / 1000:.0f} km" for name, metres in far_terminals(terminals)] if len(terminals) <= MOST_PLACES else []
+    if far:
+        report.look("terminals.csv", f"these lie far from all others: {some(far)}. Are their coordinates in stops.txt right?")
     missing = [stop for stop in ends if stop not in town.stops]
     if missing:
         report.mend("terminals.csv", f"stops.txt lacks {counted(len(missing), 'stop')} where trips begin or end: "
@@ -189,43 +154,13 @@ def _look_at_neighbours(terminals: Sequence[Terminal], report: Report) -> None:
         report.look("terminals.csv", f"these lie within {NEAR:.0f} metres and are not one terminal: {some(close)}")
 
 
-def _look_far(terminals: Sequence[Terminal], report: Report) -> None:
-    """Tells of terminals that lie far from all others, since their coordinates may be wrong."""
-    points = [(terminal.name, terminal.point) for terminal in terminals if terminal.point]
-    if not 2 < len(points) <= MOST_PLACES:
-        return
-    nearest = {name: min(point.metres_to(other) for number, (_, other) in enumerate(points) if number != at)
-               for at, (name, point) in enumerate(points)}
-    usual = statistics.median(nearest.values())
-    far = [f"{name} {metres / 1000:.0f} km" for name, metres in nearest.items() if metres >= FAR and metres >= MUCH_FARTHER * usual]
-    if far:
-        report.look("terminals.csv", f"these lie far from all others: {some(far)}. Are their coordinates in stops.txt right?")
-
-
 def draft_settings(town: Town, date: datetime.date | None, terminals: Sequence[Terminal], report: Report) -> None:
     """Drafts `desk.toml`, with names of the feed as examples, and with the layovers of the blocks of today."""
     services = list(dict.fromkeys(trip.service_id for trip in town.day()))
     route = next((trip.route_id for trip in town.day() if trip.route_id), "")
-    layovers = _draft_layovers(town, report)
+    layovers = layovers_of_today(town, report)
     terminal = next((terminal.name for terminal in terminals if terminal.name not in layovers), "")
     write_whole(town.path("desk.toml"), settings_text(date, services, terminal, route, layovers))
-
-
-def _draft_layovers(town: Town, report: Report) -> dict[str, int]:
-    """The layovers below that of all terminals with which the blocks of today can run; none where `audit` cannot be asked."""
-    usual = f"a vehicle stays {LAYOVER} minutes at each terminal"
-    found = None
-    if any(trip.block_id for trip in town.day()) and len(town.day()) <= MOST_TRIPS:
-        with suppress(DeskError):
-            found = fitting(Town(town.folder, {**town.settings, "layover": LAYOVER}))
-    if found is None:
-        report.look("desk.toml", f"{usual}; [layovers] has others")
-        return {}
-    less = [f"{name} {minutes}" for name, minutes in sorted(found.layovers.items())]
-    never = f", but for {counted(len(found.never), 'pair')} of trips that no layover mends" if found.never else ""
-    report.look("desk.toml", f"{usual}{f' but {some(less)}' if less else ''}: with more the blocks of today would not run, as `audit` says"
-                f"{never}" if less or found.never else f"{usual}; the blocks of today can run so, as `audit` says")
-    return dict(sorted(found.layovers.items()))
 
 
 def draft_running(town: Town, terminals: Sequence[Terminal], depot: Depot | None, pace: Pace, report: Report) -> None:

@@ -10,8 +10,8 @@ from collections import Counter
 from collections.abc import Callable, Iterator, Sequence
 from pathlib import Path
 
-from desk import (notes_days, notes_depot, notes_files, notes_minutes, notes_places, notes_refusal, notes_scripts, notes_settings, notes_trips,
-                  notes_ways)
+from desk import (notes_days, notes_depot, notes_files, notes_minutes, notes_places, notes_refusal, notes_scripts, notes_settings,
+                  notes_trips, notes_ways)
 from desk.errors import DeskError, one_line
 from desk.files import reason
 from desk.hints_machine import folder_hints
@@ -23,10 +23,10 @@ WORD = "notes"
 HELP = "what looks wrong in a town and the program accepts in silence"
 
 CHECKS: tuple[Callable[[View], Iterator[Note]], ...] = (
-    notes_refusal.refusal, notes_files.names, notes_refusal.trips, notes_days.no_trips, notes_days.services, notes_days.all_days, notes_depot.unlisted, notes_settings.layovers,
-    notes_settings.classes, notes_trips.repeated, notes_trips.no_block_id, notes_trips.other_days_blocks,
-    notes_trips.tolerances, notes_places.terminals, notes_places.deadheads, notes_depot.names, notes_depot.extras, notes_ways.unreached,
-    notes_ways.slow, notes_ways.one_way, notes_minutes.misses, notes_scripts.journal)
+    notes_refusal.refusal, notes_files.names, notes_refusal.trips, notes_days.no_trips, notes_days.services, notes_days.all_days,
+    notes_depot.unlisted, notes_settings.layovers, notes_settings.classes, notes_trips.repeated, notes_trips.no_block_id,
+    notes_trips.other_days_blocks, notes_trips.tolerances, notes_places.terminals, notes_places.deadheads, notes_depot.names,
+    notes_depot.extras, notes_ways.unreached, notes_ways.slow, notes_ways.one_way, notes_minutes.misses, notes_scripts.journal)
 """What is looked for, in the order of the notes."""
 
 WITHOUT_SETTINGS = CHECKS[:2]
@@ -64,7 +64,7 @@ def notes_of(town: Town) -> list[Note]:
             notes.append(notes_refusal.refusal_note("unreadable", town, str(error)))
         except OSError as error:
             notes.append(notes_refusal.refusal_note("unreadable", town, f"{Path(error.filename or town.folder).name}: {reason(error)}"))
-    refused = [note for note in notes if note.kind == "refused"]
+    refused = [note for note in notes if note.kind in ("refused", "refused-trip")]
     return [note for note in dict.fromkeys(notes + unread) if not any(map(note.repeats, refused))]
 
 

@@ -14,8 +14,8 @@ def unlisted(view: View) -> Iterator[Note]:
     if not view.day:
         return
     for terminal in unlisted_of_plan(view.town):
-        found = terminal.text.removeprefix("depot.csv has ")
-        yield Note("no-depot-record", "depot.csv", None, found, f"Write a record of {shown(terminal.terminal)}, if the depot does not lie there")
+        yield Note("no-depot-record", "depot.csv", None, terminal.text.removeprefix("depot.csv has "),
+                   f"Write a record of {shown(terminal.terminal)}, if the depot does not lie there")
 
 
 def names(view: View) -> Iterator[Note]:

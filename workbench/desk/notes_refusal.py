@@ -23,7 +23,8 @@ def refusal_of(town: Town) -> str | None:
         raise DeskError(" ".join(read_hints("deficits", town.folder)).removesuffix(".") or "the program cannot read a file")
     text = outcome.text.decode("utf-8", "surrogateescape")
     if outcome.status not in (*DONE, REFUSED) or not text.endswith("\n"):
-        raise DeskError(f"the program ended with status {outcome.status}: {outcome.errors.decode('utf-8', 'replace').strip() or 'it said nothing'}")
+        said = outcome.errors.decode("utf-8", "replace").strip()
+        raise DeskError(f"the program ended with status {outcome.status}: {said or 'it said nothing'}")
     return text.removeprefix("feed refused: ").removesuffix("\n") if outcome.status == REFUSED else None
 
 
@@ -53,8 +54,8 @@ def trips(view: View) -> Iterator[Note]:
     for left in sorted_trips.left:
         is_named = named[1] == left.trip if named else found and (found[1], found[2]) == (left.file, str(left.row))
         if not is_named and _counts(view.town, left):
-            yield Note("refused-trip", left.file, left.row, f"trip {shown(left.trip)} of service {shown(left.service)} is refused: {left.why}",
-                       "The agency mends it, or `./desk new` leaves it out")
+            found_here = f"trip {shown(left.trip)} of service {shown(left.service)} is refused: {left.why}"
+            yield Note("refused-trip", left.file, left.row, found_here, "The agency mends it, or `./desk new` leaves it out")
     if sorted_trips.strays:
         yield Note("refused-trip", "stop_times.txt", None, f"{sorted_trips.strays} records of no trip are refused",
                    "Take them out, or let `./desk new` do it")

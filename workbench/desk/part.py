@@ -23,7 +23,8 @@ HELP = "make towns of a town with too many trips: by agency, or by routes that s
 OF_TRIPS = ("stop_times.txt", "frequencies.txt", "tolerances.csv")
 """The files whose records name trips, beside `trips.txt`."""
 
-LEFT = ("edits.csv", "planner_edits.csv", "journal.db", "blocks.csv", "prices.csv", "boards.csv", "trips_blocks.txt", "stop_times_blocks.txt")
+LEFT = ("edits.csv", "planner_edits.csv", "journal.db", "blocks.csv", "prices.csv", "boards.csv", "trips_blocks.txt",
+        "stop_times_blocks.txt")
 """The files that stay in the town alone: its scripts, and what the program has written."""
 
 

@@ -95,7 +95,8 @@ def _write_beside(day: Day, plan: Plan, out: Path, arguments: argparse.Namespace
 def _tell(day: Day, out: Path, beside: list[Path], made: Handover) -> int:
     """Says what was written and what was left out, and gives the status."""
     trips = sum(len(block.rides) for block in day.blocks) - len(made.unlisted)
-    sys.stdout.write(f"{out}: {counted(trips, 'trip')} of the day in {counted(len(day.blocks), 'block')}; read again, `audit` says least\n")
+    planned = f"{counted(trips, 'trip')} of the day in {counted(len(day.blocks), 'block')}"
+    sys.stdout.write(f"{out}: {planned}; read again, `audit` says least\n")
     for path in beside:
         sys.stdout.write(f"{path}\n")
     if made.extras:

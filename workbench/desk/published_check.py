@@ -8,16 +8,20 @@ from tempfile import TemporaryDirectory
 
 from desk.day import Day
 from desk.errors import DeskError
+from desk.hints_names import shown
 from desk.plans import ask
 from desk.published_feed import Handover
 from desk.records import open_records
-from desk.times import arrival_minute, departure_minute
+from desk.times import arrival_minute, departure_minute, format_minute
 from desk.toml import toml_text
-from desk.town import Town
+from desk.town import DayTrip, Town
 from desk.unpack import unpack
 
 PLANNER_FILES = ("terminals.csv", "deadheads.csv", "depot.csv")
 """The planner's files with which the feed is read again."""
+
+Run = tuple[str, int, str, int, str]
+"""A trip: from where it departs at which minute, where it arrives at which one, and its block."""
 
 
 def judge(day: Day, feed: Path, made: Handover) -> None:
@@ -39,16 +43,29 @@ def judge(day: Day, feed: Path, made: Handover) -> None:
 
 def _judge_trips(day: Day, town: Town, made: Handover) -> None:
     """Judges that each trip is there once, between its places, at its minutes and in its block."""
-    wanted = {ride.name: (ride.start, ride.departs, ride.end, ride.arrives, block.name)
+    wanted: dict[str, Run] = {ride.name: (ride.start, ride.departs, ride.end, ride.arrives, block.name)
               for block in day.blocks for ride in block.rides if ride.name not in made.unlisted}
-    found = {trip.trip_id: (trip.start, departure_minute(trip.departure or 0), trip.end, arrival_minute(trip.arrival or 0), trip.block_id)
-             for trip in town.day()}
+    found = {trip.trip_id: _run(trip) for trip in town.day()}
     wrong = next((name for name in [*wanted, *found] if wanted.get(name) != found.get(name)), None)
     if wrong is not None:
-        raise DeskError(f"nothing is written: trip {wrong} is not in the feed as it is in the plan: {found.get(wrong)} and {wanted.get(wrong)}")
+        raise DeskError(f"nothing is written: trip {wrong} is not in the feed as it is in the plan: there {_told(found.get(wrong))}, "
+                        f"here {_told(wanted.get(wrong))}")
     names = Counter(_names(day.town)) - Counter(made.cancelled) + Counter(list(made.extras))
     if Counter(_names(town)) != names:
         raise DeskError("nothing is written: the feed has other trips of other days than the town")
+
+
+def _run(trip: DayTrip) -> Run:
+    """What the feed says of a trip."""
+    return trip.start, departure_minute(trip.departure or 0), trip.end, arrival_minute(trip.arrival or 0), trip.block_id
+
+
+def _told(run: Run | None) -> str:
+    """What is said of a trip, in words."""
+    if run is None:
+        return "it is missing"
+    start, departs, end, arrives, block = run
+    return f"from {shown(start)} {format_minute(departs)} to {shown(end)} {format_minute(arrives)} in block {block}"
 
 
 def _names(town: Town) -> Iterable[str]:

@@ -14,7 +14,7 @@ from desk.extras import Extra, listed_extras
 from desk.hints_files import OTHERS
 from desk.new_room import AGENCY_FILES
 from desk.plans import Ride
-from desk.records import Records, open_records, record_text
+from desk.records import open_records, record_text
 from desk.stations import distinct
 from desk.times import format_time
 from desk.town import Town
@@ -47,7 +47,8 @@ def make_feed(day: Day, room: Path, target: Path) -> Handover:
     if outcome.status not in (0, 1):
         raise DeskError((outcome.text or outcome.errors).decode("utf-8", "replace").strip())
     town = day.town
-    made = Handover(_free_service(town), cancelled=[name for name, trip in day.published.items() if trip.trip and name not in _rides(day)])
+    rides = _rides(day)
+    made = Handover(_free_service(town), cancelled=[name for name, trip in day.published.items() if trip.trip and name not in rides])
     made.extras, made.unlisted = listed_extras(day)
     for name, path in sorted(agency_files(town).items()):
         if name not in (*WRITTEN, *OF_TRIPS):
@@ -65,9 +66,10 @@ def make_feed(day: Day, room: Path, target: Path) -> Handover:
 def agency_files(town: Town) -> dict[str, Path]:
     """The agency's files: those in `agency/`, or of a town without that its own, and the calendars as the program reads them."""
     agency = town.folder / "agency"
-    names = {path.name: path for path in (agency if agency.is_dir() else town.folder).iterdir() if path.is_file()}
-    others = {name: path for name, path in names.items() if agency.is_dir() or name in AGENCY_FILES or name in OTHERS and name not in OWN}
-    return others | {name: town.path(name) for name in AGENCY_FILES if town.has(name)}
+    files = {path.name: path for path in (agency if agency.is_dir() else town.folder).iterdir() if path.is_file()}
+    others = {name: path for name, path in files.items() if agency.is_dir() or name in OTHERS - OWN}
+    read = {name: town.path(name) for name in AGENCY_FILES if town.has(name)}
+    return {name: path for name, path in others.items() if name not in AGENCY_FILES} | read
 
 
 OWN = frozenset(("blocks.csv", "prices.csv", "boards.csv", "journal.db", "journal.db-journal", "journal.db-wal", "journal.db-shm",
@@ -121,7 +123,8 @@ def _write_times(day: Day, source: Path, target: Path, trips: set[str], made: Ha
             if fields[at] not in cancelled:
                 file.write(record_text(fields))
         for name, extra in made.extras.items():
-            for sequence, (stop, minute) in enumerate(((extra.first_stop, rides[name].departs), (extra.last_stop, rides[name].arrives)), 1):
+            ends = (extra.first_stop, rides[name].departs), (extra.last_stop, rides[name].arrives)
+            for sequence, (stop, minute) in enumerate(ends, 1):
                 time = format_time(60 * minute)
                 file.write(_row(records.header, {"trip_id": name, "arrival_time": time, "departure_time": time, "stop_id": stop,
                                                  "stop_sequence": str(sequence)}))

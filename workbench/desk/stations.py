@@ -1,8 +1,9 @@
 """Terminals drafted from the agency's stops: which stops are one place for a vehicle."""
 from __future__ import annotations
 
+import statistics
 from collections import Counter
-from collections.abc import Callable, Iterable, Mapping
+from collections.abc import Callable, Iterable, Mapping, Sequence
 from dataclasses import dataclass
 
 from desk.records import is_utf8, record_text
@@ -10,6 +11,9 @@ from desk.stops import Point, Stop
 
 NEAR = 200.0
 """Stops of one name are one terminal where they lie within so many metres of the first one, or of the station."""
+
+FAR, MUCH_FARTHER = 15_000.0, 4
+"""A terminal is far from all others by so many metres, and so many times as far from the nearest one as is usual."""
 
 
 @dataclass
@@ -99,3 +103,14 @@ def _name_distinct(terminals: list[Terminal], stops: Mapping[str, Stop]) -> None
         terminal.name = distinct(terminal.name, plain(terminal.key), lambda name, own=own: (
             shared[name] > 1 or name in names or (name in stops and name not in own)))
         names.add(terminal.name)
+
+
+def far_terminals(terminals: Sequence[Terminal]) -> list[tuple[str, float]]:
+    """The terminals that lie far from all others, each with the metres to the nearest one. Perhaps their coordinates are wrong."""
+    points = [(terminal.name, terminal.point) for terminal in terminals if terminal.point]
+    if len(points) < 3:
+        return []
+    nearest = [(name, min(point.metres_to(other) for number, (_, other) in enumerate(points) if number != at))
+               for at, (name, point) in enumerate(points)]
+    usual = statistics.median(metres for _, metres in nearest)
+    return [(name, metres) for name, metres in nearest if metres >= FAR and metres >= MUCH_FARTHER * usual]

@@ -131,6 +131,16 @@ class LookTest(BrowserTest):
         self.assertEqual((self.box(f"{frame} .head")["top"], self.box(f"{frame} .names")["left"]), (top, left))
         self.assertEqual(self.browser.errors(), [])
 
+    def test_warnings(self) -> None:
+        """What a planner should know beside the numbers stands below them, and takes no room where there is nothing."""
+        self.open(40)
+        self.assertEqual(self.box("#warnings")["height"], 0)
+        path = self.room / "warned.html"
+        path.write_text(static_page(as_text(as_view(self.day) | {"warnings": ['depot.csv has no record of "A"', "<b>"]})))
+        self.browser.open(path.as_uri())
+        self.assertEqual(self.browser.texts("#warnings li"), ['depot.csv has no record of "A"', "<b>"])
+        self.assertGreater(self.box("#warnings")["height"], 0)
+
     def test_search_and_filter(self) -> None:
         """A search goes from trip to trip, and a filter leaves rows and the rest of their trips back."""
         self.open(400)

@@ -481,7 +481,7 @@ class Settings(NewTest):
 
     def setUp(self) -> None:
         super().setUp()
-        patch = mock.patch("desk.new_steps.fitting", side_effect=DeskError("nobody is asked"))
+        patch = mock.patch("desk.new_layovers.fitting", side_effect=DeskError("nobody is asked"))
         patch.start()
         self.addCleanup(patch.stop)
 
@@ -618,6 +618,35 @@ class RandomBytes(NewTest):
             with self.subTest(seed=seed):
                 towns += self.tried(feed, "--depot", chosen.choice(("AMV", "36.9,-116.8")))
         self.assertTrue(0 < towns < 60, towns)
+
+    @needs_program
+    def test_no_trip_of_a_town_is_refused(self) -> None:
+        """Fields of single rows are damaged, and the program takes the trips that `new` leaves."""
+        towns = left = 0
+        for seed in range(40):
+            chosen = random.Random(seed)
+            feed = write_feed(self.room / f"feed {seed}", {name: self.odd(text, chosen) if name in ("trips.txt", "stop_times.txt") else text
+                                                           for name, text in demonstration().items() if name != "frequencies.txt"})
+            with self.subTest(seed=seed):
+                if self.tried(feed):
+                    said = run(["deficits", self.town])
+                    self.assertEqual((0, b""), (said.status, said.errors), said.text)
+                    towns += 1
+                    left += len(self.read("trips.txt").splitlines()) < 12
+        self.assertTrue(towns > 25 and left > 15, (towns, left))
+
+    def odd(self, text: str, chosen: random.Random) -> str:
+        """A file with some of its fields changed, rows twice, and rows gone."""
+        rows = [line.split(",") for line in text.splitlines()]
+        for _ in range(chosen.randrange(1, 5)):
+            row = rows[chosen.randrange(1, len(rows))]
+            at = chosen.randrange(len(row))
+            row[at] = chosen.choice(("", " ", "1", "0", "x", "25:61:00", "7:00:00", "a,b", "\ufeff", row[at] + " ", row[at] + ",", "AB1", "FULLW"))
+        if chosen.random() < 0.3:
+            rows.append(chosen.choice(rows[1:]))
+        if chosen.random() < 0.3:
+            del rows[chosen.randrange(1, len(rows))]
+        return "\n".join(",".join(row) for row in rows) + chosen.choice(("\n", "", "\n,,,\n", "\n\n"))
 
     def test_zips(self) -> None:
         made = zip_feed(self.room / "feed.zip", demonstration()).read_bytes()

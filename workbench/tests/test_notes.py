@@ -501,6 +501,11 @@ class TestRefused(NotesTest):
         self.assertEqual([note.found.split('"')[1] for note in others], ["still", "alone", "untimed", "twice", "stopless"])
         self.assertIn("record 18 of stop_times.txt has no stop_id", others[-1].found)
 
+    def test_a_row_that_the_workbench_reads_first_is_told_once(self) -> None:
+        """The program refuses record 9 for its stop, and the workbench cannot read the time of record 11."""
+        notes = self.notes(self.feed("stopless", "short"))
+        self.assertEqual([(note.kind, note.record) for note in notes], [("refused", 9), ("refused-trip", 11)])
+
     def test_one_that_the_program_names_is_told_once(self) -> None:
         notes = self.notes(self.feed("still", "alone"))
         self.assertEqual([note.text for note in notes[:1]], [

@@ -5,7 +5,6 @@ import csv
 import io
 import unittest
 import zipfile
-from pathlib import Path
 from unittest import mock
 
 from desk.program import run
