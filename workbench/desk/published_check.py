@@ -5,10 +5,12 @@ from collections import Counter
 from collections.abc import Iterable
 from pathlib import Path
 from tempfile import TemporaryDirectory
+from typing import Any
 
 from desk.day import Day
 from desk.errors import DeskError
 from desk.hints_names import shown
+from desk.layovers import with_layovers
 from desk.plans import ask
 from desk.published_feed import Handover
 from desk.records import open_records
@@ -33,12 +35,21 @@ def judge(day: Day, feed: Path, made: Handover) -> None:
             (folder / file).unlink(missing_ok=True)
             if day.town.has(file):
                 (folder / file).symlink_to(day.town.path(file).resolve())
-        settings = dict(day.town.settings)
-        if isinstance(settings.get("services"), list):
-            settings["services"] = [*settings["services"], made.service]
-        (folder / "desk.toml").write_text(toml_text(settings), encoding="utf-8")
+        (folder / "desk.toml").write_text(toml_text(_settings(day, made)), encoding="utf-8")
         _judge_trips(day, Town(folder), made)
         _judge_blocks(day, folder, made)
+
+
+def _settings(day: Day, made: Handover) -> dict[str, Any]:
+    """The settings with which the feed is read: those of the town, with the service of the extra trips.
+
+    A terminal that extra trips alone end at is met in `deadheads.csv` first, so its layover is 0 and not that of other terminals.
+    """
+    layovers = {day.town.of_post(ride.end): ride.layover for block in day.blocks for ride in block.rides if ride.trip is None}
+    settings = with_layovers(day.town.settings, layovers)
+    if isinstance(settings.get("services"), list):
+        settings["services"] = [*settings["services"], made.service]
+    return settings
 
 
 def _judge_trips(day: Day, town: Town, made: Handover) -> None:

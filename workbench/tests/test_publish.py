@@ -82,6 +82,16 @@ class PublishTest(FolderTest):
             (other / name).write_bytes((self.town / name).read_bytes())
         self.assertEqual(run(["audit", other]).text.splitlines()[-1], b"least")
 
+    def test_an_extra_trip_at_a_terminal_of_other_days(self) -> None:
+        """Its layover there is 0. So the vehicle of U1, free at 06:35, is at the yard at 06:40 and from 06:55 on runs to U2 at 07:00."""
+        two_trips(self.town, {"desk.toml": 'date = "20260907"\nlayover = 5\n', "calendar_dates.txt": "service_id,date,exception_type\nW,20260907,1\n",
+                              "deadheads.csv": "from,to,minutes\nB,Yard,5\nYard,C,5\n", "terminals.csv": "stop_id,terminal\nyard_1,Yard\n",
+                              "edits.csv": "extra,E1,Yard,Yard,06:40,06:55\n", "extras.csv": "name,route_id\nE1,R\n"})
+        status, text, errors = self.publish()
+        self.assertEqual((status, errors), (0, ""))
+        self.assertIn("3 trips of the day in 1 block;", text)
+        self.assertEqual([row["stop_id"] for row in self.rows("stop_times.txt") if row["trip_id"] == "E1"], ["yard_1", "yard_1"])
+
     def test_a_list_of_services(self) -> None:
         """The service of the extra trip is none of the list."""
         small_town(self.town, SCRIPT)
