@@ -69,7 +69,7 @@ def is_agreed(questions: list[str]) -> bool:
     for question in questions:
         complain(question)
     print("desk: Do it? [y/N] ", end="", file=sys.stderr, flush=True)
-    return sys.stdin.readline().strip().lower() in ("y", "yes")
+    return sys.stdin is not None and sys.stdin.readline().strip().lower() in ("y", "yes")
 
 
 def without_mistakes(find: Callable[..., list[str]], *found: object) -> list[str]:

@@ -53,6 +53,10 @@ def run(arguments: argparse.Namespace) -> int:
     left = [name for name in LEFT if town.has(name)]
     if left:
         sys.stdout.write(f"left in {arguments.town} alone: {', '.join(left)}\n")
+    for folder in folders:
+        if (folder / "agency").is_dir() and not (folder / "deadheads.csv").exists():
+            name = _shown(arguments.town, folder)
+            sys.stdout.write(f"{name} has no deadheads.csv: `./desk new {name}/agency {name} --more --depot LAT,LON` drafts it\n")
     sys.stdout.write(f"Next: ./desk notes {_shown(arguments.town, folders[0])}\n")
     return 1 if any(part.trips > MOST_TRIPS for part in parts) else 0
 

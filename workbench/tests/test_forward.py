@@ -220,6 +220,7 @@ class TestTheProgram(FolderTest):
         with unittest.mock.patch("sys.stdin", io.StringIO("y\n")):
             self.assertEqual(self.desk("keep", feed)[1].splitlines()[-1], "kept 2 records")
         with unittest.mock.patch("sys.stdin", None):
+            self.assertEqual(self.desk("keep", feed)[:2], (1, ""))
             self.assertEqual(self.desk("keep", feed, "--yes")[:2], (1, "journal 2 records\nrecord 1: refused, W1: outside tolerance (+3)\n"
                                                                        "record 2: refused, W9: unknown trip\nkept 2 records\n"))
 

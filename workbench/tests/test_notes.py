@@ -71,6 +71,7 @@ SILENT = {
     "a space in a quoted name": ("deadheads.csv", 'Station,"Station, Hospital"', 'Station,"Station,Hospital"', "no-such-place"),
     "a misspelt name in the depot": ("depot.csv", "Harbour", "Harbuor", "no-such-place"),
     "a platform in the depot": ("depot.csv", "Station,4", "stn_b,4", "no-such-place"),
+    "a terminal that the depot forgets": ("depot.csv", "Harbour,9,9\n", "", "no-depot-record"),
     "no blocks of today": ("trips.txt", ",block_id", ",other", "no-block-id"),
     "blocks of other days": ("trips.txt", "rest.1", "V1", "blocks-of-other-days"),
 }

@@ -72,6 +72,22 @@ class PartsTest(FolderTest):
         self.assertEqual(sorted(trips), sorted(self.column(self.town / "trips.txt", "trip_id")))
         self.assertEqual(self.column(self.room / "town-Coach" / "tolerances.csv", "trip_id"), ["green0"])
 
+    @needs_program
+    def test_too_many_terminals_for_one_town(self) -> None:
+        """Seven terminals are too many for deadheads, and those of a part are not: `--more` drafts what the town could not have."""
+        stops = table("stop_id,stop_name,stop_lat,stop_lon", [(stop, stop.upper(), 52 + number / 100, 1) for number, stop in enumerate("abcdefg")])
+        agency = write_feed(self.room / "agency", {name: text for name, text in feed().items() if name.endswith(".txt")} | {"stops.txt": stops})
+        town, part = self.room / "large", self.room / "large-Coach"
+        with mock.patch("desk.new_steps.MOST_PLACES", 6):
+            self.desk("new", agency, town, "--date", "20260907", "--depot", "52,1")
+            self.assertFalse((town / "deadheads.csv").exists())
+            self.assertIn(f"{part} has no deadheads.csv: `./desk new {part}/agency {part} --more --depot LAT,LON` drafts it",
+                          self.desk("part", town, "--by", "agency")[1])
+            self.assertEqual(self.desk("new", part / "agency", part, "--more", "--depot", "52,1")[::2], (0, ""))
+        self.assertEqual(set(self.column(part / "depot.csv", "terminal")), set("DEFG"))
+        self.assertEqual(len(self.column(part / "deadheads.csv", "from")), 5 * 4)
+        self.assertEqual((run(["blocks", part]).status, self.desk("notes", part)[1]), (0, "notes 0\n"))
+
     def test_nothing_to_part_and_towns_that_are_there(self) -> None:
         for by, words in (("routes", "all routes of the day are joined by common terminals, so there is nothing to part --by routes"),
                           ("agency", "town-Coach is there already")):
