@@ -20,7 +20,7 @@ from desk.notes_note import Note, View
 from desk.town import Town
 
 WORD = "notes"
-HELP = "what looks wrong in a town and the program accepts in silence"
+HELP = "what the program refuses in a town, and what looks wrong and it accepts in silence"
 
 CHECKS: tuple[Callable[[View], Iterator[Note]], ...] = (
     notes_refusal.refusal, notes_files.names, notes_refusal.trips, notes_days.no_trips, notes_days.services, notes_days.all_days,
