@@ -6,9 +6,8 @@ import re
 import sys
 from pathlib import Path
 
-from desk.cli import complain
 from desk.day import Day, read_day
-from desk.errors import DeskError
+from desk.errors import DeskError, complain
 from desk.files import refuse_if_there, write_whole
 from desk.policy import checksum
 from desk.town import Town
