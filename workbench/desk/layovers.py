@@ -7,9 +7,9 @@ from dataclasses import dataclass, field
 from pathlib import Path
 from typing import Any
 
+from desk.answers import ask
 from desk.errors import DeskError
 from desk.files import read_bytes
-from desk.plans import ask
 from desk.rooms import room_of
 from desk.texts import Json
 from desk.toml import toml_text
@@ -48,7 +48,7 @@ def fitting(town: Town, misfits: list[Json] | None = None) -> Fitting:
 def audit(town: Town, settings: Mapping[str, Any]) -> Json:
     """What `audit` says of a town with these settings in place of its own."""
     with room_with(town, settings) as room:
-        return ask("audit", room)
+        return ask("audit", town, room)
 
 
 @contextmanager

@@ -7,11 +7,11 @@ from pathlib import Path
 from tempfile import TemporaryDirectory
 from typing import Any
 
+from desk.answers import ask
 from desk.day import Day
 from desk.errors import DeskError
 from desk.hints_names import shown
 from desk.layovers import with_layovers
-from desk.plans import ask
 from desk.published_feed import Handover
 from desk.records import open_records
 from desk.times import arrival_minute, departure_minute, format_minute
@@ -36,8 +36,9 @@ def judge(day: Day, feed: Path, made: Handover) -> None:
             if day.town.has(file):
                 (folder / file).symlink_to(day.town.path(file).resolve())
         (folder / "desk.toml").write_text(toml_text(_settings(day, made)), encoding="utf-8")
-        _judge_trips(day, Town(folder), made)
-        _judge_blocks(day, folder, made)
+        town = Town(folder)
+        _judge_trips(day, town, made)
+        _judge_blocks(day, town, made)
 
 
 def _settings(day: Day, made: Handover) -> dict[str, Any]:
@@ -86,9 +87,9 @@ def _names(town: Town) -> Iterable[str]:
         return [fields[at] for _, fields in records]
 
 
-def _judge_blocks(day: Day, folder: Path, made: Handover) -> None:
+def _judge_blocks(day: Day, town: Town, made: Handover) -> None:
     """Judges that `audit` says of the blocks that they are least, and as many as those of the plan where no trip is left out."""
-    said = ask("audit", folder)
+    said = ask("audit", town)
     why = ""
     if said["verdict"] == "no":
         first = said["misfits"][0]
