@@ -1,10 +1,12 @@
 """What the program answers of a town: the one place where the workbench makes something of its status and its text.
 
 Both are read together and strictly. An answer is given where the text is of the forms of its command, no name in it hides where a
-line or a name ends, and the status is the one with which the program puts such a text. All else is a DeskError.
+line or a name ends, and the status is the one with which the program puts such a text. All else is a DeskError: of a refused feed it
+is a FeedRefused, whose words are whole, whatever names stand in them.
 """
 from __future__ import annotations
 
+import re
 from pathlib import Path
 
 from desk import program, texts
@@ -17,17 +19,23 @@ DONE, RECORDS_REFUSED, FEED_REFUSED, NO = 0, 1, 3, 4
 """The statuses of a run that has put its text: all done, all but refused records, none for the feed, and a `no`."""
 
 
+class FeedRefused(DeskError):
+    """The program refuses a feed. `said` is what it says behind `feed refused: `."""
+
+    def __init__(self, folder: Path, said: str) -> None:
+        super().__init__(f"{folder}: feed refused: {said}")
+        self.said = said
+
+
 def ask(command: str, town: Town, room: Path | None = None) -> Json:
-    """What the program answers of a town, or of a room with its feed and other scripts. A refused feed is a DeskError."""
+    """What the program answers of a town, or of a room with its feed and other scripts. A refused feed is a FeedRefused."""
     folder = town.folder if room is None else room
     outcome = program.run([command, folder])
+    text = _text(command, town.folder, outcome)
     try:
-        said = read(command, outcome.status, _text(command, town.folder, outcome), folder, town)
+        return read(command, outcome.status, text, folder, town)
     except DeskError as error:
         raise DeskError(str(error).replace(str(folder), str(town.folder))) from error
-    if "feed_refused" in said:
-        raise DeskError(f"{town.folder}: feed refused: {said['feed_refused']}")
-    return said
 
 
 def read(command: str, status: int, text: bytes, folder: Path | str | None, town: Town | None = None) -> Json:
@@ -38,11 +46,14 @@ def read(command: str, status: int, text: bytes, folder: Path | str | None, town
     return said
 
 
-def tell(command: str, folder: Path) -> str:
-    """The text of a command that writes, where all is done but refused records. All else is a DeskError with the program's words."""
-    outcome = program.run([command, folder])
+def tell(command: str, folder: Path, room: Path | None = None) -> str:
+    """The text of a command that writes, into a town or a room with its feed, where all is done but refused records.
+
+    All else is a DeskError with the program's words.
+    """
+    outcome = program.run([command, folder if room is None else room])
     text = _text(command, folder, outcome).decode("utf-8", "replace")
-    if outcome.status not in (DONE, RECORDS_REFUSED):
+    if outcome.status not in (DONE, RECORDS_REFUSED) or not text.endswith("\n"):
         raise DeskError(f"{command} of {folder} ended with status {outcome.status}: {text.rstrip()}")
     return text
 
@@ -58,7 +69,10 @@ def status_of(command: str, said: Json) -> int:
 
 
 def _text(command: str, folder: Path, outcome: Outcome) -> bytes:
-    """The text of a run. Where there is none, what it has put on standard error is a DeskError."""
+    """The text of a run. A refusal is a FeedRefused. Where there is no text, what is on standard error is a DeskError."""
+    refused = re.fullmatch(b"feed refused: (.+)\n", outcome.text, re.DOTALL) if outcome.status == FEED_REFUSED else None
+    if refused:
+        raise FeedRefused(folder, refused[1].decode("utf-8", "surrogateescape"))
     if not outcome.text:
         said = outcome.errors.decode("utf-8", "replace").strip().rpartition("\n")[2]
         raise DeskError(f"{command} of {folder} ended with status {outcome.status}: {said or 'it said nothing'}")

@@ -84,12 +84,13 @@ def _written_over(town: Town) -> list[str]:
     return hints
 
 
-def _beside(command: str, town: Town, text: str) -> list[str]:
+def _beside(command: str, town: Town, status: int, text: str) -> list[str]:
     """What a planner should know beside the answer of a run that was done: a day without trips, terminals without a depot."""
-    if NOTHING.search(text):
-        return [note.text for note in no_trips(View(town))]
+    nothing = [note.text for note in no_trips(View(town))] if NOTHING.search(text) else []
+    if nothing:
+        return nothing
     if command == "audit":
-        return audit_hints(town, text)
+        return audit_hints(town, status, text)
     return told(unlisted_of_plan(town)) if command == "blocks" else []
 
 
@@ -106,7 +107,7 @@ def _hints(command: str, town: Town, status: int, text: str) -> list[str]:
     refused = script_hints(town, text) if status else []
     if status not in DONE and command != "audit":
         return refused + claim_hints(town, text)
-    return refused + _beside(command, town, text)
+    return refused + _beside(command, town, status, text)
 
 
 def usage_hints(command: str, words: Sequence[str]) -> list[str]:

@@ -1,9 +1,10 @@
 """Why `audit` says that blocks do not fit, or are above the least: layovers, and trips without `block_id`."""
 from __future__ import annotations
 
+from desk.answers import read
 from desk.hints_names import shown
 from desk.layovers import Fitting, fitting
-from desk.texts import Json, as_json
+from desk.texts import Json
 from desk.town import Town
 from desk.unblocked import unblocked
 
@@ -11,9 +12,9 @@ MOST_TOLD = 12
 """How many terminals are told at the most."""
 
 
-def audit_hints(town: Town, text: str) -> list[str]:
-    """What is known of the text of `audit`."""
-    said = as_json("audit", text.encode("utf-8", "surrogateescape"), town.folder)
+def audit_hints(town: Town, status: int, text: str) -> list[str]:
+    """What is known of the status and the text of `audit`."""
+    said = read("audit", status, text.encode("utf-8", "surrogateescape"), town.folder, town)
     hints = layover_hints(fitting(town, said["misfits"])) if said["verdict"] == "no" else []
     return hints + (_unblocked_hints(town) if said["verdict"] != "least" else [])
 

@@ -8,7 +8,7 @@ import sqlite3
 from contextlib import closing
 from pathlib import Path
 
-from desk import program
+from desk.answers import tell
 from desk.errors import DeskError
 from desk.files import read_bytes, reason, refuse_no_file
 from desk.limits import MOST_BYTES
@@ -39,8 +39,10 @@ def journal_text(path: Path) -> bytes:
             for ending in BESIDE:
                 if Path(f"{path}{ending}").is_file():
                     shutil.copyfile(f"{path}{ending}", room / f"{JOURNAL}{ending}")
-            if program.run(["kept", room]).status:
-                raise DeskError(f"{path.name}: {_meaning(room / JOURNAL)}")
+            try:
+                tell("kept", path.parent, room)
+            except DeskError as error:
+                raise DeskError(f"{path.name}: {_meaning(room / JOURNAL)}") from error
             return read_bytes(room / "edits.csv")
     except OSError as error:
         raise DeskError(f"{path.name}: {reason(error)}") from error

@@ -3,7 +3,7 @@ from __future__ import annotations
 
 from collections.abc import Iterator
 
-from desk import program
+from desk.answers import FeedRefused, ask
 from desk.errors import DeskError
 from desk.hints_machine import read_hints
 from desk.hints_names import shown
@@ -12,20 +12,16 @@ from desk.left_out import LeftOut, sort_trips
 from desk.notes_note import Note, View
 from desk.town import Town
 
-DONE, REFUSED, READ_FAULT = (0, 1), 3, 5
-"""The statuses of the program where it takes a feed, where it refuses it, and where it cannot read a file."""
-
 
 def refusal_of(town: Town) -> str | None:
-    """The program's refusal of a town, behind `feed refused: `; None where it takes it. A file that cannot be read is a DeskError."""
-    outcome = program.run(["deficits", town.folder])
-    if outcome.status == READ_FAULT:
-        raise DeskError(" ".join(read_hints("deficits", town.folder)).removesuffix(".") or "the program cannot read a file")
-    text = outcome.text.decode("utf-8", "surrogateescape")
-    if outcome.status not in (*DONE, REFUSED) or not text.endswith("\n"):
-        said = outcome.errors.decode("utf-8", "replace").strip()
-        raise DeskError(f"the program ended with status {outcome.status}: {said or 'it said nothing'}")
-    return text.removeprefix("feed refused: ").removesuffix("\n") if outcome.status == REFUSED else None
+    """The program's refusal of a town, behind `feed refused: `; None where it takes it. Where it cannot be told is a DeskError."""
+    try:
+        ask("deficits", town)
+    except FeedRefused as refused:
+        return refused.said
+    except DeskError as error:
+        raise DeskError(" ".join(read_hints("deficits", town.folder)).removesuffix(".") or str(error)) from error
+    return None
 
 
 def refusal(view: View) -> Iterator[Note]:

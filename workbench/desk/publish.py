@@ -8,7 +8,7 @@ import zipfile
 from pathlib import Path
 from tempfile import TemporaryDirectory
 
-from desk import program
+from desk.answers import tell
 from desk.board_rows import make_boards
 from desk.boards_page import boards_page
 from desk.day import Day, read_day, scripts_of
@@ -60,7 +60,7 @@ def run(arguments: argparse.Namespace) -> int:
         with open(packed, "rb") as source, whole_file(out, replace=arguments.replace) as file:
             shutil.copyfileobj(source, file)
         if beside:
-            _write_beside(day, _plan(room), out, arguments)
+            _write_beside(day, _plan(day.town, room), out, arguments)
     return _tell(day, out, beside, made)
 
 
@@ -74,12 +74,10 @@ def _write_zip(folder: Path, packed: Path) -> None:
                 shutil.copyfileobj(source, target)
 
 
-def _plan(room: Path) -> Plan:
-    """The plan that the program writes in a room."""
+def _plan(town: Town, room: Path) -> Plan:
+    """The plan that the program writes in a room of a town."""
     for command in ("blocks", "joined"):
-        outcome = program.run([command, room])
-        if outcome.status not in (0, 1):
-            raise DeskError((outcome.text or outcome.errors).decode("utf-8", "replace").strip())
+        tell(command, town.folder, room)
     return read_plan(Town(room))
 
 

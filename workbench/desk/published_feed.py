@@ -6,7 +6,7 @@ from collections.abc import Iterable
 from dataclasses import dataclass, field
 from pathlib import Path
 
-from desk import program
+from desk.answers import tell
 from desk.calendars import format_date
 from desk.day import Day
 from desk.errors import DeskError
@@ -43,10 +43,8 @@ class Handover:
 
 def make_feed(day: Day, room: Path, target: Path) -> Handover:
     """Makes the files in a folder, of a plan and in a room with the town's feed and script. A DeskError where they cannot be made."""
-    outcome = program.run(["write", room])
-    if outcome.status not in (0, 1):
-        raise DeskError((outcome.text or outcome.errors).decode("utf-8", "replace").strip())
     town = day.town
+    tell("write", town.folder, room)
     rides = _rides(day)
     made = Handover(_free_service(town), cancelled=[name for name, trip in day.published.items() if trip.trip and name not in rides])
     made.extras, made.unlisted = listed_extras(day)

@@ -5,7 +5,7 @@ from collections import Counter
 from collections.abc import Iterable, Sequence
 from typing import NamedTuple
 
-from desk import program
+from desk.answers import FeedRefused, tell
 from desk.files import read_bytes
 from desk.hints_names import shown
 from desk.plans import read_boards
@@ -51,11 +51,13 @@ def unlisted(town: Town, blocks: Iterable[Sequence[Ends]]) -> list[Unlisted]:
 
 
 def unlisted_of_plan(town: Town) -> list[Unlisted]:
-    """The terminals without a record, of the plan that the program makes in a room; none where it makes none."""
+    """The terminals without a record, of the plan that the program makes in a room; none where it refuses the feed."""
     if not town.has("depot.csv"):
         return []
     with room_of(town, {"edits.csv": read_bytes(town.path("edits.csv"))} if town.has("edits.csv") else {}) as room:
-        if program.run(["joined", room]).status not in (0, 1):
+        try:
+            tell("joined", town.folder, room)
+        except FeedRefused:
             return []
         boards = read_boards(room / "boards.csv").values()
     return unlisted(town, [[(leg.start, leg.end) for leg in legs if leg.trip] for legs in boards])

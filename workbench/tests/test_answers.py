@@ -1,22 +1,28 @@
 """The one reader of the program's answers: a status and a text, and names that would make another answer of a text."""
 from __future__ import annotations
 
+import json
 import os
+import shutil
 from collections.abc import Iterator
 from pathlib import Path
 from unittest import mock
 
 from desk import program, texts
-from desk.answers import NO, ask, read, status_of, tell
+from desk.answers import NO, FeedRefused, ask, read, status_of, tell
 from desk.errors import DeskError
+from desk.hints_names import shown
+from desk.notes_refusal import refusal_of
 from desk.records import record_text
 from desk.session import Session
 from desk.town import Town
+from desk.unlisted import unlisted_of_plan
+from desk.unpack import unpack
 from tests.feeds import FolderTest, needs_program
-from tests.small_town import plan, two_trips
+from tests.small_town import plan, rows, two_trips
 
 YES = "yes, vehicles 1, minutes 45"
-NAMES = (f"U9\n{YES}", f"U9: unknown trip\r\n{YES}\n", f'"{YES}"', f"U9\nno: x\n{YES}", "U9 06:00 06:30; U8")
+NAMES = (f"U9\n{YES}", f"U9: unknown trip\r\n{YES}\n", f'"{YES}"', f"U9\nno: x\n{YES}", "sum 0 06:00 06:30; U8")
 """Names that anybody may have put into a file."""
 
 ASKED = {"yes": ("check", b"yes, vehicles 1, minutes 45\n", 0), "no": ("check", b"no: prices sum to 9, weights to 8\n", NO),
@@ -55,9 +61,29 @@ class Read(FolderTest):
                 path.chmod(0o755)
                 with self.subTest(text), self.assertRaisesRegex(DeskError, why):
                     ask("check", town)
-            path.write_text(FAKE.format(text="wrote it\\n", status=6))
-            with self.assertRaisesRegex(DeskError, "write of .* ended with status 6: wrote it"):
+            for text, status in (("wrote it\\n", 6), ("wrote it", 0), ("", 0), ("feed refused: x", 3)):
+                path.write_text(FAKE.format(text=text, status=status))
+                with self.assertRaisesRegex(DeskError, f"write of .* ended with status {status}: ({text[:8]}|it said nothing)"):
+                    tell("write", town.folder, self.room)
+
+    def test_a_program_that_takes_and_refuses_a_feed(self) -> None:
+        """Only a refusal with its status is one, whatever names stand in it. With other texts nothing is made of that status."""
+        town = Town(two_trips(self.room / "town"))
+        path = self.room / "fake"
+        said = f"stop_times.txt: trip U9\n{YES} has too few stops"
+        with mock.patch.dict(os.environ, {"BLOCKDESK": str(path)}):
+            for text, status in ((f"feed refused: {said}\n", 0), ("sum 0\n", 3), ("sum 0\n", 1), ("sum 0\n", 9), ("sum 0", 0), (f"feed refused: {said}", 3)):
+                path.write_text(FAKE.format(text=text.replace("\n", "\\n"), status=status))
+                path.chmod(0o755)
+                with self.subTest(text, status=status):
+                    self.assertRaises(DeskError, refusal_of, town)
+                    if text != "sum 0\n" or status > 1:
+                        self.assertRaises((DeskError, OSError), unlisted_of_plan, town)
+            path.write_text(FAKE.format(text=f"feed refused: {said}\\n".replace("\n", "\\n"), status=3))
+            self.assertEqual((refusal_of(town), unlisted_of_plan(town)), (said, []))
+            with self.assertRaises(FeedRefused) as refused:
                 tell("write", town.folder)
+            self.assertEqual(refused.exception.said, said)
 
 
 @needs_program
@@ -130,3 +156,111 @@ class Names(FolderTest):
         self.assertEqual(status, 1)
         self.assertRegex(text.splitlines()[0], f"^good  .*  {YES}$")
         self.assertRegex(text.splitlines()[1], "^bad  .*  its check.txt is no text of `check`; `./desk saved .* bad` asks anew$")
+
+
+LACKED = {"trip": {"B": "0 pull-outs end and 1 pull-in begins"}, "script": {"B": "0 pull-outs end and 0 pull-ins begin"},
+          "place": {"B": "0 pull-outs end and 1 pull-in begins", "": "1 pull-out ends and 0 pull-ins begin"}}
+"""By where a name stands, which terminals have no record in `depot.csv`, and what the plan makes of it. The empty one is the name's.
+
+U1 goes from A to B, U2 from C to A, and the third trip from 08:00 to 08:30 to B: from A as the third of one vehicle, or from the place
+of the name as a vehicle of its own.
+"""
+
+
+@needs_program
+class NamesOfATown(FolderTest):
+    """Names of a trip, of a place and in a script, before the commands that plan, tell, part and hand over."""
+
+    def towns(self) -> Iterator[tuple[str, str, Path, list[str]]]:
+        """Towns in which a name stands in one place, with the name and the trips."""
+        for number, name in enumerate(NAMES):
+            for kind in LACKED:
+                script = {"edits.csv": record_text(["cancel", name])} if kind == "script" else {}
+                town = two_trips(self.room / f"{number}-{kind}", {"routes.txt": "route_id,agency_id\nR,a\nS,b\n", **script})
+                trip, start = (name, "A") if kind == "trip" else ("U3", name)
+                if kind != "script":
+                    with open(town / "trips.txt", "a", newline="") as file:
+                        file.write(record_text(["S", "W", trip, ""]))
+                    with open(town / "stop_times.txt", "a", newline="") as file:
+                        file.writelines(record_text([trip, time, time, stop, order])
+                                        for time, stop, order in (("08:00:00", start, "1"), ("08:30:00", "B", "2")))
+                yield kind, name, town, ["U1", "U2"] + ([trip] if kind != "script" else [])
+
+    def told(self, *words: str | Path) -> tuple[int, str, str]:
+        """What a command tells. Neither of its texts has a line that says yes, or a name that ends one."""
+        status, text, errors = self.desk(*words)
+        if words[0] != "blocks":
+            self.assertNotRegex(text, f"(?m)^{YES}$")
+        self.assertNotRegex(errors, f"(?m)^{YES}$")
+        self.assertTrue(all(line.startswith("desk: ") for line in errors.splitlines()), errors)
+        return status, text, errors
+
+    def test_what_stands_below_blocks(self) -> None:
+        for kind, name, town, _ in self.towns():
+            with self.subTest(town.name):
+                wanted = [f"desk: depot.csv has no record of {shown(place or name)}, so the ways out and home take 0 minutes: {ways} there. "
+                          "Write one, if the depot does not lie there." for place, ways in LACKED[kind].items()]
+                self.assertCountEqual(self.told("blocks", town)[2].splitlines(), wanted)
+
+    def test_notes(self) -> None:
+        """A name with a line end is a note of its own where `deficits` puts it, and the others stand as without it."""
+        for kind, name, town, _ in self.towns():
+            with self.subTest(town.name):
+                status, text, _ = self.told("notes", town, "--json")
+                found = [(note["kind"], note["file"], note["record"]) for note in json.loads(text)["notes"]]
+                record = ("unreadable", *{"trip": ("", None), "place": ("trips.txt", 3), "script": ("edits.csv", 1)}[kind])
+                self.assertEqual([note for note in found if note[0] in ("refused", "unreadable")], [record] if "\n" in name and kind != "trip" else [])
+                self.assertEqual((status, found.count(("no-depot-record", "depot.csv", None))), (1, len(LACKED[kind])))
+                self.told("notes", town)
+
+    def test_notes_of_a_feed_that_is_refused(self) -> None:
+        for number, name in enumerate(NAMES):
+            town = two_trips(self.room / str(number))
+            with open(town / "trips.txt", "a", newline="") as file:
+                file.write(record_text(["R", "W", name, ""]))
+            first = json.loads(self.told("notes", town, "--json")[1])["notes"][0]
+            self.assertEqual((first["kind"], first["file"], first["found"]), ("refused", "stop_times.txt", f"trip {name} has too few stops"))
+            status, text, errors = self.told("publish", town, self.room / "out.zip")
+            self.assertEqual((status, text, (self.room / "out.zip").exists()), (1, "", False))
+            self.assertIn("feed refused: stop_times.txt: trip ", errors)
+
+    def test_publish(self) -> None:
+        """Nothing is written where a name hides ends in a text of the plan. Else the feed has the trips, the new one in a block."""
+        for kind, name, town, trips in self.towns():
+            with self.subTest(town.name):
+                out = self.room / f"{town.name}.zip"
+                status, text, errors = self.told("publish", town, out, "--figures", "--boards")
+                if "\n" in name or "; " in name and kind != "place":
+                    self.assertEqual((status, text, list(self.room.glob(f"{town.name}*.*"))), (1, "", []))
+                    self.assertIn("hides where names end", errors)
+                    continue
+                feed = self.room / f"{town.name}-feed"
+                feed.mkdir()
+                unpack(out, feed)
+                self.assertEqual((status, [row["trip_id"] for row in rows(feed / "trips.txt")]), (kind == "script", trips))
+                self.assertEqual(len({row["block_id"] for row in rows(feed / "trips.txt")}), 2 if kind == "place" else 1)
+
+    @mock.patch("os.sync")
+    def test_part(self, _: mock.Mock) -> None:
+        for kind, _, town, trips in self.towns():
+            with self.subTest(town.name):
+                if kind != "script":
+                    self.assertEqual(self.told("part", town, "--by", "agency")[0], 0)
+                    for part, wanted in (("a", trips[:2]), ("b", trips[2:])):
+                        for file in ("trips.txt", "stop_times.txt"):
+                            self.assertEqual(list(dict.fromkeys(row["trip_id"] for row in rows(town.parent / f"{town.name}-{part}" / file))), wanted)
+
+    @mock.patch("os.sync")
+    def test_new_more(self, _: mock.Mock) -> None:
+        """The agency's new trip is in the town, under its name and between its places."""
+        for kind, name, town, trips in self.towns():
+            with self.subTest(town.name):
+                feed, own = self.room / f"{town.name}-agency", two_trips(self.room / f"{town.name}-own")
+                feed.mkdir()
+                for file in ("trips.txt", "stop_times.txt"):
+                    shutil.copy(town / file, feed)
+                status, text, errors = self.told("new", feed, own, "--more")
+                self.assertEqual((status, errors, text.splitlines()[0]), (1, "", f"{own}: {len(trips)} trips, with what {feed} needs"))
+                self.assertEqual([row["trip_id"] for row in rows(own / "trips.txt")], trips)
+                self.assertEqual(name in {row["stop_id"] for row in rows(own / "stop_times.txt")}, kind == "place")
+                self.assertEqual(program.run(["fixed", own]).status, 0)
