@@ -29,7 +29,7 @@ class TripFile:
 
     def _read(self) -> None:
         """Reads the file."""
-        listed, running = self.town.selects()
+        is_selected = self.town.selection()
         with open_records(self.town.path("trips.txt")) as records:
             service, trip = records.column("service_id"), records.column("trip_id")
             route, block = records.find("route_id"), records.find("block_id")
@@ -40,7 +40,7 @@ class TripFile:
                 if route is not None:
                     self.routes.add(fields[route])
                 stated = "" if block is None else fields[block]
-                if (listed is None or of_service in listed) and (running is None or of_service in running):
+                if is_selected(of_service):
                     self._select(number, fields[trip], stated)
                 else:
                     self._pass_over(number, fields[trip], of_service, stated)

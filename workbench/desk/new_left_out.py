@@ -37,8 +37,8 @@ def tell_left_out(trips: SortedTrips, report: Report) -> None:
 
 def judge_left_out(town: Town, trips: SortedTrips, report: Report) -> None:
     """Tells how many of the trips that were left out would run on the day."""
-    listed, running = town.selects()
-    of_day = sum((listed is None or left.service in listed) and (running is None or left.service in running) for left in trips.left)
+    is_selected = town.selection()
+    of_day = sum(is_selected(left.service) for left in trips.left)
     if trips.left:
         tell = report.mend if of_day else report.look
         tell("trips.txt", f"{counted(len(trips.left), 'trip')} left out, as listed above, and {of_day:,} of them would run on that day. "

@@ -8,7 +8,7 @@ from desk.errors import DeskError
 from desk.hints_machine import read_hints
 from desk.hints_names import shown
 from desk.hints_refusals import LINE, OF_A_TRIP, refusal_hints
-from desk.left_out import LeftOut, sort_trips
+from desk.left_out import sort_trips
 from desk.notes_note import Note, View
 from desk.town import Town
 
@@ -46,18 +46,13 @@ def trips(view: View) -> Iterator[Note]:
         return
     found = LINE.fullmatch(view.refusal)
     named = OF_A_TRIP.fullmatch(found[3]) if found else None
-    sorted_trips = sort_trips(view.town.folder)
+    sorted_trips, is_selected = sort_trips(view.town.folder), view.town.selection()
     for left in sorted_trips.left:
         is_named = named[1] == left.trip if named else found and (found[1], found[2]) == (left.file, str(left.row))
-        if not is_named and _counts(view.town, left):
+        # What is wrong on any day, or with a trip of the day, refuses the feed.
+        if not is_named and (left.on_any_day or is_selected(left.service)):
             found_here = f"trip {shown(left.trip)} of service {shown(left.service)} is refused: {left.why}"
             yield Note("refused-trip", left.file, left.row, found_here, "The agency mends it, or `./desk new` leaves it out")
     if sorted_trips.strays:
         yield Note("refused-trip", "stop_times.txt", None, f"{sorted_trips.strays} records of no trip are refused",
                    "Take them out, or let `./desk new` do it")
-
-
-def _counts(town: Town, left: LeftOut) -> bool:
-    """Whether the program refuses the feed for a trip: it is of the day, or what is wrong with it is wrong on any day."""
-    listed, running = town.selects()
-    return left.on_any_day or (listed is None or left.service in listed) and (running is None or left.service in running)

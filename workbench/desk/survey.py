@@ -8,6 +8,7 @@ from pathlib import Path
 
 from desk.records import is_utf8, is_wide, open_records
 from desk.times import format_time, is_no_time, parse_time
+from desk.town import parse_sequence
 
 BAD = -1
 """A number or a time that is not of its grammar."""
@@ -142,8 +143,8 @@ class Sequences(dict[str, int]):
     """The value of each field of a sequence that was met."""
 
     def __missing__(self, text: str) -> int:
-        digits = text.strip(" ")
-        self[text] = int(digits) if 1 <= len(digits) <= 9 and digits.isascii() and digits.isdecimal() else BAD
+        sequence = parse_sequence(text)
+        self[text] = BAD if sequence is None else sequence
         return self[text]
 
 

@@ -2,6 +2,7 @@
 from __future__ import annotations
 
 import datetime
+from collections.abc import Callable
 from dataclasses import dataclass
 from functools import cached_property
 from pathlib import Path
@@ -134,6 +135,11 @@ class Town:
         names = {name for name in listed if isinstance(name, str)} if isinstance(listed, list) else None
         return names, running
 
+    def selection(self) -> Callable[[str], bool]:
+        """Whether a service is selected: `desk.toml` lists it, or lists none, and it runs on the date, or there is none."""
+        listed, running = self.selects()
+        return lambda service: (listed is None or service in listed) and (running is None or service in running)
+
     def day(self) -> list[DayTrip]:
         """The selected trips, in the order of `trips.txt`, with their ends and times."""
         return self._day
@@ -152,14 +158,13 @@ class Town:
     @cached_property
     def selected(self) -> dict[str, DayTrip]:
         """The trips that `trips.txt` has of the selected services, by their names. `day` gives them their ends and times."""
-        listed, running = self.selects()
-        classes = self.table("classes")
+        is_selected, classes = self.selection(), self.table("classes")
         trips: dict[str, DayTrip] = {}
         with open_records(self.path("trips.txt")) as records:
             service, name = records.column("service_id"), records.column("trip_id")
             others = [records.find(column) for column in ("route_id", "trip_headsign", "block_id")]
             for number, fields in records:
-                if not (listed is None or fields[service] in listed) or not (running is None or fields[service] in running):
+                if not is_selected(fields[service]):
                     continue
                 route, headsign, block = ("" if at is None else fields[at] for at in others)
                 vehicles = str(classes.get(route, "")) if classes else None
@@ -187,10 +192,16 @@ def _read_ends(records: Records, trips: dict[str, DayTrip]) -> None:
 
 def sequence_in(name: str, number: int, text: str) -> int:
     """The number of a `stop_sequence`, or a DeskError that names it."""
-    digits = text.strip(" ")
-    if not 1 <= len(digits) <= 9 or not (digits.isascii() and digits.isdecimal()):
+    sequence = parse_sequence(text)
+    if sequence is None:
         raise DeskError(f"{name} record {number}: bad stop_sequence")
-    return int(digits)
+    return sequence
+
+
+def parse_sequence(text: str) -> int | None:
+    """The number of a `stop_sequence`, of one to nine digits, or None where it is none."""
+    digits = text.strip(" ")
+    return int(digits) if 1 <= len(digits) <= 9 and digits.isascii() and digits.isdecimal() else None
 
 
 def time_in(name: str, number: int, first: str, second: str) -> int | None:
