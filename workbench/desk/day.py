@@ -13,17 +13,13 @@ from pathlib import Path
 
 from desk.answers import ask
 from desk.errors import DeskError
-from desk.files import read_bytes
 from desk.plans import Block, Ride
 from desk.records import record_text
-from desk.rooms import SCRIPTS, room_of, state_of
+from desk.rooms import Scripts, room_of, scripts_of, state_of
 from desk.scripts import Record, fields_of, judged, refuse_open_quote, with_edits, with_record, with_show
 from desk.texts import Json, minute_of
 from desk.times import arrival_minute, departure_minute, parse_minute
 from desk.town import DayTrip, Town
-
-Scripts = dict[str, bytes]
-"""The scripts of a town by the names of their files."""
 
 MOST_ASKED = 8
 """Of how many planners it is asked whether an undo would be refused. Each costs a run of the program."""
@@ -79,11 +75,6 @@ class Day:
     written: str
     planners: Planners | None
     made: datetime.datetime = field(default_factory=datetime.datetime.now)
-
-
-def scripts_of(town: Town) -> Scripts:
-    """The scripts that stand in a town."""
-    return {name: read_bytes(town.path(name)) for name in SCRIPTS if town.has(name)}
 
 
 def read_day(town: Town, scripts: Scripts | None = None, with_planners: bool = False) -> Day:

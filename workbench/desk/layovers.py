@@ -9,8 +9,7 @@ from typing import Any
 
 from desk.answers import ask
 from desk.errors import DeskError
-from desk.files import read_bytes
-from desk.rooms import room_of
+from desk.rooms import room_of, scripts_of
 from desk.texts import Json
 from desk.toml import toml_text
 from desk.town import Town
@@ -53,8 +52,8 @@ def audit(town: Town, settings: Mapping[str, Any]) -> Json:
 
 @contextmanager
 def room_with(town: Town, settings: Mapping[str, Any]) -> Iterator[Path]:
-    """A room with the feed and the script of a town, and with these settings."""
-    with room_of(town, {"edits.csv": read_bytes(town.path("edits.csv"))} if town.has("edits.csv") else {}) as room:
+    """A room with the feed and the scripts of a town, and with these settings."""
+    with room_of(town, scripts_of(town)) as room:
         (room / "desk.toml").unlink(missing_ok=True)
         (room / "desk.toml").write_text(toml_text(settings), encoding="utf-8")
         yield room

@@ -11,7 +11,7 @@ from tempfile import TemporaryDirectory
 from desk.answers import tell
 from desk.board_rows import make_boards
 from desk.boards_page import boards_page
-from desk.day import Day, read_day, scripts_of
+from desk.day import Day, read_day
 from desk.errors import DeskError, UsageError, complain
 from desk.figures import figures_text, make_figures
 from desk.files import refuse_if_there, whole_file, write_whole
@@ -20,7 +20,7 @@ from desk.new_report import counted, some
 from desk.plans import Plan, read_plan
 from desk.published_check import judge
 from desk.published_feed import Handover, make_feed
-from desk.rooms import room_of
+from desk.rooms import room_of, scripts_of
 from desk.town import Town
 
 WORD = "publish"

@@ -17,6 +17,7 @@ from contextlib import contextmanager, suppress
 from functools import cache
 from pathlib import Path
 
+from desk.files import read_bytes
 from desk.locks import is_taken
 from desk.town import Town
 
@@ -32,6 +33,10 @@ FEED_FILES = ("desk.toml", "terminals.csv", "tolerances.csv", "calendar.txt", "c
 
 SCRIPTS = ("edits.csv", "planner_edits.csv")
 """The scripts that the program reads."""
+
+
+Scripts = dict[str, bytes]
+"""The scripts of a town by the names of their files."""
 
 
 @contextmanager
@@ -74,6 +79,11 @@ def _remove(path: Path) -> None:
             shutil.rmtree(path, ignore_errors=True)
     finally:
         os.close(held)
+
+
+def scripts_of(town: Town) -> Scripts:
+    """The scripts that stand in a town."""
+    return {name: read_bytes(town.path(name)) for name in SCRIPTS if town.has(name)}
 
 
 @contextmanager

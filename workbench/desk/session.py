@@ -7,13 +7,13 @@ from pathlib import Path
 
 from desk.answers import ask, tell
 from desk.compare import Side, partners, trips_that_differ
-from desk.day import Day, read_day, scripts_of
+from desk.day import Day, read_day
 from desk.edits import Script, record_of, writing
 from desk.errors import DeskError, UsageError
 from desk.keeping import keep
 from desk.pipes import refuse_pipes
 from desk.plans import StatedBlock, read_plan
-from desk.rooms import FEED_FILES, room_of, state_of
+from desk.rooms import FEED_FILES, room_of, scripts_of, state_of
 from desk.scripts import Record, with_edits, with_record
 from desk.texts import Json
 from desk.town import Town

@@ -6,11 +6,10 @@ from collections.abc import Iterable, Sequence
 from typing import NamedTuple
 
 from desk.answers import FeedRefused, tell
-from desk.files import read_bytes
 from desk.hints_names import shown
 from desk.plans import read_boards
 from desk.records import first_records
-from desk.rooms import room_of
+from desk.rooms import room_of, scripts_of
 from desk.town import Town
 
 MOST_TOLD = 10
@@ -54,7 +53,7 @@ def unlisted_of_plan(town: Town) -> list[Unlisted]:
     """The terminals without a record, of the plan that the program makes in a room; none where it refuses the feed."""
     if not town.has("depot.csv"):
         return []
-    with room_of(town, {"edits.csv": read_bytes(town.path("edits.csv"))} if town.has("edits.csv") else {}) as room:
+    with room_of(town, scripts_of(town)) as room:
         try:
             tell("joined", town.folder, room)
         except FeedRefused:
