@@ -6,7 +6,6 @@ its last ones, the program keeps what is new from a room. So the planner's scrip
 from __future__ import annotations
 
 from desk.answers import tell
-from desk.errors import DeskError
 from desk.files import read_bytes
 from desk.hints_edits import is_edit
 from desk.hints_journal import JOURNAL, journal_text
@@ -30,10 +29,7 @@ def keep(town: Town, records: list[Record]) -> str:
     with room_of(town, {"edits.csv": fresh.encode("utf-8", "surrogateescape")}) as room:
         # The program follows the link, and has the files of the journal beside the journal itself.
         (room / JOURNAL).symlink_to(town.path(JOURNAL).resolve())
-        try:
-            return tell("keep", room)
-        except DeskError as error:
-            raise DeskError(str(error).replace(str(room), str(town.folder))) from error
+        return tell("keep", town.folder, room)
 
 
 def journal_records(town: Town) -> list[tuple[str, ...]]:
