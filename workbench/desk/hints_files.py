@@ -17,9 +17,11 @@ frequencies.txt transfers.txt pathways.txt levels.txt location_groups.txt locati
 translations.txt feed_info.txt attributions.txt""".split())
 """The files of an agency's feed that the program does not read."""
 
-OTHERS = GTFS | frozenset("""
-blocks.csv prices.csv boards.csv trips_blocks.txt stop_times_blocks.txt journal.db journal.db-journal journal.db-wal journal.db-shm
-""".split())
+OWN = ("journal.db", "journal.db-journal", "journal.db-wal", "journal.db-shm", "blocks.csv", "prices.csv", "boards.csv", "trips_blocks.txt",
+       "stop_times_blocks.txt")
+"""The files of a town that the program writes, beside its script."""
+
+OTHERS = GTFS | frozenset(OWN)
 """Files that may stand in a folder and are not those that are meant: the agency's others, and those that the program writes."""
 
 COPY = re.compile(r"~|[._ -]?(?:\bbak|backup|old|orig|save|swp|tmp|copy( of)?|kopie|\([0-9]+\)|[0-9]+)(?![a-z])")

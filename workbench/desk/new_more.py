@@ -14,6 +14,7 @@ from desk.files import read_bytes, write_whole
 from desk.left_out import SortedTrips
 from desk.limits import MOST_PLACES
 from desk.new_report import Report, counted, some
+from desk.new_settings import with_key
 from desk.new_steps import all_ends, draft_settings
 from desk.notes_deadheads import read_ways
 from desk.records import first_records, open_records, record_text
@@ -22,9 +23,6 @@ from desk.town import Town
 
 Record = Mapping[str, str]
 """A record by its columns."""
-
-DATE = re.compile(rb"(?m)^[ \t]*date[ \t]*=[ \t]*(?:\"[^\"\n]*\"|'[^'\n]*'|[^#\r\n]*?)(?=[ \t]*(?:#|\r?$))")
-"""The key of the date with its value, without a comment behind it."""
 
 
 def keep_settings(own: Town, room: Path, asked: datetime.date | None, report: Report) -> Town:
@@ -41,11 +39,9 @@ def keep_settings(own: Town, room: Path, asked: datetime.date | None, report: Re
 
 
 def with_date(text: bytes, date: datetime.date) -> bytes:
-    """The text of a `desk.toml` with another date, in the line that it has for it, or in one above all others."""
+    """The text of a `desk.toml` with another date, which the comment of a draft above it names too."""
     text = re.sub(rb"(?m)^(# The day that is planned, a )\w+day\b", rb"\g<1>" + f"{date:%A}".encode(), text, count=1)
-    line = f'date = "{format_date(date)}"'.encode()
-    changed, count = DATE.subn(line, text, count=1)
-    return changed if count else line + b"\n" + text
+    return with_key(text, "date", format_date(date))
 
 
 def judge_day(town: Town, report: Report) -> None:

@@ -1,8 +1,11 @@
-"""The draft of `desk.toml`, in which a comment explains each key."""
+"""The draft of `desk.toml`, in which a comment explains each key, and another value in one that a planner has."""
 from __future__ import annotations
 
 import datetime
+import re
 from collections.abc import Mapping, Sequence
+
+from desk.toml import quoted
 
 LAYOVER = 5
 """The layover that is drafted, in minutes."""
@@ -58,6 +61,17 @@ def settings_text(date: datetime.date | None, services: Sequence[str], terminal:
     lines = "".join(f"{_quoted(name)} = {minutes}\n" for name, minutes in (layovers or {}).items())
     return head + _REST.format(services=shown, layover=LAYOVER, terminal=_quoted(terminal or "Station"),
                                layovers=_FITTING + lines if lines else "", route=_quoted(route or "line_1"))
+
+
+def with_key(settings: bytes, key: str, value: str) -> bytes:
+    """The text of a `desk.toml` with another text as the value of a key, in the line that it has for it, or in one above all others.
+
+    A comment behind the value stays.
+    """
+    pattern = rb"(?m)^[ \t]*" + key.encode() + rb"[ \t]*=[ \t]*(?:\"[^\"\n]*\"|'[^'\n]*'|[^#\r\n]*?)(?=[ \t]*(?:#|\r?$))"
+    line = f"{key} = {quoted(value)}".encode()
+    changed, count = re.subn(pattern, lambda found: line, settings, count=1)
+    return changed if count else line + b"\n" + settings
 
 
 def _quoted(name: str) -> str:

@@ -2,7 +2,6 @@
 from __future__ import annotations
 
 import argparse
-import re
 import shutil
 import sys
 from collections.abc import Collection
@@ -10,11 +9,14 @@ from pathlib import Path
 
 from desk.errors import DeskError
 from desk.files import read_bytes
+from desk.hints_files import OWN
 from desk.limits import MOST_TRIPS
 from desk.new_report import counted
 from desk.new_room import settle, town_room
+from desk.new_settings import with_key
 from desk.parts import NOT_PARTED, WAYS, Part
 from desk.records import copy_records, open_records
+from desk.rooms import SCRIPTS
 from desk.town import Town
 
 WORD = "part"
@@ -23,8 +25,7 @@ HELP = "make towns of a town with too many trips: by agency, or by routes that s
 OF_TRIPS = ("stop_times.txt", "frequencies.txt", "tolerances.csv")
 """The files whose records name trips, beside `trips.txt`."""
 
-LEFT = ("edits.csv", "planner_edits.csv", "journal.db", "blocks.csv", "prices.csv", "boards.csv", "trips_blocks.txt",
-        "stop_times_blocks.txt")
+LEFT = (*SCRIPTS, *OWN)
 """The files that stay in the town alone: its scripts, and what the program has written."""
 
 
@@ -74,7 +75,7 @@ def make_part(town: Town, part: Part, folder: Path, prefix: str) -> None:
             (room / "agency").mkdir()
             copy_part(town.folder / "agency", room / "agency", part)
         settings = read_bytes(town.path("desk.toml")) if town.has("desk.toml") else b""
-        (room / "desk.toml").write_bytes(with_prefix(settings, prefix))
+        (room / "desk.toml").write_bytes(with_key(settings, "block_prefix", prefix))
         settle(room, folder)
 
 
@@ -97,10 +98,3 @@ def _names(path: Path, part: Part) -> Collection[str]:
     with open_records(path) as records:
         route, trip = records.column("route_id"), records.column("trip_id")
         return {fields[trip] for _, fields in records if fields[route] in part.routes}
-
-
-def with_prefix(settings: bytes, prefix: str) -> bytes:
-    """The text of a `desk.toml` with another prefix of block names."""
-    line = f'block_prefix = "{prefix}"'.encode()
-    changed, count = re.subn(rb"(?m)^[ \t]*block_prefix[ \t]*=[^\r\n]*", lambda found: line, settings, count=1)
-    return changed if count else line + b"\n" + settings

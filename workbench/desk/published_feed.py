@@ -9,9 +9,8 @@ from pathlib import Path
 from desk.answers import tell
 from desk.calendars import format_date
 from desk.day import Day
-from desk.errors import DeskError
 from desk.extras import Extra, listed_extras
-from desk.hints_files import OTHERS
+from desk.hints_files import GTFS
 from desk.new_room import AGENCY_FILES
 from desk.plans import Ride
 from desk.records import open_records, record_text
@@ -65,14 +64,9 @@ def agency_files(town: Town) -> dict[str, Path]:
     """The agency's files: those in `agency/`, or of a town without that its own, and the calendars as the program reads them."""
     agency = town.folder / "agency"
     files = {path.name: path for path in (agency if agency.is_dir() else town.folder).iterdir() if path.is_file()}
-    others = {name: path for name, path in files.items() if agency.is_dir() or name in OTHERS - OWN}
+    others = {name: path for name, path in files.items() if agency.is_dir() or name in GTFS}
     read = {name: town.path(name) for name in AGENCY_FILES if town.has(name)}
     return {name: path for name, path in others.items() if name not in AGENCY_FILES} | read
-
-
-OWN = frozenset(("blocks.csv", "prices.csv", "boards.csv", "journal.db", "journal.db-journal", "journal.db-wal", "journal.db-shm",
-                 *WRITTEN.values()))
-"""The files of a town that the program has written."""
 
 
 def _rides(day: Day) -> dict[str, Ride]:

@@ -164,9 +164,9 @@ def _as_older_escape(found: re.Match[str]) -> str:
 def toml_text(settings: Mapping[str, Any]) -> str:
     """Settings as a text of TOML: texts, whole numbers, lists of texts, and tables of texts and whole numbers."""
     tables = {key: value for key, value in settings.items() if isinstance(value, dict)}
-    lines = [f"{_quoted(key)} = {_value_text(value)}" for key, value in settings.items() if key not in tables]
+    lines = [f"{quoted(key)} = {_value_text(value)}" for key, value in settings.items() if key not in tables]
     for key, table in tables.items():
-        lines += [f"[{_quoted(key)}]", *(f"{_quoted(name)} = {_value_text(value)}" for name, value in table.items())]
+        lines += [f"[{quoted(key)}]", *(f"{quoted(name)} = {_value_text(value)}" for name, value in table.items())]
     return "".join(line + "\n" for line in lines)
 
 
@@ -174,9 +174,9 @@ def _value_text(value: Any) -> str:
     """A value of TOML."""
     if isinstance(value, list):
         return "[" + ", ".join(map(_value_text, value)) + "]"
-    return _quoted(value) if isinstance(value, str) else str(value)
+    return quoted(value) if isinstance(value, str) else str(value)
 
 
-def _quoted(text: str) -> str:
+def quoted(text: str) -> str:
     """A text in double quotes."""
     return json.dumps(text, ensure_ascii=False).replace("\x7f", "\\u007F")

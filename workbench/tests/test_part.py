@@ -72,6 +72,15 @@ class PartsTest(FolderTest):
         self.assertEqual(sorted(trips), sorted(self.column(self.town / "trips.txt", "trip_id")))
         self.assertEqual(self.column(self.room / "town-Coach" / "tolerances.csv", "trip_id"), ["green0"])
 
+    def test_what_the_program_has_beside_a_journal_stays(self) -> None:
+        """So does a prefix of blocks with a quote and a mark, and the comment behind it."""
+        write_feed(self.town, {"journal.db": "", "journal.db-wal": "lines", "desk.toml": "block_prefix = 'a\"#' # ours\n"})
+        self.assertIn(f"left in {self.town} alone: edits.csv, journal.db, journal.db-wal, blocks.csv\n",
+                      self.desk("part", self.town, "--by", "agency")[1])
+        part = self.room / "town-Coach"
+        self.assertEqual([path.name for path in part.glob("journal*")], [])
+        self.assertEqual((part / "desk.toml").read_text(), 'block_prefix = "a\\"#2-" # ours\n')
+
     @needs_program
     def test_too_many_terminals_for_one_town(self) -> None:
         """Seven terminals are too many for deadheads, and those of a part are not: `--more` drafts what the town could not have."""
