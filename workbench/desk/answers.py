@@ -11,12 +11,9 @@ from pathlib import Path
 
 from desk import program, texts
 from desk.errors import DeskError
-from desk.program import Outcome
+from desk.program import DONE, FEED_REFUSED, NO, RECORDS_REFUSED, Outcome
 from desk.texts import Json
 from desk.town import Town
-
-DONE, RECORDS_REFUSED, FEED_REFUSED, NO = 0, 1, 3, 4
-"""The statuses of a run that has put its text: all done, all but refused records, none for the feed, and a `no`."""
 
 
 class FeedRefused(DeskError):

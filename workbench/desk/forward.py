@@ -13,8 +13,8 @@ from typing import BinaryIO
 from desk.answers import read
 from desk.errors import DeskError, complain
 from desk.files import reason
-from desk.hints import DONE, hints_before, hints_of, questions_before
-from desk.program import program_path
+from desk.hints import hints_before, hints_of, questions_before
+from desk.program import DONE, RECORDS_REFUSED, WRITE_FAULT, program_path
 
 WORDS = {
     "deficits": "where and when vehicles are missing at each terminal",
@@ -32,9 +32,6 @@ WORDS = {
     "audit": "whether the blocks of trips.txt can be run, and how far they are from the fewest",
     "sample": "a generated feed of N trips, scheduled and checked",
 }
-
-WRITE_FAULT = 6
-"""The status of the program where standard output cannot be written."""
 
 
 def add_arguments(parser: argparse.ArgumentParser) -> None:
@@ -59,7 +56,7 @@ def run(arguments: argparse.Namespace) -> int:
     status, text = ask([command, *words])
     if not put(as_shown(command, words, status, text) if arguments.json and text else text):
         return WRITE_FAULT
-    for hint in (before if status in DONE else []) + without_mistakes(hints_of, command, words, status, text):
+    for hint in (before if status in (DONE, RECORDS_REFUSED) else []) + without_mistakes(hints_of, command, words, status, text):
         complain(hint)
     return status
 

@@ -19,17 +19,12 @@ from desk.keeping import compared
 from desk.limits import MOST_TRIPS
 from desk.notes_days import no_trips
 from desk.notes_note import View
+from desk.program import DONE, FEED_REFUSED, KEEPER_FAULT, READ_FAULT, RECORDS_REFUSED, USAGE, WRITE_FAULT
 from desk.town import Town
 from desk.unlisted import told, unlisted_of_plan
 
-DONE = (0, 1)
-"""The statuses of the program where it has done all but records that are refused."""
-
 NOTHING = re.compile(r"\b(fixed|vehicles|sum) 0\b")
 """The numbers of a day without trips."""
-
-USAGE, REFUSED, READ_FAULT, WRITE_FAULT, KEEPER_FAULT = 2, 3, 5, 6, 7
-"""The statuses of the program with hints."""
 
 
 def hints_of(command: str, words: Sequence[str], status: int, text: str) -> list[str]:
@@ -96,7 +91,7 @@ def _beside(command: str, town: Town, status: int, text: str) -> list[str]:
 
 def _hints(command: str, town: Town, status: int, text: str) -> list[str]:
     """The hints of a run over a town, by its status."""
-    if status == REFUSED:
+    if status == FEED_REFUSED:
         return refusal_hints(town, text.removeprefix("feed refused: ").removesuffix("\n"))
     if status == READ_FAULT:
         return read_hints(command, town.folder)
@@ -105,7 +100,7 @@ def _hints(command: str, town: Town, status: int, text: str) -> list[str]:
     if status == KEEPER_FAULT:
         return keeper_hints(town.folder)
     refused = script_hints(town, text) if status else []
-    if status not in DONE and command != "audit":
+    if status not in (DONE, RECORDS_REFUSED) and command != "audit":
         return refused + claim_hints(town, text)
     return refused + _beside(command, town, status, text)
 

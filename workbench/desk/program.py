@@ -14,6 +14,10 @@ ROOT = Path(__file__).resolve().parents[2]
 """The folder of the repository, or of the archive."""
 
 
+DONE, RECORDS_REFUSED, USAGE, FEED_REFUSED, NO, READ_FAULT, WRITE_FAULT, KEEPER_FAULT = range(8)
+"""The statuses of a run: all done, all but refused records, words of no form, a refused feed, a `no`, and three faults."""
+
+
 @dataclass(frozen=True, slots=True)
 class Outcome:
     """What a run of the program has put, and its status."""

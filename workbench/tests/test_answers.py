@@ -9,10 +9,11 @@ from pathlib import Path
 from unittest import mock
 
 from desk import program, texts
-from desk.answers import NO, FeedRefused, ask, read, status_of, tell
+from desk.answers import FeedRefused, ask, read, status_of, tell
 from desk.errors import DeskError
 from desk.hints_names import shown
 from desk.notes_refusal import refusal_of
+from desk.program import NO
 from desk.records import record_text
 from desk.session import Session
 from desk.town import Town
