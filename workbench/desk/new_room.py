@@ -133,7 +133,7 @@ def undo(town: Path) -> str:
         sync_folder(town)
         (before / STEPS).unlink()
     before.rmdir()
-    return f"{town} stands as it was before a `./desk new --replace` that was cut off"
+    return f"{town} stands as it was before a `./desk new` that was cut off"
 
 
 def _steps(before: Path) -> tuple[list[str], list[str]]:

@@ -91,7 +91,7 @@ class AllOrNone(FolderTest):
                 self.assertEqual(os.waitpid(child, 0)[1], signal.SIGKILL)
                 half = (self.town / BEFORE).exists()
                 errors = self.desk("saved", self.town)[2]
-                self.assertEqual(errors, f"desk: {self.town} stands as it was before a `./desk new --replace` that was cut off\n" if half else "")
+                self.assertEqual(errors, f"desk: {self.town} stands as it was before a `./desk new` that was cut off\n" if half else "")
                 self.assertEqual(standing(self.town), self.before)
                 told += half
         self.assertGreater(told, 8)
