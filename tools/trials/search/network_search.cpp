@@ -1,0 +1,202 @@
+// A plan by searches over a network of places and minutes, one for each trip that ends.
+//
+// A node is a place and a minute: a departure, or the last arrival from which an empty run still reaches a departure as the first one.
+// The worth of a node is what one more vehicle there saves. At first it is a whole vehicle everywhere, and no trip has ended. Then the
+// trips end one after the other, the last first. The vehicle of each goes to a departure that has none, or stays, along a shortest
+// path; others give way to it. Worth falls along the way, and never rises.
+//
+// A trip's price of leaving is the worth where it ends. Its price of entering is a vehicle less the worth where it departs.
+//
+// Example: g++ -O2 -o /tmp/network_search tools/trials/search/network_search.cpp && /tmp/network_search /tmp/peaks
+#include <cstdint>
+#include <deque>
+#include <numeric>
+#include <queue>
+
+#include "plan.hpp"
+
+struct Run { int to, minutes; };
+struct Carried { int arc, from, flow; };
+
+struct Network {
+    const Feed &feed;
+    int places;
+    std::vector<std::vector<int>> events;
+    std::vector<int> first, place_of, minute_of, begins;   // Of each place its first node; of each node its place, minute and first run.
+    std::vector<Run> runs;
+
+    explicit Network(const Feed &feed) : feed(feed), places(feed.walks.size()), events(places), first(places + 1) {
+        Matrix arrivals(places), departures(places);
+        for (const Trip &trip : feed.trips) arrivals[trip.to].push_back(trip.ends), departures[trip.from].push_back(trip.departs);
+        for (auto *lists : {&arrivals, &departures})
+            for (auto &minutes : *lists) {
+                std::sort(minutes.begin(), minutes.end());
+                minutes.erase(std::unique(minutes.begin(), minutes.end()), minutes.end());
+            }
+        struct Found { int from, leaves, to, reaches, minutes; };
+        std::vector<Found> found;
+        for (int from = 0; from < places; from++)
+            for (int to = 0; to < places; to++) {
+                const int minutes = feed.walks[from][to];
+                if (from == to || minutes >= NONE) continue;
+                auto reaches = departures[to].begin();
+                for (size_t k = 0; k < arrivals[from].size(); k++) {
+                    const int leaves = arrivals[from][k];
+                    while (reaches != departures[to].end() && *reaches < leaves + minutes) reaches++;
+                    if (reaches == departures[to].end()) break;
+                    if (k + 1 == arrivals[from].size() || arrivals[from][k + 1] + minutes > *reaches)
+                        found.push_back({from, leaves, to, *reaches, minutes});
+                }
+            }
+        for (int at = 0; at < places; at++) events[at] = departures[at];
+        for (const Found &run : found)
+            if (events[run.from].empty() || events[run.from].back() != run.leaves) events[run.from].push_back(run.leaves);
+        for (int at = 0; at < places; at++) {
+            std::sort(events[at].begin(), events[at].end());
+            events[at].erase(std::unique(events[at].begin(), events[at].end()), events[at].end());
+            first[at + 1] = first[at] + int(events[at].size()) + 1;
+            for (int k = first[at]; k < first[at + 1]; k++) place_of.push_back(at), minute_of.push_back(k + 1 < first[at + 1] ? events[at][k - first[at]] : 1 << 30);
+        }
+        begins.assign(nodes() + 1, 0);
+        for (const Found &run : found) begins[node(run.from, run.leaves) + 1]++;
+        std::partial_sum(begins.begin(), begins.end(), begins.begin());
+        runs.resize(found.size());
+        std::vector<int> free(begins.begin(), begins.end() - 1);
+        for (const Found &run : found) runs[free[node(run.from, run.leaves)]++] = {node(run.to, run.reaches), run.minutes};
+        for (int u = 0; u < nodes(); u++)
+            std::stable_sort(runs.begin() + begins[u], runs.begin() + begins[u + 1], [](const Run &a, const Run &b) { return a.minutes < b.minutes; });
+    }
+    int nodes() const { return first[places]; }
+    int node(int at, int minute) const {
+        return first[at] + int(std::lower_bound(events[at].begin(), events[at].end(), minute) - events[at].begin());
+    }
+};
+
+struct Search {
+    const Network &net;
+    std::vector<uint32_t> worth, dist;
+    std::vector<int> parent, demand, waiting, touched;   // parent: the run of the way, or -1 waited, -2 gave way to one waiting, -3-x gave way.
+    std::vector<int> came;
+    std::vector<std::vector<Carried>> into;
+    std::vector<uint64_t> heap;
+    long long settled = 0, looks = 0, pushed = 0, idle = 0;
+    static constexpr uint32_t FAR = UINT32_MAX;
+
+    explicit Search(const Network &net)
+        : net(net), worth(net.nodes(), VEHICLE), dist(net.nodes(), FAR), parent(net.nodes()), demand(net.nodes()), waiting(net.nodes()),
+          came(net.nodes()), into(net.nodes()) {
+        for (const Trip &trip : net.feed.trips) demand[net.node(trip.from, trip.departs)]++;
+    }
+
+    uint32_t best;
+    int end;
+    bool stays;
+
+    void label(int v, uint32_t d, int from, int how) {
+        if (d >= best || d >= dist[v]) return;
+        if (dist[v] == FAR) touched.push_back(v);
+        dist[v] = d, came[v] = from, parent[v] = how;
+        if (demand[v]) return void((best = d, end = v, stays = false));
+        heap.push_back(uint64_t(d) << 32 | uint32_t(v)), std::push_heap(heap.begin(), heap.end(), std::greater<>());
+        pushed++;
+    }
+
+    void add(int s) {
+        best = worth[s] + 1, end = s, stays = true;
+        label(s, 0, -1, -1);
+        while (!heap.empty()) {
+            const uint64_t top = heap.front();
+            const uint32_t d = top >> 32;
+            const int u = uint32_t(top);
+            if (d >= best) break;
+            std::pop_heap(heap.begin(), heap.end(), std::greater<>()), heap.pop_back();
+            if (d > dist[u]) continue;
+            settled++;
+            if (d + worth[u] < best) best = d + worth[u], end = u, stays = true;
+            if (d >= best) break;
+            if (u > net.first[net.place_of[u]] && waiting[u - 1]) label(u - 1, d, u, -2);
+            for (const Carried &it : into[u]) label(it.from, d, u, -3 - it.arc);
+            if (u + 1 < net.first[net.place_of[u] + 1]) label(u + 1, d + worth[u] - worth[u + 1], u, -1);
+            for (int k = net.begins[u]; k < net.begins[u + 1]; k++) {
+                const Run &run = net.runs[k];
+                looks++;
+                const uint32_t along = d + worth[u] + run.minutes;
+                if (along >= best + uint32_t(VEHICLE)) break;
+                label(run.to, along - worth[run.to], u, k);
+            }
+        }
+        heap.clear();
+        for (int v : touched) {
+            if (dist[v] < best) worth[v] -= best - dist[v];
+        }
+        if (best == 0) idle++;
+        for (int v = end; v != s; v = came[v]) {
+            const int how = parent[v], from = came[v];
+            if (how == -1) waiting[from]++;
+            else if (how == -2) waiting[v]--;
+            else if (how >= 0) carry(how, from, v, 1);
+            else carry(-3 - how, v, from, -1);
+        }
+        if (!stays) demand[end]--;
+        for (int v : touched) dist[v] = FAR;
+        touched.clear();
+    }
+    void carry(int arc, int from, int to, int more) {
+        auto &list = into[to];
+        auto it = std::find_if(list.begin(), list.end(), [&](const Carried &c) { return c.arc == arc; });
+        if (it == list.end()) list.push_back({arc, from, more});
+        else if (!(it->flow += more)) list.erase(it);
+    }
+
+    void link() {
+        std::vector<int> order(net.feed.trips.size());
+        std::iota(order.begin(), order.end(), 0);
+        std::stable_sort(order.begin(), order.end(), [&](int a, int b) { return net.feed.trips[a].ends > net.feed.trips[b].ends; });
+        for (int i : order) add(net.node(net.feed.trips[i].to, net.feed.trips[i].ends));
+    }
+
+    // The links along what was carried, first in, first out, and the prices by the worths.
+    Plan plan() {
+        const auto &trips = net.feed.trips;
+        Plan plan{std::vector<int>(trips.size(), -1), {}, {}};
+        std::vector<std::deque<int>> there(net.nodes());
+        std::vector<std::vector<int>> departs(net.nodes());
+        std::vector<std::vector<Carried>> out(net.nodes());
+        for (int v = 0; v < net.nodes(); v++)
+            for (const Carried &it : into[v]) out[it.from].push_back({it.arc, v, it.flow});
+        for (size_t i = 0; i < trips.size(); i++) {
+            const int u = net.node(trips[i].to, trips[i].ends), v = net.node(trips[i].from, trips[i].departs);
+            there[u].push_back(i), departs[v].push_back(i);
+            plan.leave.push_back(worth[u]), plan.enter.push_back(VEHICLE - worth[v]);
+        }
+        std::vector<int> order(net.nodes());
+        std::iota(order.begin(), order.end(), 0);
+        std::stable_sort(order.begin(), order.end(), [&](int a, int b) { return net.minute_of[a] < net.minute_of[b]; });
+        for (int u : order) {
+            auto &units = there[u];
+            auto take = [&] { const int unit = units.front(); units.pop_front(); return unit; };
+            for (size_t k = 0; k + demand[u] < departs[u].size(); k++) plan.next[take()] = departs[u][k];
+            for (const Carried &it : out[u]) for (int k = 0; k < it.flow; k++) there[it.from].push_back(take());
+            for (int k = 0; k < waiting[u]; k++) there[u + 1].push_back(take());
+        }
+        return plan;
+    }
+};
+
+int main(int count, char **words) {
+    if (count != 2) return std::cerr << "usage: network_search FEED\n", 2;
+    Feed feed(words[1]);
+    const double begun = seconds();
+    feed.close();
+    const double walked = seconds();
+    const Network net(feed);
+    const double built = seconds();
+    Search search(net);
+    search.link();
+    const double solved = seconds();
+    const Plan plan = search.plan();
+    const double ended = seconds();
+    std::printf("walks %.4f, building %.4f, searches %.4f, links %.4f; %d nodes, %zu runs, %lld settled, %lld looks, %lld pushed, %lld without fall; ", walked - begun,
+                built - walked, solved - built, ended - solved, net.nodes(), net.runs.size(), search.settled, search.looks, search.pushed, search.idle);
+    put(feed, plan);
+}
