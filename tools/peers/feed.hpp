@@ -41,11 +41,12 @@ inline Records records(const std::string &path) {
 
 inline int minute(const std::string &time) { return std::stoi(time) * 60 + std::stoi(time.substr(time.find(':') + 1)); }
 
-// The trips, with numbers for the places, and the minutes of the entries between these.
+// The trips, with numbers for the places, and the minutes of the entries between these. Of each place the minutes from the depot and to it.
 struct Feed {
     std::vector<Trip> trips;
     std::vector<std::string> names;
     Matrix walks;
+    std::vector<int> pull_out, pull_in;
 
     explicit Feed(const std::string &folder) {
         std::map<std::string, int> numbers;
@@ -60,6 +61,15 @@ struct Feed {
         walks.assign(numbers.size(), std::vector<int>(numbers.size(), NONE));
         for (size_t at = 0; at < walks.size(); at++) walks[at][at] = 0;
         for (const auto &entry : entries) walks[place(entry[0])][place(entry[1])] = std::stoi(entry[2]);
+        pull_out.assign(numbers.size(), 0), pull_in = pull_out;
+        if (std::ifstream(folder + "/depot.csv"))
+            for (const auto &row : records(folder + "/depot.csv"))
+                pull_out[place(row[0])] = std::stoi(row[1]), pull_in[place(row[0])] = std::stoi(row[2]);
+    }
+
+    // What it saves to make a trip next after another, which fits with these minutes between them.
+    long long weight(const Trip &before, const Trip &after, int minutes) const {
+        return VEHICLE + pull_in[before.to] + pull_out[after.from] - minutes;
     }
 
     // Makes the minutes of the entries those of the least walks.

@@ -8,69 +8,12 @@
 // A trip's price of leaving is the worth where it ends. Its price of entering is a vehicle less the worth where it departs.
 //
 // Example: g++ -O2 -o /tmp/network_search tools/trials/search/network_search.cpp && /tmp/network_search /tmp/peaks
-#include <cstdint>
 #include <deque>
-#include <numeric>
 #include <queue>
 
-#include "plan.hpp"
+#include "network.hpp"
 
-struct Run { int to, minutes; };
 struct Carried { int arc, from, flow; };
-
-struct Network {
-    const Feed &feed;
-    int places;
-    std::vector<std::vector<int>> events;
-    std::vector<int> first, place_of, minute_of, begins;   // Of each place its first node; of each node its place, minute and first run.
-    std::vector<Run> runs;
-
-    explicit Network(const Feed &feed) : feed(feed), places(feed.walks.size()), events(places), first(places + 1) {
-        Matrix arrivals(places), departures(places);
-        for (const Trip &trip : feed.trips) arrivals[trip.to].push_back(trip.ends), departures[trip.from].push_back(trip.departs);
-        for (auto *lists : {&arrivals, &departures})
-            for (auto &minutes : *lists) {
-                std::sort(minutes.begin(), minutes.end());
-                minutes.erase(std::unique(minutes.begin(), minutes.end()), minutes.end());
-            }
-        struct Found { int from, leaves, to, reaches, minutes; };
-        std::vector<Found> found;
-        for (int from = 0; from < places; from++)
-            for (int to = 0; to < places; to++) {
-                const int minutes = feed.walks[from][to];
-                if (from == to || minutes >= NONE) continue;
-                auto reaches = departures[to].begin();
-                for (size_t k = 0; k < arrivals[from].size(); k++) {
-                    const int leaves = arrivals[from][k];
-                    while (reaches != departures[to].end() && *reaches < leaves + minutes) reaches++;
-                    if (reaches == departures[to].end()) break;
-                    if (k + 1 == arrivals[from].size() || arrivals[from][k + 1] + minutes > *reaches)
-                        found.push_back({from, leaves, to, *reaches, minutes});
-                }
-            }
-        for (int at = 0; at < places; at++) events[at] = departures[at];
-        for (const Found &run : found)
-            if (events[run.from].empty() || events[run.from].back() != run.leaves) events[run.from].push_back(run.leaves);
-        for (int at = 0; at < places; at++) {
-            std::sort(events[at].begin(), events[at].end());
-            events[at].erase(std::unique(events[at].begin(), events[at].end()), events[at].end());
-            first[at + 1] = first[at] + int(events[at].size()) + 1;
-            for (int k = first[at]; k < first[at + 1]; k++) place_of.push_back(at), minute_of.push_back(k + 1 < first[at + 1] ? events[at][k - first[at]] : 1 << 30);
-        }
-        begins.assign(nodes() + 1, 0);
-        for (const Found &run : found) begins[node(run.from, run.leaves) + 1]++;
-        std::partial_sum(begins.begin(), begins.end(), begins.begin());
-        runs.resize(found.size());
-        std::vector<int> free(begins.begin(), begins.end() - 1);
-        for (const Found &run : found) runs[free[node(run.from, run.leaves)]++] = {node(run.to, run.reaches), run.minutes};
-        for (int u = 0; u < nodes(); u++)
-            std::stable_sort(runs.begin() + begins[u], runs.begin() + begins[u + 1], [](const Run &a, const Run &b) { return a.minutes < b.minutes; });
-    }
-    int nodes() const { return first[places]; }
-    int node(int at, int minute) const {
-        return first[at] + int(std::lower_bound(events[at].begin(), events[at].end(), minute) - events[at].begin());
-    }
-};
 
 struct Search {
     const Network &net;
@@ -83,9 +26,9 @@ struct Search {
     static constexpr uint32_t FAR = UINT32_MAX;
 
     explicit Search(const Network &net)
-        : net(net), worth(net.nodes(), VEHICLE), dist(net.nodes(), FAR), parent(net.nodes()), demand(net.nodes()), waiting(net.nodes()),
-          came(net.nodes()), into(net.nodes()) {
-        for (const Trip &trip : net.feed.trips) demand[net.node(trip.from, trip.departs)]++;
+        : net(net), worth(net.nodes, VEHICLE), dist(net.nodes, FAR), parent(net.nodes), demand(net.nodes), waiting(net.nodes),
+          came(net.nodes), into(net.nodes) {
+        for (int v : net.departs) demand[v]++;
     }
 
     uint32_t best;
@@ -152,24 +95,24 @@ struct Search {
         std::vector<int> order(net.feed.trips.size());
         std::iota(order.begin(), order.end(), 0);
         std::stable_sort(order.begin(), order.end(), [&](int a, int b) { return net.feed.trips[a].ends > net.feed.trips[b].ends; });
-        for (int i : order) add(net.node(net.feed.trips[i].to, net.feed.trips[i].ends));
+        for (int i : order) add(net.stands[i]);
     }
 
     // The links along what was carried, first in, first out, and the prices by the worths.
     Plan plan() {
         const auto &trips = net.feed.trips;
         Plan plan{std::vector<int>(trips.size(), -1), {}, {}};
-        std::vector<std::deque<int>> there(net.nodes());
-        std::vector<std::vector<int>> departs(net.nodes());
-        std::vector<std::vector<Carried>> out(net.nodes());
-        for (int v = 0; v < net.nodes(); v++)
+        std::vector<std::deque<int>> there(net.nodes);
+        std::vector<std::vector<int>> departs(net.nodes);
+        std::vector<std::vector<Carried>> out(net.nodes);
+        for (int v = 0; v < net.nodes; v++)
             for (const Carried &it : into[v]) out[it.from].push_back({it.arc, v, it.flow});
         for (size_t i = 0; i < trips.size(); i++) {
-            const int u = net.node(trips[i].to, trips[i].ends), v = net.node(trips[i].from, trips[i].departs);
+            const int u = net.stands[i], v = net.departs[i];
             there[u].push_back(i), departs[v].push_back(i);
             plan.leave.push_back(worth[u]), plan.enter.push_back(VEHICLE - worth[v]);
         }
-        std::vector<int> order(net.nodes());
+        std::vector<int> order(net.nodes);
         std::iota(order.begin(), order.end(), 0);
         std::stable_sort(order.begin(), order.end(), [&](int a, int b) { return net.minute_of[a] < net.minute_of[b]; });
         for (int u : order) {
@@ -197,6 +140,6 @@ int main(int count, char **words) {
     const Plan plan = search.plan();
     const double ended = seconds();
     std::printf("walks %.4f, building %.4f, searches %.4f, links %.4f; %d nodes, %zu runs, %lld settled, %lld looks, %lld pushed, %lld without fall; ", walked - begun,
-                built - walked, solved - built, ended - solved, net.nodes(), net.runs.size(), search.settled, search.looks, search.pushed, search.idle);
+                built - walked, solved - built, ended - solved, net.nodes, net.runs.size(), search.settled, search.looks, search.pushed, search.idle);
     put(feed, plan);
 }

@@ -12,6 +12,23 @@ struct Plan {
     std::vector<long long> leave, enter;
 };
 
+// The links of trips that meet at one place, first in, first out, as `fixed` makes them.
+inline std::vector<int> meeting_links(const Feed &feed) {
+    const int slots = feed.trips.size();
+    std::vector<int> ends(slots), departs(slots), next(slots, -1);
+    for (int i = 0; i < slots; i++) ends[i] = departs[i] = i;
+    std::stable_sort(ends.begin(), ends.end(), [&](int one, int other) { return feed.trips[one].ends < feed.trips[other].ends; });
+    std::stable_sort(departs.begin(), departs.end(), [&](int one, int other) { return feed.trips[one].departs < feed.trips[other].departs; });
+    std::vector<std::vector<int>> there(feed.walks.size());
+    std::vector<size_t> taken(feed.walks.size());
+    for (int i : ends) there[feed.trips[i].to].push_back(i);
+    for (int j : departs) {
+        const int at = feed.trips[j].from;
+        if (taken[at] < there[at].size() && feed.trips[there[at][taken[at]]].ends <= feed.trips[j].departs) next[there[at][taken[at]++]] = j;
+    }
+    return next;
+}
+
 // Whether the prices prove that the plan is least. One look for each pair, as the judge of certificates takes it.
 inline bool proved(const Feed &feed, const Plan &plan) {
     const int slots = feed.trips.size();
@@ -25,12 +42,13 @@ inline bool proved(const Feed &feed, const Plan &plan) {
         const int minutes = feed.walks[feed.trips[i].to][feed.trips[j].from];
         if (before[j] >= 0 || feed.trips[i].ends + minutes > feed.trips[j].departs) return false;
         before[j] = i;
-        worth += VEHICLE - minutes;
+        worth += feed.weight(feed.trips[i], feed.trips[j], minutes);
     }
     for (int i = 0; i < slots; i++)
         for (int j = 0; j < slots; j++) {
             const int minutes = feed.walks[feed.trips[i].to][feed.trips[j].from];
-            if (feed.trips[i].ends + minutes <= feed.trips[j].departs && VEHICLE - minutes > plan.leave[i] + plan.enter[j]) return false;
+            if (feed.trips[i].ends + minutes > feed.trips[j].departs) continue;
+            if (feed.weight(feed.trips[i], feed.trips[j], minutes) > plan.leave[i] + plan.enter[j]) return false;
         }
     return prices == worth;
 }

@@ -1,5 +1,5 @@
-// The search of crates/pair_search as it is, and with changes that can each be taken alone. All give the plan and the prices that the
-// program writes.
+// The search of crates/pair_search as it is, and with changes that can each be taken alone. But for the last but one, all give the
+// plan and the prices that the program writes.
 //
 // The words behind the feed name the changes:
 //   kept     links before are kept along the path that changes, and not made anew for each search
@@ -7,6 +7,7 @@
 //   offset   distances of a search are all below those of the searches before, so nothing is cleared
 //   heap     the groups that may have the nearest column are in a heap
 //   narrow   prices and distances of four bytes (which leaves the offset room for 15 searches)
+//   begun    it begins with the links of trips that meet at one place, and searches for the others: another plan of the same prices
 //   written  no search: the plan that the program wrote
 //
 // It puts the processor seconds of all searches, what was counted, and the plan.
@@ -20,7 +21,7 @@
 const int UNCUT = 128;
 const int FEW = 16;
 
-struct Changes { bool kept, tree, offset, heap; };
+struct Changes { bool kept, tree, offset, heap, begun; };
 
 struct Column { int post, minute, slot; };
 struct Group { int post, from, to, latest; };
@@ -111,17 +112,18 @@ struct Search {
             const int minute = trip.ends + walk;
             if (minute > group.latest) continue;
             Seen &was = seen[at];
-            const Price cost = start + GREATEST - VEHICLE + walk;
+            const Price cost = start + GREATEST - VEHICLE - feed.pull_in[trip.to] + walk;
             if (cost >= was.cost && uint32_t(minute) >= was.minute) continue;
             const int upto = cost < was.cost ? group.to : std::min<int>(group.to, was.from);
             const int first = first_from(group.from, upto, minute);
             if (first >= upto) continue;
+            const int out = feed.pull_out[group.post];
             Price closest = base + FAR;
             bool undone = false;
             for (int column = first; column < upto; column++) {
                 visited++;
                 undone |= !done[column];
-                const Price along = cost + enter[column] - GREATEST;
+                const Price along = cost - out + enter[column] - GREATEST;
                 if (along < dist[column] && !done[column]) {
                     dist[column] = along, parent[column] = place;
                     closest = std::min(closest, along);
@@ -215,8 +217,13 @@ struct Search {
         }
     }
 
-    Plan plan() {
-        for (int added = slots; added-- > 0;) add(order[added]);
+    // Not inlined, so that callgrind can count it alone.
+    [[gnu::noinline]] Plan plan() {
+        const std::vector<int> met = meeting_links(feed);
+        for (int row = 0; row < slots && changes.begun; row++)
+            if (met[row] >= 0) next[row] = place_of[met[row]], before[next[row]] = row, leave[row] = feed.weight(feed.trips[row], feed.trips[met[row]], 0);
+        for (int added = slots; added-- > 0;)
+            if (next[order[added]] < 0) add(order[added]);
         Plan found{std::vector<int>(slots, -1), std::vector<long long>(slots), std::vector<long long>(slots)};
         for (int row = 0; row < slots; row++) {
             found.next[row] = next[row] < 0 ? -1 : columns[next[row]].slot;
@@ -241,7 +248,7 @@ int main(int count, char **words) {
     auto told = [&](const char *change) { return std::any_of(words + 2, words + count, [&](char *word) { return !strcmp(word, change); }); };
     Feed feed(words[1]);
     feed.close();
-    const Changes changes{told("kept"), told("tree"), told("offset"), told("heap")};
+    const Changes changes{told("kept"), told("tree"), told("offset"), told("heap"), told("begun")};
     const Plan plan = told("written") ? plan_written(feed, words[1])
                       : told("narrow") ? searched<uint32_t>(feed, changes)
                                        : searched<uint64_t>(feed, changes);
