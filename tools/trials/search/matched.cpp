@@ -6,7 +6,7 @@
 //
 // Without further words a search takes its columns in the order of today: of the nearest ones the first in their order, from the row
 // that came in first. So the plan is that of the program. With `early` it ends at the first trip without a vehicle that it meets.
-// With `begun` it begins with the links of trips that meet at one place, and searches for the others.
+// With `begun` it begins with the links of trips that meet at one place, and searches for the others, where there is no depot.
 //
 // Example: g++ -O2 -o /tmp/matched tools/trials/search/matched.cpp && /tmp/matched /tmp/peaks
 #include <queue>

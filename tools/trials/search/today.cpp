@@ -7,7 +7,8 @@
 //   offset   distances of a search are all below those of the searches before, so nothing is cleared
 //   heap     the groups that may have the nearest column are in a heap
 //   narrow   prices and distances of four bytes (which leaves the offset room for 15 searches)
-//   begun    it begins with the links of trips that meet at one place, and searches for the others: another plan of the same prices
+//   begun    it begins with the links of trips that meet at one place, and searches for the others: another plan of the same prices,
+//            where there is no depot
 //   written  no search: the plan that the program wrote
 //
 // It puts the processor seconds of all searches, what was counted, and the plan.
