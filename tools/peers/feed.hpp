@@ -1,5 +1,5 @@
-// A feed of tools/make_feeds, for the programs in C++: `peaks`, `lines`, `rural`, `sample` and `walks`, which have two rows a trip, whole
-// minutes and no settings. It is no reader of other feeds.
+// A feed of tools/make_feeds, for the programs in C++: `peaks`, `lines`, `rural`, `sample` or `walks`. They have two rows a trip,
+// whole minutes and no settings. It is no reader of other feeds.
 #pragma once
 
 #include <algorithm>
@@ -41,7 +41,8 @@ inline Records records(const std::string &path) {
 
 inline int minute(const std::string &time) { return std::stoi(time) * 60 + std::stoi(time.substr(time.find(':') + 1)); }
 
-// The trips, with numbers for the places, and the minutes of the entries between these. Of each place the minutes from the depot and to it.
+// The trips, with numbers for the places, and the minutes of the entries between these. Of each place the minutes from the depot
+// and to it.
 struct Feed {
     std::vector<Trip> trips;
     std::vector<std::string> names;

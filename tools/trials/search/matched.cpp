@@ -1,11 +1,11 @@
-// The search of crates/pair_search over a network of places and minutes: rows and columns, links and prices are those of today, and a
-// row looks at its columns by way of nodes, each of which is looked from once a search.
+// The search of crates/pair_search over a network of places and minutes. Rows and columns, links and prices are those of today. A row
+// looks at its columns by way of nodes, each of which is looked from once a search.
 //
 // A row comes in at the node where it stands. How far a node is goes on to the next node of its place, and along its empty runs, by
-// the worth of the nodes, which is what one more vehicle there saves. All columns of a node are as far as it is.
+// the worth of the nodes, which is what one more vehicle there saves. All columns of a node are equally far beyond it.
 //
-// Without further words a search takes its columns in the order of today: of the nearest ones the first in their order, from the row
-// that came in first. So the plan is that of the program. With `early` it ends at the first trip without a vehicle that it meets.
+// Without further words a search takes its columns in the order of today: of the nearest ones the first in their order, from the
+// row that came in first. So the plan is that of the program. With `early` it ends at the first free column that it meets.
 // With `begun` it begins with the links of trips that meet at one place, and searches for the others, where there is no depot.
 //
 // Example: g++ -O2 -o /tmp/matched tools/trials/search/matched.cpp && /tmp/matched /tmp/peaks
@@ -53,7 +53,8 @@ struct Search {
 
     Search(const Network &net, bool early)
         : net(net), early(early), slots(net.feed.trips.size()), stands(net.stands), departs(net.departs), next(slots, -1),
-          before(slots, -1), columns(slots), opens(net.nodes + 1), unlinked(net.nodes), dist(net.nodes, FAR), leave(slots), enter(slots), far(slots + 1), from(net.nodes),
+          before(slots, -1), columns(slots), opens(net.nodes + 1), unlinked(net.nodes), dist(net.nodes, FAR), leave(slots),
+          enter(slots), far(slots + 1), from(net.nodes),
           parent(slots), rows(slots + 1), nodes(net.nodes), picks(net.nodes) {
         most = VEHICLE + *std::max_element(net.feed.pull_out.begin(), net.feed.pull_out.end());
         worth.assign(net.nodes, most);
@@ -168,7 +169,10 @@ struct Search {
                          [&](int one, int other) { return net.feed.trips[one].departs < net.feed.trips[other].departs; });
         if (begun)
             for (int i = 0; i < slots; i++)
-                if (const int j = met[i]; j >= 0) next[i] = j, before[j] = i, unlinked[departs[j]]--, leave[i] = net.feed.weight(net.feed.trips[i], net.feed.trips[j], 0);
+                if (const int j = met[i]; j >= 0) {
+                    next[i] = j, before[j] = i, unlinked[departs[j]]--;
+                    leave[i] = net.feed.weight(net.feed.trips[i], net.feed.trips[j], 0);
+                }
         for (int added = slots; added-- > 0;)
             if (next[order[added]] < 0) add(order[added]);
         return {next, {leave.begin(), leave.end()}, {enter.begin(), enter.end()}};
@@ -177,7 +181,9 @@ struct Search {
 
 int main(int count, char **words) {
     if (count < 2) return std::cerr << "usage: matched FEED [early] [begun]\n", 2;
-    auto told = [&](const char *word) { return std::any_of(words + 2, words + count, [&](char *it) { return !strcmp(it, word); }); };
+    auto told = [&](const char *word) {
+        return std::any_of(words + 2, words + count, [&](char *it) { return !strcmp(it, word); });
+    };
     Feed feed(words[1]);
     const double begun = seconds();
     feed.close();
@@ -187,7 +193,8 @@ int main(int count, char **words) {
     Search search(net, told("early"));
     const Plan plan = search.plan(told("begun"));
     const double solved = seconds();
-    std::printf("walks %.4f, building %.4f, searches %.4f; %d nodes, %zu runs, %lld settled, %lld looks, %lld pushed, %lld rows; ", walked - begun,
-                built - walked, solved - built, net.nodes, net.runs.size(), search.settled, search.looks, search.pushed, search.reached);
+    std::printf("walks %.4f, building %.4f, searches %.4f; ", walked - begun, built - walked, solved - built);
+    std::printf("%d nodes, %zu runs, %lld settled, %lld looks, %lld keys, %lld rows; ", net.nodes, net.runs.size(), search.settled,
+                search.looks, search.pushed, search.reached);
     put(feed, plan);
 }

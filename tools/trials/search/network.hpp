@@ -9,8 +9,8 @@
 // An empty run to a node.
 struct Run { uint16_t to, minutes; };
 
-// A node is a place and a minute: a departure, or the last arrival from which an empty run still reaches a departure as the first one.
-// Behind them each place has a node for the rest of the day. The runs of a node are in the order of their minutes.
+// A node is a place and a minute: a departure, or the last arrival from which an empty run still reaches a departure as the first
+// one. Behind them each place has a node for the rest of the day. The runs of a node are in the order of their minutes.
 struct Network {
     const Feed &feed;
     int places, nodes = 0;
@@ -19,7 +19,8 @@ struct Network {
     std::vector<int> begins;                       // Of each node its first run.
     std::vector<Run> runs;
 
-    explicit Network(const Feed &feed) : feed(feed), places(feed.walks.size()), first(places + 1), arrivals(places), departures(places) {
+    explicit Network(const Feed &feed)
+        : feed(feed), places(feed.walks.size()), first(places + 1), arrivals(places), departures(places) {
         for (const Trip &trip : feed.trips) arrivals[trip.to].push_back(trip.ends), departures[trip.from].push_back(trip.departs);
         for (auto *lists : {&arrivals, &departures})
             for (auto &minutes : *lists) {
@@ -32,7 +33,8 @@ struct Network {
                 if (to != from && feed.walks[from][to] < NONE && !departures[to].empty() && !arrivals[from].empty() &&
                     arrivals[from][0] + feed.walks[from][to] <= departures[to].back())
                     near[from].push_back({uint16_t(to), uint16_t(feed.walks[from][to])});
-            std::stable_sort(near[from].begin(), near[from].end(), [](const Run &one, const Run &other) { return one.minutes < other.minutes; });
+            std::stable_sort(near[from].begin(), near[from].end(),
+                             [](const Run &one, const Run &other) { return one.minutes < other.minutes; });
         }
         number_nodes();
         list_runs();
@@ -43,7 +45,8 @@ private:
     std::vector<std::vector<Run>> near;              // Of each place those that can be reached, the nearest first.
     std::vector<std::vector<int>> leaves, reaches;   // Of each place the node of each arrival and of each departure.
 
-    // Calls back for each empty run that is needed from a place: the number of its arrival, where it goes, and the number of the departure.
+    // Calls back for each empty run that is needed from a place: the number of its arrival, where it goes, and the number of the
+    // departure.
     template <class Back>
     void each_run(int from, Back back) const {
         const std::vector<int> &ends = arrivals[from];
@@ -80,7 +83,9 @@ private:
             first[at + 1] = nodes;
         }
         for (const Trip &trip : feed.trips) {
-            auto number = [](const std::vector<int> &minutes, int minute) { return std::lower_bound(minutes.begin(), minutes.end(), minute) - minutes.begin(); };
+            auto number = [](const std::vector<int> &minutes, int minute) {
+                return std::lower_bound(minutes.begin(), minutes.end(), minute) - minutes.begin();
+            };
             stands.push_back(leaves[trip.to][number(arrivals[trip.to], trip.ends)]);
             departs.push_back(reaches[trip.from][number(departures[trip.from], trip.departs)]);
         }
@@ -88,11 +93,14 @@ private:
 
     void list_runs() {
         begins.assign(nodes + 1, 0);
-        for (int from = 0; from < places; from++) each_run(from, [&](size_t k, const Run &, size_t) { begins[leaves[from][k] + 1]++; });
+        for (int from = 0; from < places; from++)
+            each_run(from, [&](size_t k, const Run &, size_t) { begins[leaves[from][k] + 1]++; });
         std::partial_sum(begins.begin(), begins.end(), begins.begin());
         runs.resize(begins[nodes]);
         std::vector<int> free(begins.begin(), begins.end() - 1);
         for (int from = 0; from < places; from++)
-            each_run(from, [&](size_t k, const Run &way, size_t reach) { runs[free[leaves[from][k]]++] = {uint16_t(reaches[way.to][reach]), way.minutes}; });
+            each_run(from, [&](size_t k, const Run &way, size_t reach) {
+                runs[free[leaves[from][k]]++] = {uint16_t(reaches[way.to][reach]), way.minutes};
+            });
     }
 };

@@ -1,9 +1,8 @@
 // A plan by searches over a network of places and minutes, one for each trip that ends.
 //
-// A node is a place and a minute: a departure, or the last arrival from which an empty run still reaches a departure as the first one.
-// The worth of a node is what one more vehicle there saves. At first it is a whole vehicle everywhere, and no trip has ended. Then the
-// trips end one after the other, the last first. The vehicle of each goes to a departure that has none, or stays, along a shortest
-// path; others give way to it. Worth falls along the way, and never rises.
+// The worth of a node is what one more vehicle there saves. At first it is a whole vehicle everywhere, and no trip has ended. Then
+// the trips end one after the other, the last first. The vehicle of each goes to a departure that has none, or stays, along a
+// shortest path; others give way to it. Worth falls along the way, and never rises. It knows no depot.
 //
 // A trip's price of leaving is the worth where it ends. Its price of entering is a vehicle less the worth where it departs.
 //
@@ -18,16 +17,18 @@ struct Carried { int arc, from, flow; };
 struct Search {
     const Network &net;
     std::vector<uint32_t> worth, dist;
-    std::vector<int> parent, demand, waiting, touched;   // parent: the run of the way, or -1 waited, -2 gave way to one waiting, -3-x gave way.
-    std::vector<int> came;
+    // Of a node that was reached the one before, and how: by a run, or -1 waiting, -2 in the place of one that waited there, and
+    // -3 - x in the place of one that came by run x.
+    std::vector<int> came, parent;
+    std::vector<int> demand, waiting, touched;
     std::vector<std::vector<Carried>> into;
     std::vector<uint64_t> heap;
-    long long settled = 0, looks = 0, pushed = 0, idle = 0;
+    long long settled = 0, looks = 0, pushed = 0;
     static constexpr uint32_t FAR = UINT32_MAX;
 
     explicit Search(const Network &net)
-        : net(net), worth(net.nodes, VEHICLE), dist(net.nodes, FAR), parent(net.nodes), demand(net.nodes), waiting(net.nodes),
-          came(net.nodes), into(net.nodes) {
+        : net(net), worth(net.nodes, VEHICLE), dist(net.nodes, FAR), came(net.nodes), parent(net.nodes),
+          demand(net.nodes), waiting(net.nodes), into(net.nodes) {
         for (int v : net.departs) demand[v]++;
     }
 
@@ -72,7 +73,6 @@ struct Search {
         for (int v : touched) {
             if (dist[v] < best) worth[v] -= best - dist[v];
         }
-        if (best == 0) idle++;
         for (int v = end; v != s; v = came[v]) {
             const int how = parent[v], from = came[v];
             if (how == -1) waiting[from]++;
@@ -139,7 +139,8 @@ int main(int count, char **words) {
     const double solved = seconds();
     const Plan plan = search.plan();
     const double ended = seconds();
-    std::printf("walks %.4f, building %.4f, searches %.4f, links %.4f; %d nodes, %zu runs, %lld settled, %lld looks, %lld pushed, %lld without fall; ", walked - begun,
-                built - walked, solved - built, ended - solved, net.nodes, net.runs.size(), search.settled, search.looks, search.pushed, search.idle);
+    std::printf("walks %.4f, building %.4f, searches %.4f, links %.4f; ", walked - begun, built - walked, solved - built, ended - solved);
+    std::printf("%d nodes, %zu runs, %lld settled, %lld looks, %lld keys; ", net.nodes, net.runs.size(), search.settled, search.looks,
+                search.pushed);
     put(feed, plan);
 }

@@ -18,13 +18,16 @@ inline std::vector<int> meeting_links(const Feed &feed) {
     std::vector<int> ends(slots), departs(slots), next(slots, -1);
     for (int i = 0; i < slots; i++) ends[i] = departs[i] = i;
     std::stable_sort(ends.begin(), ends.end(), [&](int one, int other) { return feed.trips[one].ends < feed.trips[other].ends; });
-    std::stable_sort(departs.begin(), departs.end(), [&](int one, int other) { return feed.trips[one].departs < feed.trips[other].departs; });
+    std::stable_sort(departs.begin(), departs.end(),
+                     [&](int one, int other) { return feed.trips[one].departs < feed.trips[other].departs; });
     std::vector<std::vector<int>> there(feed.walks.size());
     std::vector<size_t> taken(feed.walks.size());
     for (int i : ends) there[feed.trips[i].to].push_back(i);
     for (int j : departs) {
         const int at = feed.trips[j].from;
-        if (taken[at] < there[at].size() && feed.trips[there[at][taken[at]]].ends <= feed.trips[j].departs) next[there[at][taken[at]++]] = j;
+        if (taken[at] == there[at].size()) continue;
+        const int i = there[at][taken[at]];
+        if (feed.trips[i].ends <= feed.trips[j].departs) next[i] = j, taken[at]++;
     }
     return next;
 }

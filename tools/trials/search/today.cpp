@@ -7,8 +7,8 @@
 //   offset   distances of a search are all below those of the searches before, so nothing is cleared
 //   heap     the groups that may have the nearest column are in a heap
 //   narrow   prices and distances of four bytes (which leaves the offset room for 15 searches)
-//   begun    it begins with the links of trips that meet at one place, and searches for the others: another plan of the same prices,
-//            where there is no depot
+//   begun    it begins with the links of trips that meet at one place, and searches for the others: another plan of the same
+//            prices, where there is no depot
 //   written  no search: the plan that the program wrote
 //
 // It puts the processor seconds of all searches, what was counted, and the plan.
@@ -95,8 +95,8 @@ struct Search {
             while (columns[from].minute < minute) from++;
             return from;
         }
-        return std::partition_point(columns.begin() + from, columns.begin() + upto, [&](const Column &c) { return c.minute < minute; }) -
-               columns.begin();
+        auto before = [&](const Column &column) { return column.minute < minute; };
+        return std::partition_point(columns.begin() + from, columns.begin() + upto, before) - columns.begin();
     }
 
     void look_from(int row, int place, Price start) {
@@ -222,7 +222,10 @@ struct Search {
     [[gnu::noinline]] Plan plan() {
         const std::vector<int> met = meeting_links(feed);
         for (int row = 0; row < slots && changes.begun; row++)
-            if (met[row] >= 0) next[row] = place_of[met[row]], before[next[row]] = row, leave[row] = feed.weight(feed.trips[row], feed.trips[met[row]], 0);
+            if (met[row] >= 0) {
+                next[row] = place_of[met[row]], before[next[row]] = row;
+                leave[row] = feed.weight(feed.trips[row], feed.trips[met[row]], 0);
+            }
         for (int added = slots; added-- > 0;)
             if (next[order[added]] < 0) add(order[added]);
         Plan found{std::vector<int>(slots, -1), std::vector<long long>(slots), std::vector<long long>(slots)};
@@ -246,7 +249,9 @@ Plan searched(const Feed &feed, Changes changes) {
 
 int main(int count, char **words) {
     if (count < 2) return std::cerr << "usage: today FEED [CHANGE..]\n", 2;
-    auto told = [&](const char *change) { return std::any_of(words + 2, words + count, [&](char *word) { return !strcmp(word, change); }); };
+    auto told = [&](const char *change) {
+        return std::any_of(words + 2, words + count, [&](char *word) { return !strcmp(word, change); });
+    };
     Feed feed(words[1]);
     feed.close();
     const Changes changes{told("kept"), told("tree"), told("offset"), told("heap"), told("begun")};
