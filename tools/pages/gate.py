@@ -6,7 +6,7 @@ from pages.page import begun, table
 
 TIMES = ROOT / "docs" / "gate.csv"
 STEPS = ("proof", "tests", "edits")
-INTRO = """It shows what each crate took of the processor, in seconds, when `tools/gate_times --anew --to docs/gate.csv` was
+INTRO = """It shows what each crate took of the processor, in seconds, when `tools/gate_times --from-nothing --to docs/gate.csv` was
 last run: the proof of the crate, that of its tests, and its must-fail edits. The number of edits is that of today.
 """
 
