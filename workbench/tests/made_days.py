@@ -1,4 +1,4 @@
-"""Days that are made without the program, for tests of what is drawn: as many trips as are wanted, in blocks that can be run."""
+"""Days that are made for tests of what is drawn: as many trips as are wanted, in blocks that can be run, and a feed with many ties."""
 from __future__ import annotations
 
 import datetime
@@ -10,6 +10,7 @@ from desk.plans import Block, Ride
 from desk.texts import Json
 from desk.times import format_minute
 from desk.town import DayTrip, Town
+from tests.feeds import table, write_feed
 
 PLACES = 40
 LINES = 24
@@ -84,3 +85,17 @@ def _place(name: str, changes: dict[int, int]) -> Json:
         if changes[minute]:
             steps.append({"at": format_minute(minute), "deficit": deficit})
     return {"place": name, "max": most, "at": format_minute(at), "steps": steps}
+
+
+def many_ties(folder: Path, trips: int = 160) -> Path:
+    """A feed of trips between four places at random minutes, which may be shifted. Most shifts put trips into other blocks."""
+    draw = random.Random(SEED)
+    stops = []
+    for number in range(trips):
+        (start, end), departs = draw.sample("ABCD", 2), draw.randrange(360, 780)
+        ends = ((1, start, departs), (2, end, departs + draw.randrange(40, 90)))
+        stops += [(f"T{number:03}", order, stop, *[f"{minute // 60:02}:{minute % 60:02}:00"] * 2) for order, stop, minute in ends]
+    return write_feed(folder, {
+        "desk.toml": "layover = 4\nearly = 9\nlate = 9\n",
+        "trips.txt": table("service_id,trip_id", [("W", f"T{number:03}") for number in range(trips)]),
+        "stop_times.txt": table("trip_id,stop_sequence,stop_id,arrival_time,departure_time", stops)})

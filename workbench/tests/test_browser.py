@@ -1,6 +1,7 @@
 """The page in a browser: what is seen, what is reached by keys, what is printed, and what edits do."""
 from __future__ import annotations
 
+import random
 import re
 import shutil
 import threading
@@ -15,7 +16,7 @@ from desk.view import as_text, as_view
 from desk.web import WebServer
 from tests.browser import Browser, needs_browser
 from tests.feeds import FolderTest, needs_program, table, write_feed
-from tests.made_days import made_day
+from tests.made_days import made_day, many_ties
 
 LEAST_CONTRAST = 4.5
 
@@ -62,6 +63,9 @@ const off = (bar) => {
 return [...document.querySelectorAll('.sheet .trip')].reduce((one, other) => (off(other) < off(one) ? other : one)).dataset.trip;
 """
 """The trip that is nearest to the middle of the vehicles."""
+
+HALF = 25
+"""How many random edits are made on each of two feeds."""
 
 FOCUSED = "const one = document.activeElement; return one === document.body ? null : one.id || one.dataset.trip || one.textContent"
 
@@ -452,6 +456,51 @@ class OpenTest(ServedTest):
         self.browser.wait(lambda: "kept 0 records" in self.browser.text("#answered"))
         self.assertEqual(self.browser.run(CONTRASTS, LEAST_CONTRAST), [])
         self.assertEqual(self.browser.errors(), [])
+
+
+@needs_browser
+@needs_program
+class HandTest(ServedTest):
+    """After an edit the hand is on the trip that was chosen, wherever that went."""
+
+    def test_small_town(self) -> None:
+        """Half of the edits of this class, on a day with lines of its own."""
+        self.serve_example("small_town")
+        self.check_hand(1)
+
+    def test_many_ties(self) -> None:
+        """Half of them on a day where most edits put trips into other blocks."""
+        self.serve(many_ties(self.room / "ties"))
+        self.check_hand(2)
+
+    def check_hand(self, seed: int) -> None:
+        """Random shifts, cancels and undos by keys. Each key edits the trip that was chosen, or nothing."""
+        draw, chosen, edited = random.Random(seed), "", 0
+        for number in range(HALF):
+            if not chosen or draw.random() < 0.3:
+                chosen = draw.choice(self.names(".sheet .bar.trip"))
+                self.browser.click(self.bar(chosen))
+            keys, record = draw.choice((
+                (("Shift+ArrowRight", "Enter"), f"shift,{chosen},+1\n"), (("Shift+ArrowLeft", "Enter"), f"shift,{chosen},-1\n"),
+                (("Delete",), f"cancel,{chosen}\n"), (("Control+z",), "undo\n")))
+            before = self.script()
+            self.browser.keys(*keys)
+            self.browser.wait(lambda: self.browser.run("return !document.body.classList.contains('busy')"))
+            fresh = self.script().removeprefix(before)
+            self.assertIn(fresh, ("", record), f"edit {number}")
+            edited += fresh != ""
+            self.check_chosen(chosen, f"edit {number}: {keys}")
+        self.assertGreater(edited, HALF // 3)
+        self.assertEqual(self.browser.errors(), [])
+
+    def check_chosen(self, trip: str, edit: str) -> None:
+        """The focus, the selection and what stands beside the vehicles are of this trip, which is in view; of none where it does not run."""
+        runs = self.browser.run("return !!document.querySelector(arguments[0])", self.bar(trip))
+        self.assertEqual(self.browser.run(FOCUSED), trip if runs else None, edit)
+        self.assertIn(trip if runs else "Choose a trip", self.browser.text("#side"), edit)
+        if runs:
+            box, frame = self.box(self.bar(trip)), self.box("#panel-Vehicles .frame")
+            self.assertTrue(frame["top"] <= box["top"] and box["bottom"] <= frame["bottom"], edit)
 
 
 @needs_browser

@@ -7,11 +7,9 @@ import { clock, signed } from "./times.js";
 const NEAR = 4;
 
 export class Editing {
-  /** `send` takes an edit with the element at which its answer is shown. */
-  constructor(chart, tip, send) {
-    this.chart = chart;
-    this.tip = tip;
-    this.send = send;
+  /** `send` takes an edit with the element at which its answer is shown. Until it has its answer, `isBusy` says so. */
+  constructor(chart, tip, send, isBusy) {
+    Object.assign(this, { chart, tip, send, isBusy });
     this.held = null;
     const sheet = chart.vehicles.rows.sheet;
     sheet.addEventListener("pointerdown", (event) => this.take(event));
@@ -25,7 +23,7 @@ export class Editing {
   /** A mouse or a pen takes a trip. A finger scrolls, and shifts by the form. */
   take(event) {
     const bar = this.chart.barOf(event.target);
-    if (event.button === 0 && event.pointerType !== "touch" && bar?.kind === "trip") {
+    if (event.button === 0 && event.pointerType !== "touch" && bar?.kind === "trip" && !this.isBusy()) {
       this.hold(bar, event.clientX, false);
     }
   }
@@ -112,12 +110,17 @@ export class Editing {
     }
   }
 
-  /** The keys on a bar. Gives whether the key was one of an edit. */
+  /** The keys on a bar. Gives whether the key was one of an edit. While another edit has no answer they do nothing. */
   key(event, bar) {
     if (bar.kind !== "trip" || event.ctrlKey || event.metaKey || event.altKey) {
       return false;
     }
-    if (event.shiftKey && (event.key === "ArrowLeft" || event.key === "ArrowRight")) {
+    const isShift = event.shiftKey && (event.key === "ArrowLeft" || event.key === "ArrowRight");
+    if (this.isBusy() && (isShift || event.key === "Delete")) {
+      event.preventDefault();
+      return true;
+    }
+    if (isShift) {
       if (this.held?.bar !== bar) {
         this.hold(bar, 0, true);
       }

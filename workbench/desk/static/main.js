@@ -51,7 +51,7 @@ class Page {
   /** Makes what changes the day. */
   listenToEdits(panel) {
     this.sending = (edit, element) => this.send(edit, element);
-    this.editing = new Editing(this.chart, this.tip, this.sending);
+    this.editing = new Editing(this.chart, this.tip, this.sending, () => this.busy);
     const go = (trip) => this.go(this.day.bars.get(trip));
     this.script = new ScriptPanel(panel, this.sending, (name, body) => this.tell(name, body), go);
     this.vehicles.rows.sheet.addEventListener("focusin", () => this.choose(this.chart.current));
@@ -69,9 +69,11 @@ class Page {
     this.chart?.resize();
   }
 
-  /** Shows a day. */
-  show(view) {
+  /** Shows a day, as it is after an edit of one's own or after those of others. */
+  show(view, isOwn = false) {
     const first = !this.day;
+    const isHere = this.hasHand(isOwn);
+    this.editing?.drop();
     this.day = new Day(view);
     this.lines = new LineStyles(this.day.lines);
     this.scale.setHours(this.day.begin, this.day.end);
@@ -86,14 +88,29 @@ class Page {
     if (this.canEdit) {
       showUndo(view);
       this.script.show(this.day);
-      this.choose(this.day.bars.get(this.chosen?.trip?.id));
+      this.follow(isHere);
     }
   }
 
-  /** Shows a bar beside the vehicles, with what can be done to it; without one how to choose one. */
+  /** Whether the hand is at the vehicles or at what stands beside them; after an edit of its own also where it is nowhere. */
+  hasHand(isOwn) {
+    const focused = document.activeElement;
+    return focused === document.body ? isOwn : Boolean(focused.closest("#panel-Vehicles, #side"));
+  }
+
+  /** Chooses a bar by hand. */
   choose(bar) {
-    this.chosen = bar;
+    this.hand = bar?.trip?.id ?? null;
     showSide(bar, this.day.view, this.sending);
+  }
+
+  /** On another day the hand is on the trip on which it was, wherever that stands now. Where it does not run, it is on none. */
+  follow(isHere) {
+    const bar = this.day.bars.get(this.hand);
+    showSide(bar, this.day.view, this.sending);
+    if (bar && isHere && !byId("panel-Vehicles").hidden) {
+      this.go(bar);
+    }
   }
 
   /** Draws what passes the filter. */
@@ -169,6 +186,7 @@ class Page {
     }
     forgive();
     this.say("");
+    this.hand = edit.trip ?? this.hand;
     const answer = await this.tell("edit", { ...edit, state: this.day.view.state });
     const words = [edit.edit, edit.trip, edit.shift && signed(edit.shift)].filter((part) => part).join(" ");
     if (!answer.done) {
@@ -196,7 +214,7 @@ class Page {
     if (answer.day) {
       this.before = answer.done ? this.day.view.numbers : null;
       this.moved = new Set(answer.moved ?? []);
-      this.show(answer.day);
+      this.show(answer.day, true);
     }
     return answer;
   }
@@ -215,23 +233,27 @@ class Page {
     this.looking = true;
     const { state } = await ask("state");
     if (state && !this.busy && state !== this.day?.view.state && state !== this.looked) {
-      this.looked = state;
-      await this.reload();
-      this.say("The folder has changed, and the day was read again.");
+      const answer = await this.reload();
+      this.looked = answer ? state : this.looked;
+      this.say(answer?.day ? "The folder has changed, and the day was read again." : "");
     }
     this.looking = false;
   }
 
-  /** Reads the day again. */
+  /** Reads the day again, and gives the answer. Where the hand has begun something meanwhile, it is nothing. */
   async reload() {
     const answer = await ask("day");
-    if (answer.day && !this.busy) {
+    if (this.busy || this.editing.held) {
+      return null;
+    }
+    if (answer.day) {
       this.moved = new Set();
       this.before = null;
       this.show(answer.day);
-    } else if (answer.error) {
+    } else {
       refuse("The day cannot be read", answer.error, null);
     }
+    return answer;
   }
 }
 

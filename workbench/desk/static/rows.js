@@ -49,7 +49,8 @@ export class Rows {
       top.setAttribute("transform", `translate(0 ${HOURS})`);
       this.head.append(top);
     }
-    const kept = document.activeElement;
+    const kept = this.day === this.source.day ? document.activeElement : null;
+    this.day = this.source.day;
     this.drawn.clear();
     this.names.replaceChildren();
     this.sheet.replaceChildren();
@@ -57,7 +58,7 @@ export class Rows {
     this.refocus(kept);
   }
 
-  /** Gives the focus back to the bar that had it before it was drawn anew. */
+  /** Gives the focus back to the bar that had it before the same day was drawn anew. On another day another bar may stand there. */
   refocus(kept) {
     if (kept?.dataset?.row !== undefined && !kept.isConnected) {
       this.bar(Number(kept.dataset.row), Number(kept.dataset.at))?.focus({ preventScroll: true });
