@@ -35,6 +35,7 @@ def as_view(day: Day) -> Json:
         "written": day.written,
         "numbers": {"vehicles": vehicles, "minutes": minutes, "fixed": fixed},
         "verdict": _verdict(day.verdict),
+        "colours": lines.colours,
         "trips": trips,
         "blocks": [_block(block, numbers) for block in day.blocks],
         "places": [_place(place) for place in day.deficits["places"]],

@@ -505,6 +505,41 @@ class HandTest(ServedTest):
 
 @needs_browser
 @needs_program
+class ColourTest(ServedTest):
+    """The colours of lines."""
+
+    def fills(self) -> dict[str, str]:
+        """The colour of each line."""
+        found = self.browser.run("""return [...document.querySelectorAll('#legend span')].filter((one) => one.querySelector('rect[rx]'))
+          .map((one) => [one.textContent, one.querySelector('rect').getAttribute('fill')])""")
+        return dict(found)
+
+    def test_colours(self) -> None:
+        """A line has its `route_color` where that is one and is told from white and from the others; no edit changes a colour."""
+        town = self.room / "small_town"
+        shutil.copytree(ROOT / "examples" / "small_town", town, ignore=shutil.ignore_patterns("expected"))
+        (town / "routes.txt").write_text(table("route_id,route_short_name,route_color", [
+            ("line_1", "1", "D32F2F"), ("line_2", "2", "d3302f"), ("line_3", "3", "0B3D91"), ("line_S", "S", "FFFFFF"), ("line_N1", "N1", "")]))
+        self.serve(town)
+        before = self.fills()
+        self.assertEqual((before["1"], before["3"]), ("#d32f2f", "#0b3d91"))
+        self.assertEqual(len(set(before.values())), len(before))
+        self.assertFalse({"#ffffff", "#d3302f"} & set(before.values()))
+        self.assertEqual(self.browser.run(CONTRASTS, LEAST_CONTRAST), [])
+        self.browser.click("#tab-Edits")
+        for field, value in (("trip", "E1"), ("departs", "10:00"), ("arrives", "10:20")):
+            self.browser.type(f"#extra [name={field}]", value)
+        self.choose("#extra [name=to]", "Hospital")
+        self.browser.click("#extra button")
+        self.wait_for("extra E1: ")
+        after = self.fills()
+        self.assertEqual({line: after[line] for line in before}, before)
+        self.assertNotIn(after["extra trip"], before.values())
+        self.assertEqual(self.browser.errors(), [])
+
+
+@needs_browser
+@needs_program
 class SuggestionTest(ServedTest):
     """Suggestions of the program that save a vehicle, each tried by a click."""
 

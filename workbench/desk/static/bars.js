@@ -25,7 +25,8 @@ export function drawBar(bar, scale, size, look) {
   const until = Math.max(scale.x(bar.until), x + 1);
   const parts = bar.kind === "trip" ? drawTrip(bar.trip, scale, size, look) : drawBetween(bar, x, until, size);
   const told = tell(bar);
-  const states = [bar.kind, ...look.statesOf(bar)];
+  const ink = bar.trip ? look.lines.of(bar.trip.line).ink : null;
+  const states = [bar.kind, ...(ink ? [`on-${ink}`] : []), ...look.statesOf(bar)];
   return svg("g", {
     class: `bar ${states.join(" ")}`, role: look.roleOf(bar), tabindex: "-1", "aria-label": told.join(", "),
     "data-row": bar.row, "data-at": bar.at, "data-trip": bar.trip?.id,
@@ -61,7 +62,7 @@ function drawTrip(trip, scale, size, look) {
   parts.push(svg("rect", { class: "body", x, width: until - x, ...box, fill: style.fill, stroke: style.edge }));
   parts.push(markOf(style, x, until, size.top, size.bar));
   if (size.labels) {
-    parts.push(labelOf(trip, x, until, size));
+    parts.push(labelOf(trip, x, until, size, style));
   }
   if (look.isChanged(trip)) {
     parts.push(svg("path", { class: "changed-mark", d: `M${x} ${size.top}h9l-9 9z` }));
@@ -70,11 +71,11 @@ function drawTrip(trip, scale, size, look) {
 }
 
 /** The label of a trip: its line and its name, or as much as fits. */
-function labelOf(trip, x, until, size) {
+function labelOf(trip, x, until, size, style) {
   const shift = trip.shift ? ` ${signed(trip.shift)}` : "";
   const texts = [`${trip.line} ${trip.id}${shift}`, `${trip.line}${shift}`, trip.line].map((text) => text.trim());
   const text = firstThatFits(texts, until - x - 6, LABEL);
-  return text ? svg("text", { class: "label", x: x + 4, y: size.top + size.bar / 2 + 4 }, text) : null;
+  return text ? svg("text", { class: `label ${style.ink ?? ""}`, x: x + 4, y: size.top + size.bar / 2 + 4 }, text) : null;
 }
 
 /** The places of a block below its bars: where it begins and ends, where it stays, and both ends of empty running. */

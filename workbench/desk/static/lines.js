@@ -1,5 +1,6 @@
-/** How the bars of a line look: a light fill, a strong edge, and a mark that is seen without colour too. */
+/** How the bars of a line look: its colour, a strong edge, and a mark that is seen without colour too. */
 
+import { darker, isDark, isTold, partsOf, textOf } from "./colours.js";
 import { svg } from "./elements.js";
 
 const COLOURS = [
@@ -7,10 +8,25 @@ const COLOURS = [
   ["#ffd8e4", "#a31d55"], ["#cdecef", "#0c6470"], ["#f6eeb4", "#6d5800"], ["#e2e5ea", "#434b59"],
 ];
 const DASHES = ["none", "7 3", "1.5 2.5"];
+const NONE = { fill: "#fffdf5", edge: "#16202c", side: null };
 
+/** The styles of lines. A line that has one keeps it, whatever lines come and go. */
 export class LineStyles {
-  constructor(names) {
-    this.styles = new Map(names.map((name, number) => [name, styleOf(number)]));
+  constructor() {
+    this.styles = new Map([["", NONE]]);
+    this.agencys = [];
+  }
+
+  /** Gives each of these lines a style that has none yet. `colours` are those of the agency by lines, as six digits. */
+  add(names, colours) {
+    for (const name of names.filter((one) => !this.styles.has(one))) {
+      const own = partsOf(colours[name] ?? "");
+      const style = markedStyle(this.styles.size - 1);
+      this.styles.set(name, own && isTold(own, this.agencys) ? { ...style, ...coloured(own) } : style);
+      if (this.styles.get(name).fill !== style.fill) {
+        this.agencys.push(own);
+      }
+    }
   }
 
   /** The style of a line. */
@@ -27,10 +43,17 @@ export class LineStyles {
 }
 
 /** The style of the line with this number. Seven marks and eight colours make 56 pairs. */
-function styleOf(number) {
+function markedStyle(number) {
   const [fill, edge] = COLOURS[number % COLOURS.length];
   const mark = number % 7;
   return { fill, edge, side: mark === 0 ? null : mark < 4 ? "bottom" : "top", dashes: DASHES[(mark + 2) % 3] };
+}
+
+/** A colour of the agency, with an edge and a mark that stand out from it. */
+function coloured(parts) {
+  const dark = isDark(parts);
+  const edge = textOf(darker(parts, 0.45));
+  return { fill: textOf(parts), edge, mark: dark ? "#fff" : edge, ink: dark ? "light-ink" : "dark-ink" };
 }
 
 /** The mark of a line in a bar, or null where its style has none. */
@@ -40,5 +63,5 @@ export function markOf(style, x, until, y, height) {
   }
   const at = style.side === "top" ? y + 2 : y + height - 2;
   const place = { x1: x + 1, x2: until - 1, y1: at, y2: at };
-  return svg("line", { class: "mark", ...place, stroke: style.edge, "stroke-dasharray": style.dashes });
+  return svg("line", { class: "mark", ...place, stroke: style.mark ?? style.edge, "stroke-dasharray": style.dashes });
 }

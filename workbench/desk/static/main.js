@@ -31,6 +31,7 @@ class Page {
   constructor(canEdit) {
     this.canEdit = canEdit;
     this.moved = new Set();
+    this.lines = new LineStyles();
     this.scale = new Scale();
     this.tip = new Tip();
     const panels = makeTabs(canEdit ? [...VIEWS, "Edits"] : VIEWS, () => this.turn());
@@ -75,7 +76,7 @@ class Page {
     const isHere = this.hasHand(isOwn);
     this.editing?.drop();
     this.day = new Day(view);
-    this.lines = new LineStyles(this.day.lines);
+    this.lines.add(this.day.lines, view.colours);
     this.scale.setHours(this.day.begin, this.day.end);
     if (first) {
       byId("row-size").value = this.day.blocks.length > MANY ? "middle" : "high";

@@ -144,7 +144,7 @@ class Sheet {
     const room = ((this.share(trip.arrives) - this.share(trip.departs)) / 100) * WIDTH - 4;
     const text = firstThatFits([`${trip.line} ${trip.id}`.trim(), `${trip.line} ${clock(trip.departs)}`.trim(), trip.line], room, FONT);
     if (text) {
-      parts.push(svg("text", { class: "paper-label", x: this.at(trip.departs), dx: 2, y: top + height / 2 + 3 }, text));
+      parts.push(svg("text", { class: `paper-label ${style.ink ?? ""}`, x: this.at(trip.departs), dx: 2, y: top + height / 2 + 3 }, text));
     }
     return parts;
   }
