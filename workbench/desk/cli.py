@@ -153,7 +153,8 @@ def answer(words: Sequence[str]) -> int:
             print(end="", flush=True)
         return status
     except DeskError as error:
-        complain(str(error))
+        for line in (str(error), *error.hints):
+            complain(line)
         return error.status
     except BrokenPipeError:
         release_output()

@@ -11,8 +11,9 @@ import re
 from dataclasses import dataclass, field
 from pathlib import Path
 
-from desk.answers import ask
+from desk.answers import FeedRefused, ask
 from desk.errors import DeskError
+from desk.hints_refusals import refusal_hints
 from desk.plans import Block, Ride
 from desk.records import record_text
 from desk.rooms import Scripts, room_of, scripts_of, state_of
@@ -87,7 +88,7 @@ def read_day(town: Town, scripts: Scripts | None = None, with_planners: bool = F
     if planners:
         script = with_edits(script, planners.standing)
     with room_of(town, {"edits.csv": with_show(script)}) as room:
-        told, verdict, deficits = (ask(command, town, room) for command in ("blocks", "check", "deficits"))
+        told, verdict, deficits = (ask_in(room, town, command) for command in ("blocks", "check", "deficits"))
         written = _compared(room / "blocks.csv", town.path("blocks.csv"))
     records = judged("edits.csv", with_show(script), told["records"])
     if not records[-1].ok:
@@ -107,7 +108,7 @@ def read_planners(town: Town, scripts: Scripts) -> Planners:
     script = scripts.get("planner_edits.csv", b"")
     refuse_open_quote("planner_edits.csv", script)
     with room_of(town, scripts) as room:
-        told = ask("planners", town, room)
+        told = ask_in(room, town, "planners")
     records = judged("planner_edits.csv", script, told["records"], "planner")
     names = may_be_held(told["standing"])[:MOST_ASKED]
     held = {name: said for name in names if (said := undo_refused(town, scripts, name))}
@@ -133,10 +134,18 @@ def undo_refused(town: Town, scripts: Scripts, planner: str) -> str | None:
     script = with_record(scripts.get("planner_edits.csv", b""), undo)
     try:
         with room_of(town, {**scripts, "planner_edits.csv": script}) as room:
-            told = ask("planners", town, room)["records"][-1]
+            told = ask_in(room, town, "planners")["records"][-1]
     except DeskError:
         return None
     return None if told["ok"] else told["why"]
+
+
+def ask_in(room: Path, town: Town, command: str) -> Json:
+    """What the program answers in a room of a town. Where it refuses the feed, the error says how that is mended."""
+    try:
+        return ask(command, town, room)
+    except FeedRefused as error:
+        raise DeskError(str(error), refusal_hints(town, error.said)) from error
 
 
 def _compared(planned: Path, stands: Path) -> str:

@@ -1,11 +1,18 @@
-"""The errors that end a command. Each is printed as one line, `desk: MESSAGE`."""
+"""The errors that end a command. Each is printed as one line, `desk: MESSAGE`, and each of its hints as another one."""
+from __future__ import annotations
+
 import sys
+from collections.abc import Sequence
 
 
 class DeskError(Exception):
-    """Something of the feed, the folder or the machine stops the command: status 1."""
+    """Something of the feed, the folder or the machine stops the command: status 1. Its hints say how it is mended."""
 
     status = 1
+
+    def __init__(self, message: str, hints: Sequence[str] = ()) -> None:
+        super().__init__(message)
+        self.hints = tuple(hints)
 
 
 class UsageError(DeskError):

@@ -2,7 +2,7 @@
 from __future__ import annotations
 
 import re
-from collections.abc import Callable
+from collections.abc import Callable, Mapping
 from functools import cached_property
 from typing import NamedTuple
 
@@ -48,13 +48,14 @@ def refused_in(text: str) -> list[Refused]:
     return [Refused(line[1], int(line[2]), line[3] or "", line[4]) for line in found if line]
 
 
-def script_hints(town: Town, text: str) -> list[str]:
-    """A line for each refused record of a text, where something is known of it."""
+def script_hints(town: Town, text: str, tried: Mapping[str, bytes] | None = None) -> list[str]:
+    """A line for each refused record of a text, where something is known of it. `tried` has scripts that do not stand in the town."""
     refused = refused_in(text)
-    foreign = {name: kind for name in {FILES[record.source] for record in refused} & set(SCRIPTS) if (kind := kind_of(town.path(name)))}
+    read = ({FILES[record.source] for record in refused} & set(SCRIPTS)).difference(tried or ())
+    foreign = {name: kind for name in read if (kind := kind_of(town.path(name)))}
     if foreign:
         return [f"{name}: {kind}. {save_as(town.path(name))}." for name, kind in sorted(foreign.items())]
-    scripts = Scripts(town, refused[:MOST_HINTS])
+    scripts = Scripts(town, refused[:MOST_HINTS], tried or {})
     lines = [f"{FILES[record.source]} record {record.number}: {why}" for record in refused[:MOST_HINTS] if (why := scripts.why(record))]
     more = len(refused) - MOST_HINTS
     return lines + ([f"{more} more records are refused. Mend these first."] if lines and more > 0 else [])
@@ -68,8 +69,9 @@ def edit_of(source: str, fields: tuple[str, ...]) -> tuple[str, ...]:
 class Scripts:
     """The scripts of a town, and what is known of their refused records."""
 
-    def __init__(self, town: Town, refused: list[Refused]) -> None:
+    def __init__(self, town: Town, refused: list[Refused], tried: Mapping[str, bytes]) -> None:
         self.town = town
+        self.tried = tried
         self.asked = [record.trip for record in refused if record.trip]
         self._fields: dict[str, list[tuple[str, ...]]] = {}
         self._reasons: dict[str, Callable[[Refused, tuple[str, ...]], str | None]] = {
@@ -92,7 +94,10 @@ class Scripts:
         """The fields of the records of a script."""
         if source not in self._fields:
             path = self.town.path(FILES[source])
-            content = journal_text(path) if source == "journal" else read_bytes(path)
+            if path.name in self.tried:
+                content = self.tried[path.name]
+            else:
+                content = journal_text(path) if source == "journal" else read_bytes(path)
             self._fields[source] = fields_of(path.name, content)
         return self._fields[source]
 

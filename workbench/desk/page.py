@@ -9,6 +9,7 @@ from pathlib import Path
 from desk.day import Day, read_day
 from desk.errors import DeskError, complain
 from desk.files import refuse_if_there, write_whole
+from desk.hints_scripts import script_hints
 from desk.policy import checksum
 from desk.town import Town
 from desk.view import as_text, as_view
@@ -46,8 +47,8 @@ def run(arguments: argparse.Namespace) -> int:
 def tell_what_to_look_at(day: Day) -> int:
     """Says what of a day a planner should know beside the page."""
     refused = [record.said for record in day.records if not record.ok]
-    for said in refused:
-        complain(f"edits.csv: {said}")
+    for line in (*(f"edits.csv: {said}" for said in refused), *script_hints(day.town, "\n".join(refused))):
+        complain(line)
     if day.written == "other":
         complain(f"blocks.csv in {day.town.folder} is of another plan: `./desk blocks {day.town.folder}` writes the one that is drawn")
     return 1 if refused or day.written == "other" else 0

@@ -10,6 +10,7 @@ from desk.compare import Side, partners, trips_that_differ
 from desk.day import Day, read_day
 from desk.edits import Script, record_of, writing
 from desk.errors import DeskError, UsageError
+from desk.hints_scripts import script_hints
 from desk.keeping import keep
 from desk.pipes import refuse_pipes
 from desk.plans import StatedBlock, read_plan
@@ -60,7 +61,8 @@ class Session:
             told = self._records(after)[-1]
             if not told.ok:
                 holder = after.planners.holder(told.said) if after.planners else ""
-                return {"done": False, "said": told.said + (f" ({holder})" if holder else "")}
+                hints = script_hints(before.town, told.said, {self.script_name: with_record(script.content, record)})
+                return {"done": False, "said": told.said + (f" ({holder})" if holder else ""), "hints": hints}
             script.append(record)
             self._day = replace(after, state=state_of(after.town))
             return {"done": True, "said": told.said, "moved": moved(before, after), "day": self._view(self._day)}

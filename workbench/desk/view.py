@@ -34,7 +34,7 @@ def as_view(day: Day) -> Json:
         "made": f"{day.made:%Y-%m-%d %H:%M:%S}",
         "written": day.written,
         "numbers": {"vehicles": vehicles, "minutes": minutes, "fixed": fixed},
-        "verdict": _verdict(day.verdict),
+        "verdict": _verdict(day),
         "colours": lines.colours,
         "trips": trips,
         "blocks": [_block(block, numbers) for block in day.blocks],
@@ -48,9 +48,7 @@ def as_view(day: Day) -> Json:
 
 
 def _warnings(day: Day) -> list[str]:
-    """What a planner should know beside the numbers: that no trip is selected, or the terminals that `depot.csv` does not list."""
-    if not day.published:
-        return [note.text for note in no_trips(View(day.town))]
+    """What a planner should know beside the numbers: the terminals that `depot.csv` does not list."""
     return told(unlisted(day.town, ([(ride.start, ride.end) for ride in block.rides] for block in day.blocks)))
 
 
@@ -60,10 +58,15 @@ def as_text(view: Json) -> str:
     return text.encode("utf-8", "replace").decode("utf-8")
 
 
-def _verdict(verdict: Json) -> Json:
-    """What `check` says, as its line and in words."""
-    yes = verdict["verdict"] == "yes"
-    return {"yes": yes, "text": verdict_text(verdict), "words": PROVED if yes else "The plan is not proved."}
+def _verdict(day: Day) -> Json:
+    """What `check` says, as its line and in words. `yes` is None of a day without trips: there is nothing to be proud of."""
+    text = verdict_text(day.verdict)
+    if day.verdict["verdict"] == "no":
+        return {"yes": False, "text": text, "words": "The plan is not proved."}
+    if day.blocks:
+        return {"yes": True, "text": text, "words": PROVED}
+    why = " ".join(note.text for note in no_trips(View(day.town)))
+    return {"yes": None, "text": text, "words": f"No trip runs. {why or 'The script cancels all of them.'}"}
 
 
 def _trips(day: Day, lines: LineNames) -> list[Json]:

@@ -9,7 +9,7 @@ import hmac
 import json
 import socket
 import time
-from collections.abc import Callable
+from collections.abc import Callable, Sequence
 from contextlib import suppress
 from http import HTTPStatus
 from http.server import BaseHTTPRequestHandler, ThreadingHTTPServer
@@ -145,7 +145,9 @@ class Handler(BaseHTTPRequestHandler):
             status, kind, body = refusal.status, *_in_words(str(refusal))
         except UsageError as error:
             status, kind, body = HTTPStatus.BAD_REQUEST, *_in_words(str(error))
-        except (DeskError, OSError) as error:
+        except DeskError as error:
+            kind, body = _in_words(str(error), error.hints)
+        except OSError as error:
             kind, body = _in_words(str(error))
         except Exception as error:  # pylint: disable=broad-except
             kind, body = _in_words(f"this is a mistake of the workbench itself: {type(error).__name__}: {error}")
@@ -226,6 +228,9 @@ class Handler(BaseHTTPRequestHandler):
         """Nothing is logged: an address has the token."""
 
 
-def _in_words(error: str) -> tuple[str, bytes]:
-    """The answer that says an error."""
-    return JSON_KIND, as_text({"error": one_line(error)}).encode()
+def _in_words(error: str, hints: Sequence[str] = ()) -> tuple[str, bytes]:
+    """The answer that says an error, with its hints where it has some."""
+    said: Json = {"error": one_line(error)}
+    if hints:
+        said["hints"] = [one_line(hint) for hint in hints]
+    return JSON_KIND, as_text(said).encode()

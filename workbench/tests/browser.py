@@ -94,6 +94,10 @@ class Browser:
         self.visit(address)
         self.wait(lambda: self.run("return document.body.classList.contains('ready')"))
 
+    def resize(self, width: int, height: int) -> None:
+        """Gives the page a window whose inside is of this size."""
+        self.command("Emulation.setDeviceMetricsOverride", width=width, height=height, deviceScaleFactor=1, mobile=False)
+
     def run(self, script: str, *arguments: Json) -> Json:
         """What a script in the page returns."""
         return self._tell("/execute/sync", {"script": script, "args": list(arguments)})

@@ -194,11 +194,30 @@ class LookTest(BrowserTest):
         self.assertLess(self.box(".sheet")["width"], wide)
 
     def test_service(self) -> None:
-        """The curve above the rows tells the most vehicles that are away from the depot at one time."""
+        """The curve above the rows tells the most vehicles that are out at one time: those that wait are not."""
         self.open(400)
-        blocks = self.day.blocks
-        most = max(sum(block.leaves <= other.leaves < block.returns for block in blocks) for other in blocks)
+        spans = [(block.leaves, block.returns) for block in self.day.blocks]
+        waits = [(since, ride.departs) for block in self.day.blocks for ride, since in block.waits()]
+        count = lambda found, minute: sum(first <= minute < last for first, last in found)  # noqa: E731
+        most = max(count(spans, minute) - count(waits, minute) for minute in range(240, 1800))
         self.assertEqual(self.browser.text("#panel-Vehicles .peak"), str(most))
+
+    def test_hours_apart(self) -> None:
+        """No two hours overlap, in windows and on paper of any width."""
+        self.open(400)
+        apart = """const boxes = [...document.querySelectorAll(arguments[0])].map((one) => one.getBoundingClientRect())
+          .sort((one, other) => one.left - other.left);
+          return [boxes.length, boxes.every((box, at) => at === 0 || boxes[at - 1].right <= box.left)]"""
+        for width in (1400, 1280, 1111, 800, 500):
+            self.browser.resize(width, 800)
+            self.browser.click("#zoom-fit")
+            number, good = self.browser.run(apart, "#panel-Vehicles .hour")
+            self.assertEqual((number > 3, good), (True, True), width)
+        self.browser.command("Emulation.setEmulatedMedia", media="print")
+        self.browser.resize(960, 800)
+        self.browser.run("dispatchEvent(new Event('beforeprint'))")
+        number, good = self.browser.run(apart, "#paper .sheet-of-paper:nth-of-type(1) .hour")
+        self.assertEqual((number > 3, good), (True, True))
 
     def test_hover(self) -> None:
         """A bar below the pointer tells all of itself beside it."""
@@ -435,6 +454,23 @@ class OpenTest(ServedTest):
         self.assertIn("allow nothing", self.browser.text("#tip"))
         self.browser.let_go()
         self.assertEqual(self.script(), "")
+
+    def test_mended(self) -> None:
+        """What makes the feed unreadable is told with its hint, and goes when it is mended."""
+        good = (self.town / "desk.toml").read_text()
+        (self.town / "desk.toml").write_text(good.replace("layover = 5", "layover = -5"))
+        self.browser.wait(lambda: "feed refused: desk.toml: bad layover" in self.browser.text("#refusal"))
+        self.assertIn("layover", self.browser.text("#refusal p"))
+        (self.town / "desk.toml").write_text(good)
+        self.browser.wait(lambda: self.browser.run("return document.getElementById('refusal').hidden"))
+        self.browser.click(self.bar("sc_S_o_0825"))
+        self.browser.type("#shift-minutes", "7")
+        self.browser.keys("Enter")
+        self.wait_for("outside tolerance (+7)")
+        self.assertIn("Write a smaller shift", self.browser.text("#refusal p"))
+        (self.town / "tolerances.csv").unlink()
+        self.wait_for("The folder has changed")
+        self.assertTrue(self.browser.run("return document.getElementById('refusal').hidden"))
 
     def test_changed_folder(self) -> None:
         """What another program writes into the folder is seen without a hand."""

@@ -122,7 +122,9 @@ class PageTest(FolderTest):
         """After a script the page has the shifts, the refused record, and which trips do not run; the status is 1."""
         folder = self.town("edits")
         status, page, errors = self.desk("page", folder)
-        self.assertEqual((status, errors), (1, "desk: edits.csv: record 5: refused, U2: outside tolerance (+2)\n"))
+        said, hint = errors.splitlines()
+        self.assertEqual((status, said), (1, "desk: edits.csv: record 5: refused, U2: outside tolerance (+2)"))
+        self.assertEqual(hint, self.desk("blocks", folder)[2].removesuffix("\n"))
         view = day_in(page)
         trips = [[trip[name] for name in ("id", "departs", "ends", "shift", "late", "runs")] for trip in view["trips"]]
         self.assertEqual(trips, [["U1", 360, 390, 0, 0, True], ["U2", 421, 451, 1, 1, True]])
@@ -148,9 +150,12 @@ class PageTest(FolderTest):
         """A feed that the program refuses, and a folder without one, are named in its words and under the town's name."""
         folder = self.town("deadheads")
         (folder / "deadheads.csv").write_text("from,to,minutes\nA,A,5\n")
-        self.assertEqual(self.desk("page", folder)[::2], (1, f"desk: {folder}: feed refused: deadheads.csv record 1: same terminal\n"))
         nowhere = self.room / "nowhere"
-        self.assertEqual(self.desk("page", nowhere)[::2], (1, f"desk: {nowhere}: feed refused: trips.txt: missing\n"))
+        for town, refusal in ((folder, "deadheads.csv record 1: same terminal"), (nowhere, "trips.txt: missing")):
+            status, _, errors = self.desk("page", town)
+            said, *hints = errors.splitlines()
+            self.assertEqual((status, said), (1, f"desk: {town}: feed refused: {refusal}"))
+            self.assertEqual(hints, self.desk("blocks", town)[2].splitlines())
 
     def test_no_trips(self) -> None:
         """A day without trips is a page without blocks."""
@@ -158,7 +163,16 @@ class PageTest(FolderTest):
         (folder / "desk.toml").write_text("services = []\n")
         view = as_view(read_day(Town(folder)))
         self.assertEqual((view["blocks"], view["trips"], view["numbers"]), ([], [], {"fixed": 0, "vehicles": 0, "minutes": 0}))
-        self.assertEqual(view["warnings"], ["desk.toml: `services` selects no trip. List services of trips.txt: \"W\"."])
+        self.assertEqual(view["verdict"]["words"], "No trip runs. desk.toml: `services` selects no trip. List services of trips.txt: \"W\".")
+        self.assertIsNone(view["verdict"]["yes"])
+        town = self.town("small_town")
+        (town / "desk.toml").write_text('date = "20260831"\n')
+        words = as_view(read_day(Town(town)))["verdict"]["words"]
+        self.assertIn("no trip is selected on 20260831, a Monday", words)
+        self.assertIn("Trips run on 20260901 (Tuesday, 188 trips)", words)
+        feed = self.town("three_terminals")
+        (feed / "edits.csv").write_text("".join(f"cancel,{trip['id']}\n" for trip in as_view(read_day(Town(feed)))["trips"]))
+        self.assertEqual(as_view(read_day(Town(feed)))["verdict"]["words"], "No trip runs. The script cancels all of them.")
 
     def test_warnings(self) -> None:
         """A terminal without a record in `depot.csv` stands beside the numbers. Its one vehicle leaves from A and ends at A."""

@@ -347,8 +347,10 @@ class OpenTest(FolderTest):
         self.assertFalse(Path(address.removeprefix("file://")).exists())
 
     def test_refused_feed(self) -> None:
-        """A feed that the program refuses is an error before a page is served."""
-        self.assertEqual(self.desk("open", self.room)[::2], (1, f"desk: {self.room}: feed refused: trips.txt: missing\n"))
+        """A feed that the program refuses is an error before a page is served, with the hints of `./desk blocks`."""
+        status, _, errors = self.desk("open", self.room)
+        self.assertEqual((status, errors.splitlines()[0]), (1, f"desk: {self.room}: feed refused: trips.txt: missing"))
+        self.assertEqual(errors.splitlines()[1:], self.desk("blocks", self.room)[2].splitlines())
 
 
 @needs_program
@@ -373,12 +375,16 @@ class SessionTest(FolderTest):
 
     def test_edits(self) -> None:
         """An accepted edit is one record, and says what it changes; a refused one leaves nothing but its words."""
+        first = self.edit(edit="shift", trip="U2", shift=2)
+        self.assertEqual((first["said"], len(first["hints"]), self.script()), ("record 1: refused, U2: outside tolerance (+2)", 1, ""))
         answer = self.edit(edit="shift", trip="U2", shift=1)
         self.assertEqual((answer["done"], answer["said"]), (True, "record 1: ok, fixed 2, vehicles 1, minutes 31"))
         self.assertEqual((answer["moved"], answer["day"]["numbers"]), (["U2"], {"vehicles": 1, "minutes": 31, "fixed": 2}))
         self.assertEqual(self.script(), "shift,U2,+1\n")
         refused = self.edit(edit="shift", trip="U2", shift=1)
-        self.assertEqual(refused, {"done": False, "said": "record 2: refused, U2: outside tolerance (+2)"})
+        self.assertEqual(refused, {"done": False, "said": "record 2: refused, U2: outside tolerance (+2)", "hints": [
+            "edits.csv record 2: tolerances.csv record 1 allows \"U2\" to run 0 minutes early and 1 late, by its published times. "
+            "Write a smaller shift, or a larger tolerance in tolerances.csv."]})
         self.assertEqual(self.script(), "shift,U2,+1\n")
         self.assertTrue(self.edit(edit="undo")["done"])
         again = self.edit(edit="redo")

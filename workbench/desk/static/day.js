@@ -24,21 +24,31 @@ export class Day {
     this.end = Math.max(60 * Math.ceil(-least(this.blocks.map((block) => -block.returns), -1320) / 60), this.begin + 60);
   }
 
-  /** The vehicles in service as steps: each minute at which their number changes, with the number from then on. */
+  /** The vehicles that are out, on trips, at their layover or running empty, as steps. Those that wait are not out. */
   service() {
-    const changes = new Map();
-    for (const block of this.blocks) {
-      changes.set(block.leaves, (changes.get(block.leaves) ?? 0) + 1);
-      changes.set(block.returns, (changes.get(block.returns) ?? 0) - 1);
-    }
-    let number = 0;
-    return [...changes].sort((one, other) => one[0] - other[0]).map(([minute, change]) => [minute, number += change]);
+    return stepsOf(this.blocks.flatMap((block) => block.bars.filter((bar) => bar.kind !== "wait")));
+  }
+
+  /** The vehicles that are out or wait for a later trip, as steps. */
+  away() {
+    return stepsOf(this.blocks.map((block) => ({ from: block.leaves, until: block.returns })));
   }
 
   /** The trips that do not run. */
   cancelled() {
     return this.trips.filter((trip) => !trip.runs);
   }
+}
+
+/** How many of these spans there are as steps: each minute at which their number changes, with the number from then on. */
+function stepsOf(spans) {
+  const changes = new Map();
+  for (const { from, until } of spans) {
+    changes.set(from, (changes.get(from) ?? 0) + 1);
+    changes.set(until, (changes.get(until) ?? 0) - 1);
+  }
+  let number = 0;
+  return [...changes].filter(([, change]) => change).sort((one, other) => one[0] - other[0]).map(([minute, change]) => [minute, number += change]);
 }
 
 /** The least of these numbers, or another one where there are none. */

@@ -31,7 +31,7 @@ export function showHead(view, before) {
     byId(`number-${key}`).replaceChildren(grouped(numbers[key]), change ? mark : "");
   }
   const mark = html("span", { class: verdict.yes ? "yes" : "no", "aria-hidden": "true" }, verdict.yes ? "✓ " : "✗ ");
-  byId("verdict").replaceChildren(mark, verdict.words);
+  byId("verdict").replaceChildren(verdict.yes === null ? "" : mark, verdict.words);
   byId("warnings").replaceChildren(...view.warnings.map((words) => html("li", {}, words)));
   byId("warnings").hidden = !view.warnings.length;
   byId("run").textContent = runWords(view);

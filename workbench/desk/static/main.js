@@ -74,6 +74,7 @@ class Page {
   show(view, isOwn = false) {
     const first = !this.day;
     const isHere = this.hasHand(isOwn);
+    forgive();
     this.editing?.drop();
     this.day = new Day(view);
     this.lines.add(this.day.lines, view.colours);
@@ -191,7 +192,7 @@ class Page {
     const answer = await this.tell("edit", { ...edit, state: this.day.view.state });
     const words = [edit.edit, edit.trip, edit.shift && signed(edit.shift)].filter((part) => part).join(" ");
     if (!answer.done) {
-      refuse(words, answer.error ?? answer.said, this.placeOf(edit.trip, element));
+      refuse(words, answer.error ?? answer.said, answer.hints ?? [], this.placeOf(edit.trip, element));
       return false;
     }
     this.say(`${words}: ${changeWords(this.before, this.day.view.numbers, this.moved.size)}`);
@@ -252,7 +253,7 @@ class Page {
       this.before = null;
       this.show(answer.day);
     } else {
-      refuse("The day cannot be read", answer.error, null);
+      refuse("The day cannot be read", answer.error, answer.hints ?? [], null);
     }
     return answer;
   }

@@ -8,6 +8,7 @@ import { hatched } from "./hatch.js";
 import { firstThatFits } from "./labels.js";
 import { legendOf } from "./legend.js";
 import { markOf } from "./lines.js";
+import { hoursBetween } from "./scale.js";
 import { columnsOf } from "./table.js";
 import { clock } from "./times.js";
 
@@ -31,7 +32,7 @@ export function layPaper(day, shown, styles, title) {
     html("div", { class: "paper-legend" }, ...legendOf(day.lines, styles)),
     tableOfDrawings([title, "Vehicles"], sheet.hours(), vehicles),
     tableOfDrawings([title, "Vehicles in service, and the deficit of each terminal"], sheet.hours(),
-      [[["in service"], sheet.steps(day.service())], ...places]),
+      [[["in service"], sheet.steps(day.service())], [["with those that wait"], sheet.steps(day.away())], ...places]),
     tableOfBlocks([title, "Blocks: times are hours and minutes"], day, blocks));
 }
 
@@ -77,13 +78,11 @@ class Sheet {
 
   /** The hours of the day. */
   hours() {
-    const parts = [];
     const { begin, end } = this.day;
-    for (let minute = begin; minute <= end; minute += 60) {
-      const anchor = minute === begin ? "start" : minute === end ? "end" : "middle";
-      parts.push(svg("text", { x: this.at(minute), y: 11, "text-anchor": anchor, class: "hour" }, clock(minute)));
-      parts.push(this.upright("tick", minute, 14, 18));
-    }
+    const hours = hoursBetween(begin, end, 60, (minute) => (this.share(minute) / 100) * WIDTH, FONT);
+    const parts = hours.flatMap(([minute, anchor]) => [
+      anchor && svg("text", { x: this.at(minute), y: 11, "text-anchor": anchor, class: "hour" }, clock(minute)),
+      this.upright("tick", minute, 14, 18)]);
     return svg("svg", { width: "100%", height: 18 }, ...parts);
   }
 

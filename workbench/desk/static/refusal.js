@@ -3,14 +3,14 @@
 import { button, byId, html } from "./elements.js";
 import { placeBeside } from "./tip.js";
 
-/** Shows words beside an element, until they are closed. */
-export function refuse(title, words, element) {
+/** Shows words beside an element, with hints how what they are about is mended, until they are closed. */
+export function refuse(title, words, hints, element) {
   const box = byId("refusal");
   const close = button("×", () => {
     forgive();
     (element?.querySelector("input") ?? element)?.focus();
   }, { "aria-label": "close" });
-  box.replaceChildren(html("strong", {}, title), html("div", {}, words), close);
+  box.replaceChildren(html("strong", {}, title), html("div", {}, words), ...hints.map((hint) => html("p", {}, hint)), close);
   box.hidden = false;
   placeBeside(box, (element?.isConnected ? element : byId("verdict")).getBoundingClientRect());
 }

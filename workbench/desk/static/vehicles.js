@@ -1,4 +1,4 @@
-/** The vehicles as rows, with the curve of vehicles in service above them. */
+/** The vehicles as rows, with the curve of vehicles in service above them: those that are out. */
 
 import { svg } from "./elements.js";
 import { SIZES, drawBar, drawPlaces } from "./bars.js";
@@ -18,6 +18,7 @@ export class Vehicles {
     this.shown = [];
     this.rows = new Rows(host, scale, this, NAMES);
     this.rows.corner.append("in service");
+    this.rows.corner.title = "vehicles on trips, at their layover or running empty; in grey with those that wait";
   }
 
   /** Shows these blocks of a day, by their rows. */
@@ -54,16 +55,16 @@ export class Vehicles {
     return svg("g", {}, svg("text", { class: kind, x: NAMES - 8, y, "text-anchor": "end" }, block.name));
   }
 
-  /** The curve of vehicles in service. */
+  /** The curve of vehicles that are out, and behind it with those that wait. */
   drawTop() {
-    const steps = this.day.service();
-    const most = Math.max(1, ...steps.map(([, number]) => number));
-    const peak = steps.find(([, number]) => number === most);
+    const [out, away] = [this.day.service(), this.day.away()];
+    const most = Math.max(1, ...away.map(([, number]) => number));
+    const peak = out.reduce((one, other) => (other[1] > one[1] ? other : one), [0, 0]);
     const y = (number) => CURVE - 4 - (number / most) * (CURVE - 18);
-    const path = stepPath(steps, (minute) => this.scale.x(minute), y, this.scale.begin, this.scale.end);
-    const parts = [svg("path", { class: "service", d: `${path}V${y(0)}Z` })];
-    if (peak) {
-      parts.push(svg("text", { class: "peak", x: this.scale.x(peak[0]) + 3, y: y(most) - 3 }, String(most)));
+    const path = (steps) => `${stepPath(steps, (minute) => this.scale.x(minute), y, this.scale.begin, this.scale.end)}V${y(0)}Z`;
+    const parts = [svg("path", { class: "away", d: path(away) }), svg("path", { class: "service", d: path(out) })];
+    if (peak[1]) {
+      parts.push(svg("text", { class: "peak", x: this.scale.x(peak[0]) + 3, y: y(peak[1]) - 3 }, String(peak[1])));
     }
     return svg("g", {}, ...parts);
   }
