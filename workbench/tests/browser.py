@@ -163,6 +163,12 @@ class Browser:
         """Moves the mouse over an element."""
         self._pointer([{"type": "pointerMove", "duration": 0, "x": 0, "y": 0, "origin": {ELEMENT: self.find(selector)}}])
 
+    def tap(self, selector: str) -> None:
+        """Touches an element with a finger."""
+        touch = [{"type": "pointerMove", "duration": 0, "x": 0, "y": 0, "origin": {ELEMENT: self.find(selector)}},
+                 {"type": "pointerDown", "button": 0}, {"type": "pointerUp", "button": 0}]
+        self._tell("/actions", {"actions": [{"type": "pointer", "id": "finger", "parameters": {"pointerType": "touch"}, "actions": touch}]})
+
     def pinch(self, selector: str, apart: int, until: int) -> None:
         """Puts two fingers on an element, so many pixels apart, and moves them in four steps until they are so many apart."""
         element, fingers = self.find(selector), []

@@ -151,8 +151,9 @@ class LookTest(BrowserTest):
         self.browser.click("#tab-Terminals")
         self.browser.type("#search", "L3-")
         self.assertRegex(self.browser.text("#search-count"), r"^1 of \d+ trips$")
-        self.browser.keys("Enter")
+        self.browser.click("#search-next")
         self.assertRegex(self.browser.text("#search-count"), "^2 of ")
+        self.browser.run("document.getElementById('search').focus()")
         found, = self.names(".bar.found")
         self.assertTrue(found.startswith("L3-"))
         box, frame = self.box(".bar.found"), self.box("#panel-Vehicles .frame")
@@ -170,6 +171,83 @@ class LookTest(BrowserTest):
         self.browser.type("#filter-from", "22:00")
         late = [block.name for block in self.day.blocks if any(ride.ends >= 1320 for ride in block.rides)]
         self.browser.wait(lambda: self.drawn() == [f"block {name}" for name in late][:len(self.drawn())])
+
+    def test_exact_search(self) -> None:
+        """A block, a line or a trip that is named exactly comes before names that have it in them; Enter and Escape lead to it."""
+        self.open(400)
+        block, trip = self.day.blocks[1], self.day.blocks[4].rides[2]
+        self.browser.run("document.getElementById('search').focus()")
+        for text, key, wanted in (("b2", "Enter", block.rides[0].name), (trip.name, "Escape", trip.name), ("line 3", "Enter", None)):
+            self.browser.type("#search", text)
+            self.assertNotIn("no trip", self.browser.text("#search-count"))
+            self.browser.keys(key)
+            found = self.browser.run(FOCUSED)
+            self.assertEqual(found, wanted or found)
+            self.assertTrue(wanted or found.startswith("L3-"))
+        self.browser.type("#search", "b1")
+        self.browser.keys("Tab", "Tab")
+        current = self.browser.run("return document.querySelector('.sheet [tabindex=\"0\"]').dataset.trip")
+        self.assertEqual(current, self.day.blocks[0].rides[0].name)
+
+    def test_hours_zoom(self) -> None:
+        """From and until show these hours alone, as wide as the window, and without them it is the whole day again."""
+        self.open(400)
+        whole = self.box(".sheet")["width"]
+        self.browser.type("#filter-from", "07:00")
+        self.browser.type("#filter-until", "09:00")
+        frame = self.box("#panel-Vehicles .frame")
+        hours = {text: self.browser.run("""return [...document.querySelectorAll('#panel-Vehicles .hour')]
+          .find((one) => one.textContent === arguments[0]).getBoundingClientRect().toJSON()""", text) for text in ("07:00", "09:00")}
+        self.assertAlmostEqual(hours["07:00"]["x"] + hours["07:00"]["width"] / 2, frame["x"] + 64, delta=4)
+        self.assertAlmostEqual(hours["09:00"]["x"] + hours["09:00"]["width"] / 2, frame["right"], delta=30)
+        self.browser.click("#filter-clear")
+        self.assertAlmostEqual(self.box(".sheet")["width"], whole, delta=20)
+
+    def test_small_windows(self) -> None:
+        """A phone and a window of 800 by 600 show mostly the chart. Tools and legend fold, and come by their buttons."""
+        self.open(400)
+        for width, height in ((390, 844), (800, 600), (911, 512)):
+            self.browser.resize(width, height)
+            self.browser.wait(lambda: self.browser.run("return document.getElementById('legend').hidden"))
+            frame = self.box("#panel-Vehicles .frame")
+            self.assertGreater(frame["width"] * frame["height"], 0.7 * width * height)
+            for button, part in (("tools", "#search"), ("legend", "#legend")):
+                self.browser.click(f"#fold-{button}")
+                self.assertGreater(self.box(part)["height"], 0)
+                self.browser.click(f"#fold-{button}")
+                self.assertEqual(self.box(part)["height"], 0)
+        self.browser.resize(1400, 1000)
+        self.browser.wait(lambda: self.box("#search")["height"] > 0)
+        self.assertEqual(self.browser.errors(), [])
+
+    def test_order(self) -> None:
+        """Rows go by line, start, end, span and waiting."""
+        self.open(400)
+        blocks = self.day.blocks
+        waits = {block.name: sum(ride.departs - since for ride, since in block.waits()) for block in blocks}
+        orders = {
+            "line": lambda block: (int(block.rides[0].trip.route_id.split()[1]), block.leaves),
+            "start": lambda block: block.leaves, "end": lambda block: block.returns,
+            "span, longest first": lambda block: block.leaves - block.returns,
+            "waiting, longest first": lambda block: -waits[block.name], "block": lambda block: 0}
+        for name, key in orders.items():
+            self.choose("#sort", name)
+            rows = [f"block {block.name}" for block in sorted(blocks, key=key)]
+            self.assertEqual(self.drawn(), rows[:len(self.drawn())], name)
+
+    def test_times_and_ends(self) -> None:
+        """Bars have their times where there is room, and rows the terminals at their ends, in rows of middle height too."""
+        self.open(800)
+        self.assertEqual(self.browser.run("return document.getElementById('row-size').value"), "middle")
+        self.choose("#sort", "end")
+        block = min(self.day.blocks, key=lambda one: one.returns)
+        ride = block.rides[-1]
+        ends = self.browser.texts(f'.sheet [aria-label="block {block.name}"] .place')
+        self.assertIn(f"{ride.arrives // 60:02}:{ride.arrives % 60:02} {ride.end}", ends)
+        for _ in range(7):
+            self.browser.click("#zoom-in")
+        labels = self.browser.texts(".sheet .label")
+        self.assertTrue(any(re.fullmatch(r"line \d+ L\d+-\d+ \d\d:\d\d–\d\d:\d\d", label) for label in labels), labels[:5])
 
     def test_keys(self) -> None:
         """The arrow keys go from bar to bar, tell what each is, and scroll to it; keys zoom."""
@@ -454,6 +532,23 @@ class OpenTest(ServedTest):
         self.assertIn("allow nothing", self.browser.text("#tip"))
         self.browser.let_go()
         self.assertEqual(self.script(), "")
+
+    def test_panel(self) -> None:
+        """What stands beside the vehicles can be closed; in a small window it comes with the trip that is touched."""
+        self.assertGreater(self.box("#side")["width"], 0)
+        wide = self.box("#panel-Vehicles .frame")["width"]
+        self.browser.click("#side .close")
+        self.assertGreater(self.box("#panel-Vehicles .frame")["width"], wide + 200)
+        self.browser.resize(390, 844)
+        self.browser.wait(lambda: self.browser.run("return document.getElementById('legend').hidden"))
+        self.browser.tap(self.bar("wd_1_o_0740"))
+        self.assertIn("wd_1_o_0740", self.browser.text("#side h2"))
+        self.assertGreater(self.box("#panel-Vehicles .frame")["height"], 844 * 0.4)
+        self.browser.click("#side form button")
+        self.wait_for("shift wd_1_o_0740")
+        self.browser.click("#side .close")
+        self.assertEqual(self.box("#side")["height"], 0)
+        self.assertEqual(self.browser.errors(), [])
 
     def test_mended(self) -> None:
         """What makes the feed unreadable is told with its hint, and goes when it is mended."""

@@ -2,15 +2,16 @@
 
 import { svg } from "./elements.js";
 import { hatched } from "./hatch.js";
-import { firstThatFits, shortened } from "./labels.js";
+import { firstThatFits, shortened, widthOf } from "./labels.js";
 import { markOf } from "./lines.js";
-import { signed } from "./times.js";
+import { clock, signed } from "./times.js";
 import { tell } from "./day.js";
 
 const FAMILY = "'DejaVu Sans', Verdana, 'Segoe UI', sans-serif";
 const LABEL = `11px ${FAMILY}`;
 const PLACE = `9.5px ${FAMILY}`;
 const FREE = 160;
+const MIDDLE = 12.5;
 
 /** The heights of rows: the whole row, the bar in it, and whether places stand below. */
 export const SIZES = {
@@ -28,7 +29,7 @@ export function drawBar(bar, scale, size, look) {
   const ink = bar.trip ? look.lines.of(bar.trip.line).ink : null;
   const states = [bar.kind, ...(ink ? [`on-${ink}`] : []), ...look.statesOf(bar)];
   return svg("g", {
-    class: `bar ${states.join(" ")}`, role: look.roleOf(bar), tabindex: "-1", "aria-label": told.join(", "),
+    class: `bar ${states.join(" ")}`, role: look.roleOf(bar), tabindex: look.isCurrent(bar) ? "0" : "-1", "aria-label": told.join(", "),
     "data-row": bar.row, "data-at": bar.at, "data-trip": bar.trip?.id,
   }, ...parts);
 }
@@ -70,10 +71,13 @@ function drawTrip(trip, scale, size, look) {
   return parts;
 }
 
-/** The label of a trip: its line and its name, or as much as fits. */
+/** The label of a trip: its line, its name and its times, or as much as fits. */
 function labelOf(trip, x, until, size, style) {
   const shift = trip.shift ? ` ${signed(trip.shift)}` : "";
-  const texts = [`${trip.line} ${trip.id}${shift}`, `${trip.line}${shift}`, trip.line].map((text) => text.trim());
+  const named = `${trip.line} ${trip.id}${shift}`;
+  const [departs, arrives] = [clock(trip.departs), clock(trip.arrives)];
+  const texts = [`${named} ${departs}–${arrives}`, named, `${trip.line}${shift} ${departs}`, `${trip.line}${shift}`, trip.line]
+    .map((text) => text.trim());
   const text = firstThatFits(texts, until - x - 6, LABEL);
   return text ? svg("text", { class: `label ${style.ink ?? ""}`, x: x + 4, y: size.top + size.bar / 2 + 4 }, text) : null;
 }
@@ -83,9 +87,10 @@ export function drawPlaces(block, scale, size) {
   const trips = block.bars.filter((bar) => bar.kind === "trip").map((bar) => bar.trip);
   const half = (trip) => (scale.x(trip.arrives) - scale.x(trip.departs)) / 2;
   const [first, last] = [trips[0], trips.at(-1)];
+  const [begins, ends] = [scale.x(first.departs) + 4, scale.x(last.arrives) - 4];
   const parts = [
-    placeAt(first.from, "end", scale.x(first.departs) + 4, FREE, size),
-    placeAt(last.to, "start", scale.x(last.arrives) - 4, FREE, size),
+    placeAt(first.from, "end", Math.max(begins, Math.min(widthOf(first.from, PLACE) + 2, FREE)), FREE, size),
+    placeAt(last.to, "start", Math.min(ends, scale.width - Math.min(widthOf(last.to, PLACE) + 2, FREE)), FREE, size),
   ];
   for (let at = 1; at < trips.length; at += 1) {
     const [before, after] = [trips[at - 1], trips[at]];
@@ -101,8 +106,22 @@ export function drawPlaces(block, scale, size) {
   return parts;
 }
 
+/** The terminals of a block in the line of its bars: where it begins, where it waits, and where it ends. */
+export function drawEnds(block, scale, size) {
+  const trips = block.bars.filter((bar) => bar.kind === "trip").map((bar) => bar.trip);
+  const [from, until] = [scale.x(block.leaves), scale.x(block.returns)];
+  const [first, last] = [trips[0], trips.at(-1)];
+  const waits = block.bars.filter((bar) => bar.kind === "wait").map((bar) =>
+    placeAt(bar.start, "middle", scale.x((bar.from + bar.until) / 2), scale.x(bar.until) - scale.x(bar.from) - 6, size, MIDDLE));
+  return [
+    placeAt(`${first.from} ${clock(first.departs)}`, "end", from - 4, Math.min(from - 4, FREE), size, MIDDLE),
+    placeAt(`${clock(last.arrives)} ${last.to}`, "start", until + 4, Math.min(scale.width - until - 4, FREE), size, MIDDLE),
+    ...waits,
+  ];
+}
+
 /** The name of a place, as much of it as fits. */
-function placeAt(place, anchor, x, room, size) {
+function placeAt(place, anchor, x, room, size, below = size.bar + 11) {
   const text = shortened(place, room, PLACE);
-  return text ? svg("text", { class: "place", x, y: size.top + size.bar + 11, "text-anchor": anchor }, text) : null;
+  return text ? svg("text", { class: "place", x, y: size.top + below, "text-anchor": anchor }, text) : null;
 }

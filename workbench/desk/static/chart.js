@@ -38,12 +38,28 @@ export class Chart {
     this.front.rows.redraw();
   }
 
+  /** Shows these minutes of the day, or from its begin, or until its end. Without both it is the whole day. */
+  showHours(from, until) {
+    const [first, last] = [Math.max(from ?? -Infinity, this.scale.begin), Math.min(until ?? Infinity, this.scale.end)];
+    if (first >= last) {
+      return;
+    }
+    this.scale.span(first, last, this.front.rows.room);
+    this.front.rows.redraw();
+    this.front.rows.frame.scrollLeft = this.scale.x(first);
+  }
+
   /** Follows the size of the window. */
   resize() {
-    if (this.scale.fitted) {
-      this.scale.fit(this.front.rows.room);
-    }
     this.front.rows.redraw();
+    this.refit();
+  }
+
+  /** Where the whole day is shown, it fills the room that is left once its rows are drawn. */
+  refit() {
+    if (this.scale.fitted && Math.abs(this.scale.width - this.front.rows.room) > 1) {
+      this.fit();
+    }
   }
 
   /** Makes the hours wider or narrower, where the minute below a place of the frame stays. */

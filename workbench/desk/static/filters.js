@@ -1,4 +1,6 @@
-/** Which trips are looked at: by line, terminal, block and time, and by a search. */
+/** Which trips are looked at: by line, terminal, block and time, and by a search.
+
+An exact name that is searched for comes before names that have it in them: of a trip, of a block, of a line. */
 
 import { byId, html } from "./elements.js";
 import { count, parseClock } from "./times.js";
@@ -6,17 +8,27 @@ import { count, parseClock } from "./times.js";
 const FIELDS = ["line", "terminal", "block", "from", "until"];
 
 export class Filters {
-  /** `changed` is called after each change of the filter, and `found` with each bar that a search finds. */
-  constructor(changed, found) {
-    this.changed = changed;
-    this.found = found;
+  /** `changed` is called after each change of the filter, `timed` after one of its hours, `found` with each bar that a search finds. */
+  constructor(changed, timed, found) {
+    Object.assign(this, { changed, timed, found });
     this.at = -1;
+    this.hits = [];
     for (const field of FIELDS) {
-      byId(`filter-${field}`).addEventListener("input", changed);
+      byId(`filter-${field}`).addEventListener("input", () => this.enter(field));
     }
     byId("filter-clear").addEventListener("click", () => this.clear());
     byId("search").addEventListener("input", () => this.search(0));
     byId("search").addEventListener("keydown", (event) => this.key(event));
+    byId("search-before").addEventListener("click", () => this.search(-1));
+    byId("search-next").addEventListener("click", () => this.search(1));
+  }
+
+  /** A field has changed. */
+  enter(field) {
+    this.changed();
+    if (field === "from" || field === "until") {
+      this.timed(this.readMinute("from"), this.readMinute("until"));
+    }
   }
 
   /** Offers the lines and terminals of a day. */
@@ -24,8 +36,15 @@ export class Filters {
     this.day = day;
     offer(byId("filter-line"), "all lines", day.lines);
     offer(byId("filter-terminal"), "all terminals", day.terminals);
+    const name = this.hit?.trip.id;
     this.hits = this.matches();
+    this.at = Math.max(this.hits.findIndex((bar) => bar.trip.id === name), 0);
     this.count();
+  }
+
+  /** The bar that is found; null where none is. */
+  get hit() {
+    return this.hits[this.at] ?? null;
   }
 
   value(field) {
@@ -34,8 +53,12 @@ export class Filters {
 
   /** Leaves nothing out any more. */
   clear() {
+    const wasTimed = this.value("from") || this.value("until");
     FIELDS.forEach((field) => { byId(`filter-${field}`).value = ""; });
     this.changed();
+    if (wasTimed) {
+      this.timed(null, null);
+    }
   }
 
   /** Whether anything is left out. */
@@ -73,14 +96,23 @@ export class Filters {
       && bar.from <= wanted.until && bar.until >= wanted.from;
   }
 
-  /** The bars of trips that have the text of the search in what names them. */
+  /** The bars of trips that have the text of the search in what names them, those that are named exactly so first. */
   matches() {
     const text = byId("search").value.trim().toLowerCase();
     if (!text || !this.day) {
       return [];
     }
-    const named = (trip, block) => `${trip.line} ${trip.id} ${trip.headsign} ${block}`.toLowerCase();
-    return [...this.day.bars.values()].filter((bar) => named(bar.trip, bar.block).includes(text));
+    const ranked = [[], [], [], []];
+    for (const bar of this.day.bars.values()) {
+      const names = [bar.trip.id, bar.block, bar.trip.line].map((name) => name.toLowerCase());
+      const exact = names.indexOf(text);
+      if (exact >= 0) {
+        ranked[exact].push(bar);
+      } else if ([...names, bar.trip.headsign.toLowerCase()].some((name) => name.includes(text))) {
+        ranked[3].push(bar);
+      }
+    }
+    return ranked.flat();
   }
 
   /** Searches, and shows the match that stands so many behind the one that is shown. */
@@ -92,7 +124,7 @@ export class Filters {
       this.at = (this.at + step + this.hits.length) % this.hits.length;
     }
     this.count();
-    this.found(this.hits[this.at] ?? null, false);
+    this.found(this.hit, false);
   }
 
   /** Says how many matches there are. */
@@ -100,17 +132,15 @@ export class Filters {
     const text = byId("search").value.trim();
     const found = this.hits.length ? `${this.at + 1} of ${count(this.hits.length, "trip")}` : "no trip";
     byId("search-count").textContent = text ? found : "";
+    ["before", "next"].forEach((step) => { byId(`search-${step}`).hidden = this.hits.length < 2; });
   }
 
+  /** Enter, Escape and the arrow down lead to the trip that is found. */
   key(event) {
-    if (event.key === "Enter") {
-      this.search(event.shiftKey ? -1 : 1);
-    } else if ((event.key === "Escape" || event.key === "ArrowDown") && this.hits[this.at]) {
-      this.found(this.hits[this.at], true);
-    } else {
-      return;
+    if (["Enter", "Escape", "ArrowDown"].includes(event.key) && this.hit) {
+      event.preventDefault();
+      this.found(this.hit, true);
     }
-    event.preventDefault();
   }
 }
 

@@ -10,7 +10,7 @@ const KEYS = [
   ["Page up, Page down", "ten vehicles up or down"],
   ["+ − 0", "zoom, and the whole day"],
   ["Ctrl and wheel, two fingers", "zoom"],
-  ["Enter in the search", "next trip that is found"],
+  ["Enter or Escape in the search", "go to the trip that is found"],
 ];
 const EDIT_KEYS = [
   ["Shift and ← →", "shift a trip by a minute"],

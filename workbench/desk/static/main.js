@@ -6,9 +6,11 @@ import { Chart } from "./chart.js";
 import { Day } from "./day.js";
 import { Editing } from "./editing.js";
 import { Filters } from "./filters.js";
+import { Folds } from "./folds.js";
 import { changeWords, paperTitle, showHead, showUndo, toggleKeys } from "./head.js";
 import { legendOf } from "./legend.js";
 import { LineStyles } from "./lines.js";
+import { offerOrders, ordered } from "./order.js";
 import { layPaper } from "./paper.js";
 import { forgive, refuse } from "./refusal.js";
 import { Scale } from "./scale.js";
@@ -39,7 +41,10 @@ class Page {
     this.terminals = new Terminals(panels[1], this.scale);
     this.table = new BlockTable(panels[2], (block) => this.go(block.bars[0]));
     this.chart = new Chart([this.vehicles, this.terminals], this.scale, this.tip, (event, bar) => this.editing?.key(event, bar));
-    this.filters = new Filters(() => this.draw(), (bar, focus) => this.find(bar, focus));
+    this.filters = new Filters(() => this.draw(), (from, until) => this.chart.showHours(from, until), (bar, focus) => this.find(bar, focus));
+    offerOrders(() => this.draw());
+    const parts = { tools: [...document.querySelectorAll(".unfolds")], legend: [byId("legend")], ...(canEdit ? { side: [byId("side")] } : {}) };
+    this.folds = new Folds(parts, () => this.day && this.chart.resize());
     byId("row-size").addEventListener("input", () => this.draw());
     byId("print").addEventListener("click", () => window.print());
     byId("help").addEventListener("click", (event) => toggleKeys(event.target, canEdit));
@@ -56,8 +61,8 @@ class Page {
     const go = (trip) => this.go(this.day.bars.get(trip));
     this.script = new ScriptPanel(panel, this.sending, (name, body) => this.tell(name, body), go);
     this.vehicles.rows.sheet.addEventListener("focusin", () => this.choose(this.chart.current));
+    this.vehicles.rows.sheet.addEventListener("click", (event) => this.unfold(this.chart.barOf(event.target)));
     byId("edit-buttons").hidden = false;
-    byId("side").hidden = false;
     for (const edit of ["undo", "redo"]) {
       byId(edit).addEventListener("click", (event) => this.send({ edit }, event.target));
     }
@@ -81,12 +86,13 @@ class Page {
     this.scale.setHours(this.day.begin, this.day.end);
     if (first) {
       byId("row-size").value = this.day.blocks.length > MANY ? "middle" : "high";
-      this.scale.fit(this.vehicles.rows.room);
     }
     this.filters.offer(this.day);
+    this.foundBar = this.foundBar && this.filters.hit;
     showHead(view, this.before);
     byId("legend").replaceChildren(...legendOf(this.day.lines, this.lines));
     this.draw();
+    this.chart.refit();
     if (this.canEdit) {
       showUndo(view);
       this.script.show(this.day);
@@ -103,13 +109,26 @@ class Page {
   /** Chooses a bar by hand. */
   choose(bar) {
     this.hand = bar?.trip?.id ?? null;
-    showSide(bar, this.day.view, this.sending);
+    this.tellSide(bar);
+  }
+
+  /** Tells of a bar beside the vehicles, with what can be done to it. */
+  tellSide(bar) {
+    showSide(bar, this.day.view, this.sending, () => this.folds.turn("side", false));
+  }
+
+  /** In a small window what stands beside the vehicles comes with a trip that is clicked. */
+  unfold(bar) {
+    if (bar?.kind === "trip" && this.folds.isSmall && !this.folds.isOpen("side")) {
+      this.folds.turn("side", true);
+      this.vehicles.reveal(bar);
+    }
   }
 
   /** On another day the hand is on the trip on which it was, wherever that stands now. Where it does not run, it is on none. */
   follow(isHere) {
     const bar = this.day.bars.get(this.hand);
-    showSide(bar, this.day.view, this.sending);
+    this.tellSide(bar);
     if (bar && isHere && !byId("panel-Vehicles").hidden) {
       this.go(bar);
     }
@@ -118,7 +137,7 @@ class Page {
   /** Draws what passes the filter. */
   draw() {
     this.vehicles.size = SIZES[byId("row-size").value];
-    this.shown = this.filters.rows(this.day);
+    this.shown = ordered(this.day, this.filters.rows(this.day));
     this.vehicles.show(this.day, this.shown);
     this.terminals.show(this.day, this.filters.value("terminal"));
     this.table.show(this.day, this.shown);
@@ -145,6 +164,11 @@ class Page {
     return this.moved.has(trip.id);
   }
 
+  /** Whether the Tab key reaches a bar. */
+  isCurrent(bar) {
+    return bar === this.chart.current;
+  }
+
   /** What a bar is to somebody who does not see it. */
   roleOf(bar) {
     return this.canEdit && bar.kind === "trip" ? "button" : "img";
@@ -157,6 +181,7 @@ class Page {
     if (bar) {
       this.uncover(bar);
       this.vehicles.reveal(bar);
+      this.chart.makeCurrent(bar);
       if (focus) {
         this.chart.focus(bar);
       }

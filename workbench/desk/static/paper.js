@@ -150,7 +150,7 @@ class Sheet {
 
   /** The places of a block. */
   places(block) {
-    const scale = { x: (minute) => (this.share(minute) / 100) * WIDTH };
+    const scale = { x: (minute) => (this.share(minute) / 100) * WIDTH, width: WIDTH };
     const places = drawPlaces(block, scale, this.size).filter((place) => place);
     places.forEach((place) => place.setAttribute("x", `${(100 * place.getAttribute("x")) / WIDTH}%`));
     return places;

@@ -4,7 +4,7 @@ import { widthOf } from "./labels.js";
 import { clock } from "./times.js";
 import { svg } from "./elements.js";
 
-const MOST = 14;
+const MOST = 24;
 const APART = 4;
 const FONT = "11px 'DejaVu Sans', Verdana, 'Segoe UI', sans-serif";
 const STEPS = [5, 10, 15, 30, 60, 120, 180];
@@ -41,6 +41,12 @@ export class Scale {
   fit(width) {
     this.perMinute = Math.max(width, 200) / (this.end - this.begin);
     this.fitted = true;
+  }
+
+  /** Makes the minutes from one to another as wide as this, within bounds. */
+  span(from, until, width) {
+    this.fit(width);
+    this.zoom((this.end - this.begin) / Math.max(until - from, 1), width);
   }
 
   /** Makes a minute so many times as wide, within bounds. The whole day never gets narrower than this width. */

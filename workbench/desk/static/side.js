@@ -4,11 +4,12 @@ import { button, byId, html } from "./elements.js";
 import { room, tell } from "./day.js";
 import { signed } from "./times.js";
 
-/** Shows a bar of a day. `send` takes an edit with the element at which its answer is shown. */
-export function showSide(bar, view, send) {
+/** Shows a bar of a day. `send` takes an edit with the element at which its answer is shown, and `close` folds all of this. */
+export function showSide(bar, view, send, close) {
   const side = byId("side");
+  const closing = button("×", close, { "aria-label": "close", class: "close" });
   if (!bar) {
-    side.replaceChildren(html("p", {}, "Choose a trip to shift or to cancel it: click it, or go to it with the arrow keys."));
+    side.replaceChildren(closing, html("p", {}, "Choose a trip to shift or to cancel it: click it, or go to it with the arrow keys."));
     return;
   }
   const [title, ...lines] = tell(bar);
@@ -18,7 +19,7 @@ export function showSide(bar, view, send) {
     }
   }
   const actions = bar.trip ? [shiftForm(bar.trip, send), cancelButton(bar.trip, send)] : [];
-  side.replaceChildren(html("h2", {}, title), ...lines.map((line) => html("p", {}, line)), ...actions);
+  side.replaceChildren(closing, html("h2", {}, title), ...lines.map((line) => html("p", {}, line)), ...actions);
 }
 
 /** The form that shifts a trip. */

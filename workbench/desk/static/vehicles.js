@@ -1,7 +1,7 @@
 /** The vehicles as rows, with the curve of vehicles in service above them: those that are out. */
 
 import { svg } from "./elements.js";
-import { SIZES, drawBar, drawPlaces } from "./bars.js";
+import { SIZES, drawBar, drawEnds, drawPlaces } from "./bars.js";
 import { Rows } from "./rows.js";
 import { stepPath } from "./steps.js";
 
@@ -42,9 +42,9 @@ export class Vehicles {
   draw(position) {
     const block = this.day.blocks[this.shown[position]];
     const stripe = position % 2 ? svg("rect", { class: "stripe", width: this.scale.width, height: this.size.row }) : null;
-    const places = this.size.places ? drawPlaces(block, this.scale, this.size) : [];
-    return svg("g", { role: "group", "aria-label": `block ${block.name}` }, stripe, ...places,
-      ...block.bars.map((bar) => drawBar(bar, this.scale, this.size, this.look)));
+    const bars = block.bars.map((bar) => drawBar(bar, this.scale, this.size, this.look));
+    const draw = this.size.places ? drawPlaces : this.size.labels ? drawEnds : () => [];
+    return svg("g", { role: "group", "aria-label": `block ${block.name}` }, stripe, ...bars, ...draw(block, this.scale, this.size));
   }
 
   /** The name of the row at a position. */
