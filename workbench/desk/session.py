@@ -5,9 +5,9 @@ import threading
 from dataclasses import replace
 from pathlib import Path
 
-from desk.answers import ask, tell
+from desk.answers import tell
 from desk.compare import Side, partners, trips_that_differ
-from desk.day import Day, read_day
+from desk.day import Day, ask_in, read_day
 from desk.edits import Script, record_of, writing
 from desk.errors import DeskError, UsageError
 from desk.hints_scripts import script_hints
@@ -16,11 +16,11 @@ from desk.pipes import refuse_pipes
 from desk.plans import StatedBlock, read_plan
 from desk.rooms import FEED_FILES, room_of, scripts_of, state_of
 from desk.scripts import Record, with_edits, with_record
+from desk.suggestions import SUGGESTED, offers
 from desk.texts import Json
 from desk.town import Town
 from desk.view import as_view
 
-SUGGESTIONS = ("shifts", "chains", "audit")
 EXPORTS = {"blocks": ("blocks.csv and prices.csv", "blocks"), "boards": ("boards.csv", "joined"), "feed": ("the written feed", "write")}
 MOST_SECONDS = 10.0
 """For how many seconds an edit is waited for when the page ends."""
@@ -68,9 +68,9 @@ class Session:
             return {"done": True, "said": told.said, "moved": moved(before, after), "day": self._view(self._day)}
 
     def suggest(self, asked: Json) -> Json:
-        """What the program suggests for the day, or says of the blocks of today."""
+        """What the program suggests for the day and what helps it, or what it says of the blocks of today."""
         word = asked.get("word")
-        if word not in SUGGESTIONS:
+        if word not in (*SUGGESTED, "audit"):
             raise UsageError("this is no suggestion")
         with self.guard:
             day = self._read()
@@ -78,7 +78,8 @@ class Session:
         if day.planners:
             script = with_edits(script, day.planners.standing)
         with room_of(day.town, {"edits.csv": script}) as room:
-            return {"word": word, "found": ask(word, day.town, room)}
+            found = ask_in(room, day.town, word)
+        return {"found": offers(day, script, word, found) if word in SUGGESTED else found}
 
     def keep(self, asked: Json) -> Json:
         """Keeps what is new of the script in the journal."""

@@ -672,7 +672,7 @@ class ColourTest(ServedTest):
 @needs_browser
 @needs_program
 class SuggestionTest(ServedTest):
-    """Suggestions of the program that save a vehicle, each tried by a click."""
+    """Suggestions of the program, which are offered where they help, and tried by a click."""
 
     def try_first(self, word: str, told: str) -> str:
         """Asks for suggestions, tries the first one, which tells of itself so, and gives what the page says."""
@@ -689,13 +689,14 @@ class SuggestionTest(ServedTest):
             "desk.toml": "late = 1\n", "trips.txt": "service_id,trip_id\nW,V1\nW,V2\n",
             "stop_times.txt": table("trip_id,stop_sequence,arrival_time,departure_time,stop_id",
                                     [(trip, number, time, time, stop) for trip, number, time, stop in times])}))
-        self.assertIn("vehicles 2 → 1", self.try_first("shifts", "V2 by 1"))
+        self.assertIn("vehicles 2 → 1", self.try_first("shifts", "V2 by +1: vehicles 2 → 1, empty minutes 0 as before"))
         self.assertEqual(self.script(), "shift,V2,+1\n")
         self.assertEqual(self.browser.errors(), [])
 
     def test_chain(self) -> None:
-        """A deadhead becomes an extra trip."""
+        """A chain of deadheads that the plan has already is not offered, and the page says so."""
         self.serve_example("depot")
-        self.assertIn("vehicles without deadheads 2 → 1", self.try_first("chains", "B 06:40 to C 07:00, then 1"))
-        self.assertEqual(self.script(), "extra,dh B 06:40 1,B,C,06:40,07:00\n")
-        self.assertEqual(self.browser.errors(), [])
+        self.browser.click("#tab-Edits")
+        self.browser.click("#suggest-chains")
+        self.browser.wait(lambda: "1 chain is not offered: this plan would not be better." in self.browser.text("#suggested"))
+        self.assertEqual((self.names("#suggested button"), self.browser.errors()), ([], []))

@@ -19,13 +19,16 @@ from pathlib import Path
 from typing import Any
 from unittest import mock
 
+from desk.day import read_day
 from desk.errors import DeskError, UsageError
 from desk.keeping import NOTHING, canonical
 from desk.program import ROOT
 from desk.rooms import own_room
 from desk.session import CHANGED, Session
+from desk.suggestions import _tried
+from desk.town import Town
 from desk.web import HEADERS, MOST_BODY, MOST_LINES, STATIC, WebServer
-from tests.feeds import FolderTest, needs_program
+from tests.feeds import FolderTest, needs_program, table, write_feed
 
 TOKEN = "the-token-of-the-tests"
 
@@ -445,11 +448,37 @@ class SessionTest(FolderTest):
 
     def test_suggestions(self) -> None:
         """The suggestions are those of the program, of the day as it stands."""
-        self.assertEqual(self.session.suggest({"word": "shifts"})["found"], {"refused": [], "shifts": [], "sum": 2})
+        self.assertEqual(self.session.suggest({"word": "shifts"})["found"],
+                         {"count": 0, "untried": 0, "sum": 2, "offered": [], "now": {"vehicles": 2, "minutes": 0}})
         self.assertEqual(self.session.suggest({"word": "audit"})["found"]["vehicles"], 2)
         for word in ("blocks", "keep", None, ["audit"]):
             with self.assertRaises(UsageError):
                 self.session.suggest({"word": word})
+
+    def test_tried_suggestions(self) -> None:
+        """A shift that saves a vehicle is offered with what it does. A chain is not, where the plan has its deadhead already."""
+        def suggested(word: str) -> dict[str, Any]:
+            return Session(self.town).suggest({"word": word})["found"]
+
+        shutil.copy(ROOT / "examples" / "depot" / "depot.csv", self.town)
+        for name in ("trips.txt", "stop_times.txt", "deadheads.csv"):
+            shutil.copy(ROOT / "examples" / "depot" / name, self.town)
+        (self.town / "tolerances.csv").unlink()
+        found = suggested("chains")
+        self.assertEqual((found["count"], found["sum"], found["offered"]), (1, 1, []))
+        times = [("V1", 1, "06:00:00", "A"), ("V1", 2, "06:30:00", "B"), ("V2", 1, "06:29:00", "B"), ("V2", 2, "06:59:00", "A")]
+        town = write_feed(self.room / "two", {
+            "desk.toml": "late = 1\n", "trips.txt": "service_id,trip_id\nW,V1\nW,V2\n",
+            "stop_times.txt": table("trip_id,stop_sequence,arrival_time,departure_time,stop_id",
+                                    [(trip, number, time, time, stop) for trip, number, time, stop in times])})
+        for script, now, offered in (("", 2, [1]), ("cancel,V1\nundo\nshift,V2,+9", 2, [1]), ("shift,V2,+1\n", 1, [])):
+            (town / "edits.csv").write_text(script)
+            found = Session(town).suggest({"word": "shifts"})["found"]
+            self.assertEqual(found["now"], {"vehicles": now, "minutes": 0})
+            self.assertEqual([one["vehicles"] for one in found["offered"]], offered)
+            self.assertEqual((town / "edits.csv").read_text(), script)
+        self.assertEqual(_tried(read_day(Town(town)), b"", [{"edits": [{"edit": "cancel", "trip": name}], "own": 0} for name in ("X", "V1")]),
+                         [{"edits": [{"edit": "cancel", "trip": "V1"}], "own": 0, "vehicles": 1, "minutes": 0}])
 
     def test_keep(self) -> None:
         """What is kept already is not kept again."""

@@ -20,7 +20,11 @@ export class ScriptPanel {
 
   /** Shows the script of a day. */
   show(day) {
-    const { planners } = day.view;
+    const { planners, state } = day.view;
+    if (state !== this.state) {
+      this.suggestions.forget();
+    }
+    this.state = state;
     const parts = {
       "Edits": this.records(planners ? planners.records : day.view.script),
       "Trips that do not run": this.cancelled(day),

@@ -1,4 +1,4 @@
-/** Suggestions of the program, each to be tried: shifts and chains of deadheads; and what it says of the blocks of today. */
+/** Suggestions of the program that help the plan, shifts and chains of deadheads; and what it says of the blocks of today. */
 
 import { button, html, list } from "./elements.js";
 import { count } from "./times.js";
@@ -18,28 +18,37 @@ export class Suggestions {
     this.element = html("div", {}, html("div", { class: "buttons" }, ...buttons), this.found);
   }
 
+  /** Takes away what was suggested for another day. */
+  forget() {
+    this.found.replaceChildren();
+  }
+
   async suggest(word, pressed) {
     pressed.disabled = true;
-    this.found.replaceChildren(html("p", {}, "The program searches."));
+    this.found.replaceChildren(html("p", {}, "The program searches, and tries what it finds."));
     const answer = await this.tell("suggest", { word });
     pressed.disabled = false;
     this.found.replaceChildren(...(answer.error ? [html("p", { class: "refused" }, answer.error)] : this[word](answer.found)));
   }
 
-  /** Shifts, each to be tried. */
-  shifts({ shifts, sum }) {
-    const items = shifts.map(({ trip, shift }) => [`${trip} by ${shift} `, this.trial([{ edit: "shift", trip, shift }])]);
-    return [html("p", {}, `${count(shifts.length, "shift")}; vehicles without deadheads after them: ${sum}.`), list("ul", items)];
+  shifts(found) {
+    return this.offers(found, "shift");
   }
 
-  /** Chains, each to be tried as extra trips, which run empty. */
-  chains({ chains, sum }) {
-    const items = chains.map((chain) => {
-      const ways = chain.deadheads.map((way) => `${way.from} ${way.leaves} to ${way.to} ${way.arrives}`);
-      return [`${ways.join("; ")}, then ${chain.sum} `, this.trial(chain.deadheads.map(extraOf))];
-    });
-    const note = "A trial adds each deadhead as an extra trip, with the layover behind it.";
-    return [html("p", {}, `${count(chains.length, "chain")}; vehicles without deadheads after them: ${sum}. ${note}`), list("ul", items)];
+  chains(found) {
+    return this.offers(found, "chain");
+  }
+
+  /** What helps the plan, each to be tried, with what it does to vehicles and empty minutes. */
+  offers({ count: number, untried, sum, offered, now }, noun) {
+    const items = offered.map(({ words, edits, vehicles, minutes, own }) => [
+      `${words}: ${changeOf("vehicles", now.vehicles, vehicles)}, ${changeOf("empty minutes", now.minutes, minutes)}`,
+      own ? ` with ${own} of the extra ${edits.length === 1 ? "trip" : "trips"} ` : " ", this.trial(edits)]);
+    const others = number - untried - offered.length;
+    const more = untried ? ` ${untried} more are not tried yet.` : "";
+    const told = number ? `The program finds ${count(number, noun)}; vehicles without deadheads after them: ${sum}.` : `The program finds no ${noun}.`;
+    const left = others ? ` ${count(others, noun)} ${others === 1 ? "is" : "are"} not offered: this plan would not be better.` : "";
+    return [html("p", {}, told + left + more), list("ul", items)];
   }
 
   /** The neighbours that do not fit in the blocks of today, or how far these are from the least. */
@@ -66,7 +75,7 @@ export class Suggestions {
   }
 }
 
-/** A deadhead of a chain as an extra trip. */
-function extraOf({ from, leaves, to, arrives }, at) {
-  return { edit: "extra", trip: `dh ${from} ${leaves} ${at + 1}`, from, to, departs: leaves, arrives };
+/** A number before and after a suggestion, in words. */
+function changeOf(words, before, after) {
+  return before === after ? `${words} ${before} as before` : `${words} ${before} → ${after}`;
 }
