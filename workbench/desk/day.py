@@ -1,29 +1,28 @@
-"""The day of a town: the plan of the program, what it says of the plan, and what the town's files say of the trips.
+"""The day of a town: the plan of the program, and what the town's files say of the trips.
 
 The program runs in a room with the town's files, where a `show` behind the script asks for the plan. So each minute of a block
-is one that the program has said, and nothing is written into the town.
+is one that the program has said, and nothing is written into the town. It is one run; `proof` has what is asked of the plan.
 """
 from __future__ import annotations
 
 import datetime
-import filecmp
 import re
 from dataclasses import dataclass, field
 from pathlib import Path
 
 from desk.answers import FeedRefused, ask
 from desk.errors import DeskError
+from desk.files import read_bytes
 from desk.hints_refusals import refusal_hints
 from desk.plans import Block, Ride
-from desk.records import record_text
 from desk.rooms import Scripts, room_of, scripts_of, state_of
-from desk.scripts import Record, fields_of, judged, refuse_open_quote, with_edits, with_record, with_show
+from desk.scripts import Record, fields_of, judged, refuse_open_quote, with_edits, with_show
 from desk.texts import Json, minute_of
 from desk.times import arrival_minute, departure_minute, parse_minute
 from desk.town import DayTrip, Town
 
-MOST_ASKED = 8
-"""Of how many planners it is asked whether an undo would be refused. Each costs a run of the program."""
+CLAIM = ("blocks.csv", "prices.csv")
+"""What the program writes of a plan, and judges."""
 
 
 @dataclass(frozen=True, slots=True)
@@ -39,15 +38,11 @@ class Published:
 
 @dataclass(frozen=True, slots=True)
 class Planners:
-    """The edits of several planners: their records with what the program says of each, and those that stand.
-
-    `held` has what the program says to an undo of each planner to whom it refuses one.
-    """
+    """The edits of several planners: their records with what the program says of each, and those that stand."""
 
     records: list[Record]
     standing: list[Json]
     cost: tuple[int, int, int]
-    held: dict[str, str]
 
     def holder(self, said: str) -> str:
         """The record that holds this undo; empty where none does."""
@@ -59,27 +54,47 @@ class Planners:
 
 
 @dataclass(frozen=True, slots=True)
+class Proof:
+    """What `check` says of a plan, and `deficits` of its timetable.
+
+    `held` has what `planners` says to an undo of each planner to whom it refuses one.
+    """
+
+    verdict: Json
+    deficits: Json
+    held: dict[str, str]
+
+
+@dataclass(frozen=True, slots=True)
 class Day:
     """A plan of a town. `cost` is the vehicles without deadheads, the vehicles of the blocks, and their empty minutes.
 
-    `written` says whether the `blocks.csv` of the town is of this plan: `same`, `other`, or `missing`.
+    `scripts` are those after which it is, and `claim` has the two files that the program has written of it. `written` says whether
+    the `blocks.csv` of the town is one of them: `same`, `other`, or `missing`. `proof` is None until it is asked for.
     """
 
     town: Town
     state: str
+    scripts: Scripts
     blocks: list[Block]
     cost: tuple[int, int, int]
-    verdict: Json
-    deficits: Json
+    claim: dict[str, bytes]
     records: list[Record]
     published: dict[str, Published]
     written: str
     planners: Planners | None
+    proof: Proof | None = None
     made: datetime.datetime = field(default_factory=datetime.datetime.now)
 
+    @property
+    def script(self) -> bytes:
+        """The script of the plan: with planners their edits that stand are behind it."""
+        own = self.scripts.get("edits.csv", b"")
+        return with_edits(own, self.planners.standing) if self.planners else own
 
-def read_day(town: Town, scripts: Scripts | None = None, with_planners: bool = False) -> Day:
-    """The day of a town after its scripts, or after these. Without planners their script is passed over."""
+
+def plan_day(town: Town, scripts: Scripts | None = None, with_planners: bool = False) -> Day:
+    """The day of a town after its scripts, or after these, without its proof. Without planners their script is passed over."""
     state = state_of(town)
     scripts = scripts_of(town) if scripts is None else scripts
     own = script = scripts.get("edits.csv", b"")
@@ -88,8 +103,8 @@ def read_day(town: Town, scripts: Scripts | None = None, with_planners: bool = F
     if planners:
         script = with_edits(script, planners.standing)
     with room_of(town, {"edits.csv": with_show(script)}) as room:
-        told, verdict, deficits = (ask_in(room, town, command) for command in ("blocks", "check", "deficits"))
-        written = _compared(room / "blocks.csv", town.path("blocks.csv"))
+        told = ask_in(room, town, "blocks")
+        claim = {name: read_bytes(room / name) for name in CLAIM}
     records = judged("edits.csv", with_show(script), told["records"])
     if not records[-1].ok:
         raise DeskError(f"edits.csv: a plan cannot be shown behind it: {records[-1].said}")
@@ -97,10 +112,11 @@ def read_day(town: Town, scripts: Scripts | None = None, with_planners: bool = F
     if planners and planners.cost != cost:
         raise DeskError("the numbers of `planners` are not those of `blocks` with the same edits")
     published = {**_published(town), **_extras(records)}
+    written = _compared(claim["blocks.csv"], town.path("blocks.csv"))
     shown = told["records"][-1].get("plan", {"blocks": []})
     blocks = [_block(block, published, bool(town.table("classes"))) for block in shown["blocks"]]
     records = records[:len(fields_of("edits.csv", own))]
-    return Day(town, state, blocks, cost, verdict, deficits, records, published, written, planners)
+    return Day(town, state, scripts, blocks, cost, claim, records, published, written, planners)
 
 
 def read_planners(town: Town, scripts: Scripts) -> Planners:
@@ -110,34 +126,7 @@ def read_planners(town: Town, scripts: Scripts) -> Planners:
     with room_of(town, scripts) as room:
         told = ask_in(room, town, "planners")
     records = judged("planner_edits.csv", script, told["records"], "planner")
-    names = may_be_held(told["standing"])[:MOST_ASKED]
-    held = {name: said for name in names if (said := undo_refused(town, scripts, name))}
-    return Planners(records, told["standing"], (told["fixed"], told["vehicles"], told["minutes"]), held)
-
-
-def may_be_held(standing: list[Json]) -> list[str]:
-    """The planners of whom the program is asked: a later edit of another one names the trip of the last edit of each."""
-    found: list[str] = []
-    planners: set[str] = set()
-    trips: set[str] = set()
-    for edit in reversed(standing):
-        if edit["planner"] not in planners and edit["trip"] in trips:
-            found.append(edit["planner"])
-        planners.add(edit["planner"])
-        trips.add(edit["trip"])
-    return found
-
-
-def undo_refused(town: Town, scripts: Scripts, planner: str) -> str | None:
-    """What the program says to an undo of a planner where it refuses one; None where it is done, or cannot be asked."""
-    undo = record_text([planner, "undo"]).encode("utf-8", "surrogateescape")
-    script = with_record(scripts.get("planner_edits.csv", b""), undo)
-    try:
-        with room_of(town, {**scripts, "planner_edits.csv": script}) as room:
-            told = ask_in(room, town, "planners")["records"][-1]
-    except DeskError:
-        return None
-    return None if told["ok"] else told["why"]
+    return Planners(records, told["standing"], (told["fixed"], told["vehicles"], told["minutes"]))
 
 
 def ask_in(room: Path, town: Town, command: str) -> Json:
@@ -148,11 +137,11 @@ def ask_in(room: Path, town: Town, command: str) -> Json:
         raise DeskError(str(error), refusal_hints(town, error.said)) from error
 
 
-def _compared(planned: Path, stands: Path) -> str:
+def _compared(planned: bytes, stands: Path) -> str:
     """Whether the `blocks.csv` that stands is the one that is planned."""
     if not stands.is_file():
         return "missing"
-    return "same" if filecmp.cmp(planned, stands, shallow=False) else "other"
+    return "same" if read_bytes(stands) == planned else "other"
 
 
 def _published(town: Town) -> dict[str, Published]:

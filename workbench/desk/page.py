@@ -6,11 +6,12 @@ import re
 import sys
 from pathlib import Path
 
-from desk.day import Day, read_day
+from desk.day import Day
 from desk.errors import DeskError, complain
 from desk.files import refuse_if_there, write_whole
 from desk.hints_scripts import script_hints
 from desk.policy import checksum
+from desk.proof import read_day
 from desk.town import Town
 from desk.view import as_text, as_view
 from desk.web import STATIC

@@ -11,13 +11,14 @@ from tempfile import TemporaryDirectory
 from desk.answers import tell
 from desk.board_rows import make_boards
 from desk.boards_page import boards_page
-from desk.day import Day, read_day
+from desk.day import Day
 from desk.errors import DeskError, UsageError, complain
 from desk.figures import figures_text, make_figures
 from desk.files import refuse_if_there, whole_file, write_whole
 from desk.lines import LineNames
 from desk.new_report import counted, some
 from desk.plans import Plan, read_plan
+from desk.proof import read_day
 from desk.published_check import judge
 from desk.published_feed import Handover, make_feed
 from desk.rooms import room_of, scripts_of
@@ -49,8 +50,9 @@ def run(arguments: argparse.Namespace) -> int:
     for path in (out, *beside):
         refuse_if_there(path, arguments.replace)
     day = read_day(Town(arguments.town))
-    if day.verdict["verdict"] != "yes" or not day.blocks:
-        raise DeskError(f"nothing is written: {day.verdict['reason'] if day.blocks else 'no trip runs'}")
+    verdict = day.proof.verdict if day.proof else {}
+    if verdict.get("verdict") != "yes" or not day.blocks:
+        raise DeskError(f"nothing is written: {verdict.get('reason', 'no proof') if day.blocks else 'no trip runs'}")
     with room_of(day.town, scripts_of(day.town)) as room, TemporaryDirectory(prefix="desk-") as work:
         feed, packed = Path(work) / "feed", Path(work) / "feed.zip"
         feed.mkdir()

@@ -55,7 +55,7 @@ def run(arguments: argparse.Namespace) -> int:
 def run_directly() -> None:
     """Names the program itself, where the launcher tells its path.
 
-    The launcher compares all sources in each run, and an edit makes three runs.
+    The launcher compares all sources in each run, and an edit is one.
     """
     if "BLOCKDESK" not in os.environ:
         told = program.run(["--program"])

@@ -1,4 +1,7 @@
-"""What `desk open` does to a town: it reads the day, writes edits that the program accepts, and asks for suggestions."""
+"""What `desk open` does to a town: it reads the day, writes edits that the program accepts, and asks for suggestions.
+
+An edit is one run of the program. The page asks for the proof of the plan once it has drawn it.
+"""
 from __future__ import annotations
 
 import threading
@@ -7,19 +10,20 @@ from pathlib import Path
 
 from desk.answers import tell
 from desk.compare import Side, partners, trips_that_differ
-from desk.day import Day, ask_in, read_day
+from desk.day import Day, ask_in, plan_day
 from desk.edits import Script, record_of, writing
 from desk.errors import DeskError, UsageError
 from desk.hints_scripts import script_hints
 from desk.keeping import keep
 from desk.pipes import refuse_pipes
-from desk.plans import StatedBlock, read_plan
+from desk.plans import Block, StatedBlock, read_plan
+from desk.proof import proved
 from desk.rooms import FEED_FILES, room_of, scripts_of, state_of
-from desk.scripts import Record, with_edits, with_record
+from desk.scripts import Record, with_record
 from desk.suggestions import SUGGESTED, offers
 from desk.texts import Json
 from desk.town import Town
-from desk.view import as_view
+from desk.view import as_view, change_of, proof_view
 
 EXPORTS = {"blocks": ("blocks.csv and prices.csv", "blocks"), "boards": ("boards.csv", "joined"), "feed": ("the written feed", "write")}
 MOST_SECONDS = 10.0
@@ -38,15 +42,29 @@ class Session:
         self.guard = threading.Lock()
         self._town: tuple[str, Town] | None = None
         self._day: Day | None = None
+        self._seen: tuple[Day, Json] | None = None
 
     def state(self) -> Json:
         """The state of the folder, which is another one when a file of it is written."""
         return {"state": state_of(Town(self.folder))}
 
     def day(self) -> Json:
-        """The day as it stands."""
+        """The day as it stands, with its proof."""
         with self.guard:
-            return {"day": self._view(self._read())}
+            self._day = proved(self._read())
+            return {"day": self._view(self._day)}
+
+    def proof(self, asked: Json) -> Json:
+        """The proof of the day of this state; None where another one stands. Edits are not kept waiting meanwhile."""
+        with self.guard:
+            day = self._read()
+        if asked.get("state") != day.state:
+            return {"proof": None}
+        after = proved(day)
+        with self.guard:
+            if self._day is day:
+                self._day, self._seen = after, (after, self._view(day) | {"proof": proof_view(after)})
+        return {"proof": proof_view(after)}
 
     def edit(self, asked: Json) -> Json:
         """Writes an edit behind the script where the program accepts it, and says what that changes."""
@@ -64,8 +82,9 @@ class Session:
                 hints = script_hints(before.town, told.said, {self.script_name: with_record(script.content, record)})
                 return {"done": False, "said": told.said + (f" ({holder})" if holder else ""), "hints": hints}
             script.append(record)
+            seen = self._view(before)
             self._day = replace(after, state=state_of(after.town))
-            return {"done": True, "said": told.said, "moved": moved(before, after), "day": self._view(self._day)}
+            return {"done": True, "said": told.said, "moved": moved(before, after), "change": change_of(seen, self._view(self._day))}
 
     def suggest(self, asked: Json) -> Json:
         """What the program suggests for the day and what helps it, or what it says of the blocks of today."""
@@ -74,12 +93,9 @@ class Session:
             raise UsageError("this is no suggestion")
         with self.guard:
             day = self._read()
-        script = scripts_of(day.town).get("edits.csv", b"")
-        if day.planners:
-            script = with_edits(script, day.planners.standing)
-        with room_of(day.town, {"edits.csv": script}) as room:
+        with room_of(day.town, {"edits.csv": day.script}) as room:
             found = ask_in(room, day.town, word)
-        return {"found": offers(day, script, word, found) if word in SUGGESTED else found}
+        return {"found": offers(day, word, found) if word in SUGGESTED else found}
 
     def keep(self, asked: Json) -> Json:
         """Keeps what is new of the script in the journal."""
@@ -114,7 +130,7 @@ class Session:
         """The day, which is read again where the folder has changed."""
         town = self._current_town()
         if self._day is None or self._day.state != state_of(town):
-            self._day = read_day(town, with_planners=self.planner is not None)
+            self._day = plan_day(town, with_planners=self.planner is not None)
         return self._day
 
     def _current_town(self) -> Town:
@@ -128,7 +144,7 @@ class Session:
     def _tried(self, before: Day, script: Script, record: bytes) -> Day:
         """The day with a record behind the script, which is not written."""
         scripts = scripts_of(before.town) | {self.script_name: with_record(script.content, record)}
-        return read_day(before.town, scripts, with_planners=self.planner is not None)
+        return plan_day(before.town, scripts, with_planners=self.planner is not None)
 
     def _records(self, day: Day) -> list[Record]:
         """The records of the script that is written."""
@@ -136,20 +152,29 @@ class Session:
 
     def _view(self, day: Day) -> Json:
         """The day as the page reads it, with who edits."""
-        return as_view(day) | {"planner": self.planner}
+        if self._seen is None or self._seen[0] is not day:
+            self._seen = day, as_view(day) | {"planner": self.planner}
+        return self._seen[1]
 
 
 def moved(before: Day, after: Day) -> list[str]:
-    """The trips that are in other blocks than before, at other times, or new."""
-    sides = _side(before), _side(after)
+    """The trips that are in other blocks than before, at other times, or new. A block that does the same has none of them."""
+    same = {_does(block) for block in before.blocks} & {_does(block) for block in after.blocks}
+    sides = _side(before, same), _side(after, same)
     differ = trips_that_differ(*sides, partners(*sides))
     return sorted({trip["trip"] for kind in ("in_other_blocks", "moved", "new") for trip in differ[kind]})
 
 
-def _side(day: Day) -> Side:
-    """A day as a plan that is compared."""
+def _does(block: Block) -> tuple[tuple[str, int], ...]:
+    """Which trips a block makes, and when."""
+    return tuple((ride.name, ride.departs) for ride in block.rides)
+
+
+def _side(day: Day, same: set[tuple[tuple[str, int], ...]]) -> Side:
+    """A day as a plan that is compared, without these blocks."""
+    blocks = [block for block in day.blocks if _does(block) not in same]
     stated = {block.name: StatedBlock(block.name, tuple(ride.name for ride in block.rides), tuple(ride.empty for ride in block.rides))
-              for block in day.blocks}
-    times = {ride.name: (ride.departs, ride.ends) for block in day.blocks for ride in block.rides}
-    names = {ride.name: block.name for block in day.blocks for ride in block.rides}
-    return Side(day.town.folder.name, day.town, day.verdict, stated, times, names)
+              for block in blocks}
+    times = {ride.name: (ride.departs, ride.ends) for block in blocks for ride in block.rides}
+    names = {ride.name: block.name for block in blocks for ride in block.rides}
+    return Side(day.town.folder.name, day.town, {}, stated, times, names)

@@ -20,12 +20,12 @@ MOST_TRIED = 64
 """How many suggestions are tried at the most."""
 
 
-def offers(day: Day, script: bytes, word: str, found: Json) -> Json:
+def offers(day: Day, word: str, found: Json) -> Json:
     """What a command suggests and what of it helps the plan, with the vehicles and the empty minutes after it."""
     suggested = found[word]
     made = [_shift(one) if word == "shifts" else _chain(one, day.published) for one in suggested[:MOST_TRIED]]
     _, vehicles, minutes = day.cost
-    offered = [one for one in _tried(day, script, made) if (one["vehicles"], one["minutes"]) < (vehicles, minutes)]
+    offered = [one for one in tried(day, made) if (one["vehicles"], one["minutes"]) < (vehicles, minutes)]
     return {"count": len(suggested), "untried": len(suggested[MOST_TRIED:]), "sum": found["sum"], "offered": offered,
             "now": {"vehicles": vehicles, "minutes": minutes}}
 
@@ -51,22 +51,22 @@ def _free_name(name: str, taken: Iterable[str]) -> str:
     return name
 
 
-def _tried(day: Day, script: bytes, made: list[Json]) -> list[Json]:
+def tried(day: Day, made: list[Json]) -> list[Json]:
     """The suggestions that can be made, with the vehicles and the empty minutes of the plan after each alone."""
     while made:
         records = b"".join(record_of(edit, None) for one in made for edit in (*one["edits"], *[{"edit": "undo"}] * len(one["edits"])))
-        with room_of(day.town, {"edits.csv": with_record(script, records)}) as room:
+        with room_of(day.town, {"edits.csv": with_record(day.script, records)}) as room:
             told = ask_in(room, day.town, "blocks")["records"]
         at = len(told) - sum(2 * len(one["edits"]) for one in made)
-        tried = []
+        good = []
         for one in made:
             *_, last = after = told[at:at + len(one["edits"])]
             if not all(record["ok"] for record in after):
                 break
-            tried.append(one | {"vehicles": last["vehicles"], "minutes": last["minutes"] + one["own"]})
+            good.append(one | {"vehicles": last["vehicles"], "minutes": last["minutes"] + one["own"]})
             at += 2 * len(one["edits"])
-        if len(tried) == len(made):
-            return tried
+        if len(good) == len(made):
+            return good
         # Behind a refused edit an undo would take back another one.
-        del made[len(tried)]
+        del made[len(good)]
     return []

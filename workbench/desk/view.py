@@ -2,6 +2,7 @@
 from __future__ import annotations
 
 import json
+from typing import Any
 
 from desk.boards_page import day_text
 from desk.day import Day, Published
@@ -16,6 +17,9 @@ from desk.texts import Json, minute_of
 from desk.texts_written import edit_text, verdict_text
 from desk.town import Town
 from desk.unlisted import told, unlisted
+
+LISTS = ("trips", "blocks", "script")
+"""The lists of a view that are long, and mostly as they were after an edit."""
 
 PROVED = "No plan has fewer vehicles, and none with as many has fewer empty minutes: checked by prices."
 
@@ -34,16 +38,15 @@ def as_view(day: Day) -> Json:
         "made": f"{day.made:%Y-%m-%d %H:%M:%S}",
         "written": day.written,
         "numbers": {"vehicles": vehicles, "minutes": minutes, "fixed": fixed},
-        "verdict": _verdict(day),
         "colours": lines.colours,
         "trips": trips,
         "blocks": [_block(block, numbers) for block in day.blocks],
-        "places": [_place(place) for place in day.deficits["places"]],
         "script": [_record(record) for record in day.records],
         "undo": done[-1].text if done else None,
         "redo": undone[-1].text if undone else None,
         "planners": _planners(day),
         "warnings": _warnings(day),
+        "proof": proof_view(day),
     }
 
 
@@ -52,16 +55,42 @@ def _warnings(day: Day) -> list[str]:
     return told(unlisted(day.town, ([(ride.start, ride.end) for ride in block.rides] for block in day.blocks)))
 
 
+def change_of(before: Json, after: Json) -> Json:
+    """A view as it is sent to a page that has the one before: its lists in parts."""
+    return after | {name: parts_of(before[name], after[name]) for name in LISTS}
+
+
+def parts_of(before: list[Json], after: list[Json]) -> list[Any]:
+    """A list in parts: `[first, count]` are elements that stand where they stood in the list before, and all else is an element."""
+    parts: list[Any] = []
+    for place, element in enumerate(after):
+        if place >= len(before) or element != before[place]:
+            parts.append(element)
+        elif parts and isinstance(parts[-1], list):
+            parts[-1][1] += 1
+        else:
+            parts.append([place, 1])
+    return parts
+
+
+def proof_view(day: Day) -> Json | None:
+    """What `check` and `deficits` say of a day, and by whom the last edit of each planner is held; None until they are asked."""
+    if day.proof is None:
+        return None
+    held = {name: day.planners.holder(said) for name, said in day.proof.held.items()} if day.planners else {}
+    return {"verdict": _verdict(day, day.proof.verdict), "places": [_place(place) for place in day.proof.deficits["places"]], "held": held}
+
+
 def as_text(view: Json) -> str:
     """A view as JSON that may stand inside a page: it has no `<`, and a byte that is no UTF-8 is a question mark."""
     text = json.dumps(view, ensure_ascii=False, separators=(",", ":")).replace("<", "\\u003c")
     return text.encode("utf-8", "replace").decode("utf-8")
 
 
-def _verdict(day: Day) -> Json:
+def _verdict(day: Day, said: Json) -> Json:
     """What `check` says, as its line and in words. `yes` is None of a day without trips: there is nothing to be proud of."""
-    text = verdict_text(day.verdict)
-    if day.verdict["verdict"] == "no":
+    text = verdict_text(said)
+    if said["verdict"] == "no":
         return {"yes": False, "text": text, "words": "The plan is not proved."}
     if day.blocks:
         return {"yes": True, "text": text, "words": PROVED}
@@ -129,12 +158,8 @@ def _record(record: Record) -> Json:
 
 
 def _planners(day: Day) -> Json | None:
-    """The planners' records, and which of their edits stand. The last one of a planner has who holds it, as the program says."""
+    """The planners' records, and which of their edits stand."""
     if day.planners is None:
         return None
-    last = {edit["planner"]: edit for edit in day.planners.standing}
-    edits = []
-    for edit in day.planners.standing:
-        said = day.planners.held.get(edit["planner"], "") if edit is last[edit["planner"]] else ""
-        edits.append({"planner": edit["planner"], "trip": edit["trip"], "text": edit_text(edit), "held": day.planners.holder(said)})
+    edits = [{"planner": edit["planner"], "trip": edit["trip"], "text": edit_text(edit)} for edit in day.planners.standing]
     return {"records": [_record(record) for record in day.planners.records], "standing": edits}

@@ -65,7 +65,7 @@ class WebServer(ThreadingHTTPServer):
         self.pages[""] = self.pages["index.html"]
         self.asked: dict[str, Callable[[], Json]] = {"day": session.day, "state": session.state}
         self.told: dict[str, Callable[[Json], Json]] = {
-            "edit": session.edit, "suggest": session.suggest, "keep": session.keep, "export": session.export}
+            "edit": session.edit, "proof": session.proof, "suggest": session.suggest, "keep": session.keep, "export": session.export}
         super().__init__(("127.0.0.1", port), Handler)
 
     def get_request(self) -> tuple[socket.socket, Any]:

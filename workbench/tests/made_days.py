@@ -5,7 +5,7 @@ import datetime
 import random
 from pathlib import Path
 
-from desk.day import Day, Published
+from desk.day import Day, Proof, Published
 from desk.plans import Block, Ride
 from desk.texts import Json
 from desk.times import format_minute
@@ -26,8 +26,8 @@ def made_day(trips: int) -> Day:
     blocks = _blocks(published)
     empty = sum(ride.empty for block in blocks for ride in block.rides) + sum(block.home for block in blocks)
     verdict = {"verdict": "yes", "vehicles": len(blocks), "minutes": empty, "refused": []}
-    return Day(Town(Path("made town")), "state", blocks, (len(blocks) + 9, len(blocks), empty), verdict, _deficits(blocks), [],
-               published, "same", None, datetime.datetime(2026, 9, 7, 8, 15))
+    return Day(Town(Path("made town")), "state", {}, blocks, (len(blocks) + 9, len(blocks), empty), {}, [], published, "same", None,
+               Proof(verdict, _deficits(blocks), {}), datetime.datetime(2026, 9, 7, 8, 15))
 
 
 def _published(trips: int) -> dict[str, Published]:

@@ -6,10 +6,10 @@ import re
 import shutil
 from pathlib import Path
 
-from desk.day import read_day
 from desk.page import IMPORT, joined_script, static_page
 from desk.plans import StatedBlock, read_blocks
 from desk.policy import checksum
+from desk.proof import read_day
 from desk.program import ROOT, run
 from desk.texts import Json
 from desk.town import Town
@@ -91,7 +91,7 @@ class PageTest(FolderTest):
             said = run(["blocks", folder]).text.decode()
             self.assertEqual(before, sorted(set(before) - {"blocks.csv", "prices.csv"}), "the page writes nothing into the town")
             self.assertEqual("fixed {fixed}, vehicles {vehicles}, minutes {minutes}\n".format(**view["numbers"]), said, example)
-            self.assertEqual(view["verdict"]["text"] + "\n", run(["check", folder]).text.decode())
+            self.assertEqual(view["proof"]["verdict"]["text"] + "\n", run(["check", folder]).text.decode())
             names = [trip["id"] for trip in view["trips"]]
             drawn = [StatedBlock(block["name"], tuple(names[number] for number, _ in block["rides"]),
                                  tuple(empty for _, empty in block["rides"])) for block in view["blocks"]]
@@ -110,7 +110,7 @@ class PageTest(FolderTest):
     def check_deficits(self, view: Json, deficits: str) -> None:
         """The deficits of all places make the text of `deficits`."""
         lines = []
-        for place in view["places"]:
+        for place in view["proof"]["places"]:
             lines.append(f"{place['name']} max {place['max']} at {self.clock(place['at'])}")
             lines += [f" {self.clock(minute)} {value}" for minute, value in place["steps"]]
         self.assertEqual("\n".join(lines), deficits.rpartition("\nsum ")[0])
@@ -163,16 +163,17 @@ class PageTest(FolderTest):
         (folder / "desk.toml").write_text("services = []\n")
         view = as_view(read_day(Town(folder)))
         self.assertEqual((view["blocks"], view["trips"], view["numbers"]), ([], [], {"fixed": 0, "vehicles": 0, "minutes": 0}))
-        self.assertEqual(view["verdict"]["words"], "No trip runs. desk.toml: `services` selects no trip. List services of trips.txt: \"W\".")
-        self.assertIsNone(view["verdict"]["yes"])
+        verdict = view["proof"]["verdict"]
+        self.assertEqual(verdict["words"], "No trip runs. desk.toml: `services` selects no trip. List services of trips.txt: \"W\".")
+        self.assertIsNone(verdict["yes"])
         town = self.town("small_town")
         (town / "desk.toml").write_text('date = "20260831"\n')
-        words = as_view(read_day(Town(town)))["verdict"]["words"]
+        words = as_view(read_day(Town(town)))["proof"]["verdict"]["words"]
         self.assertIn("no trip is selected on 20260831, a Monday", words)
         self.assertIn("Trips run on 20260901 (Tuesday, 188 trips)", words)
         feed = self.town("three_terminals")
         (feed / "edits.csv").write_text("".join(f"cancel,{trip['id']}\n" for trip in as_view(read_day(Town(feed)))["trips"]))
-        self.assertEqual(as_view(read_day(Town(feed)))["verdict"]["words"], "No trip runs. The script cancels all of them.")
+        self.assertEqual(as_view(read_day(Town(feed)))["proof"]["verdict"]["words"], "No trip runs. The script cancels all of them.")
 
     def test_warnings(self) -> None:
         """A terminal without a record in `depot.csv` stands beside the numbers. Its one vehicle leaves from A and ends at A."""

@@ -19,18 +19,26 @@ from pathlib import Path
 from typing import Any
 from unittest import mock
 
-from desk.day import read_day
+from desk import program
+from desk.day import plan_day
 from desk.errors import DeskError, UsageError
 from desk.keeping import NOTHING, canonical
 from desk.program import ROOT
 from desk.rooms import own_room
 from desk.session import CHANGED, Session
-from desk.suggestions import _tried
+from desk.suggestions import tried
 from desk.town import Town
+from desk.view import LISTS, parts_of
 from desk.web import HEADERS, MOST_BODY, MOST_LINES, STATIC, WebServer
 from tests.feeds import FolderTest, needs_program, table, write_feed
 
 TOKEN = "the-token-of-the-tests"
+RUN = program.run
+
+
+def whole_of(before: list[Any], parts: list[Any]) -> list[Any]:
+    """The list that these parts make."""
+    return [element for part in parts for element in (before[part[0]:sum(part)] if isinstance(part, list) else [part])]
 
 
 class StandIn:
@@ -52,7 +60,7 @@ class StandIn:
     def suggest(self, asked: dict[str, Any]) -> dict[str, Any]:
         raise UsageError("this is no suggestion")
 
-    keep = export = edit
+    keep = export = proof = edit
 
 
 class WebTest(FolderTest):
@@ -382,7 +390,7 @@ class SessionTest(FolderTest):
         self.assertEqual((first["said"], len(first["hints"]), self.script()), ("record 1: refused, U2: outside tolerance (+2)", 1, ""))
         answer = self.edit(edit="shift", trip="U2", shift=1)
         self.assertEqual((answer["done"], answer["said"]), (True, "record 1: ok, fixed 2, vehicles 1, minutes 31"))
-        self.assertEqual((answer["moved"], answer["day"]["numbers"]), (["U2"], {"vehicles": 1, "minutes": 31, "fixed": 2}))
+        self.assertEqual((answer["moved"], answer["change"]["numbers"]), (["U2"], {"vehicles": 1, "minutes": 31, "fixed": 2}))
         self.assertEqual(self.script(), "shift,U2,+1\n")
         refused = self.edit(edit="shift", trip="U2", shift=1)
         self.assertEqual(refused, {"done": False, "said": "record 2: refused, U2: outside tolerance (+2)", "hints": [
@@ -391,15 +399,37 @@ class SessionTest(FolderTest):
         self.assertEqual(self.script(), "shift,U2,+1\n")
         self.assertTrue(self.edit(edit="undo")["done"])
         again = self.edit(edit="redo")
-        self.assertEqual((self.script(), again["day"]["undo"], again["day"]["redo"]), ("shift,U2,+1\nundo\nredo\n", "shift,U2,+1", None))
+        self.assertEqual((self.script(), again["change"]["undo"], again["change"]["redo"]), ("shift,U2,+1\nundo\nredo\n", "shift,U2,+1", None))
         self.assertFalse((self.town / "blocks.csv").exists())
+
+    def test_one_run(self) -> None:
+        """An edit is one run of the program, and its answer has what changed. The proof of the plan is asked for by itself."""
+        day, runs = self.session.day()["day"], []
+        with mock.patch.object(program, "run", lambda words: runs.append(words[0]) or RUN(words)):
+            change = self.session.edit({"edit": "shift", "trip": "U2", "shift": 1, "state": day["state"]})["change"]
+            self.assertEqual((runs, change["proof"]), (["blocks"], None))
+            told = self.session.proof({"state": change["state"]})["proof"]
+            self.assertEqual(runs, ["blocks", "check", "deficits"])
+            self.assertEqual(self.session.proof({"state": day["state"]}), {"proof": None})
+        self.assertEqual((told["verdict"]["text"], [place["name"] for place in told["places"]]), ("yes, vehicles 1, minutes 31", ["A", "B", "C"]))
+        self.assertEqual(change["trips"], [[0, 1], self.session.day()["day"]["trips"][1]])
+        whole = Session(self.town).day()["day"]
+        for name in LISTS:
+            self.assertEqual(whole_of(day[name], change[name]), whole[name])
+
+    def test_parts(self) -> None:
+        """A list in parts has what stands where it stood as slices, and all else as it is."""
+        for before, after, parts in (("abc", "abc", [[0, 3]]), ("abc", "axcd", [[0, 1], "x", [2, 1], "d"]), ("abc", "", []), ("", "a", ["a"]),
+                                     ("abc", "ab", [[0, 2]]), ("abc", "bcd", ["b", "c", "d"])):
+            self.assertEqual(parts_of(list(before), list(after)), parts)
+            self.assertEqual(whole_of(list(before), parts), list(after))
 
     def test_extra_and_cancel(self) -> None:
         """Extra trips come in, cancelled ones go and come back."""
-        answer = self.edit(edit="extra", trip="E, 1", **{"from": "B", "to": "C"}, departs="6:40", arrives="06:50")
-        self.assertEqual([trip["id"] for trip in answer["day"]["trips"] if trip["runs"]], ["U1", "U2", "E, 1"])
-        cancelled = self.edit(edit="cancel", trip="E, 1")["day"]
-        self.assertEqual([trip["id"] for trip in cancelled["trips"] if not trip["runs"]], ["E, 1"])
+        change = self.edit(edit="extra", trip="E, 1", **{"from": "B", "to": "C"}, departs="6:40", arrives="06:50")["change"]
+        self.assertEqual([trip if isinstance(trip, list) else trip["id"] for trip in change["trips"]], [[0, 2], "E, 1"])
+        self.assertTrue(self.edit(edit="cancel", trip="E, 1")["done"])
+        self.assertEqual([trip["id"] for trip in self.session.day()["day"]["trips"] if not trip["runs"]], ["E, 1"])
         self.assertTrue(self.edit(edit="restore", trip="E, 1")["done"])
         self.assertEqual(self.script(), 'extra,"E, 1",B,C,6:40,06:50\ncancel,"E, 1"\nrestore,"E, 1"\n')
 
@@ -477,7 +507,7 @@ class SessionTest(FolderTest):
             self.assertEqual(found["now"], {"vehicles": now, "minutes": 0})
             self.assertEqual([one["vehicles"] for one in found["offered"]], offered)
             self.assertEqual((town / "edits.csv").read_text(), script)
-        self.assertEqual(_tried(read_day(Town(town)), b"", [{"edits": [{"edit": "cancel", "trip": name}], "own": 0} for name in ("X", "V1")]),
+        self.assertEqual(tried(plan_day(Town(town)), [{"edits": [{"edit": "cancel", "trip": name}], "own": 0} for name in ("X", "V1")]),
                          [{"edits": [{"edit": "cancel", "trip": "V1"}], "own": 0, "vehicles": 1, "minutes": 0}])
 
     def test_keep(self) -> None:
@@ -517,8 +547,9 @@ class SessionTest(FolderTest):
         self.assertEqual((held["done"], held["said"]), (False, "planner 3: refused, U2: held by record 2 (bob: cancel, U2)"))
         self.assertEqual(self.script("planner_edits.csv"), "ann,shift,U2,+1\nbob,cancel,U2\n")
         day = ann.day()["day"]
-        standing = [(edit["planner"], edit["text"], edit["held"]) for edit in day["planners"]["standing"]]
-        self.assertEqual(standing, [("ann", "shift,U2,+1", "bob: cancel, U2"), ("bob", "cancel,U2", "")])
+        standing = [(edit["planner"], edit["text"]) for edit in day["planners"]["standing"]]
+        self.assertEqual(standing, [("ann", "shift,U2,+1"), ("bob", "cancel,U2")])
+        self.assertEqual(day["proof"]["held"], {"ann": "bob: cancel, U2"})
         self.assertEqual((day["planner"], day["numbers"]["vehicles"], self.script()), ("ann", 1, ""))
         with self.assertRaises(UsageError):
             ann.keep({})
@@ -527,11 +558,11 @@ class SessionTest(FolderTest):
         """The last edit of each planner says who holds it, as the program says to an undo, or nothing where it cannot be asked."""
         script = '"ann, early",shift,U2,+1\nbob,cancel,U1\n"ann, early",cancel,U2\ncy,restore,U1\nbob,shift,U2,+1\n'
         (self.town / "planner_edits.csv").write_text(script)
-        told = Session(self.town, "ann, early").day()["day"]["planners"]
-        self.assertEqual([(edit["planner"], edit["text"], edit["held"]) for edit in told["standing"]], [
-            ("ann, early", "shift,U2,+1", ""), ("bob", "cancel,U1", "cy: restore, U1"), ("ann, early", "cancel,U2", ""),
-            ("cy", "restore,U1", "")])
+        told = Session(self.town, "ann, early").day()["day"]
+        self.assertEqual([(edit["planner"], edit["text"]) for edit in told["planners"]["standing"]], [
+            ("ann, early", "shift,U2,+1"), ("bob", "cancel,U1"), ("ann, early", "cancel,U2"), ("cy", "restore,U1")])
+        self.assertEqual(told["proof"]["held"], {"bob": "cy: restore, U1"})
         self.assertEqual((self.town / "planner_edits.csv").read_text(), script)
         (self.town / "planner_edits.csv").write_text("ann,shift,U2,+1\nbob,cancel,U2\n" + "ann,redo\n" * 4094)
-        told = Session(self.town, "ann").day()["day"]["planners"]
-        self.assertEqual([edit["held"] for edit in told["standing"]], ["", ""])
+        told = Session(self.town, "ann").day()["day"]
+        self.assertEqual((len(told["planners"]["standing"]), told["proof"]["held"]), (2, {}))

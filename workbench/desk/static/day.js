@@ -6,8 +6,10 @@ import { clock, count, exactClock, signed } from "./times.js";
 export const KINDS = { out: "out of the depot", trip: "trip", empty: "empty running", wait: "waiting", home: "home to the depot" };
 
 export class Day {
-  constructor(view) {
+  /** The day of a view. Until its proof has come, the deficits of places are those of the day before it. */
+  constructor(view, before) {
     this.view = view;
+    this.places = view.proof?.places ?? before?.places ?? [];
     this.trips = view.trips;
     this.blocks = view.blocks.map((block, row) => withBars(block, row, view.trips));
     this.bars = new Map();
@@ -32,6 +34,12 @@ export class Day {
   /** The vehicles that are out or wait for a later trip, as steps. */
   away() {
     return stepsOf(this.blocks.map((block) => ({ from: block.leaves, until: block.returns })));
+  }
+
+  /** The proof of the day has come; without one there is a reason why it could not be had. */
+  prove(proof, reason) {
+    Object.assign(this.view, { proof, reason });
+    this.places = proof?.places ?? this.places;
   }
 
   /** The trips that do not run. */

@@ -21,7 +21,8 @@ const EDIT_KEYS = [
 
 /** Shows the name, the numbers and the verdict of a day, and by how much the numbers are others than before. */
 export function showHead(view, before) {
-  const { title, date, planner, numbers, verdict } = view;
+  const { title, date, planner, numbers } = view;
+  const verdict = verdictOf(view);
   document.title = `${title}: ${date}`;
   byId("title").textContent = title;
   byId("date").textContent = planner ? `${date}, planner ${planner}` : date;
@@ -38,9 +39,10 @@ export function showHead(view, before) {
 }
 
 /** The run that gave the day, and what a planner should know beside it. */
-function runWords({ made, verdict, script, planners, written }) {
+function runWords(view) {
+  const { made, script, planners, written } = view;
   const words = [
-    `blocks and check of ${made}: check says ${verdict.text}`,
+    `blocks and check of ${made}: check says ${verdictOf(view).text}`,
     scriptWords("edits.csv", script),
     planners ? scriptWords("planner_edits.csv", planners.records) : "",
     written === "other" ? "blocks.csv in the folder is of another plan" : "",
@@ -71,9 +73,15 @@ export function changeWords(before, after, moved) {
 }
 
 /** What stands above the pages of a day on paper. */
-export function paperTitle({ title, date, numbers, verdict }) {
+export function paperTitle(view) {
+  const { title, date, numbers } = view;
   const plan = `${count(numbers.vehicles, "vehicle")}, ${count(numbers.minutes, "empty minute")}`;
-  return `${title}, ${date}: ${plan}; check: ${verdict.text}`;
+  return `${title}, ${date}: ${plan}; check: ${verdictOf(view).text}`;
+}
+
+/** What `check` says of a day; else that it is asked, or why it could not be asked. */
+function verdictOf({ proof, reason }) {
+  return proof?.verdict ?? { yes: null, words: reason ? `The plan could not be checked: ${reason}` : "The program checks the plan.", text: "nothing yet" };
 }
 
 /** Shows or hides what the keys do. */

@@ -2,6 +2,7 @@
 
 import { byId } from "./elements.js";
 import { SIZES } from "./bars.js";
+import { changed } from "./changes.js";
 import { Chart } from "./chart.js";
 import { Day } from "./day.js";
 import { Editing } from "./editing.js";
@@ -25,6 +26,7 @@ import { Tip } from "./tip.js";
 import { Vehicles } from "./vehicles.js";
 
 const EVERY = 2000;
+const SOON = 300;
 const LONG = 15000;
 const MANY = 40;
 const VIEWS = ["Vehicles", "Terminals", "Blocks"];
@@ -33,6 +35,7 @@ class Page {
   constructor(canEdit) {
     this.canEdit = canEdit;
     this.moved = new Set();
+    this.stale = new Set();
     this.lines = new LineStyles();
     this.scale = new Scale();
     this.tip = new Tip();
@@ -73,6 +76,9 @@ class Page {
   turn() {
     forgive();
     this.chart?.resize();
+    if (this.day) {
+      this.drawFront();
+    }
   }
 
   /** Shows a day, as it is after an edit of one's own or after those of others. */
@@ -81,7 +87,7 @@ class Page {
     const isHere = this.hasHand(isOwn);
     forgive();
     this.editing?.drop();
-    this.day = new Day(view);
+    this.day = new Day(view, this.day);
     this.lines.add(this.day.lines, view.colours);
     this.scale.setHours(this.day.begin, this.day.end);
     if (first) {
@@ -91,12 +97,36 @@ class Page {
     this.foundBar = this.foundBar && this.filters.hit;
     showHead(view, this.before);
     byId("legend").replaceChildren(...legendOf(this.day.lines, this.lines));
+    if (this.canEdit) {
+      this.stale.add("Edits");
+    }
     this.draw();
     this.chart.refit();
     if (this.canEdit) {
       showUndo(view);
-      this.script.show(this.day);
       this.follow(isHere);
+      this.proveSoon();
+    }
+  }
+
+  /** Asks for the proof of a day that comes without it, once it is painted and no other edit follows at once. */
+  proveSoon() {
+    clearTimeout(this.proving);
+    if (!this.day.view.proof) {
+      this.proving = setTimeout(() => this.prove(), SOON);
+    }
+  }
+
+  /** Asks for the proof of the day, and shows it where that day still stands. */
+  async prove() {
+    const { state } = this.day.view;
+    const { proof, error } = await tellServer("proof", { state });
+    if (state === this.day.view.state) {
+      this.day.prove(proof, error);
+      showHead(this.day.view, this.before);
+      this.script.showHeld(this.day);
+      this.stale.add("Terminals");
+      this.drawFront();
     }
   }
 
@@ -139,9 +169,22 @@ class Page {
     this.vehicles.size = SIZES[byId("row-size").value];
     this.shown = ordered(this.day, this.filters.rows(this.day));
     this.vehicles.show(this.day, this.shown);
-    this.terminals.show(this.day, this.filters.value("terminal"));
-    this.table.show(this.day, this.shown);
     this.chart.settle();
+    this.stale.add("Terminals").add("Blocks");
+    this.drawFront();
+  }
+
+  /** Draws what is in front beside the vehicles, where it is of another day or of other rows. */
+  drawFront() {
+    const draw = {
+      Terminals: () => this.terminals.show(this.day, this.filters.value("terminal")),
+      Blocks: () => this.table.show(this.day, this.shown),
+      Edits: () => this.script.show(this.day),
+    };
+    const front = [...this.stale].find((name) => !byId(`panel-${name}`).hidden);
+    if (this.stale.delete(front)) {
+      draw[front]();
+    }
   }
 
   /** The states of a bar that its drawing shows. */
@@ -214,10 +257,12 @@ class Page {
     forgive();
     this.say("");
     this.hand = edit.trip ?? this.hand;
+    clearTimeout(this.proving);
     const answer = await this.tell("edit", { ...edit, state: this.day.view.state });
     const words = [edit.edit, edit.trip, edit.shift && signed(edit.shift)].filter((part) => part).join(" ");
     if (!answer.done) {
       refuse(words, answer.error ?? answer.said, answer.hints ?? [], this.placeOf(edit.trip, element));
+      this.proveSoon();
       return false;
     }
     this.say(`${words}: ${changeWords(this.before, this.day.view.numbers, this.moved.size)}`);
@@ -238,10 +283,11 @@ class Page {
     const answer = await tellServer(name, body);
     document.body.classList.remove("busy");
     this.busy = false;
-    if (answer.day) {
+    const view = answer.change ? changed(this.day.view, answer.change) : answer.day;
+    if (view) {
       this.before = answer.done ? this.day.view.numbers : null;
       this.moved = new Set(answer.moved ?? []);
-      this.show(answer.day, true);
+      this.show(view, true);
     }
     return answer;
   }

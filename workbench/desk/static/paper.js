@@ -27,7 +27,7 @@ export function layPaper(day, shown, styles, title) {
   const blocks = shown.map((row) => day.blocks[row]);
   const sheet = new Sheet(day, styles, blocks.length > FEW ? FLAT : TALL);
   const vehicles = blocks.map((block) => [[block.name], sheet.block(block)]);
-  const places = day.view.places.map((place) => [[place.name, `max ${place.max} at ${clock(place.at)}`], sheet.steps(place.steps)]);
+  const places = (day.view.proof?.places ?? []).map((place) => [[place.name, `max ${place.max} at ${clock(place.at)}`], sheet.steps(place.steps)]);
   byId("paper").replaceChildren(
     html("div", { class: "paper-legend" }, ...legendOf(day.lines, styles)),
     tableOfDrawings([title, "Vehicles"], sheet.hours(), vehicles),

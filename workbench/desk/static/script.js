@@ -28,12 +28,19 @@ export class ScriptPanel {
     const parts = {
       "Edits": this.records(planners ? planners.records : day.view.script),
       "Trips that do not run": this.cancelled(day),
-      "An extra trip": this.extra(day.view.places.map((place) => place.name)),
+      "An extra trip": this.extra(day.places.map((place) => place.name)),
       "Suggestions": this.suggestions.element,
-      ...(planners ? { "Who edits what": this.standing(planners.standing) } : { "Keep and write": this.files(day.view.written) }),
+      ...(planners ? { "Who edits what": this.standing(planners.standing, day.view.proof?.held ?? {}) } : { "Keep and write": this.files(day.view.written) }),
     };
     const cards = Object.entries(parts).map(([title, part]) => html("section", {}, html("h2", {}, title), part));
     this.host.replaceChildren(html("div", { class: "cards" }, ...cards));
+  }
+
+  /** Shows who holds whom, once the program has been asked. */
+  showHeld({ view }) {
+    if (view.planners) {
+      byId("planners")?.replaceWith(this.standing(view.planners.standing, view.proof?.held ?? {}));
+    }
   }
 
   /** The records, with what the program says of each. */
@@ -83,9 +90,11 @@ export class ScriptPanel {
   }
 
   /** The planners' edits that stand, and who holds the last one of each. */
-  standing(edits) {
+  standing(edits, held) {
     const row = (name, texts) => html("tr", {}, ...texts.map((text) => html(name, {}, text)));
+    const last = new Map(edits.map((edit) => [edit.planner, edit]));
+    const holder = (edit) => (last.get(edit.planner) === edit ? held[edit.planner] ?? "" : "");
     return html("table", { id: "planners" }, html("thead", {}, row("th", ["planner", "edit that stands", "held by"])),
-      html("tbody", {}, ...edits.map((edit) => row("td", [edit.planner, edit.text, edit.held]))));
+      html("tbody", {}, ...edits.map((edit) => row("td", [edit.planner, edit.text, holder(edit)]))));
   }
 }

@@ -22,7 +22,7 @@ export class Terminals {
   /** Shows the terminals of a day, or one of them. */
   show(day, terminal) {
     this.day = day;
-    this.shown = day.view.places.filter((place) => !terminal || place.name === terminal);
+    this.shown = day.places.filter((place) => !terminal || place.name === terminal);
     this.rows.redraw();
   }
 

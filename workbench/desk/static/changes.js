@@ -1,0 +1,14 @@
+/** What has changed of a day: the server sends of its lists what is new, and which elements stand as before. */
+
+const LISTS = ["trips", "blocks", "script"];
+
+/** The view after a change of another one. In its lists `[first, count]` are elements that stand where they stood. */
+export function changed(view, change) {
+  const lists = LISTS.map((name) => [name, change[name].flatMap((part) => wholeOf(part, view[name]))]);
+  return { ...change, ...Object.fromEntries(lists) };
+}
+
+/** The elements of a part of a list. */
+function wholeOf(part, before) {
+  return Array.isArray(part) ? before.slice(part[0], part[0] + part[1]) : [part];
+}
