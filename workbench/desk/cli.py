@@ -18,9 +18,9 @@ from desk.leftovers import mend
 from desk.pipes import refuse_pipes
 from desk.terminal import shown_on_terminals
 from desk.versions import version
-from desk import boards, compare, figures, forward, new, notes, page, part, publish, saved, server
+from desk import boards, compare, figures, forward, new, notes, page, part, publish, saved, server, take
 
-COMMANDS: tuple[ModuleType, ...] = (new, part, notes, page, server, boards, figures, publish, compare, saved, forward)
+COMMANDS: tuple[ModuleType, ...] = (new, part, notes, page, server, boards, figures, publish, compare, saved, take, forward)
 """The modules of the commands, in the order of the help.
 
 Each has `add_arguments(parser)` and `run(arguments) -> int`. One of a single word has `WORD` and `HELP`; one of several

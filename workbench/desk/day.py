@@ -108,6 +108,9 @@ def plan_day(town: Town, scripts: Scripts | None = None, with_planners: bool = F
     records = judged("edits.csv", with_show(script), told["records"])
     if not records[-1].ok:
         raise DeskError(f"edits.csv: a plan cannot be shown behind it: {records[-1].said}")
+    count = len(fields_of("edits.csv", own))
+    if not all(record.ok for record in records[count:]):
+        raise DeskError("the program does not accept the planners' records that stand behind edits.csv")
     cost = told["fixed"], told["vehicles"], told["minutes"]
     if planners and planners.cost != cost:
         raise DeskError("the numbers of `planners` are not those of `blocks` with the same edits")
@@ -115,8 +118,7 @@ def plan_day(town: Town, scripts: Scripts | None = None, with_planners: bool = F
     written = _compared(claim["blocks.csv"], town.path("blocks.csv"))
     shown = told["records"][-1].get("plan", {"blocks": []})
     blocks = [_block(block, published, bool(town.table("classes"))) for block in shown["blocks"]]
-    records = records[:len(fields_of("edits.csv", own))]
-    return Day(town, state, scripts, blocks, cost, claim, records, published, written, planners)
+    return Day(town, state, scripts, blocks, cost, claim, records[:count], published, written, planners)
 
 
 def read_planners(town: Town, scripts: Scripts) -> Planners:

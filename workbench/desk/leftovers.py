@@ -7,6 +7,7 @@ from __future__ import annotations
 import os
 from pathlib import Path
 
+from desk.edits import finish_taking, is_taking
 from desk.files import read_bytes, sync_folder
 from desk.locks import locked
 from desk.new_room import BEFORE, undo
@@ -17,10 +18,10 @@ SCRIPT, WHOLE, PART = "edits.csv", ".whole-edits.csv", ".part-edits.csv"
 
 def mend(town: Path) -> list[str]:
     """Puts back what is half done in a town, and tells what was done, in a line for each."""
-    if not any(os.path.lexists(town / name) for name in (WHOLE, PART, BEFORE)):
+    if not is_taking(town) and not any(os.path.lexists(town / name) for name in (WHOLE, PART, BEFORE)):
         return []
     with locked(town):
-        told = [_put_back(town), undo(town)]
+        told = [_put_back(town), undo(town), _finish(town)]
         sync_folder(town)
     return [line for line in told if line]
 
@@ -41,6 +42,14 @@ def _put_back(town: Path) -> str:
             os.replace(whole, kept)
     part.unlink(missing_ok=True)
     return told
+
+
+def _finish(town: Path) -> str:
+    """Ends a `take` that was cut off, or takes it back."""
+    if not is_taking(town):
+        return ""
+    finish_taking(town)
+    return f"a take in {town} was cut off: each edit that stands is now in edits.csv or in planner_edits.csv, and in one of them"
 
 
 def _free(town: Path) -> Path:

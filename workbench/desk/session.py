@@ -10,9 +10,10 @@ from pathlib import Path
 
 from desk.answers import tell
 from desk.compare import Side, partners, trips_that_differ
-from desk.day import Day, ask_in, plan_day
+from desk.day import CLAIM, Day, ask_in, plan_day
 from desk.edits import Script, record_of, writing
 from desk.errors import DeskError, UsageError
+from desk.files import read_bytes, write_whole
 from desk.hints_scripts import script_hints
 from desk.keeping import keep
 from desk.pipes import refuse_pipes
@@ -21,11 +22,15 @@ from desk.proof import proved
 from desk.rooms import FEED_FILES, room_of, scripts_of, state_of
 from desk.scripts import Record, with_record
 from desk.suggestions import SUGGESTED, offers
+from desk.take import take
 from desk.texts import Json
 from desk.town import Town
 from desk.view import as_view, change_of, proof_view
 
-EXPORTS = {"blocks": ("blocks.csv and prices.csv", "blocks"), "boards": ("boards.csv", "joined"), "feed": ("the written feed", "write")}
+EXPORTS = {"blocks": ("blocks.csv and prices.csv", "blocks", CLAIM), "boards": ("boards.csv", "joined", ("boards.csv",)),
+           "feed": ("the written feed", "write", ("trips_blocks.txt", "stop_times_blocks.txt"))}
+"""What the page writes: its words, the command that writes it, and its files."""
+
 MOST_SECONDS = 10.0
 """For how many seconds an edit is waited for when the page ends."""
 
@@ -98,28 +103,34 @@ class Session:
         return {"found": offers(day, word, found) if word in SUGGESTED else found}
 
     def keep(self, asked: Json) -> Json:
-        """Keeps what is new of the script in the journal."""
-        if self.planner is not None or asked:
+        """Keeps what is new of the script in the journal. With planners it takes the edits that stand into the script before."""
+        if asked:
             raise UsageError("this cannot be kept")
-        with self.guard, writing(self.folder / "edits.csv"):
-            return {"said": keep(Town(self.folder), self._read().records)}
+        with self.guard, writing(self.folder / "edits.csv") as script:
+            taken = take(self._read(), script) if self.planner is not None else ""
+            said = taken + keep(Town(self.folder), self._read().records)
+            return {"said": said} | ({"day": self._view(self._read())} if taken else {})
 
     def export(self, asked: Json) -> Json:
-        """Writes files of the plan into the town."""
+        """Writes files of the plan into the town: with planners, of the plan by the edits that stand."""
         what = asked.get("what")
-        if self.planner is not None or not isinstance(what, str) or what not in EXPORTS:
+        if not isinstance(what, str) or what not in EXPORTS:
             raise UsageError("this cannot be written")
-        words, command = EXPORTS[what]
+        words, command, names = EXPORTS[what]
         refuse_pipes(self.folder)
         with self.guard, writing(self.folder / "edits.csv"):
             if command == "blocks":
                 self._day = None
-            try:
-                said = tell(command, self.folder).rstrip("\n").rpartition("\n")[2]
-            except DeskError as error:
-                raise DeskError(f"{words} could not be written: {error}") from error
-            if command == "joined":
-                read_plan(Town(self.folder))
+            if self.planner is None:
+                said = write_files(self.folder, self.folder, words, command)
+            else:
+                day = self._read()
+                with room_of(day.town, {"edits.csv": day.script, **day.claim}) as room:
+                    said = write_files(self.folder, room, words, command)
+                    for name in names:
+                        write_whole(self.folder / name, read_bytes(room / name), replace=True)
+                if command == "blocks":
+                    self._day = None
             return {"said": f"{words} in {self.folder.resolve()}: {said}", "day": self._view(self._read())}
 
     def close(self) -> None:
@@ -155,6 +166,17 @@ class Session:
         if self._seen is None or self._seen[0] is not day:
             self._seen = day, as_view(day) | {"planner": self.planner}
         return self._seen[1]
+
+
+def write_files(town: Path, folder: Path, words: str, command: str) -> str:
+    """Has the program write files into a town, or into a room with its feed, and gives what it says."""
+    try:
+        said = tell(command, town, folder).rstrip("\n").rpartition("\n")[2]
+    except DeskError as error:
+        raise DeskError(f"{words} could not be written: {error}") from error
+    if command == "joined":
+        read_plan(Town(folder))
+    return said
 
 
 def moved(before: Day, after: Day) -> list[str]:

@@ -288,7 +288,7 @@ class LookTest(BrowserTest):
           return [boxes.length, boxes.every((box, at) => at === 0 || boxes[at - 1].right <= box.left)]"""
         for width in (1400, 1280, 1111, 800, 500):
             self.browser.resize(width, 800)
-            self.browser.click("#zoom-fit")
+            self.browser.run("document.getElementById('zoom-fit').click()")
             number, good = self.browser.run(apart, "#panel-Vehicles .hour")
             self.assertEqual((number > 3, good), (True, True), width)
         self.browser.command("Emulation.setEmulatedMedia", media="print")

@@ -551,8 +551,8 @@ class SessionTest(FolderTest):
         self.assertEqual(standing, [("ann", "shift,U2,+1"), ("bob", "cancel,U2")])
         self.assertEqual(day["proof"]["held"], {"ann": "bob: cancel, U2"})
         self.assertEqual((day["planner"], day["numbers"]["vehicles"], self.script()), ("ann", 1, ""))
-        with self.assertRaises(UsageError):
-            ann.keep({})
+        self.assertIn("took 2 records", ann.keep({})["said"])
+        self.assertEqual(self.script(), "shift,U2,+1\ncancel,U2\n")
 
     def test_who_holds_whom(self) -> None:
         """The last edit of each planner says who holds it, as the program says to an undo, or nothing where it cannot be asked."""

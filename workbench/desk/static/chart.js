@@ -34,7 +34,7 @@ export class Chart {
 
   /** Shows the whole day. */
   fit() {
-    this.scale.fit(this.front.rows.room);
+    this.scale.fitted = true;
     this.front.rows.redraw();
   }
 
@@ -52,14 +52,6 @@ export class Chart {
   /** Follows the size of the window. */
   resize() {
     this.front.rows.redraw();
-    this.refit();
-  }
-
-  /** Where the whole day is shown, it fills the room that is left once its rows are drawn. */
-  refit() {
-    if (this.scale.fitted && Math.abs(this.scale.width - this.front.rows.room) > 1) {
-      this.fit();
-    }
   }
 
   /** Makes the hours wider or narrower, where the minute below a place of the frame stays. */

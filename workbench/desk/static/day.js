@@ -28,12 +28,14 @@ export class Day {
 
   /** The vehicles that are out, on trips, at their layover or running empty, as steps. Those that wait are not out. */
   service() {
-    return stepsOf(this.blocks.flatMap((block) => block.bars.filter((bar) => bar.kind !== "wait")));
+    this.out ??= stepsOf(this.blocks.flatMap((block) => block.bars.filter((bar) => bar.kind !== "wait")));
+    return this.out;
   }
 
   /** The vehicles that are out or wait for a later trip, as steps. */
   away() {
-    return stepsOf(this.blocks.map((block) => ({ from: block.leaves, until: block.returns })));
+    this.gone ??= stepsOf(this.blocks.map((block) => ({ from: block.leaves, until: block.returns })));
+    return this.gone;
   }
 
   /** The proof of the day has come; without one there is a reason why it could not be had. */

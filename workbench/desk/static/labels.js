@@ -1,5 +1,6 @@
 /** Texts that fit into the room that a bar has. */
 
+const NARROWEST = 3;
 const pen = document.createElement("canvas").getContext("2d");
 const widths = new Map();
 
@@ -15,9 +16,9 @@ export function widthOf(text, font) {
   return width;
 }
 
-/** The first of these texts that fits, or an empty one. */
+/** The first of these texts that fits, or an empty one. What would not fit in the narrowest letters is not measured. */
 export function firstThatFits(texts, room, font) {
-  return texts.find((text) => widthOf(text, font) <= room) ?? "";
+  return texts.find((text) => text.length * NARROWEST <= room && widthOf(text, font) <= room) ?? "";
 }
 
 /** A text, shortened with an ellipsis where it does not fit; empty where three letters of it do not. */

@@ -101,7 +101,6 @@ class Page {
       this.stale.add("Edits");
     }
     this.draw();
-    this.chart.refit();
     if (this.canEdit) {
       showUndo(view);
       this.follow(isHere);

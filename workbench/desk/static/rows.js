@@ -32,14 +32,24 @@ export class Rows {
     return this.frame.clientWidth - this.left - 2;
   }
 
-  /** Draws all anew, as after a zoom or with another day. */
+  /** Draws all anew, as after a zoom or with another day. Where the whole day is shown, it fills the room beside the bar that scrolls. */
   redraw() {
     if (!this.source.day) {
       return;
     }
-    const [width, height] = [this.scale.width, Math.max(this.source.count() * this.source.height(), 1)];
-    setSize(this.head, width, HOURS + this.topHeight);
+    const kept = this.day === this.source.day ? document.activeElement : null;
+    this.day = this.source.day;
+    this.drawn.clear();
+    this.names.replaceChildren();
+    this.sheet.replaceChildren();
+    const height = Math.max(this.source.count() * this.source.height(), 1);
     setSize(this.names, this.left, height);
+    if (this.scale.fitted && this.frame.clientWidth > 0) {
+      setSize(this.sheet, 1, height);
+      this.scale.fit(this.room);
+    }
+    const width = this.scale.width;
+    setSize(this.head, width, HOURS + this.topHeight);
     setSize(this.sheet, width, height);
     this.corner.style.height = `${HOURS + this.topHeight}px`;
     this.sheet.style.backgroundSize = `${60 * this.scale.perMinute}px 100%`;
@@ -49,11 +59,6 @@ export class Rows {
       top.setAttribute("transform", `translate(0 ${HOURS})`);
       this.head.append(top);
     }
-    const kept = this.day === this.source.day ? document.activeElement : null;
-    this.day = this.source.day;
-    this.drawn.clear();
-    this.names.replaceChildren();
-    this.sheet.replaceChildren();
     this.render();
     this.refocus(kept);
   }

@@ -10,6 +10,8 @@ const WRITTEN = {
   missing: "blocks.csv is not in the folder yet.",
 };
 
+const TAKEN = "What is written is of the edits that stand. The commands work on edits.csv: ./desk take puts these edits there.";
+
 export class ScriptPanel {
   /** `send` writes an edit, `tell` tells the server something, and `go` shows a trip. */
   constructor(host, send, tell, go) {
@@ -30,7 +32,8 @@ export class ScriptPanel {
       "Trips that do not run": this.cancelled(day),
       "An extra trip": this.extra(day.places.map((place) => place.name)),
       "Suggestions": this.suggestions.element,
-      ...(planners ? { "Who edits what": this.standing(planners.standing, day.view.proof?.held ?? {}) } : { "Keep and write": this.files(day.view.written) }),
+      ...(planners ? { "Who edits what": this.standing(planners.standing, day.view.proof?.held ?? {}) } : {}),
+      "Keep and write": this.files(day.view.written, planners),
     };
     const cards = Object.entries(parts).map(([title, part]) => html("section", {}, html("h2", {}, title), part));
     this.host.replaceChildren(html("div", { class: "cards" }, ...cards));
@@ -72,13 +75,14 @@ export class ScriptPanel {
       field("departs", "departs ", "HH:MM"), field("arrives", "arrives ", "HH:MM"), html("button", {}, "Add"));
   }
 
-  /** Keeping and writing, with what was answered last. */
-  files(written) {
-    const keep = button("Keep the edits in the journal", (pressed) => this.write("keep", {}, pressed), { id: "keep" });
-    const exports = EXPORTS.map(([what, label]) =>
-      button(`Write ${label}`, (pressed) => this.write("export", { what }, pressed), { id: `export-${what}` }));
+  /** Keeping and writing, with what was answered last. With planners it is of the edits that stand. */
+  files(written, planners) {
+    const label = planners ? "Take all planners' edits that stand into edits.csv, and keep them" : "Keep the edits in the journal";
+    const keep = button(label, (pressed) => this.write("keep", {}, pressed), { id: "keep" });
+    const exports = EXPORTS.map(([what, file]) =>
+      button(`Write ${file}`, (pressed) => this.write("export", { what }, pressed), { id: `export-${what}` }));
     const buttons = html("div", { class: "buttons" }, keep, ...exports);
-    return html("div", {}, buttons, html("p", { class: "light" }, WRITTEN[written]), this.answer);
+    return html("div", {}, buttons, html("p", { class: "light" }, WRITTEN[written], planners ? ` ${TAKEN}` : null), this.answer);
   }
 
   async write(name, body, pressed) {
