@@ -407,6 +407,25 @@ class LookTest(BrowserTest):
         self.assertTrue(all("07:0008:00" in head for head in heads[:2]))
         rows = self.browser.texts("#paper .sheet-of-paper:nth-of-type(1) tbody th")
         self.assertEqual(rows, [block.name for block in self.day.blocks])
+        beside = self.browser.texts("#paper .numbers-of-paper tbody tr:first-child td")
+        self.assertEqual([text for text in beside if text.startswith("B")], ["B1", "B2"])
+        self.assertEqual(len(self.browser.texts("#paper .numbers-of-paper tbody tr")), -(-len(rows) // 2))
+
+    def test_paper_of_a_vehicle(self) -> None:
+        """The paper of few vehicles has the times of their trips; pages have their numbers."""
+        self.open(400)
+        block = next(block for block in self.day.blocks if len(block.rides) > 4 and block.name not in ("B1", "B2"))
+        self.browser.type("#filter-block", block.name)
+        self.browser.run("dispatchEvent(new Event('beforeprint'))")
+        times = self.browser.texts("#paper .paper-time")
+        rows = self.browser.texts("#paper .sheet-of-paper:nth-of-type(1) tbody th")
+        shown = [shown for shown in self.day.blocks if shown.name in rows]
+        self.assertIn(block, shown)
+        for ride in (ride for one in shown for ride in one.rides):
+            self.assertTrue({f"{ride.departs // 60:02}:{ride.departs % 60:02}", f":{ride.departs % 60:02}"} & set(times), ride)
+        page = self.browser.run("""return [...document.styleSheets].flatMap((sheet) => [...sheet.cssRules])
+          .flatMap((rule) => [...(rule.cssRules ?? [])]).find((rule) => rule instanceof CSSPageRule).cssText""")
+        self.assertIn("counter(page)", page)
 
 
 class ServedTest(BrowserTest):

@@ -5,7 +5,7 @@ Places are in shares of the width, so any paper is filled. Labels are chosen so 
 import { drawPlaces } from "./bars.js";
 import { byId, html, svg } from "./elements.js";
 import { hatched } from "./hatch.js";
-import { firstThatFits } from "./labels.js";
+import { firstThatFits, widthOf } from "./labels.js";
 import { legendOf } from "./legend.js";
 import { markOf } from "./lines.js";
 import { hoursBetween } from "./scale.js";
@@ -15,12 +15,13 @@ import { clock } from "./times.js";
 const FEW = 16;
 const WIDTH = 940;
 const WIDEST = 1600;
-const STEPS = 42;
+const STEPS = 30;
 const FONT = "9px 'DejaVu Sans', Verdana, 'Segoe UI', sans-serif";
+const TIME = "7.5px 'DejaVu Sans', Verdana, 'Segoe UI', sans-serif";
 
-/** The rows of few vehicles, with the places below their bars, and those of many. */
-const TALL = { row: 34, top: 3, bar: 16, places: true };
-const FLAT = { row: 19, top: 2.5, bar: 14, places: false };
+/** The rows of few vehicles, with times above their bars and places below them, and those of many. */
+const TALL = { row: 43, top: 12, bar: 16, places: true };
+const FLAT = { row: 16, top: 1.5, bar: 13, places: false };
 
 /** Makes the pages of a day, of these blocks. */
 export function layPaper(day, shown, styles, title) {
@@ -46,13 +47,17 @@ function tableOfDrawings(titles, hours, rows) {
     html("tbody", {}, ...body));
 }
 
-/** The table of blocks. */
+/** The table of blocks. Two stand beside each other where they are many. */
 function tableOfBlocks(titles, day, blocks) {
   const columns = columnsOf(day);
-  const body = blocks.map((block) => html("tr", {}, ...columns.map(([, text]) => html("td", {}, text(block)))));
+  const beside = blocks.length > FEW ? 2 : 1;
+  const gap = (name) => html(name, { class: "paper-gap" });
+  const heads = Array.from({ length: beside }, (_, at) => [at ? gap("th") : null, ...columns.map(([heading]) => html("th", {}, heading))]);
+  const cells = (block, at) => [at ? gap("td") : null, ...columns.map(([, text]) => html("td", {}, text(block)))];
+  const rows = Array.from({ length: Math.ceil(blocks.length / beside) }, (_, row) => blocks.slice(row * beside, (row + 1) * beside));
   return html("table", { class: "sheet-of-paper numbers-of-paper" },
-    html("thead", {}, titleRow(titles, columns.length), html("tr", {}, ...columns.map(([heading]) => html("th", {}, heading)))),
-    html("tbody", {}, ...body));
+    html("thead", {}, titleRow(titles, beside * (columns.length + 1) - 1), html("tr", {}, ...heads.flat())),
+    html("tbody", {}, ...rows.map((row) => html("tr", {}, ...row.flatMap(cells)))));
 }
 
 /** The row of a title and of what a table shows. */
@@ -104,7 +109,7 @@ class Sheet {
       parts.push(this.upright("hour-line", minute, 0, this.size.row));
     }
     if (this.size.places) {
-      parts.push(...this.places(block));
+      parts.push(...this.places(block), ...this.times(block));
     }
     parts.push(...block.bars.flatMap((bar) => (bar.kind === "trip" ? this.trip(bar.trip) : this.between(bar))));
     return svg("svg", { width: "100%", height: this.size.row }, ...parts);
@@ -126,7 +131,7 @@ class Sheet {
     return [...running, this.upright("depot", bar.kind === "out" ? bar.from : bar.until, top, top + height)];
   }
 
-  /** A trip, with its line and its departure or its name where they fit. */
+  /** A trip, with its line and its name, and where they do not stand above it with its times, as they fit. */
   trip(trip) {
     const { top, bar: height } = this.size;
     const style = this.styles.of(trip.line);
@@ -141,11 +146,28 @@ class Sheet {
       parts.push(mark);
     }
     const room = ((this.share(trip.arrives) - this.share(trip.departs)) / 100) * WIDTH - 4;
-    const text = firstThatFits([`${trip.line} ${trip.id}`.trim(), `${trip.line} ${clock(trip.departs)}`.trim(), trip.line], room, FONT);
+    const times = `${clock(trip.departs)}–${clock(trip.arrives)}`;
+    const texts = this.size.places ? [`${trip.line} ${trip.id}`, trip.line]
+      : [`${trip.line} ${trip.id} ${times}`, `${trip.line} ${times}`, `${trip.line} ${clock(trip.departs)}`, trip.line];
+    const text = firstThatFits(texts.map((one) => one.trim()), room, FONT);
     if (text) {
       parts.push(svg("text", { class: `paper-label ${style.ink ?? ""}`, x: this.at(trip.departs), dx: 2, y: top + height / 2 + 3 }, text));
     }
     return parts;
+  }
+
+  /** The times of the trips of a block above their ends: both, or the departure alone, or its minutes, as they fit before the next one. */
+  times(block) {
+    const trips = block.bars.filter((bar) => bar.kind === "trip").map((bar) => bar.trip);
+    const wide = (from, until) => ((this.share(until) - this.share(from)) / 100) * WIDTH - 2;
+    const at = (minute, anchor, text) => svg("text", { class: "paper-time", x: this.at(minute), y: this.size.top - 3, "text-anchor": anchor }, text);
+    return trips.flatMap((trip, place) => {
+      const [departs, arrives] = [clock(trip.departs), clock(trip.arrives)];
+      const room = wide(trip.departs, trips[place + 1]?.departs ?? Infinity);
+      const isBoth = widthOf(`${departs} ${arrives}`, TIME) <= Math.min(room, wide(trip.departs, trip.arrives));
+      const text = firstThatFits([departs, departs.slice(-3)], room, TIME);
+      return [text ? at(trip.departs, "start", text) : null, isBoth ? at(trip.arrives, "end", arrives) : null];
+    });
   }
 
   /** The places of a block. */
