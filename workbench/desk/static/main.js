@@ -100,7 +100,7 @@ class Page {
     if (this.canEdit) {
       this.stale.add("Edits");
     }
-    this.draw();
+    this.draw(isHere ? this.day.bars.get(this.hand) : null);
     if (this.canEdit) {
       showUndo(view);
       this.follow(isHere);
@@ -163,11 +163,11 @@ class Page {
     }
   }
 
-  /** Draws what passes the filter. */
-  draw() {
+  /** Draws what passes the filter, with this bar in view where there is one. */
+  draw(bar = null) {
     this.vehicles.size = SIZES[byId("row-size").value];
     this.shown = ordered(this.day, this.filters.rows(this.day));
-    this.vehicles.show(this.day, this.shown);
+    this.vehicles.show(this.day, this.shown, bar);
     this.chart.settle();
     this.stale.add("Terminals").add("Blocks");
     this.drawFront();

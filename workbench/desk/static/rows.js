@@ -32,8 +32,10 @@ export class Rows {
     return this.frame.clientWidth - this.left - 2;
   }
 
-  /** Draws all anew, as after a zoom or with another day. Where the whole day is shown, it fills the room beside the bar that scrolls. */
-  redraw() {
+  /** Draws all anew, as after a zoom or with another day. Where the whole day is shown, it fills the room beside the bar that scrolls.
+
+  `aim` scrolls to what is to be in view, before anything is drawn. */
+  redraw(aim = () => {}) {
     if (!this.source.day) {
       return;
     }
@@ -59,6 +61,7 @@ export class Rows {
       top.setAttribute("transform", `translate(0 ${HOURS})`);
       this.head.append(top);
     }
+    aim();
     this.render();
     this.refocus(kept);
   }
@@ -115,8 +118,15 @@ export class Rows {
     return this.sheet.querySelector(`[data-row="${row}"][data-at="${at}"]`);
   }
 
-  /** Scrolls so far that a row and its hours from one minute to another are in view. */
+  /** Shows a row and its hours from one minute to another. */
   show(row, from, until) {
+    this.scrollTo(row, from, until);
+    this.pinned = row;
+    this.render();
+  }
+
+  /** Scrolls so far that a row and its hours from one minute to another are in view. */
+  scrollTo(row, from, until) {
     const height = this.source.height();
     const [top, bottom] = [row * height, (row + 1) * height + HOURS + this.topHeight];
     const frame = this.frame;
@@ -129,8 +139,6 @@ export class Rows {
     if (left < frame.scrollLeft || right > frame.scrollLeft + this.room) {
       frame.scrollLeft = Math.max(left - this.room / 3, 0);
     }
-    this.pinned = row;
-    this.render();
   }
 }
 

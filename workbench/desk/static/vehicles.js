@@ -21,13 +21,14 @@ export class Vehicles {
     this.rows.corner.title = "vehicles on trips, at their layover or running empty; in grey with those that wait";
   }
 
-  /** Shows these blocks of a day, by their rows. */
-  show(day, shown) {
+  /** Shows these blocks of a day, by their rows, with this bar in view where there is one. */
+  show(day, shown, bar) {
     this.day = day;
     this.shown = shown;
     this.positions = new Map(shown.map((row, position) => [row, position]));
     this.rows.pinned = null;
-    this.rows.redraw();
+    const position = this.positions.get(bar?.row);
+    this.rows.redraw(() => position !== undefined && this.rows.scrollTo(position, bar.from, bar.until));
   }
 
   count() {
