@@ -7,7 +7,6 @@ from __future__ import annotations
 
 import argparse
 import sys
-from pathlib import Path
 
 from desk.day import Day, plan_day
 from desk.edits import Script, writing
@@ -42,7 +41,8 @@ def take(day: Day, script: Script) -> str:
     edits = day.planners.standing if day.planners else []
     if planned.is_file():
         script.take(planned, day.script if edits else script.content)
-    return f"took {len(edits)} records into {own}; {planned.name} is empty\n"
+    taken = "1 record" if len(edits) == 1 else f"{len(edits)} records"
+    return f"took {taken} into {own}; {planned.name} is empty\n"
 
 
 def refuse_not_kept(day: Day) -> None:

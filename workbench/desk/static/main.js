@@ -146,11 +146,12 @@ class Page {
     showSide(bar, this.day.view, this.sending, () => this.folds.turn("side", false));
   }
 
-  /** In a small window what stands beside the vehicles comes with a trip that is clicked. */
+  /** In a small window what stands beside the vehicles comes with a trip that is clicked, in place of the words beside its bar. */
   unfold(bar) {
-    if (bar?.kind === "trip" && this.folds.isSmall && !this.folds.isOpen("side")) {
+    if (bar?.kind === "trip" && this.folds.isSmall) {
       this.folds.turn("side", true);
       this.vehicles.reveal(bar);
+      this.tip.hide();
     }
   }
 
