@@ -643,14 +643,50 @@ class HandTest(ServedTest):
         self.assertGreater(edited, HALF // 3)
         self.assertEqual(self.browser.errors(), [])
 
+    def test_elsewhere(self) -> None:
+        """A trip that is restored on another tab, or comes back by a button, is chosen and in view; what is focused stays."""
+        self.serve(many_ties(self.room / "ties"))
+        last = self.server.session.day()["day"]["blocks"][-1]["rides"][0][0]
+        trip = self.server.session.day()["day"]["trips"][last]["id"]
+        self.browser.type("#search", trip)
+        self.browser.keys("Enter", "Shift+ArrowRight", "Enter")
+        self.wait_for(f"shift {trip} +1: ")
+        self.browser.keys("Delete")
+        self.wait_for(f"cancel {trip}: ")
+        self.browser.run("document.querySelector('#panel-Vehicles .frame').scrollTop = 0")
+        self.browser.click("#undo")
+        self.wait_for("undo: ")
+        self.assertEqual(self.browser.run(FOCUSED), "undo")
+        self.check_in_view(trip)
+        self.browser.keys("Enter")
+        self.browser.wait(lambda: self.script().endswith("undo\nundo\n") and self.browser.run(FOCUSED) == trip)
+        self.browser.click("#redo")
+        self.wait_for("redo: ")
+        self.browser.click("#redo")
+        self.browser.wait(lambda: self.script().endswith("redo\nredo\n"))
+        self.wait_for("redo: ")
+        self.assertIn("Choose a trip", self.browser.text("#side"))
+        self.browser.run("document.querySelector('#panel-Vehicles .frame').scrollTop = 0")
+        self.browser.click("#tab-Edits")
+        self.browser.click("#cancelled button")
+        self.wait_for(f"restore {trip}: ")
+        self.assertIn(trip, self.browser.text("#side h2"))
+        self.browser.click("#tab-Vehicles")
+        self.check_in_view(trip)
+        self.assertEqual(self.browser.errors(), [])
+
+    def check_in_view(self, trip: str) -> None:
+        """A trip is in view among the vehicles."""
+        box, frame = self.box(self.bar(trip)), self.box("#panel-Vehicles .frame")
+        self.assertTrue(frame["top"] <= box["top"] and box["bottom"] <= frame["bottom"])
+
     def check_chosen(self, trip: str, edit: str) -> None:
         """The focus, the selection and what stands beside the vehicles are of this trip, which is in view; of none where it does not run."""
         runs = self.browser.run("return !!document.querySelector(arguments[0])", self.bar(trip))
         self.assertEqual(self.browser.run(FOCUSED), trip if runs else None, edit)
         self.assertIn(trip if runs else "Choose a trip", self.browser.text("#side"), edit)
         if runs:
-            box, frame = self.box(self.bar(trip)), self.box("#panel-Vehicles .frame")
-            self.assertTrue(frame["top"] <= box["top"] and box["bottom"] <= frame["bottom"], edit)
+            self.check_in_view(trip)
 
 
 @needs_browser

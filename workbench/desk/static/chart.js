@@ -131,9 +131,9 @@ export class Chart {
   }
 
   /** After the day or what is shown of it has changed, the first bar, or the one that was current, can be reached. */
-  settle(name = this.current?.trip?.id) {
+  settle() {
     const rows = this.vehicles.shown;
-    const bar = this.vehicles.day.bars.get(name) ?? null;
+    const bar = this.vehicles.day.named.get(this.current?.name) ?? null;
     const first = rows.length ? this.vehicles.day.blocks[rows[0]].bars[0] : null;
     const next = bar && this.vehicles.positions.has(bar.row) ? bar : first;
     if (next) {

@@ -13,8 +13,10 @@ export class Day {
     this.trips = view.trips;
     this.blocks = view.blocks.map((block, row) => withBars(block, row, view.trips));
     this.bars = new Map();
+    this.named = new Map();
     for (const block of this.blocks) {
       for (const bar of block.bars) {
+        this.named.set(bar.name, bar);
         if (bar.kind === "trip") {
           this.bars.set(bar.trip.id, bar);
         }
@@ -71,27 +73,33 @@ function sorted(texts) {
   return [...texts].sort((one, other) => one.localeCompare(other, "en", { numeric: true }));
 }
 
+/** What names a bar on any day: its kind, with its trip or the trip to which or from which it leads. */
+export function nameOf(kind, trip) {
+  return `${kind} ${trip}`;
+}
+
 /** A block with its bars in the order of the day, and its ends. */
 function withBars(block, row, trips) {
   const bars = [];
-  const add = (kind, from, until, start, end, trip = null) => {
+  const add = (kind, from, until, start, end, beside) => {
     if (until > from || kind === "trip") {
-      bars.push({ kind, from, until, start, end, trip, row, at: bars.length, block: block.name });
+      const trip = kind === "trip" ? beside : null;
+      bars.push({ kind, from, until, start, end, trip, row, at: bars.length, block: block.name, name: nameOf(kind, beside.id) });
     }
   };
   let before = null;
   for (const [number, empty] of block.rides) {
     const trip = trips[number];
     if (before === null) {
-      add("out", trip.departs - empty, trip.departs, "depot", trip.from);
+      add("out", trip.departs - empty, trip.departs, "depot", trip.from, trip);
     } else {
-      add("empty", before.ends, before.ends + empty, before.to, trip.from);
-      add("wait", before.ends + empty, trip.departs, trip.from, trip.from);
+      add("empty", before.ends, before.ends + empty, before.to, trip.from, trip);
+      add("wait", before.ends + empty, trip.departs, trip.from, trip.from, trip);
     }
     add("trip", trip.departs, trip.ends, trip.from, trip.to, trip);
     before = trip;
   }
-  add("home", before.ends, before.ends + block.home, before.to, "depot");
+  add("home", before.ends, before.ends + block.home, before.to, "depot", before);
   return { ...block, row, bars, leaves: bars[0].from, returns: bars.at(-1).until };
 }
 

@@ -4,7 +4,7 @@ import { byId } from "./elements.js";
 import { SIZES } from "./bars.js";
 import { changed } from "./changes.js";
 import { Chart } from "./chart.js";
-import { Day } from "./day.js";
+import { Day, nameOf } from "./day.js";
 import { Editing } from "./editing.js";
 import { Filters } from "./filters.js";
 import { Folds } from "./folds.js";
@@ -79,6 +79,13 @@ class Page {
     if (this.day) {
       this.drawFront();
     }
+    if (this.unseen && !byId("panel-Vehicles").hidden) {
+      this.unseen = false;
+      const bar = this.day.named.get(this.hand);
+      if (bar) {
+        this.vehicles.reveal(bar);
+      }
+    }
   }
 
   /** Shows a day, as it is after an edit of one's own or after those of others. */
@@ -100,7 +107,8 @@ class Page {
     if (this.canEdit) {
       this.stale.add("Edits");
     }
-    this.draw(isHere ? this.day.bars.get(this.hand) : null);
+    this.unseen = isOwn && byId("panel-Vehicles").hidden;
+    this.draw(isOwn || isHere ? this.day.named.get(this.hand) : null);
     if (this.canEdit) {
       showUndo(view);
       this.follow(isHere);
@@ -131,13 +139,13 @@ class Page {
 
   /** Whether the hand is at the vehicles or at what stands beside them; after an edit of its own also where it is nowhere. */
   hasHand(isOwn) {
-    const focused = document.activeElement;
+    const focused = document.activeElement ?? document.body;
     return focused === document.body ? isOwn : Boolean(focused.closest("#panel-Vehicles, #side"));
   }
 
   /** Chooses a bar by hand. */
   choose(bar) {
-    this.hand = bar?.trip?.id ?? null;
+    this.hand = bar?.name ?? null;
     this.tellSide(bar);
   }
 
@@ -155,17 +163,21 @@ class Page {
     }
   }
 
-  /** On another day the hand is on the trip on which it was, wherever that stands now. Where it does not run, it is on none. */
+  /** On another day the hand is on the bar on which it was, wherever that stands now. Where that is gone, it is on none. */
   follow(isHere) {
-    const bar = this.day.bars.get(this.hand);
+    const bar = this.day.named.get(this.hand);
     this.tellSide(bar);
-    if (bar && isHere && !byId("panel-Vehicles").hidden) {
+    // A button that has nothing more to do loses the focus, which then goes to the bar.
+    if (bar && (isHere || document.activeElement?.disabled) && !byId("panel-Vehicles").hidden) {
       this.go(bar);
     }
   }
 
   /** Draws what passes the filter, with this bar in view where there is one. */
   draw(bar = null) {
+    if (!this.day) {
+      return;
+    }
     this.vehicles.size = SIZES[byId("row-size").value];
     this.shown = ordered(this.day, this.filters.rows(this.day));
     this.vehicles.show(this.day, this.shown, bar);
@@ -256,7 +268,7 @@ class Page {
     }
     forgive();
     this.say("");
-    this.hand = edit.trip ?? this.hand;
+    this.hand = edit.trip ? nameOf("trip", edit.trip) : this.hand;
     clearTimeout(this.proving);
     const answer = await this.tell("edit", { ...edit, state: this.day.view.state });
     const words = [edit.edit, edit.trip, edit.shift && signed(edit.shift)].filter((part) => part).join(" ");

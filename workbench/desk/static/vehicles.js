@@ -28,7 +28,8 @@ export class Vehicles {
     this.positions = new Map(shown.map((row, position) => [row, position]));
     this.rows.pinned = null;
     const position = this.positions.get(bar?.row);
-    this.rows.redraw(() => position !== undefined && this.rows.scrollTo(position, bar.from, bar.until));
+    const isSeen = position !== undefined && this.rows.frame.clientHeight > 0;
+    this.rows.redraw(() => isSeen && this.rows.scrollTo(position, bar.from, bar.until));
   }
 
   count() {
