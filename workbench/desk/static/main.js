@@ -4,10 +4,11 @@ import { byId } from "./elements.js";
 import { SIZES } from "./bars.js";
 import { changed } from "./changes.js";
 import { Chart } from "./chart.js";
-import { Day, nameOf } from "./day.js";
+import { Day } from "./day.js";
 import { Editing } from "./editing.js";
 import { Filters } from "./filters.js";
 import { Folds } from "./folds.js";
+import { Hand } from "./hand.js";
 import { changeWords, paperTitle, showHead, showUndo, toggleKeys } from "./head.js";
 import { legendOf } from "./legend.js";
 import { LineStyles } from "./lines.js";
@@ -17,7 +18,6 @@ import { forgive, refuse } from "./refusal.js";
 import { Scale } from "./scale.js";
 import { ScriptPanel } from "./script.js";
 import { ask, tellServer } from "./server.js";
-import { showSide } from "./side.js";
 import { BlockTable } from "./table.js";
 import { makeTabs } from "./tabs.js";
 import { Terminals } from "./terminals.js";
@@ -63,8 +63,7 @@ class Page {
     this.editing = new Editing(this.chart, this.tip, this.sending, () => this.busy);
     const go = (trip) => this.go(this.day.bars.get(trip));
     this.script = new ScriptPanel(panel, this.sending, (name, body) => this.tell(name, body), go);
-    this.vehicles.rows.sheet.addEventListener("focusin", () => this.choose(this.chart.current));
-    this.vehicles.rows.sheet.addEventListener("click", (event) => this.unfold(this.chart.barOf(event.target)));
+    this.hand = new Hand(this, this.sending);
     byId("edit-buttons").hidden = false;
     for (const edit of ["undo", "redo"]) {
       byId(edit).addEventListener("click", (event) => this.send({ edit }, event.target));
@@ -79,19 +78,13 @@ class Page {
     if (this.day) {
       this.drawFront();
     }
-    if (this.unseen && !byId("panel-Vehicles").hidden) {
-      this.unseen = false;
-      const bar = this.day.named.get(this.hand);
-      if (bar) {
-        this.vehicles.reveal(bar);
-      }
-    }
+    this.hand?.turn();
   }
 
   /** Shows a day, as it is after an edit of one's own or after those of others. */
   show(view, isOwn = false) {
     const first = !this.day;
-    const isHere = this.hasHand(isOwn);
+    const wasHere = this.hand?.isHere(isOwn);
     forgive();
     this.editing?.drop();
     this.day = new Day(view, this.day);
@@ -107,11 +100,10 @@ class Page {
     if (this.canEdit) {
       this.stale.add("Edits");
     }
-    this.unseen = isOwn && byId("panel-Vehicles").hidden;
-    this.draw(isOwn || isHere ? this.day.named.get(this.hand) : null);
+    this.draw(isOwn || wasHere ? this.hand.bar : null);
     if (this.canEdit) {
       showUndo(view);
-      this.follow(isHere);
+      this.hand.follow(wasHere, isOwn);
       this.proveSoon();
     }
   }
@@ -134,42 +126,6 @@ class Page {
       this.script.showHeld(this.day);
       this.stale.add("Terminals");
       this.drawFront();
-    }
-  }
-
-  /** Whether the hand is at the vehicles or at what stands beside them; after an edit of its own also where it is nowhere. */
-  hasHand(isOwn) {
-    const focused = document.activeElement ?? document.body;
-    return focused === document.body ? isOwn : Boolean(focused.closest("#panel-Vehicles, #side"));
-  }
-
-  /** Chooses a bar by hand. */
-  choose(bar) {
-    this.hand = bar?.name ?? null;
-    this.tellSide(bar);
-  }
-
-  /** Tells of a bar beside the vehicles, with what can be done to it. */
-  tellSide(bar) {
-    showSide(bar, this.day.view, this.sending, () => this.folds.turn("side", false));
-  }
-
-  /** In a small window what stands beside the vehicles comes with a trip that is clicked, in place of the words beside its bar. */
-  unfold(bar) {
-    if (bar?.kind === "trip" && this.folds.isSmall) {
-      this.folds.turn("side", true);
-      this.vehicles.reveal(bar);
-      this.tip.hide();
-    }
-  }
-
-  /** On another day the hand is on the bar on which it was, wherever that stands now. Where that is gone, it is on none. */
-  follow(isHere) {
-    const bar = this.day.named.get(this.hand);
-    this.tellSide(bar);
-    // A button that has nothing more to do loses the focus, which then goes to the bar.
-    if (bar && (isHere || document.activeElement?.disabled) && !byId("panel-Vehicles").hidden) {
-      this.go(bar);
     }
   }
 
@@ -268,7 +224,7 @@ class Page {
     }
     forgive();
     this.say("");
-    this.hand = edit.trip ? nameOf("trip", edit.trip) : this.hand;
+    this.hand.take(edit.trip);
     clearTimeout(this.proving);
     const answer = await this.tell("edit", { ...edit, state: this.day.view.state });
     const words = [edit.edit, edit.trip, edit.shift && signed(edit.shift)].filter((part) => part).join(" ");
