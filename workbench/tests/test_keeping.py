@@ -51,8 +51,9 @@ class KeepingTest(FolderTest):
                 records = [Record(fields, True, "") for fields in fields_of("edits.csv", text.encode())]
                 ran: list[str] = []
 
-                def tell(command: str, folder: Path) -> str:
+                def tell(command: str, town: Path, room: Path | None = None) -> str:
                     """Says what `keep` would read, and where it would write. The planner's script is whole meanwhile."""
+                    folder = town if room is None else room
                     self.assertEqual((command, script.read_text()), ("keep", text))
                     self.assertEqual((folder / "journal.db").resolve(), (self.room / "journal.db").resolve())
                     ran.append((folder / "edits.csv").read_text())
