@@ -27,11 +27,11 @@ fitting network i j fits = by (network.empty i j) fits
     by (Some m) e = (m, refl)
 
 -- the weights along a chain
-worth_after : Network → ℕ → List ℕ → ℕ
+unfoldable pub worth_after : Network → ℕ → List ℕ → ℕ
 worth_after network i [] = 0
 worth_after network i (j ∷ js) = unwrap_or (weight network i j) 0 + worth_after network j js
 
-worth : Network → List ℕ → ℕ
+unfoldable pub worth : Network → List ℕ → ℕ
 worth network [] = 0
 worth network (i ∷ js) = worth_after network i js
 
@@ -47,11 +47,11 @@ walk_is : (network : Network) (i j m : ℕ) → network.empty i j ≡ Some m →
 walk_is network i j m e = ap (λ w. unwrap_or w 0) e
 
 -- both prices of a slot
-prices : Plan → ℕ → ℕ
+unfoldable pub prices : Plan → ℕ → ℕ
 prices plan s = price plan.leave s + price plan.enter s
 
 -- a chain weighs no more than its prices
-chain-le : (network : Network) (plan : Plan) → IsCertified network plan → (i : ℕ) (js : List ℕ) → Follow network i js
+pub chain-le : (network : Network) (plan : Plan) → IsCertified network plan → (i : ℕ) (js : List ℕ) → Follow network i js
     → worth_after network i js ≤ price plan.leave i + sum_by (prices plan) js
 unfolding worth_after prices
 chain-le network plan proved i [] follows = omega arith
@@ -61,7 +61,7 @@ chain-le network plan proved i (j ∷ js) follows =
     omega (arith, worth_is network i j m.0 m.1, covers, sum_by-cons (prices plan) j js, chain-le network plan proved j js follows.1)
 
 -- blocks weigh no more than their prices
-blocks-le : (network : Network) (plan : Plan) → IsCertified network plan → (blocks : List (List ℕ))
+pub blocks-le : (network : Network) (plan : Plan) → IsCertified network plan → (blocks : List (List ℕ))
     → AllByRecursion (IsBlock network) blocks
     → sum_by (worth network) blocks ≤ sum_by (prices plan) (slots_in blocks)
 unfolding worth prices
@@ -80,7 +80,7 @@ blocks-le network plan proved ((i ∷ js) ∷ blocks) each =
     )
 
 -- the empty minutes out to a trip and home after it
-pulls : Network → ℕ → ℕ
+pub pulls : Network → ℕ → ℕ
 pulls network s = network.out s + network.home s
 
 -- what a chain weighs and how long it runs empty are together the same for all chains of as many trips, but for the pulls
@@ -101,7 +101,7 @@ chain-balance network slots day i (j ∷ js) follows =
           slots day j js follows.1,
     )
 
-blocks-balance : (network : Network) (slots : ℕ) → IsDay network slots → (blocks : List (List ℕ)) → AllByRecursion (IsBlock network) blocks
+pub blocks-balance : (network : Network) (slots : ℕ) → IsDay network slots → (blocks : List (List ℕ)) → AllByRecursion (IsBlock network) blocks
     → sum_by (worth network) blocks + empty_minutes network blocks + VEHICLE_WEIGHT * length blocks ≡ VEHICLE_WEIGHT * length
     (slots_in blocks) + sum_by (pulls network) (slots_in blocks)
 unfolding worth pulls
@@ -133,7 +133,7 @@ chain-bounds network slots day i (j ∷ js) follows =
       omega (arith, walk_is network i j m.0 m.1, day.out j, day.home i, sum_by-cons (pulls network) j js, rest.1),
     )
 
-blocks-bounds : (network : Network) (slots : ℕ) → IsDay network slots → (blocks : List (List ℕ)) → AllByRecursion (IsBlock network) blocks
+pub blocks-bounds : (network : Network) (slots : ℕ) → IsDay network slots → (blocks : List (List ℕ)) → AllByRecursion (IsBlock network) blocks
     → (empty_minutes network blocks ≤ 8191 * length (slots_in blocks) + sum_by (pulls network) (slots_in blocks))
     × (sum_by (pulls network) (slots_in blocks) ≤ empty_minutes network blocks + 2880 * length (slots_in blocks))
 unfolding pulls
@@ -199,7 +199,7 @@ pub sum-below : (xs : List ℕ) → sum xs ≡ sum_below (price xs) (length xs)
 sum-below xs = ap sum (sym (map-id xs)) ∙ sum-map (λ x. x) xs ∙ sym (sum_below-list (λ x. x) xs 0)
 
 -- what the prices of all slots of a blocking come to
-prices-all : (network : Network) (plan : Plan) → IsCertified network plan → (slots : List ℕ) → StandsOnce network.live slots
+pub prices-all : (network : Network) (plan : Plan) → IsCertified network plan → (slots : List ℕ) → StandsOnce network.live slots
     → ((s : ℕ) → network.live s ≡ true → s < length plan.next)
     → sum_by (prices plan) slots ≡ link_weights network plan.next
 unfolding prices
@@ -212,7 +212,7 @@ prices-all network plan proved slots stands within =
     ∙ proved.sums
 
 -- and what the plan's own blocks weigh
-own-weight : (network : Network) (plan : Plan) (departs : ℕ → ℕ) → IsCertified network plan → AreDepartures network departs
+pub own-weight : (network : Network) (plan : Plan) (departs : ℕ → ℕ) → IsCertified network plan → AreDepartures network departs
     → (order : List ℕ) → StandsOnce network.live order
     → ((s : ℕ) → network.live s ≡ true → s < length plan.next)
     → sum_by (worth network) (blocks_along plan.next order) ≡ link_weights network plan.next
@@ -225,7 +225,7 @@ own-weight network plan departs proved clock order stands within =
     ∙ sym (sum_by-range (link_weight network plan.next) (length plan.next))
 
 -- a list in which each live slot stands once is no longer than there are slots
-standing-length : (live : ℕ → Bool) (n : ℕ) (slots : List ℕ) → ((s : ℕ) → live s ≡ true → s < n) → StandsOnce live slots → length slots ≤ n
+pub standing-length : (live : ℕ → Bool) (n : ℕ) (slots : List ℕ) → ((s : ℕ) → live s ≡ true → s < n) → StandsOnce live slots → length slots ≤ n
 standing-length live n slots within stands =
     let same = sum_by-standing live (λ _. 1) slots (filter live (range_with_len 0 n)) stands (StandsOnce-filter_range live n within) in
     let few = count_by-le-length live (range_with_len 0 n) in

@@ -3,3 +3,4 @@ pub mod GreatestPrice
 pub mod Looseness
 pub mod PathLemmas
 pub mod PriceSums
+pub mod TightLemmas

@@ -1,2 +1,3 @@
 pub mod Paths
 pub mod Prices
+pub mod Tight

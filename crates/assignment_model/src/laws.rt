@@ -2,8 +2,10 @@
 ghost use Rattle.std.specs.Prelude.{◌≡◌, ◌≢◌, ℕ, ◌+◌, ◌-◌, ◌*◌, ◌<◌, ◌≤◌, true, List, length, sum, Option, None, Some};
 ghost use Rattle.assignment_model.specs.declared.limits.TheConstants.{MOST_DEADHEAD, VEHICLE_WEIGHT};
 ghost use Rattle.assignment_model.specs.Prices.{Plan, price, IsCertified, IsDay, IsLoose};
+ghost use Rattle.assignment_model.specs.Tight.{IsTightBlock};
 ghost use Rattle.trip_model.specs.declared.limits.TheConstants.{MOST_SLOTS};
-ghost use Rattle.trip_model.specs.Blocking.{StandsOnce, IsLeast};
+ghost use Rattle.std.specs.List.{AllByRecursion};
+ghost use Rattle.trip_model.specs.Blocking.{StandsOnce, IsBlocking, IsLeast};
 ghost use Rattle.trip_model.specs.Links.{blocks_along};
 ghost use Rattle.trip_model.specs.Network.{Network, AreDepartures};
 
@@ -13,6 +15,18 @@ pub fn certified_law()
     ensures { (network : Network) (slots : ℕ) (plan : Plan) (departs : ℕ → ℕ) → IsDay network slots
         → length plan.next ≡ slots → IsCertified network plan → AreDepartures network departs
         → (order : List ℕ) → StandsOnce network.live order → IsLeast network (blocks_along plan.next order) }
+{}
+
+/// The prices of a certified plan tell which blockings are least: exactly those whose pairs are tight, and whose ends have no price.
+/// So all least blockings have the same prices.
+pub fn least_law()
+    ensures tight { (network : Network) (slots : ℕ) (plan : Plan) (departs : ℕ → ℕ) → IsDay network slots
+        → length plan.next ≡ slots → IsCertified network plan → AreDepartures network departs
+        → (blocks : List (List ℕ)) → IsLeast network blocks → AllByRecursion (IsTightBlock network plan) blocks }
+    ensures least { (network : Network) (slots : ℕ) (plan : Plan) (departs : ℕ → ℕ) → IsDay network slots
+        → length plan.next ≡ slots → IsCertified network plan → AreDepartures network departs
+        → (blocks : List (List ℕ)) → IsBlocking network blocks → AllByRecursion (IsTightBlock network plan) blocks
+        → IsLeast network blocks }
 {}
 
 /// All prices of a certified plan are together at most 4,095 times what a vehicle and the longest ways home and out weigh. For
