@@ -1,5 +1,5 @@
 -- No blocking weighs more than the prices of a certified plan, so the plan's own blocks are least.
-use Rattle.std.proofs.Common.{◌≡◌, ℕ, zero, suc, ◌+◌, ◌-◌, ◌*◌, ◌<◌, ◌≤◌, Bool, true, List, [], ◌∷◌, ◌++◌, length, map, filter, sum_by}
+use Rattle.std.proofs.Common.{◌≡◌, ℕ, zero, suc, ◌+◌, ◌-◌, ◌*◌, ◌<◌, ◌≤◌, Bool, true, false, List, [], ◌∷◌, ◌++◌, length, map, filter, sum_by}
 use Rattle.std.proofs.Common.{Option, None, Some, refl, sym, ap, ◌∙◌, ⊎_elim, arith}
 use Rattle.std.specs.List.{sum, range_with_len, AllByRecursion}
 use Rattle.std.specs.Option.{is_some, unwrap_or, option_map}
@@ -10,7 +10,7 @@ use Rattle.std.proofs.lemmas.List.FromFn.{length-range_with_len}
 use Rattle.trip_model.proofs.StepsLemmas.{range_with_len-more}
 use Rattle.trip_model.specs.Blocking.{StandsOnce, Follow, IsBlock, slots_in, IsBlocking, minutes_after, block_minutes, empty_minutes}
 use Rattle.trip_model.specs.Blocking.{IsLeast}
-use Rattle.trip_model.specs.Links.{next_of, is_first, along, block_from, blocks_along}
+use Rattle.trip_model.specs.Links.{next_of, is_first, along, block_from, blocks_along, AreLinks}
 use Rattle.trip_model.specs.Network.{Network, Fits, AreDepartures}
 use Rattle.trip_model.proofs.Chains.{GoesOn, AreChains, chains-of, block_from-is, IsBlocking-blocks_along}
 use Rattle.trip_model.proofs.Counting.{sum_below, sum_below-add, sum_below-list, sum_by-below, sum_by-standing, StandsOnce-filter_range}
@@ -211,18 +211,19 @@ prices-all network plan proved slots stands within =
     ∙ (λ i. sym (sum-below plan.leave) i + sym (sum-below plan.enter) i)
     ∙ proved.sums
 
--- and what the plan's own blocks weigh
-pub own-weight : (network : Network) (plan : Plan) (departs : ℕ → ℕ) → IsCertified network plan → AreDepartures network departs
+-- and what the blocks of links weigh
+pub links-weight : (network : Network) (links : List (Option ℕ)) (departs : ℕ → ℕ) → AreLinks network links → AreDepartures network departs
     → (order : List ℕ) → StandsOnce network.live order
-    → ((s : ℕ) → network.live s ≡ true → s < length plan.next)
-    → sum_by (worth network) (blocks_along plan.next order) ≡ link_weights network plan.next
+    → ((s : ℕ) → network.live s ≡ true → s < length links)
+    → ((s : ℕ) → network.live s ≡ false → next_of links s ≡ None)
+    → sum_by (worth network) (blocks_along links order) ≡ link_weights network links
 unfolding link_weight
-own-weight network plan departs proved clock order stands within =
-    let blocking = IsBlocking-blocks_along network departs plan.next order clock proved.links stands in
-    blocks-links network plan.next (chains-of network departs plan.next clock proved.links) (filter (is_first plan.next) order)
-    ∙ sum_by-below network.live (link_weight network plan.next) (length plan.next) (slots_in (blocks_along plan.next order)) within
-    (λ s dead. ap (weight_to network s) (proved.dead s dead).0) blocking.stands
-    ∙ sym (sum_by-range (link_weight network plan.next) (length plan.next))
+links-weight network links departs are clock order stands within dead =
+    let blocking = IsBlocking-blocks_along network departs links order clock are stands in
+    blocks-links network links (chains-of network departs links clock are) (filter (is_first links) order)
+    ∙ sum_by-below network.live (link_weight network links) (length links) (slots_in (blocks_along links order)) within
+    (λ s none. ap (weight_to network s) (dead s none)) blocking.stands
+    ∙ sym (sum_by-range (link_weight network links) (length links))
 
 -- a list in which each live slot stands once is no longer than there are slots
 pub standing-length : (live : ℕ → Bool) (n : ℕ) (slots : List ℕ) → ((s : ℕ) → live s ≡ true → s < n) → StandsOnce live slots → length slots ≤ n
@@ -250,7 +251,7 @@ own-cost network slots plan departs day len proved clock order stands others oth
     let own = blocks_along plan.next order in
     let blocking = IsBlocking-blocks_along network departs plan.next order clock proved.links stands in
     let within : (s : ℕ) → network.live s ≡ true → s < length plan.next = λ s live. omega (arith, day.within s live, len) in
-    let weighs = own-weight network plan departs proved clock order stands within in
+    let weighs = links-weight network plan.next departs proved.links clock order stands within (λ s dead. (proved.dead s dead).0) in
     let most = blocks-le network plan proved others other.each in
     let all = prices-all network plan proved (slots_in others) other.stands within in
     let mine = blocks-balance network slots day own blocking.each in

@@ -1,3 +1,4 @@
+pub mod ChoiceLemmas
 pub mod Duality
 pub mod GreatestPrice
 pub mod Looseness

@@ -13,7 +13,7 @@ use Rattle.assignment_model.specs.declared.limits.TheConstants.{VEHICLE_WEIGHT}
 use Rattle.assignment_model.specs.Prices.{weight, Plan, price, IsCertified, IsDay}
 use Rattle.assignment_model.specs.Tight.{AreTightAfter, IsTightBlock}
 use Rattle.assignment_model.proofs.Duality.{fitting, weight_is, worth_is, worth_after, worth, prices, pulls, chain-le, blocks-le}
-use Rattle.assignment_model.proofs.Duality.{blocks-balance, blocks-bounds, prices-all, own-weight, standing-length, IsLeast-certified}
+use Rattle.assignment_model.proofs.Duality.{blocks-balance, blocks-bounds, prices-all, links-weight, standing-length, IsLeast-certified}
 
 -- a chain that weighs as much as its prices is tight, and the other way round
 chain-tight : (network : Network) (plan : Plan) → IsCertified network plan → (i : ℕ) (js : List ℕ) → Follow network i js
@@ -25,9 +25,10 @@ chain-tight network plan proved i (j ∷ js) follows e =
     let covers = proved.covers i j _ (weight_is network i j m.0 m.1) in
     let worth = worth_is network i j m.0 m.1 in
     let sums = sum_by-cons (prices plan) j js in
-    let rest = chain-le network plan proved j js follows.1 in
-    (weight_is network i j m.0 m.1 ∙ ap Some (omega (arith, worth, covers, sums, rest, e)),
-    chain-tight network plan proved j js follows.1 (omega (arith, worth, covers, sums, rest, e)))
+    let rest = chain-le network plan proved j js follows.1 in (
+      weight_is network i j m.0 m.1 ∙ ap Some (omega (arith, worth, covers, sums, rest, e)),
+      chain-tight network plan proved j js follows.1 (omega (arith, worth, covers, sums, rest, e)),
+    )
 
 tight-chain : (network : Network) (plan : Plan) (i : ℕ) (js : List ℕ) → AreTightAfter network plan i js
     → worth_after network i js ≡ price plan.leave i + sum_by (prices plan) js
@@ -49,12 +50,15 @@ blocks-tight network plan proved ((i ∷ js) ∷ blocks) each e =
     let rest = blocks-le network plan proved blocks each.1 in
     let weighs = sum_by-cons (worth network) (i ∷ js) blocks in
     let all = sum_by-append (prices plan) (i ∷ js) (slots_in blocks) in
-    let first = sum_by-cons (prices plan) i js in
-    ((omega (arith, e, here, rest, weighs, all, first),
-      chain-tight network plan proved i js each.0 (omega (arith, e, here, rest, weighs, all, first))),
-    blocks-tight network plan proved blocks each.1 (omega (arith, e, here, rest, weighs, all, first)))
+    let first = sum_by-cons (prices plan) i js in (
+      (
+        omega (arith, e, here, rest, weighs, all, first),
+        chain-tight network plan proved i js each.0 (omega (arith, e, here, rest, weighs, all, first)),
+      ),
+      blocks-tight network plan proved blocks each.1 (omega (arith, e, here, rest, weighs, all, first)),
+    )
 
-tight-blocks : (network : Network) (plan : Plan) (blocks : List (List ℕ)) → AllByRecursion (IsTightBlock network plan) blocks
+pub tight-blocks : (network : Network) (plan : Plan) (blocks : List (List ℕ)) → AllByRecursion (IsTightBlock network plan) blocks
     → sum_by (worth network) blocks ≡ sum_by (prices plan) (slots_in blocks)
 unfolding worth prices
 tight-blocks network plan [] tight = omega arith
@@ -71,14 +75,14 @@ tight-blocks network plan ((i ∷ js) ∷ blocks) tight =
     )
 
 -- what the blocks of a certified plan have in common with any others
-record Compared (network : Network) (plan : Plan) (own others : List (List ℕ)) : Type 0 where
-  least : IsLeast network own
-  balance : sum_by (worth network) own + empty_minutes network own + VEHICLE_WEIGHT * length own
+pub record Compared (network : Network) (plan : Plan) (own others : List (List ℕ)) : Type 0 where
+  pub least : IsLeast network own
+  pub balance : sum_by (worth network) own + empty_minutes network own + VEHICLE_WEIGHT * length own
       ≡ sum_by (worth network) others + empty_minutes network others + VEHICLE_WEIGHT * length others
-  weighs : sum_by (worth network) own ≡ sum_by (prices plan) (slots_in others)
-  near : empty_minutes network own ≤ empty_minutes network others + 45346816
+  pub weighs : sum_by (worth network) own ≡ sum_by (prices plan) (slots_in others)
+  pub near : empty_minutes network own ≤ empty_minutes network others + 45346816
 
-compared : (network : Network) (slots : ℕ) (plan : Plan) (departs : ℕ → ℕ) → IsDay network slots → length plan.next ≡ slots
+pub compared : (network : Network) (slots : ℕ) (plan : Plan) (departs : ℕ → ℕ) → IsDay network slots → length plan.next ≡ slots
     → IsCertified network plan → AreDepartures network departs → (others : List (List ℕ)) → IsBlocking network others
     → Compared network plan (blocks_along plan.next (filter network.live (range_with_len 0 slots))) others
 compared network slots plan departs day len proved clock others other =
@@ -99,8 +103,8 @@ compared network slots plan departs day len proved clock others other =
     let limit = day.few in record {
       least = IsLeast-certified network slots plan departs day len proved clock order stands;
       balance = omega arith;
-      weighs = own-weight network plan departs proved clock order stands within
-      ∙ sym (prices-all network plan proved (slots_in others) other.stands within);
+      weighs = links-weight network plan.next departs proved.links clock order stands within (λ s dead. (proved.dead s dead).0)
+          ∙ sym (prices-all network plan proved (slots_in others) other.stands within);
       near = omega arith;
     }
 
@@ -133,9 +137,9 @@ tight-least network slots plan departs day len proved clock blocks blocking tigh
     let balance = c.balance in
     let near = c.near in
     let as_many : length blocks ≡ length own = ⊎_elim
-        (λ (more : length own < length blocks). absurd (omega (arith, more, weighs, balance, near)))
-        (λ (enough : length blocks ≤ length own). omega (arith, enough, no_more))
-        (cases_lt (length own) (length blocks)) in
+    (λ (more : length own < length blocks). absurd (omega (arith, more, weighs, balance, near)))
+    (λ (enough : length blocks ≤ length own). omega (arith, enough, no_more))
+    (cases_lt (length own) (length blocks)) in
     record {
       fewest = record {
         blocking = blocking;

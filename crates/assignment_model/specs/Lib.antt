@@ -1,3 +1,4 @@
+pub mod Choice
 pub mod Paths
 pub mod Prices
 pub mod Tight

@@ -1,6 +1,7 @@
 //! Laws of plans and of their prices. Each is the contract of a function that does nothing.
 ghost use Rattle.std.specs.Prelude.{◌≡◌, ◌≢◌, ℕ, ◌+◌, ◌-◌, ◌*◌, ◌<◌, ◌≤◌, true, List, length, sum, Option, None, Some};
-ghost use Rattle.assignment_model.specs.declared.limits.TheConstants.{MOST_DEADHEAD, VEHICLE_WEIGHT};
+ghost use Rattle.assignment_model.specs.declared.limits.TheConstants.{MOST_DEADHEAD, MOST_LIKING, VEHICLE_WEIGHT};
+ghost use Rattle.assignment_model.specs.Choice.{worths, AreWorthMost, IsChosen};
 ghost use Rattle.assignment_model.specs.Prices.{Plan, price, IsCertified, IsDay, IsLoose};
 ghost use Rattle.assignment_model.specs.Tight.{IsTightBlock};
 ghost use Rattle.trip_model.specs.declared.limits.TheConstants.{MOST_SLOTS};
@@ -27,6 +28,20 @@ pub fn least_law()
         → length plan.next ≡ slots → IsCertified network plan → AreDepartures network departs
         → (blocks : List (List ℕ)) → IsBlocking network blocks → AllByRecursion (IsTightBlock network plan) blocks
         → IsLeast network blocks }
+{}
+
+/// Of the tight pairs of a certified plan, links that are worth most make the plan that is chosen: the prices as they stand certify
+/// them, and no least blocking is liked more than their blocks.
+pub fn choice_law()
+    ensures certified { (network : Network) (slots : ℕ) (plan : Plan) (departs : ℕ → ℕ) (like : ℕ → ℕ → ℕ) (next : List (Option ℕ))
+        (leave enter : List ℕ) → IsDay network slots → length plan.next ≡ slots → IsCertified network plan
+        → AreDepartures network departs → ((i j : ℕ) → like i j ≤ MOST_LIKING) → length next ≡ slots
+        → AreWorthMost (worths network plan like) next leave enter → IsCertified network (record plan { next = next }) }
+    ensures chosen { (network : Network) (slots : ℕ) (plan : Plan) (departs : ℕ → ℕ) (like : ℕ → ℕ → ℕ) (next : List (Option ℕ))
+        (leave enter : List ℕ) → IsDay network slots → length plan.next ≡ slots → IsCertified network plan
+        → AreDepartures network departs → ((i j : ℕ) → like i j ≤ MOST_LIKING) → length next ≡ slots
+        → AreWorthMost (worths network plan like) next leave enter
+        → (order : List ℕ) → StandsOnce network.live order → IsChosen network like (blocks_along next order) }
 {}
 
 /// All prices of a certified plan are together at most 4,095 times what a vehicle and the longest ways home and out weigh. For
