@@ -240,20 +240,23 @@ standing-length live n slots within stands =
       length-range_with_len 0 n,
     )
 
--- the plan's own blocks cost no more than any others
-own-cost : (network : Network) (slots : ℕ) (plan : Plan) (departs : ℕ → ℕ) → IsDay network slots → length plan.next ≡ slots
+-- the blocks of a certified plan beside any others: vehicles and empty minutes together are as many as the weights lack, and no empty
+-- minutes are worth a vehicle
+pub record Compared (network : Network) (plan : Plan) (own others : List (List ℕ)) : Type 0 where
+  pub balance : sum_by (worth network) own + empty_minutes network own + VEHICLE_WEIGHT * length own
+      ≡ sum_by (worth network) others + empty_minutes network others + VEHICLE_WEIGHT * length others
+  pub weighs : sum_by (worth network) own ≡ sum_by (prices plan) (slots_in others)
+  pub shorter : empty_minutes network own ≤ empty_minutes network others + 45346816
+  pub longer : empty_minutes network others ≤ empty_minutes network own + 45346816
+
+pub compared : (network : Network) (slots : ℕ) (plan : Plan) (departs : ℕ → ℕ) → IsDay network slots → length plan.next ≡ slots
     → IsCertified network plan → AreDepartures network departs
     → (order : List ℕ) → StandsOnce network.live order → (others : List (List ℕ)) → IsBlocking network others
-    → let own = blocks_along plan.next order in
-    (VEHICLE_WEIGHT * length own + empty_minutes network own ≤ VEHICLE_WEIGHT * length others + empty_minutes network others)
-    × (empty_minutes network others ≤ empty_minutes network own + 45346816)
-own-cost network slots plan departs day len proved clock order stands others other =
+    → Compared network plan (blocks_along plan.next order) others
+compared network slots plan departs day len proved clock order stands others other =
     let own = blocks_along plan.next order in
     let blocking = IsBlocking-blocks_along network departs plan.next order clock proved.links stands in
     let within : (s : ℕ) → network.live s ≡ true → s < length plan.next = λ s live. omega (arith, day.within s live, len) in
-    let weighs = links-weight network plan.next departs proved.links clock order stands within (λ s dead. (proved.dead s dead).0) in
-    let most = blocks-le network plan proved others other.each in
-    let all = prices-all network plan proved (slots_in others) other.stands within in
     let mine = blocks-balance network slots day own blocking.each in
     let theirs = blocks-balance network slots day others other.each in
     let lengths = sum_by-standing network.live (λ _. 1) (slots_in own) (slots_in others) blocking.stands other.stands in
@@ -261,9 +264,15 @@ own-cost network slots plan departs day len proved clock order stands others oth
     let long_others = length-ones (slots_in others) in
     let same_pulls = sum_by-standing network.live (pulls network) (slots_in own) (slots_in others) blocking.stands other.stands in
     let few = standing-length network.live slots (slots_in others) day.within other.stands in
-    let above = (blocks-bounds network slots day others other.each).0 in
-    let below = (blocks-bounds network slots day own blocking.each).1 in
-    let limit = day.few in (omega arith, omega arith)
+    let mine_near = blocks-bounds network slots day own blocking.each in
+    let theirs_near = blocks-bounds network slots day others other.each in
+    let limit = day.few in record {
+      balance = omega arith;
+      weighs = links-weight network plan.next departs proved.links clock order stands within (λ s dead. (proved.dead s dead).0)
+          ∙ sym (prices-all network plan proved (slots_in others) other.stands within);
+      shorter = omega (arith, mine_near.0, theirs_near.1);
+      longer = omega (arith, mine_near.1, theirs_near.0);
+    }
 
 -- the blocks of a certified plan are least
 pub IsLeast-certified : (network : Network) (slots : ℕ) (plan : Plan) (departs : ℕ → ℕ) → IsDay network slots → length plan.next ≡ slots
@@ -272,12 +281,25 @@ pub IsLeast-certified : (network : Network) (slots : ℕ) (plan : Plan) (departs
 IsLeast-certified network slots plan departs day len proved clock order stands = record {
   fewest = record {
     blocking = IsBlocking-blocks_along network departs plan.next order clock proved.links stands;
-    fewest = λ others other. (let cost = own-cost network slots plan departs day len proved clock order stands others other in
+    fewest = λ others other. (let cost = own-cost others other in
+        let longer = (beside others other).longer in
         ⊎_elim
-        (λ (less : length others < length (blocks_along plan.next order)). absurd (omega (arith, cost.0, cost.1)))
+        (λ (less : length others < length (blocks_along plan.next order)). absurd (omega (arith, cost, longer)))
         (λ (enough : length (blocks_along plan.next order) ≤ length others). enough)
         (cases_lt (length others) (length (blocks_along plan.next order))));
   };
-  shortest = λ others other same. (let cost = own-cost network slots plan departs day len proved clock order stands others other in
-      omega (arith, cost.0));
+  shortest = λ others other same. (let cost = own-cost others other in omega (arith, cost));
 }
+  where
+    own : List (List ℕ)
+    own = blocks_along plan.next order
+
+    beside : (others : List (List ℕ)) → IsBlocking network others → Compared network plan own others
+    beside = compared network slots plan departs day len proved clock order stands
+
+    own-cost : (others : List (List ℕ)) → IsBlocking network others
+        → VEHICLE_WEIGHT * length own + empty_minutes network own ≤ VEHICLE_WEIGHT * length others + empty_minutes network others
+    own-cost others other =
+        let c = beside others other in
+        let most = blocks-le network plan proved others other.each in
+        omega (arith, c.balance, c.weighs, most)

@@ -1,19 +1,17 @@
 -- The blockings that are least are exactly those that lose nothing of the prices.
-use Rattle.std.proofs.Common.{◌≡◌, ℕ, ◌+◌, ◌*◌, ◌<◌, ◌≤◌, true, List, [], ◌∷◌, length, filter, sum_by, Some, sym, ap, ◌∙◌, ⊎_elim, arith}
+use Rattle.std.proofs.Common.{◌≡◌, ℕ, ◌+◌, ◌<◌, ◌≤◌, List, [], ◌∷◌, length, filter, sum_by, Some, sym, ap, ◌∙◌, ⊎_elim, arith}
 use Rattle.std.specs.List.{range_with_len, AllByRecursion}
 use Rattle.std.specs.Option.{unwrap_or}
 use Rattle.std.proofs.lemmas.Bool.{cases_lt}
 use Rattle.std.proofs.lemmas.List.Sums.{sum_by-cons, sum_by-append}
-use Rattle.trip_model.specs.Blocking.{StandsOnce, Follow, IsBlock, slots_in, IsBlocking, empty_minutes, IsLeast}
+use Rattle.trip_model.specs.Blocking.{StandsOnce, Follow, IsBlock, slots_in, IsBlocking, IsLeast}
 use Rattle.trip_model.specs.Links.{blocks_along}
 use Rattle.trip_model.specs.Network.{Network, AreDepartures}
-use Rattle.trip_model.proofs.Chains.{IsBlocking-blocks_along}
-use Rattle.trip_model.proofs.Counting.{sum_by-standing, StandsOnce-filter_range, length-ones}
-use Rattle.assignment_model.specs.declared.limits.TheConstants.{VEHICLE_WEIGHT}
+use Rattle.trip_model.proofs.Counting.{StandsOnce-filter_range}
 use Rattle.assignment_model.specs.Prices.{weight, Plan, price, IsCertified, IsDay}
 use Rattle.assignment_model.specs.Tight.{AreTightAfter, IsTightBlock}
-use Rattle.assignment_model.proofs.Duality.{fitting, weight_is, worth_is, worth_after, worth, prices, pulls, chain-le, blocks-le}
-use Rattle.assignment_model.proofs.Duality.{blocks-balance, blocks-bounds, prices-all, links-weight, standing-length, IsLeast-certified}
+use Rattle.assignment_model.proofs.Duality.{fitting, weight_is, worth_is, worth_after, worth, prices, chain-le, blocks-le}
+use Rattle.assignment_model.proofs.Duality.{compared, IsLeast-certified}
 
 -- a chain that weighs as much as its prices is tight, and the other way round
 chain-tight : (network : Network) (plan : Plan) → IsCertified network plan → (i : ℕ) (js : List ℕ) → Follow network i js
@@ -74,53 +72,22 @@ tight-blocks network plan ((i ∷ js) ∷ blocks) tight =
       tight-blocks network plan blocks tight.1,
     )
 
--- what the blocks of a certified plan have in common with any others
-pub record Compared (network : Network) (plan : Plan) (own others : List (List ℕ)) : Type 0 where
-  pub least : IsLeast network own
-  pub balance : sum_by (worth network) own + empty_minutes network own + VEHICLE_WEIGHT * length own
-      ≡ sum_by (worth network) others + empty_minutes network others + VEHICLE_WEIGHT * length others
-  pub weighs : sum_by (worth network) own ≡ sum_by (prices plan) (slots_in others)
-  pub near : empty_minutes network own ≤ empty_minutes network others + 45346816
-
-pub compared : (network : Network) (slots : ℕ) (plan : Plan) (departs : ℕ → ℕ) → IsDay network slots → length plan.next ≡ slots
-    → IsCertified network plan → AreDepartures network departs → (others : List (List ℕ)) → IsBlocking network others
-    → Compared network plan (blocks_along plan.next (filter network.live (range_with_len 0 slots))) others
-compared network slots plan departs day len proved clock others other =
-    let order = filter network.live (range_with_len 0 slots) in
-    let stands : StandsOnce network.live order = StandsOnce-filter_range network.live slots day.within in
-    let own = blocks_along plan.next order in
-    let blocking = IsBlocking-blocks_along network departs plan.next order clock proved.links stands in
-    let within : (s : ℕ) → network.live s ≡ true → s < length plan.next = λ s live. omega (arith, day.within s live, len) in
-    let mine = blocks-balance network slots day own blocking.each in
-    let theirs = blocks-balance network slots day others other.each in
-    let lengths = sum_by-standing network.live (λ _. 1) (slots_in own) (slots_in others) blocking.stands other.stands in
-    let long_own = length-ones (slots_in own) in
-    let long_others = length-ones (slots_in others) in
-    let same_pulls = sum_by-standing network.live (pulls network) (slots_in own) (slots_in others) blocking.stands other.stands in
-    let few = standing-length network.live slots (slots_in others) day.within other.stands in
-    let above = (blocks-bounds network slots day own blocking.each).0 in
-    let below = (blocks-bounds network slots day others other.each).1 in
-    let limit = day.few in record {
-      least = IsLeast-certified network slots plan departs day len proved clock order stands;
-      balance = omega arith;
-      weighs = links-weight network plan.next departs proved.links clock order stands within (λ s dead. (proved.dead s dead).0)
-          ∙ sym (prices-all network plan proved (slots_in others) other.stands within);
-      near = omega arith;
-    }
-
 -- least blocks are tight
 pub least-tight : (network : Network) (slots : ℕ) (plan : Plan) (departs : ℕ → ℕ) → IsDay network slots → length plan.next ≡ slots
     → IsCertified network plan → AreDepartures network departs
     → (blocks : List (List ℕ)) → IsLeast network blocks → AllByRecursion (IsTightBlock network plan) blocks
 least-tight network slots plan departs day len proved clock blocks least =
     let blocking = least.fewest.blocking in
-    let c = compared network slots plan departs day len proved clock blocks blocking in
-    let own = blocks_along plan.next (filter network.live (range_with_len 0 slots)) in
-    let no_more = c.least.fewest.fewest blocks blocking in
-    let no_fewer = least.fewest.fewest own c.least.fewest.blocking in
+    let order = filter network.live (range_with_len 0 slots) in
+    let stands : StandsOnce network.live order = StandsOnce-filter_range network.live slots day.within in
+    let own = blocks_along plan.next order in
+    let certified = IsLeast-certified network slots plan departs day len proved clock order stands in
+    let c = compared network slots plan departs day len proved clock order stands blocks blocking in
+    let no_more = certified.fewest.fewest blocks blocking in
+    let no_fewer = least.fewest.fewest own certified.fewest.blocking in
     let as_many : length blocks ≡ length own = omega (arith, no_more, no_fewer) in
-    let shorter = c.least.shortest blocks blocking as_many in
-    let longer = least.shortest own c.least.fewest.blocking (sym as_many) in
+    let shorter = certified.shortest blocks blocking as_many in
+    let longer = least.shortest own certified.fewest.blocking (sym as_many) in
     let balance = c.balance in
     let weighs = c.weighs in
     blocks-tight network plan proved blocks blocking.each (omega (arith, as_many, shorter, longer, balance, weighs))
@@ -130,12 +97,15 @@ pub tight-least : (network : Network) (slots : ℕ) (plan : Plan) (departs : ℕ
     → IsCertified network plan → AreDepartures network departs
     → (blocks : List (List ℕ)) → IsBlocking network blocks → AllByRecursion (IsTightBlock network plan) blocks → IsLeast network blocks
 tight-least network slots plan departs day len proved clock blocks blocking tight =
-    let c = compared network slots plan departs day len proved clock blocks blocking in
-    let own = blocks_along plan.next (filter network.live (range_with_len 0 slots)) in
-    let no_more : length own ≤ length blocks = c.least.fewest.fewest blocks blocking in
+    let order = filter network.live (range_with_len 0 slots) in
+    let stands : StandsOnce network.live order = StandsOnce-filter_range network.live slots day.within in
+    let own = blocks_along plan.next order in
+    let certified = IsLeast-certified network slots plan departs day len proved clock order stands in
+    let c = compared network slots plan departs day len proved clock order stands blocks blocking in
+    let no_more : length own ≤ length blocks = certified.fewest.fewest blocks blocking in
     let weighs = c.weighs ∙ sym (tight-blocks network plan blocks tight) in
     let balance = c.balance in
-    let near = c.near in
+    let near = c.shorter in
     let as_many : length blocks ≡ length own = ⊎_elim
     (λ (more : length own < length blocks). absurd (omega (arith, more, weighs, balance, near)))
     (λ (enough : length blocks ≤ length own). omega (arith, enough, no_more))
@@ -143,8 +113,8 @@ tight-least network slots plan departs day len proved clock blocks blocking tigh
     record {
       fewest = record {
         blocking = blocking;
-        fewest = λ others other. (let fewest = c.least.fewest.fewest others other in omega (arith, fewest, as_many));
+        fewest = λ others other. (let fewest = certified.fewest.fewest others other in omega (arith, fewest, as_many));
       };
-      shortest = λ others other same. (let shortest = c.least.shortest others other (same ∙ as_many) in
+      shortest = λ others other same. (let shortest = certified.shortest others other (same ∙ as_many) in
           omega (arith, shortest, as_many, weighs, balance));
     }
