@@ -1,14 +1,13 @@
 -- Rows are added one after the other: from those before a number to all.
-use Rattle.std.proofs.Common.{◌≡◌, ◌≢◌, ℕ, ◌+◌, ◌-◌, ◌<◌, ◌≤◌, nat_le, Bool, true, false, List, get_or, length, replicate, Option, None}
+use Rattle.std.proofs.Common.{◌≡◌, ◌≢◌, ℕ, ◌+◌, ◌-◌, ◌<◌, ◌≤◌, nat_le, Bool, true, false, List, replicate, Option, None}
 use Rattle.std.proofs.Common.{Some, refl, sym, ap, subst, ◌∙◌, ⊎_elim, arith}
 use Rattle.std.proofs.lemmas.Bool.{both_ways, cases_lt, leb-true, le-leb, lt-leb}
-use Rattle.std.proofs.lemmas.List.{get_or_default, get_or-replicate, get_or_past, length-replicate}
+use Rattle.std.proofs.lemmas.List.{get_or-replicate, get_or_past, length-replicate}
 use Rattle.std.proofs.lemmas.Option.{none-some, same_Some}
 use Rattle.trip_model.specs.Links.{next_of}
 use Rattle.assignment_model.specs.Prices.{price}
 use Rattle.pair_search.specs.Assignment.{AreWeights, IsMatched, Covers, MayBegin}
-use Rattle.pair_search.specs.declared.order.Column.{Column}
-use Rattle.pair_search.specs.Order.{IsRenaming, no_column, slot_at, stands_before}
+use Rattle.pair_search.specs.Order.{IsRenaming, stands_before}
 
 false-lt : (a i : ℕ) → nat_le a i ≡ false → i < a
 false-lt a i e = ⊎_elim (λ (lt : i < a). lt) (λ (le : a ≤ i). absurd (both_ways (nat_le a i) e (le-leb a i le))) (cases_lt i a)
@@ -69,29 +68,22 @@ covers-none w n place leave enter weights within i j k inside _ e =
     absurd (both_ways (nat_le (place i + 1) n) inside (le-leb (place i + 1) n (omega (arith, within i (weights.within i j k e).0))))
 
 -- the row that stands last in an order of those that are not added
-pub MayBegin-added : (w : ℕ → ℕ → Option ℕ) (n : ℕ) (columns : List Column) (none : Column) (place : ℕ → ℕ) (added last : ℕ)
-    (links : List (Option ℕ)) (leave enter : List ℕ) → length columns ≡ n
-    → IsRenaming n (slot_at n columns) place → last + (added + 1) ≡ n
+pub MayBegin-added : (w : ℕ → ℕ → Option ℕ) (n : ℕ) (slot place : ℕ → ℕ) (added last a : ℕ) (links : List (Option ℕ))
+    (leave enter : List ℕ) → a ≡ slot last → IsRenaming n slot place → last + (added + 1) ≡ n
     → IsMatched w (stands_before place (n - added)) None None links leave enter
     → Covers w (stands_before place (n - added)) None leave enter
-    → MayBegin w n (stands_before place (n - (added + 1))) (get_or columns last none).slot None links leave enter
-MayBegin-added w n columns none place added last links leave enter all renaming sum matched covers =
+    → MayBegin w n (stands_before place (n - (added + 1))) a None links leave enter
+MayBegin-added w n slot place added last a links leave enter is renaming sum matched covers =
     subst (λ m. MayBegin w n (stands_before place m) a None links leave enter) (omega (arith, sum))
     (MayBegin-next w n place (n - added) last a links leave enter (omega (arith, is, renaming.slot_within last inside))
     (omega (arith, sum)) (ap place is ∙ renaming.back last inside) alone matched covers)
   where
-    a : ℕ
-    a = (get_or columns last none).slot
-
     inside : last < n
     inside = omega (arith, sum)
 
-    is : a ≡ slot_at n columns last
-    is = ap (λ (x : Column). x.slot) (get_or_default columns last none (no_column n) (omega (arith, inside, all)))
-
     alone : (i : ℕ) → place i ≡ last → i ≡ a
     alone i e = ⊎_elim
-        (λ (lt : i < n). sym (renaming.there i lt) ∙ ap (slot_at n columns) e ∙ sym is)
+        (λ (lt : i < n). sym (renaming.there i lt) ∙ ap slot e ∙ sym is)
         (λ (past : n ≤ i). absurd (omega (arith, renaming.no_place i past, e, inside)))
         (cases_lt i n)
 

@@ -203,7 +203,7 @@ module _ (side : SideView) (are : AreGroups (side_slots side) side.columns side.
       (cases_eq r g)
 
   pub AreReached-look : ((j : ℕ) → now.from ≤ j → (group_at side.groups g).from ≤ j → j < (group_at side.groups g).to
-      → is_done done j ≡ false → at dist' j + 67111744 + group_pull side g ≤ now.cost + at enter j)
+      → is_done done j ≡ false → at dist' j + 4503599627370496 + group_pull side g ≤ now.cost + at enter j)
       → ((j : ℕ) (d : Column) → (group_at side.groups g).from ≤ j → j < (group_at side.groups g).to → j < now.from
       → now.cost < 18446744073709551615 → (get_or side.columns j d).minute < now.minute)
       → AreReached side enter done dist seen → AreReached side enter done dist' (set seen g now)
@@ -250,11 +250,11 @@ module _ (side : SideView) (are : AreGroups (side_slots side) side.columns side.
 
 -- nothing is seen before a search
 module _ (n count : ℕ) (groups : List Group) (done : List Bool) (dist : List ℕ) (seen : List Seen) (room : count ≤ n)
-    (far : dist ≡ replicate n 67111745)
+    (far : dist ≡ replicate n 4503599627370497)
     (within : (r : ℕ) → r < count → (group_at groups r).to ≤ n) where
-  pub AreNear-none : (nears : (r : ℕ) → r < count → (seen_at seen r).near ≤ 67111745) → AreNear count groups done dist seen
+  pub AreNear-none : (nears : (r : ℕ) → r < count → (seen_at seen r).near ≤ 4503599627370497) → AreNear count groups done dist seen
   AreNear-none nears r j lt from to undone =
-      omega (arith, nears r lt, ap (λ xs. at xs j) far, get_or-replicate {A = ℕ} n j 67111745 0 (omega (arith, to, within r lt)))
+      omega (arith, nears r lt, ap (λ xs. at xs j) far, get_or-replicate {A = ℕ} n j 4503599627370497 0 (omega (arith, to, within r lt)))
 
 -- no column is reached before a search
 pub AreReached-none : (side : SideView) (enter : List ℕ) (done : List Bool) (dist : List ℕ) (seen : List Seen) → side_slots side ≤ 4096

@@ -1,6 +1,7 @@
 pub mod AddLemmas
 pub mod ArrangedLemmas
 pub mod DeterminedLemmas
+pub mod EndLemmas
 pub mod FitLemmas
 pub mod FoundLemmas
 pub mod FrontLemmas

@@ -17,9 +17,9 @@ stays first upto from cost near enter done dist parent dist' parent' l j le = om
 pub AreLooked-group : (w : ℕ → Option ℕ) (begin first upto end from start weight cost near : ℕ) (enter : List ℕ) (was : Columns)
     (done : List Bool) (dist parent dist' parent' : List ℕ)
     → (first < upto → begin ≤ first) → upto ≤ end
-    → ((j k : ℕ) → begin ≤ j → j < end → w j ≡ Some k → (k ≡ weight) × (cost + weight ≡ start + 67111744))
+    → ((j k : ℕ) → begin ≤ j → j < end → w j ≡ Some k → (k ≡ weight) × (cost + weight ≡ start + 4503599627370496))
     → ((j : ℕ) → begin ≤ j → j < first → w j ≡ None) → ((j : ℕ) → begin ≤ j → first ≤ j → j < upto → w j ≡ Some weight)
-    → ((j : ℕ) → begin ≤ j → upto ≤ j → j < end → is_done done j ≡ false → at dist j + 67111744 ≤ cost + at enter j)
+    → ((j : ℕ) → begin ≤ j → upto ≤ j → j < end → is_done done j ≡ false → at dist j + 4503599627370496 ≤ cost + at enter j)
     → AreApproached first upto from cost enter (as_columns dist parent done) (as_columns dist' parent' done) near
     → AreLooked w begin from start enter was (as_columns dist parent done)
     → AreLooked w end from start enter was (as_columns dist' parent' done)

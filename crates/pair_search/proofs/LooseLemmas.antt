@@ -37,10 +37,10 @@ fits-weight network i j fits = by (network.empty i j) refl
         ap (option_map (λ m. 67108864 + network.home i + network.out j - m)) is in
         found ∙ ap Some (sym (ap (λ w. unwrap_or w 0) found))
 
-weight-most : (network : Network) (slots : ℕ) → IsDay network slots → (i j k : ℕ) → weight network i j ≡ Some k → k ≤ 67111744
+weight-most : (network : Network) (slots : ℕ) → IsDay network slots → (i j k : ℕ) → weight network i j ≡ Some k → k ≤ 4503599627370496
 weight-most network slots day i j k e = by (network.empty i j) e
   where
-    by : (minutes : Option ℕ) → option_map (λ m. 67108864 + network.home i + network.out j - m) minutes ≡ Some k → k ≤ 67111744
+    by : (minutes : Option ℕ) → option_map (λ m. 67108864 + network.home i + network.out j - m) minutes ≡ Some k → k ≤ 4503599627370496
     by None e = absurd (none-some k e)
     by (Some m) e = let same = same_Some (67108864 + network.home i + network.out j - m) k e in omega (arith, same, day.home i, day.out j)
 

@@ -28,10 +28,10 @@ AreNextTrips-matched w n out a b next leave enter weights len matched = record {
 -- a column that fits a row has no price above the greatest
 pub enter-low : (w : ℕ → ℕ → Option ℕ) (n : ℕ) (out : ℕ → Bool) (a b : Option ℕ) (next : List (Option ℕ)) (leave enter : List ℕ)
     → AreWeights w n
-    → IsMatched w out a b next leave enter → (i j k : ℕ) → w i j ≡ Some k → price enter j ≤ 67111744
+    → IsMatched w out a b next leave enter → (i j k : ℕ) → w i j ≡ Some k → price enter j ≤ 4503599627370496
 enter-low w n out a b next leave enter weights matched i j k fits = by (before_of next j) refl
   where
-    by : (before : Option ℕ) → before_of next j ≡ before → price enter j ≤ 67111744
+    by : (before : Option ℕ) → before_of next j ≡ before → price enter j ≤ 4503599627370496
     by None e =
         omega (
           arith,
@@ -45,10 +45,10 @@ enter-low w n out a b next leave enter weights matched i j k fits = by (before_o
 -- a row other than the one at which a search begins has no price above it
 leave-low : (w : ℕ → ℕ → Option ℕ) (n : ℕ) (out : ℕ → Bool) (a b : Option ℕ) (next : List (Option ℕ)) (leave enter : List ℕ)
     → AreWeights w n
-    → IsMatched w out a b next leave enter → (i : ℕ) → a ≢ Some i → price leave i ≤ 67111744
+    → IsMatched w out a b next leave enter → (i : ℕ) → a ≢ Some i → price leave i ≤ 4503599627370496
 leave-low w n out a b next leave enter weights matched i other = by (next_of next i) refl
   where
-    by : (to : Option ℕ) → next_of next i ≡ to → price leave i ≤ 67111744
+    by : (to : Option ℕ) → next_of next i ≡ to → price leave i ≤ 4503599627370496
     by None e = omega (arith, matched.leave_zero i other e)
     by (Some j) e = omega (arith, weights.most i j (price leave i + price enter j) (matched.tight i j e))
 
@@ -79,10 +79,10 @@ covers-set w out a x leave enter covers i j k inside other fits = omega (arith, 
 IsGiven-begun : (w : ℕ → ℕ → Option ℕ) (n : ℕ) (out : ℕ → Bool) (a : ℕ) (b : Option ℕ) (next before : List (Option ℕ))
     (leave enter : List ℕ) → n ≤ 4096 → AreWeights w n
     → length next ≡ n → length leave ≡ n → IsInverse (length next) next before → MayBegin w n out a b next leave enter
-    → IsGiven (problem w n a before (set leave a 67111744) enter)
+    → IsGiven (problem w n a before (set leave a 4503599627370496) enter)
 IsGiven-begun w n out a b next before leave enter few weights len len' inverse begins =
     let matched = begins.matched in
-    let root : price (set leave a 67111744) a ≡ 67111744 = get_or-set_same leave a 67111744 0 (omega (arith, begins.start, len')) in
+    let root : price (set leave a 4503599627370496) a ≡ 4503599627370496 = get_or-set_same leave a 4503599627370496 0 (omega (arith, begins.start, len')) in
     record {
       few = few;
       weights = weights;
@@ -92,21 +92,21 @@ IsGiven-begun w n out a b next before leave enter few weights len len' inverse b
       rows = λ i j e. let linked = (inverse.linked i j e).1 in
           weights.within i j (price leave i + price enter j) (matched.tight i j linked);
       leave_low = λ i. ⊎_elim
-          (λ (e : i ≡ a). let same : price (set leave a 67111744) i ≡ price (set leave a 67111744) a = ap (price (set leave a 67111744))
+          (λ (e : i ≡ a). let same : price (set leave a 4503599627370496) i ≡ price (set leave a 4503599627370496) a = ap (price (set leave a 4503599627370496))
           e in omega (arith, same, root))
           (λ (ne : i ≡ a → ⊥).
           let other : Some a ≢ Some i = λ e. ne (sym (same_Some a i e)) in
-          omega (arith, set-other leave a 67111744 i other, leave-low w n out (Some a) b next leave enter weights matched i other))
+          omega (arith, set-other leave a 4503599627370496 i other, leave-low w n out (Some a) b next leave enter weights matched i other))
           (cases_eq i a);
       enter_low = enter-low w n out (Some a) b next leave enter weights matched;
       covers = λ i j k inside fits. ⊎_elim
           (λ (e : i ≡ a).
-          let same : price (set leave a 67111744) i ≡ price (set leave a 67111744) a = ap (price (set leave a 67111744)) e in
+          let same : price (set leave a 4503599627370496) i ≡ price (set leave a 4503599627370496) a = ap (price (set leave a 4503599627370496)) e in
           omega (arith, same, root, weights.most i j k fits))
           (λ (linked : (h : ℕ) × (next_of before h ≡ Some i)).
           let to = (inverse.linked i linked.0 linked.1).1 in
           let other : Some a ≢ Some i = λ e. none-some linked.0 (sym (matched.first i e) ∙ to) in
-          omega (arith, set-other leave a 67111744 i other, begins.covers i j k (in-tree i linked.0 to (out i) refl) other fits))
+          omega (arith, set-other leave a 4503599627370496 i other, begins.covers i j k (in-tree i linked.0 to (out i) refl) other fits))
           inside;
     }
   where
@@ -118,7 +118,7 @@ IsGiven-begun w n out a b next before leave enter few weights len len' inverse b
 pub given-at : (w : ℕ → ℕ → Option ℕ) (n : ℕ) (out : ℕ → Bool) (a : ℕ) (b : Option ℕ) (next before : List (Option ℕ))
     (leave enter : List ℕ) (first : ℕ) (raised : List ℕ)
     → n ≤ 4096 → AreWeights w n → length next ≡ n → length leave ≡ n → IsInverse (length next) next before
-    → MayBegin w n out a b next leave enter → first ≡ a → raised ≡ set leave a 67111744
+    → MayBegin w n out a b next leave enter → first ≡ a → raised ≡ set leave a 4503599627370496
     → IsGiven (problem w n first before raised enter)
 given-at w n out a b next before leave enter first raised few weights len len' inverse begins same set-is =
     subst (λ x. IsGiven (problem w n x before raised enter)) (sym same)
@@ -137,7 +137,7 @@ pub record IsOver (p : Problem) (s : TreeView) (end : End) (out : ℕ → Bool) 
   pub slots : length next ≡ p.n
 
 -- the row that is linked to a column that is done, and its place
-place-of : (p : Problem) (s : TreeView) (end : End) (out : ℕ → Bool) (b : Option ℕ) (next : List (Option ℕ)) → IsOver p s end out b next
+pub place-of : (p : Problem) (s : TreeView) (end : End) (out : ℕ → Bool) (b : Option ℕ) (next : List (Option ℕ)) → IsOver p s end out b next
     → (i j : ℕ) → next_of next i ≡ Some j
     → is_done s.done j ≡ true → (t : ℕ) × (t < s.size) × (at s.rows t ≡ i) × (at s.dist j ≡ at s.far t)
 place-of p s end out b next o i j linked done =
@@ -162,13 +162,13 @@ enough p s end out b next o i j linked = ⊎_elim
 -- a column that gains has no price above the greatest
 pub gain-low : (p : Problem) (s : TreeView) (end : End) (out : ℕ → Bool) (b : Option ℕ) (next : List (Option ℕ))
     → IsOver p s end out b next → (j : ℕ) → j < p.n → at s.dist j < end.fall
-    → at p.enter j ≤ 67111744
+    → at p.enter j ≤ 4503599627370496
 gain-low p s end out b next o j inside near =
     let from = o.tree.reached j inside (omega (arith, near, o.ended.low)) in
     o.given.enter_low (at s.rows (at s.parent j)) j from.weight from.fits
 
 -- what the row at a place of the tree is linked to
-row-linked : (p : Problem) (s : TreeView) (end : End) (out : ℕ → Bool) (b : Option ℕ) (next : List (Option ℕ)) → IsOver p s end out b next
+pub row-linked : (p : Problem) (s : TreeView) (end : End) (out : ℕ → Bool) (b : Option ℕ) (next : List (Option ℕ)) → IsOver p s end out b next
     → (t : ℕ) → 0 < t → t < s.size
     → (via : IsVia p s t) × (next_of next (at s.rows t) ≡ Some via.column)
 row-linked p s end out b next o t positive lt = let via = o.tree.via t positive lt in
@@ -387,7 +387,7 @@ free-over p s end out b next o = by end.to refl
 pub IsOver-grown : (w : ℕ → ℕ → Option ℕ) (n : ℕ) (out : ℕ → Bool) (a : ℕ) (b : Option ℕ) (next before : List (Option ℕ))
     (leave enter : List ℕ) (first : ℕ) (raised : List ℕ) (s : TreeView) (end : End)
     → n ≤ 4096 → AreWeights w n → length next ≡ n → length leave ≡ n → IsInverse (length next) next before
-    → MayBegin w n out a b next leave enter → first ≡ a → raised ≡ set leave a 67111744
+    → MayBegin w n out a b next leave enter → first ≡ a → raised ≡ set leave a 4503599627370496
     → IsTree (problem w n first before raised enter) s → HasEnded (problem w n first before raised enter) s end
     → IsOver (problem w n first before raised enter) s end out b next
 IsOver-grown w n out a b next before leave enter first raised s end few weights len len' inverse begins same set-is tree ended = record {
@@ -398,10 +398,10 @@ IsOver-grown w n out a b next before leave enter first raised s end few weights 
   matched =
       subst (λ x. IsMatched w out (Some x) b next raised enter) (sym same)
       (subst (λ prices. IsMatched w out (Some a) b next prices enter) (sym set-is)
-      (matched-set w out a 67111744 b next leave enter begins.matched));
+      (matched-set w out a 4503599627370496 b next leave enter begins.matched));
   covers =
       subst (λ x. Covers w out (Some x) raised enter) (sym same)
-      (subst (λ prices. Covers w out (Some a) prices enter) (sym set-is) (covers-set w out a 67111744 leave enter begins.covers));
+      (subst (λ prices. Covers w out (Some a) prices enter) (sym set-is) (covers-set w out a 4503599627370496 leave enter begins.covers));
   inverse = inverse;
   slots = len;
 }

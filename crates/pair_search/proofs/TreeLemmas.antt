@@ -216,7 +216,7 @@ visit-done p s row column dist parent tree v j lt done =
     (cases_eq j column)
 
 visit-reached : (p : Problem) (s : TreeView) (row column : ℕ) (dist parent : List ℕ) → IsTree p s → IsVisit p s row column dist parent
-    → (j : ℕ) → j < p.n → at dist j < 67111745 → IsFrom p (visited s row column dist parent) j
+    → (j : ℕ) → j < p.n → at dist j < 4503599627370497 → IsFrom p (visited s row column dist parent) j
 visit-reached p s row column dist parent tree v j lt near = ⊎_elim
     (λ (less : at dist j < at s.dist j).
     let reached = v.looked.reached j less in
@@ -372,9 +372,9 @@ IsBest-more p s s' row far best end is in-rows in-far rows fars size reach near 
 
 -- the tree of the first row alone
 pub IsTree-begun : (p : Problem) (dist0 parent0 dist parent : List ℕ) (done : List Bool) (rows far : List ℕ) → IsGiven p
-    → at p.leave p.a ≡ 67111744
-    → dist0 ≡ replicate p.n 67111745 → done ≡ replicate p.n false → at rows 0 ≡ p.a → at far 0 ≡ 0
-    → AreLooked (p.w p.a) p.n 0 67111744 p.enter (as_columns dist0 parent0 done) (as_columns dist parent done)
+    → at p.leave p.a ≡ 4503599627370496
+    → dist0 ≡ replicate p.n 4503599627370497 → done ≡ replicate p.n false → at rows 0 ≡ p.a → at far 0 ≡ 0
+    → AreLooked (p.w p.a) p.n 0 4503599627370496 p.enter (as_columns dist0 parent0 done) (as_columns dist parent done)
     → IsTree p (tree_with dist parent done rows far 1 0)
 IsTree-begun p dist0 parent0 dist parent done rows far given price dists dones row near looked = record {
   root = (omega arith, row, near);
@@ -391,7 +391,7 @@ IsTree-begun p dist0 parent0 dist parent done rows far given price dists dones r
   later = λ j lt _. omega arith;
   done = λ j lt is. absurd (both_ways (is_done done j) (undone j lt) is);
   reached = λ j lt close.
-      let start : at dist0 j ≡ 67111745 = ap (λ xs. at xs j) dists ∙ get_or-replicate p.n j 67111745 0 lt in
+      let start : at dist0 j ≡ 4503599627370497 = ap (λ xs. at xs j) dists ∙ get_or-replicate p.n j 4503599627370497 0 lt in
       let from = looked.reached j (omega (arith, start, close)) in
       let first : at rows (at parent j) ≡ p.a = ap (at rows) from.by ∙ row in
       let leaves : at p.leave (at rows (at parent j)) ≡ at p.leave p.a = ap (at p.leave) first in

@@ -20,14 +20,14 @@ use std::sync::ledger::Ledger;
 
 /// Where a search ends. When prices have fallen so far, the row at a place of the tree is linked to a column, or to none.
 #[derive(Clone, Copy)]
-pub(crate) struct End {
+pub struct End {
     pub from: u16,
     pub to: Option<u16>,
     pub fall: u64,
 }
 
-// Of two ends at rows the one at which prices have fallen less.
-fn sooner(best: End, from: u16, fall: u64) -> End
+/// Of two ends at rows the one at which prices have fallen less.
+pub fn sooner(best: End, from: u16, fall: u64) -> End
     ensures one { (result ≡ best) ⊎ (result ≡ record { from = from; to = None; fall = fall }) }
     ensures best { result.fall ≤ best.fall }
     ensures other { result.fall ≤ fall }
@@ -144,7 +144,7 @@ impl Tree {
         requires given { IsGiven (problem_of side.now (at self.old.rows.items 0) before.now leave.now enter.now) }
         requires begun { IsTree (problem_of side.now (at self.old.rows.items 0) before.now leave.now enter.now) (tree_of self.old 1 0) }
         ensures slots { vec_len self.new.dist ≡ vec_len self.old.dist }
-        ensures grown { IsGrown (problem_of side.now (at self.old.rows.items 0) before.now leave.now enter.now) self.new result }
+        ensures grown { IsGrown (problem_of side.now (at self.old.rows.items 0) before.now leave.now enter.now) (tree_of self.new) result }
         ensures shown { (next : List (Option ℕ)) (front : Front) → ((j : ℕ) → before_of next j ≡ next_of before.now j)
             → Shows self.old 0 None (at leave.now (at self.old.rows.items 0)) front
             → Shows self.new result.from result.to result.fall

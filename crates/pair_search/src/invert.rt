@@ -4,7 +4,7 @@ ghost use Rattle.pair_search.specs.Inverse.{IsInverse};
 ghost use Rattle.trip_model.specs.declared.limits.TheConstants.{MOST_SLOTS};
 
 /// The inverse of links: for each column the row that is linked to it.
-pub(crate) fn invert(next: &[Option<u16>], before: &mut [Option<u16>])
+pub fn invert(next: &[Option<u16>], before: &mut [Option<u16>])
     requires slots { length next.now ≡ length before.old }
     requires few { length next.now ≤ MOST_SLOTS }
     requires links { AreNextTrips next.now }

@@ -19,7 +19,7 @@
 
 mod groups;
 mod grow;
-mod invert;
+pub mod invert;
 pub mod laws;
 mod leads;
 mod limits;
@@ -30,7 +30,7 @@ mod look;
 mod looks;
 mod order;
 mod orders;
-mod relink;
+pub mod relink;
 mod rename;
 mod scan;
 mod search;
@@ -39,10 +39,13 @@ mod side;
 mod tree;
 
 pub use groups::Group;
+pub use grow::{End, sooner};
+pub use limits::{FAR, GREATEST_PRICE};
 pub use lists::Lists;
 pub use look::Look;
 pub use looks::Looks;
 pub use order::Column;
 pub use orders::{Departures, Order};
+pub use scan::{Found, Nearby, nearer_between};
 pub use search::{link_all, search_befores, search_links};
 pub use side::Side;

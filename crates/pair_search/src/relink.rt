@@ -9,7 +9,7 @@ ghost use Rattle.pair_search.specs.Search.{at};
 use crate::grow::End;
 
 /// Links rows anew from where a search has ended back to its first row: each is given what the one after it had.
-pub(crate) fn relink(end: End, parent: &[u16], rows: &[u16], next: &mut [Option<u16>])
+pub fn relink(end: End, parent: &[u16], rows: &[u16], next: &mut [Option<u16>])
     requires back { LeadsBack next.old parent.now rows.now end.from }
     requires free { IfSome end.to (λ j. before_of next.old j ≡ None) }
     ensures path { IsPath (next_of next.old) (before_of next.old) (next_of next.new) (at rows.now 0) }

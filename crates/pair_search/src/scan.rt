@@ -135,9 +135,40 @@ fn distance(column: Option<u16>, dist: &[u64]) -> u64
 
 /// The nearest column so far, and how far it is; without one, how near the next must be.
 #[derive(Clone, Copy)]
-pub(crate) struct Nearby {
+pub struct Nearby {
     pub column: Option<u16>,
     pub distance: u64,
+}
+
+/// What was found between two places: the nearest column so far, and how near those between them are at most.
+#[derive(Clone, Copy)]
+pub struct Found {
+    pub best: Nearby,
+    pub near: u64,
+}
+
+/// Looks through the columns between two places for one that is nearer than the nearest so far.
+pub fn nearer_between(done: &[bool], dist: &[u64], first: u16, upto: u16, best: Nearby) -> Found
+    requires done { length done.now ≡ length dist.now }
+    requires within { upto ≤ length dist.now }
+    requires low { best.distance ≤ FAR }
+    ensures near { (j : ℕ) → first ≤ j → j < upto → is_done done.now j ≡ false → result.near ≤ at dist.now j }
+    ensures low { result.best.distance ≤ best.distance }
+    ensures least { (j : ℕ) → first ≤ j → j < upto → is_done done.now j ≡ false → result.best.distance ≤ at dist.now j }
+    ensures one { (result.best ≡ best) ⊎ IsNearer first done.now dist.now best result.best }
+{
+    let column = nearest_between(done, dist, first, upto);
+    let near = distance(column, dist);
+    if near < best.distance {
+        return Found {
+            best: Nearby {
+                column,
+                distance: near,
+            },
+            near,
+        };
+    }
+    Found { best, near }
 }
 
 impl Tree {
@@ -357,16 +388,12 @@ fn nearest_of(
     if best.distance <= was.near {
         return best;
     }
-    let column = nearest_between(done, dist, columns.from, columns.to);
-    let near = distance(column, dist);
-    seen[group] = Seen { near, ..was };
-    if near < best.distance {
-        return Nearby {
-            column,
-            distance: near,
-        };
-    }
-    best
+    let found = nearer_between(done, dist, columns.from, columns.to, best);
+    seen[group] = Seen {
+        near: found.near,
+        ..was
+    };
+    found.best
 }
 
 /// The nearest column that is not done, if one is nearer than a bound.

@@ -44,9 +44,12 @@ search-requires-clause-begins g c =
     let none : Column = record { post = None; minute = 0; slot = 0 } in (
       stands_before loop.invariant.turn (side_slots side - (loop.added + 1)),
       None,
-      MayBegin-added (place_weight side) (side_slots side) c.args.departures.now none loop.invariant.turn loop.added
-          (c.slots-slots.result - 1 - loop.added) loop.next loop.leave loop.enter
-          c.requires.all loop.invariant.renaming (omega (arith, c.loop-added-test.true, c.slots-slots.ensures.count))
+      MayBegin-added (place_weight side) (side_slots side) (slot_at (side_slots side) c.args.departures.now) loop.invariant.turn loop.added
+          (c.slots-slots.result - 1 - loop.added) (get_or c.args.departures.now (c.slots-slots.result - 1 - loop.added) none).slot
+          loop.next loop.leave loop.enter
+          (ap (λ (x : Column). x.slot) (get_or_default c.args.departures.now (c.slots-slots.result - 1 - loop.added) none
+          (no_column (side_slots side)) (omega (arith, c.loop-added-test.true, c.slots-slots.ensures.count, c.requires.all))))
+          loop.invariant.renaming (omega (arith, c.loop-added-test.true, c.slots-slots.ensures.count))
           loop.invariant.matched loop.invariant.covers,
     )
 
@@ -56,9 +59,12 @@ loop-added-preserved g c =
     let loop = c.loop-added in
     let none : Column = record { post = None; minute = 0; slot = 0 } in
     let begins =
-    MayBegin-added (place_weight side) (side_slots side) c.args.departures.now none loop.invariant.turn loop.added
-    (c.slots-slots.result - 1 - loop.added) loop.next loop.leave loop.enter
-    c.requires.all loop.invariant.renaming (omega (arith, c.loop-added-test.true, c.slots-slots.ensures.count)) loop.invariant.matched
+    MayBegin-added (place_weight side) (side_slots side) (slot_at (side_slots side) c.args.departures.now) loop.invariant.turn loop.added
+    (c.slots-slots.result - 1 - loop.added) (get_or c.args.departures.now (c.slots-slots.result - 1 - loop.added) none).slot
+    loop.next loop.leave loop.enter
+    (ap (λ (x : Column). x.slot) (get_or_default c.args.departures.now (c.slots-slots.result - 1 - loop.added) none
+    (no_column (side_slots side)) (omega (arith, c.loop-added-test.true, c.slots-slots.ensures.count, c.requires.all))))
+    loop.invariant.renaming (omega (arith, c.loop-added-test.true, c.slots-slots.ensures.count)) loop.invariant.matched
     loop.invariant.covers in
     let done = c.search.ensures in
     let n = side_slots side in

@@ -1,21 +1,21 @@
-use Rattle.std.proofs.Common.{◌≡◌, ℕ, ◌+◌, ◌-◌, ◌<◌, ◌≤◌, ◌∙◌, List, length, ap, Option, None, Some, Bool, refl, sym, subst}
+use Rattle.std.proofs.Common.{◌≡◌, ℕ, ◌-◌, ◌<◌, ◌≤◌, ◌∙◌, List, set, length, ap, Option, None, Some, Bool, refl, sym, subst}
 use Rattle.std.proofs.Common.{⊎_elim, arith}
 use Rattle.std.proofs.lemmas.Bool.{cases_lt}
-use Rattle.std.proofs.lemmas.List.{get_or_past, get_or-set_same}
-use Rattle.std.proofs.lemmas.Option.{none-some, same_Some}
+use Rattle.std.proofs.lemmas.List.{get_or_past, get_or-set_same, length-set}
 use Rattle.assignment_model.specs.Prices.{Plan}
 use Rattle.trip_model.specs.Links.{next_of}
-use Rattle.pair_search.specs.Assignment.{MayBegin}
-use Rattle.pair_search.specs.Determined.{Front, grown, opened, first_front, linked_back}
+use Rattle.pair_search.specs.Assignment.{IsMatched, MayBegin}
+use Rattle.pair_search.specs.Determined.{Front, found, grown, opened, first_front, linked_back}
 use Rattle.pair_search.specs.Fronts.{Shows}
 use Rattle.pair_search.specs.Relinking.{LeadsBack, IsShifted, IsTightBack, IsPassing}
-use Rattle.pair_search.specs.Search.{at, Problem, problem_of, IsTree, TreeView, tree_of}
+use Rattle.pair_search.specs.Search.{at, Problem, problem, problem_of, IsTree, TreeView, tree_of}
 use Rattle.pair_search.specs.Side.{side_slots, place_weight}
 use Rattle.pair_search.specs.Visits.{IsOfOthers, RowLooks, SearchesOnce}
-use Rattle.pair_search.proofs.FoundLemmas.{last_front, found-over}
+use Rattle.pair_search.proofs.EndLemmas.{matched-end, found-end}
+use Rattle.pair_search.proofs.FoundLemmas.{last_front}
 use Rattle.pair_search.proofs.InverseLemmas.{inverse-before}
 use Rattle.pair_search.proofs.ShiftLemmas.{AreNextTrips-matched, enter-low, given-at, IsOver, IsOver-grown, enough, gain-low, covers-over}
-use Rattle.pair_search.proofs.ShiftLemmas.{LeadsBack-over, IsTightBack-over, IsPassing-over, free-over}
+use Rattle.pair_search.proofs.ShiftLemmas.{LeadsBack-over, free-over}
 use Rattle.pair_search.proofs.VisitLemmas.{search-once, Takes-append}
 use Rattle.pair_search.proofs.search.search.Given.{Over}
 use Rattle.pair_search.proofs.search.search.Goals as goal
@@ -171,20 +171,16 @@ returns-clause-matched g c = λ out b begins.
     c.args.enter.now) in
     let now = c.grow-end.new.self in
     let s : TreeView = (tree_of now c.grow-end.ensures.grown.size c.grow-end.ensures.grown.reach) in
-    let w = place_weight c.args.side.now in
-    let over = over-end g c out b begins in
-    c.relink.ensures.matched w out b c.shift.new.leave c.shift.new.enter
-    (subst (λ parent. IsTightBack w out c.args.next.now c.shift.new.leave c.shift.new.enter parent c.deref-3.result.now
-    c.grow-end.result.from) (sym c.deref-2.ensures.value)
-    (subst (λ rows. IsTightBack w out c.args.next.now c.shift.new.leave c.shift.new.enter now.parent.items rows c.grow-end.result.from)
-    (sym c.deref-3.ensures.value)
-    (IsTightBack-over p s c.grow-end.result out b c.args.next.now c.shift.new.leave c.shift.new.enter over (shifted g c))))
-    (subst (λ rows. IsPassing w out (at rows 0) b c.args.next.now c.shift.new.leave c.shift.new.enter (at rows c.grow-end.result.from)
-    c.grow-end.result.to) (sym c.deref-3.ensures.value)
-    (subst (λ first. IsPassing w out first b c.args.next.now c.shift.new.leave c.shift.new.enter (at now.rows.items c.grow-end.result.from)
-    c.grow-end.result.to) (sym over.tree.root.1)
-    (IsPassing-over p s c.grow-end.result out b c.args.next.now c.shift.new.leave c.shift.new.enter over
-    (omega (arith, c.requires.enter, c.shift.auto.enter)) (shifted g c))))
+    matched-end p s c.grow-end.result out b c.args.next.now (over-end g c out b begins) c.relink.new.next c.shift.new.leave
+    c.shift.new.enter (omega (arith, c.requires.enter, c.shift.auto.enter)) (shifted g c)
+    (subst (λ parent. (w : ℕ → ℕ → Option ℕ) (out : ℕ → Bool) (b : Option ℕ) (leave enter : List ℕ)
+    → IsTightBack w out c.args.next.now leave enter parent now.rows.items c.grow-end.result.from
+    → IsPassing w out (at now.rows.items 0) b c.args.next.now leave enter (at now.rows.items c.grow-end.result.from) c.grow-end.result.to
+    → IsMatched w out None b c.relink.new.next leave enter) c.deref-2.ensures.value
+    (subst (λ rows. (w : ℕ → ℕ → Option ℕ) (out : ℕ → Bool) (b : Option ℕ) (leave enter : List ℕ)
+    → IsTightBack w out c.args.next.now leave enter c.deref-2.result.now rows c.grow-end.result.from
+    → IsPassing w out (at rows 0) b c.args.next.now leave enter (at rows c.grow-end.result.from) c.grow-end.result.to
+    → IsMatched w out None b c.relink.new.next leave enter) c.deref-3.ensures.value c.relink.ensures.matched))
 
 pub returns-clause-covers : goal.returns-clause-covers
 returns-clause-covers g c = λ out b begins.
@@ -213,16 +209,14 @@ returns-clause-plan g c =
     let enter = c.args.enter.now in
     let plan : Plan = record { next = next; leave = c.args.leave.now; enter = enter } in
     let matched = c.requires.begins.2.matched in
-    let tree = c.grow-end.ensures.grown.tree in
-    let ended = c.grow-end.ensures.grown.ended in
     let end = c.grow-end.result in
     let start = c.begin.new.self in
     let now = c.grow-end.new.self in
     let first : Front = first_front w a enter n in
     let over : Front = last_front w a plan in
-    let opened_price : at c.begin.new.leave (at start.rows.items 0) ≡ 67111744 =
+    let opened_price : at c.begin.new.leave (at start.rows.items 0) ≡ 4503599627370496 =
     ap (at c.begin.new.leave) c.begin.ensures.first ∙ ap (λ l. at l a) c.begin.ensures.leave
-    ∙ get_or-set_same c.args.leave.now a 67111744 0 (omega (arith, c.requires.begins.2.start, c.requires.leave)) in
+    ∙ get_or-set_same c.args.leave.now a 4503599627370496 0 (omega (arith, c.requires.begins.2.start, c.requires.leave)) in
     let begun : Shows start 0 None (at c.begin.new.leave (at start.rows.items 0)) first =
     subst (λ (f : ℕ). Shows start 0 None f first) (sym opened_price) c.begin.ensures.shown in
     let at_end = c.grow-end.ensures.shown next first (λ j. sym (inverse-before next c.invert.new.before matched.once c.invert.ensures j))
@@ -231,33 +225,20 @@ returns-clause-plan g c =
     subst (λ (m : ℕ). Shows now end.from end.to end.fall (grown w (opened a plan) m (first_front w a enter m))) (sym c.requires.next)
     (subst (λ (l : List ℕ). Shows now end.from end.to end.fall (grown w (record { next = next; leave = l; enter = enter }) n first))
     c.begin.ensures.leave at_end) in
-    let from : (t j : ℕ) → t ≤ end.from → next_of next (at now.rows.items t) ≡ Some j
-    → at now.rows.items (at now.parent.items j) ≡ at over.from j = λ t j le linked.
-    let inside = (AreNextTrips-matched w n c.requires.begins.0 (Some a) c.requires.begins.1 next c.args.leave.now enter c.requires.sound
-    c.requires.next matched).within (at now.rows.items t) j linked in
-    ⊎_elim
-    (λ (lt : 0 < t).
-    let via = tree.via t lt (omega (arith, le, ended.within)) in
-    let same = same_Some via.column j (sym (c.invert.ensures.linked (at now.rows.items t) via.column via.linked).1 ∙ linked) in
-    let close : at now.dist.items j < 67111745 =
-    omega (arith, ap (at now.dist.items) same, via.far, tree.within t (omega (arith, le, ended.within)), ended.later, ended.low) in
-    shown.from j (omega (arith, inside, c.requires.next, now.dist.ok.0, c.begin.ensures.slots, c.grow-end.ensures.slots)) close)
-    (λ (le0 : t ≤ 0).
-    let zero : t ≡ 0 = omega (arith, le0) in
-    let root : at now.rows.items t ≡ a = ap (at now.rows.items) zero ∙ tree.root.1 ∙ c.begin.ensures.first in
-    absurd (none-some j (sym (matched.first a refl) ∙ ap (next_of next) (sym root) ∙ linked)))
-    (cases_lt 0 t) in
-    let links : c.relink.new.next ≡ linked_back over.from (length next + 1) next (at now.rows.items end.from) end.to =
-    subst (λ rows. c.relink.new.next ≡ linked_back over.from (length next + 1) next (at rows end.from) end.to) c.deref-3.ensures.value
-    (c.relink.ensures.linked over.from (length next + 1) (omega (arith, ended.within, tree.count, c.requires.next))
-    (subst (λ parent. (t j : ℕ) → t ≤ end.from → next_of next (at c.deref-3.result.now t) ≡ Some j
-    → at c.deref-3.result.now (at parent j) ≡ at over.from j) (sym c.deref-2.ensures.value)
-    (subst (λ rows. (t j : ℕ) → t ≤ end.from → next_of next (at rows t) ≡ Some j → at rows (at now.parent.items j) ≡ at over.from j)
-    (sym c.deref-3.ensures.value) from))) in
-    found-over w a plan now.dist.items now.parent.items now.done.items now.rows.items end.from end.to end.fall c.relink.new.next
-    c.shift.new.leave c.shift.new.enter shown links
-    (omega (arith, c.shift.auto.leave, ap length c.begin.ensures.leave)) (omega (arith, c.shift.auto.enter))
-    (subst (λ (l : List ℕ). IsShifted (length enter) a next now.dist.items end.fall l enter c.shift.new.leave c.shift.new.enter)
-    c.begin.ensures.leave
-    (subst (λ (d : List ℕ). IsShifted (length enter) a next d end.fall c.begin.new.leave enter c.shift.new.leave c.shift.new.enter)
-    c.deref.ensures.value c.shift.ensures))
+    let first_is = c.begin.ensures.first in
+    let s : TreeView = (tree_of now c.grow-end.ensures.grown.size c.grow-end.ensures.grown.reach) in
+    found-end (problem w n (at start.rows.items 0) c.invert.new.before c.begin.new.leave enter) s end c.requires.begins.0 c.requires.begins.1
+    next (over-end g c c.requires.begins.0 c.requires.begins.1 c.requires.begins.2) c.args.leave.now enter c.relink.new.next
+    c.shift.new.leave c.shift.new.enter
+    (omega (arith, now.dist.ok.0, c.begin.ensures.slots, c.grow-end.ensures.slots)) c.requires.enter
+    (c.begin.ensures.leave ∙ ap (λ x. set c.args.leave.now x 4503599627370496) (sym first_is)) refl
+    (subst (λ x. Shows now end.from end.to end.fall (last_front w x plan)) (sym first_is) shown)
+    (subst (λ parent. (from : List ℕ) (most : ℕ) → end.from < most
+    → ((t j : ℕ) → t ≤ end.from → next_of next (at now.rows.items t) ≡ Some j → at now.rows.items (at parent j) ≡ at from j)
+    → c.relink.new.next ≡ linked_back from most next (at now.rows.items end.from) end.to) c.deref-2.ensures.value
+    (subst (λ rows. (from : List ℕ) (most : ℕ) → end.from < most
+    → ((t j : ℕ) → t ≤ end.from → next_of next (at rows t) ≡ Some j → at rows (at c.deref-2.result.now j) ≡ at from j)
+    → c.relink.new.next ≡ linked_back from most next (at rows end.from) end.to) c.deref-3.ensures.value c.relink.ensures.linked))
+    (omega (arith, c.shift.auto.leave, ap length c.begin.ensures.leave, length-set c.args.leave.now a 4503599627370496))
+    (omega (arith, c.shift.auto.enter)) (shifted g c)
+    ∙ ap (λ x. found w x plan) first_is

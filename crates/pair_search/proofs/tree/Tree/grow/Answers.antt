@@ -4,16 +4,16 @@ use Rattle.std.proofs.Math.Nat.{mul-le-mul_left}
 use Rattle.std.proofs.lemmas.List.{get_or_read}
 use Rattle.std.proofs.lemmas.List.Elements.{All-nil}
 use Rattle.assignment_model.specs.Prices.{Plan}
-use Rattle.pair_search.specs.Determined.{first_nearest, grown, visited}
+use Rattle.pair_search.specs.Determined.{first_nearest, grown}
 use Rattle.pair_search.specs.Fronts.{IsShown, IsOnWay}
 use Rattle.pair_search.specs.Search.{at, is_done, as_columns, problem_of, Problem, TreeView, tree_of, AreLooked, HasEnded}
 use Rattle.pair_search.specs.Search.{IsNearest, IsNext}
 use Rattle.pair_search.specs.Side.{side_slots, place_weight}
 use Rattle.pair_search.specs.Visits.{IsOfOthers, RowLooks}
-use Rattle.pair_search.proofs.FrontLemmas.{IsOnWay-first, IsOnWay-row, IsShown-none, IsShown-column}
+use Rattle.pair_search.proofs.FrontLemmas.{IsOnWay-first, IsShown-none, IsShown-column}
 use Rattle.pair_search.proofs.GroupLemmas.{AreNear-same, AreReached-same}
 use Rattle.pair_search.proofs.LentLemmas.{written}
-use Rattle.pair_search.proofs.ShownLemmas.{IsShown-come, IsShown-same}
+use Rattle.pair_search.proofs.ShownLemmas.{IsOnWay-come}
 use Rattle.pair_search.proofs.VisitLemmas.{once-none, IsOfTree, TreeLooks, TreeLooks-more, TreeLooks-others, Takes-append, Takes-none, Takes-weaker}
 use Rattle.pair_search.proofs.TreeLemmas.{tree-room, IsBest-first, IsBest-more, HasEnded-row, HasEnded-column}
 use Rattle.pair_search.proofs.tree.Tree.grow.Goals as goal
@@ -281,24 +281,18 @@ loop-column-preserved g c =
           c.sooner-best.ensures.best (omega (arith, read, c.sooner-best.ensures.other));
       shown = λ start front befores begun.
           let plan : Plan = record { next = start; leave = c.args.leave.now; enter = c.args.enter.now } in
-          IsOnWay-row w plan (grown w plan (side_slots side) front) loop.size column row
+          IsOnWay-come w plan (grown w plan (side_slots side) front) loop.size column row
           was.dist.items was.parent.items was.done.items was.rows.items loop.best.from loop.best.to loop.best.fall
-          now.dist.items now.parent.items now.done.items now.rows.items best.from best.to best.fall
+          now.dist.items now.parent.items now.done.items now.rows.items best
           (loop.invariant.shown start front befores begun) picked (befores column ∙ c.in-Some-before.is) (omega (arith, room, slots)) len
-          (λ front shown.
-          IsShown-same now.dist.items now.parent.items done now.done.items (set was.rows.items loop.size row) now.rows.items
-          (if nat_lt (far + price) loop.best.fall then loop.size else loop.best.from) best.from loop.best.to best.to
-          (min loop.best.fall (far + price)) best.fall (visited w plan column row front)
-          (sym c.visit.ensures.done) (sym c.visit.ensures.rows)
-          (sym (subst (λ d. best.from ≡ (if nat_lt (d + price) loop.best.fall then loop.size else loop.best.from)) read ends.from))
-          (loop.invariant.best.alone ∙ sym (ends.to loop.invariant.best.alone))
-          (sym (subst (λ d. best.fall ≡ min loop.best.fall (d + price)) read ends.fall))
-          (IsShown-come w plan column row loop.size front was.dist.items was.parent.items was.done.items was.rows.items loop.best.from
-          loop.best.to loop.best.fall now.dist.items now.parent.items shown len
           (subst (λ m. AreLooked (w row) m loop.size (far + price) c.args.enter.now (as_columns was.dist.items was.parent.items done)
           (as_columns now.dist.items now.parent.items done)) (sym slots)
           c.visit.ensures.looked)
-          in-rows loop.invariant.best.within (λ j lt close. (loop.invariant.tree.reached j (omega (arith, lt, slots)) close).within)));
+          in-rows loop.invariant.best.within (λ j lt close. (loop.invariant.tree.reached j (omega (arith, lt, slots)) close).within)
+          c.visit.ensures.done c.visit.ensures.rows
+          (subst (λ d. best.from ≡ (if nat_lt (d + price) loop.best.fall then loop.size else loop.best.from)) read ends.from)
+          (ends.to loop.invariant.best.alone ∙ sym loop.invariant.best.alone)
+          (subst (λ d. best.fall ≡ min loop.best.fall (d + price)) read ends.fall);
       seen = c.visit.ensures.seen;
       visited =
           Takes-append (TreeLooks side was.rows.items loop.size) (RowLooks side row 0 (side_slots side))

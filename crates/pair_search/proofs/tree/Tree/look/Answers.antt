@@ -122,7 +122,7 @@ returns-clause-looked g c = λ before l.
     let first = c.first_fit-first.result in
     let upto = c.cut-upto.result in
     let pulled = c.pull.ensures.pull ∙ ap (λ (l : LineView). group_pull l.side c.args.group) c.line.view_is in
-    let cost = c.args.start + 67111744 - c.line.inside.share.saved + c.from.result - c.from-2.result in
+    let cost = c.args.start + 4503599627370496 - c.line.inside.share.saved + c.from.result - c.from-2.result in
     let a =
     AreApproached-same first upto c.args.from cost c.approach-found.result.near c.args.enter.now was.done.items _ was.dist.items _
     was.parent.items _ _ c.approach-found.new.dist _ c.approach-found.new.parent
@@ -184,7 +184,7 @@ returns-clause-seen g c =
     let first = c.first_fit-first.result in
     let upto = c.cut-upto.result in
     let pulled = c.pull.ensures.pull ∙ ap (λ (l : LineView). group_pull l.side c.args.group) c.line.view_is in
-    let cost = c.args.start + 67111744 - c.line.inside.share.saved + c.from.result - c.from-2.result in
+    let cost = c.args.start + 4503599627370496 - c.line.inside.share.saved + c.from.result - c.from-2.result in
     let a =
     AreApproached-same first upto c.args.from cost c.approach-found.result.near c.args.enter.now was.done.items _ was.dist.items _
     was.parent.items _ _ c.approach-found.new.dist _ c.approach-found.new.parent
