@@ -73,6 +73,7 @@ impl<Y: System + Drop> FolderShelf<Y> {
 
 impl<Y: System + Drop> Shelf for FolderShelf<Y> {
     ghost use Rattle.std.specs.Prelude.{◌≡◌, [], ◌∷◌, ◌++◌, IfOk, Result};
+    ghost use Rattle.std.specs.Result.{result_ok};
     ghost use Rattle.desk_io.specs.FolderShelf.{AsksForRead, AsksForWrite, folder_history_of, folder_of, folder_state_of, system_of};
     ghost use Rattle.desk_io.specs.History.{Read, Write};
     ghost use Rattle.desk_io.specs.Shelf.{FitsIn, Reads, Tells, Writes};
@@ -85,15 +86,16 @@ impl<Y: System + Drop> Shelf for FolderShelf<Y> {
         ensures bound { IfOk result (FitsIn limit) }
         ensures found { IfOk result (Tells (folder_state_of self.old).files name.now limit) }
         ensures state { Reads result (folder_state_of self.old) (folder_state_of self.new) }
-        ensures noted { folder_history_of self.new ≡ folder_history_of self.old ++ Read name.now ∷ [] }
+        ensures noted { folder_history_of self.new ≡ folder_history_of self.old ++ Read name.now (result_ok result) ∷ [] }
         // The answer is what the system answered, of this file.
         ensures asked { AsksForRead (folder_of self.old) name.now limit result (Y.trace (system_of self.old)) (Y.trace (system_of self.new)) }
     {
-        self.history = self.history.then(&Request::Read(name));
-        match read_file(&mut self.system, alloc, self.folder.as_str(), name, limit) {
+        let result = match read_file(&mut self.system, alloc, self.folder.as_str(), name, limit) {
             Ok(found) => Ok(found),
             Err(why) => Err(self.unread(why)),
-        }
+        };
+        self.history = self.history.then(&Request::Read(name, &result));
+        result
     }
 
     fn write(&mut self, alloc: Global, name: &str, bytes: &[u8]) -> Result<(), ShelfFault>

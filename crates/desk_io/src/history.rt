@@ -5,7 +5,7 @@ ghost use Rattle.desk_io.specs.History.{Call, call_of, calls_code};
 use crate::request::Request;
 use std::marker::Model;
 
-/// The calls that came to a shelf, a sink or a keeper, for proofs alone: it takes no bytes, and nothing is done for it when the
+/// The calls that came to a shelf, a sink or a keeper, reads and loads with their answers, for proofs alone: it takes no bytes, and nothing is done for it when the
 /// program runs.
 #[derive(Drop)]
 pub struct History {

@@ -8,11 +8,12 @@
 //!
 //! The contract that the crates above use: a read gives the file, `Missing` or `TooLong` by the files; [`put_all`]
 //! appends all bytes or a prefix, and each put is given all that is left; `Failed` comes only where a count of that
-//! object rose, and every other answer leaves the counts as they were; each call is noted, whatever it answers.
+//! object rose, and every other answer leaves the counts as they were; each call is noted, whatever it answers, and a read with
+//! what it answered.
 //!
 //! `desk_run` shows a use, in `src/reading.rt` and `src/carrying.rt`.
 //!
-//! The contracts cite `Faults` (when a count rose), `History` (which calls came), `Calls` (which calls are listed to fail),
+//! The contracts cite `Faults` (when a count rose), `History` (which calls came, and what reads and loads answered), `Calls` (which calls are listed to fail),
 //! `Shelf` (what a shelf holds, and what reads and writes do to it), `Sink` (what a sink has taken), `MemoryShelf` and
 //! `MemorySink` (the objects in memory), `FolderShelf` and `OutSink` (a real folder and standard output).
 #![tactic(auto)]
@@ -41,7 +42,7 @@ pub use memory::Memory;
 pub use memory_shelf::MemoryShelf;
 pub use memory_sink::MemorySink;
 pub use out_sink::OutSink;
-pub use request::Request;
+pub use request::{LoadAnswer, Request};
 pub use shelf::{Found, Shelf, ShelfFault};
 pub use sink::{Sink, SinkFault, put_all};
 pub use steps::Steps;

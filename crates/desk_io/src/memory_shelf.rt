@@ -20,6 +20,7 @@ pub struct MemoryShelf {
 
 impl MemoryShelf {
     ghost use Rattle.desk_io.specs.MemoryShelf.{files_of, reads_of, writes_of, shelf_history_of, shelf_state_of};
+    ghost use Rattle.desk_io.specs.Shelf.{found_in};
 
     /// An empty shelf. The lists name the reads and the writes, each counted from 1, that fail.
     pub fn open(alloc: Global, read_fails: Vec<u32>, write_fails: Vec<u32>) -> MemoryShelf
@@ -61,11 +62,27 @@ impl MemoryShelf {
         }
         None
     }
+
+    // A copy of the file, as a read that does not fail answers it.
+    fn find(&self, alloc: Global, name: &str, limit: u64) -> Result<Found, ShelfFault>
+        ensures found { IfOk result (λ found. found ≡ found_in (files_of self.now) name.now limit) }
+        ensures bound { IfOk result (FitsIn limit) }
+        ensures fault { OnErr result (result ≡ Err ShelfFault.Memory) }
+    {
+        match self.file(name) {
+            None => Ok(Found::Missing),
+            Some(bytes) if bytes.len() as u64 <= limit => {
+                Ok(Found::File(Bytes::of(alloc, bytes)?))
+            }
+            Some(_) => Ok(Found::TooLong),
+        }
+    }
 }
 
 impl Shelf for MemoryShelf {
     ghost use Rattle.std.specs.Prelude.{◌≡◌, ◌↔◌, [], ◌∷◌, ◌++◌, true, false, IfOk, OnOk, Err};
     ghost use Rattle.std.specs.FinMap.{insert};
+    ghost use Rattle.std.specs.Result.{result_ok};
     ghost use Rattle.desk_io.specs.History.{Read, Write};
     ghost use Rattle.desk_io.specs.Shelf.{FitsIn, Tells, Reads, Writes, with_file};
     ghost use Rattle.desk_io.specs.Calls.{after_call, after_fault, fails_next};
@@ -79,7 +96,7 @@ impl Shelf for MemoryShelf {
         ensures bound { IfOk result (FitsIn limit) }
         ensures found { IfOk result (Tells (shelf_state_of self.old).files name.now limit) }
         ensures state { Reads result (shelf_state_of self.old) (shelf_state_of self.new) }
-        ensures noted { shelf_history_of self.new ≡ shelf_history_of self.old ++ Read name.now ∷ [] }
+        ensures noted { shelf_history_of self.new ≡ shelf_history_of self.old ++ Read name.now (result_ok result) ∷ [] }
         // It fails exactly at the listed calls.
         ensures fails { (result ≡ Err ShelfFault.Failed) ↔ (fails_next (reads_of self.old) ≡ true) }
         ensures counted { (reads_of self.new).made ≡ (after_call (reads_of self.old)).made }
@@ -87,18 +104,14 @@ impl Shelf for MemoryShelf {
         ensures once { result ≡ Err ShelfFault.Failed → reads_of self.new ≡ after_fault (after_call (reads_of self.old)) }
         ensures writes { writes_of self.new ≡ writes_of self.old }
     {
-        self.history = self.history.then(&Request::Read(name));
-        if self.reads.enter() {
+        let result = if self.reads.enter() {
             self.reads.fault();
-            return Err(ShelfFault::Failed);
-        }
-        match self.file(name) {
-            None => Ok(Found::Missing),
-            Some(bytes) if bytes.len() as u64 <= limit => {
-                Ok(Found::File(Bytes::of(alloc, bytes)?))
-            }
-            Some(_) => Ok(Found::TooLong),
-        }
+            Err(ShelfFault::Failed)
+        } else {
+            self.find(alloc, name, limit)
+        };
+        self.history = self.history.then(&Request::Read(name, &result));
+        result
     }
 
     fn write(&mut self, alloc: Global, name: &str, bytes: &[u8]) -> Result<(), ShelfFault>

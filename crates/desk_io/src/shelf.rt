@@ -1,4 +1,5 @@
 ghost use Rattle.std.specs.Prelude.{◌≡◌, List, [], ◌∷◌, ◌++◌, IfOk};
+ghost use Rattle.std.specs.Result.{result_ok};
 ghost use Rattle.desk_io.specs.History.{Call, Read, Write};
 ghost use Rattle.desk_io.specs.Shelf.{ShelfState, Tells, FitsIn, Reads, Writes};
 ghost use Rattle.desk_io.specs.declared.shelf.ShelfFault.TheVariants as shelf_fault;
@@ -42,7 +43,7 @@ pub trait Shelf {
     /// What it holds, where it tells that, and how many reads and writes have failed.
     ghost state: { Self → ShelfState };
 
-    /// The calls that came to it, in their order.
+    /// The calls that came to it, in their order, and what the reads answered.
     ghost history: { Self → List Call };
 
     /// Reads a file of at most `limit` bytes. The files stay as they are.
@@ -53,8 +54,8 @@ pub trait Shelf {
         ensures found { IfOk result (Tells (state self.old).files name.now limit) }
         // A fault is counted, and every other answer leaves the shelf as it was.
         ensures state { Reads result (state self.old) (state self.new) }
-        // The call is noted, whatever is answered.
-        ensures noted { history self.new ≡ history self.old ++ Read name.now ∷ [] };
+        // The call is noted with its answer, and with none where it was refused.
+        ensures noted { history self.new ≡ history self.old ++ Read name.now (result_ok result) ∷ [] };
 
     /// Writes a file whole, in the place of one of that name.
     fn write(&mut self, alloc: Global, name: &str, bytes: &[u8]) -> Result<(), ShelfFault>

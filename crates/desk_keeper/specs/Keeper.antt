@@ -1,6 +1,8 @@
 -- What a keeper holds and has counted, and what its calls do to that.
 use Rattle.std.specs.Prelude.{◌≡◌, ℕ, ◌<◌, ◌≤◌, List, ◌++◌, length, Option, None, Some, Result, Ok, Err, option_map}
 use Rattle.desk_io.specs.Faults.{Rose}
+use Rattle.desk_io.specs.History.{Loading}
+use Rattle.desk_io.specs.History as loading
 use Rattle.desk_keeper.specs.declared.keeper.KeeperFault.{KeeperFault}
 use Rattle.desk_keeper.specs.declared.keeper.KeeperFault.TheVariants.{Failed, TooLong, Memory}
 
@@ -20,6 +22,13 @@ Tells (Some journal) limit (Ok lines) = lines ≡ journal
 Tells (Some journal) limit (Err TooLong) = limit < length journal
 Tells (Some journal) limit (Err Failed) = Unit {0}
 Tells (Some journal) limit (Err Memory) = Unit {0}
+
+-- what is noted of the answer to a load: what was loaded, or that it was refused
+abbrev pub answer_of : Result Journal KeeperFault → Loading
+answer_of (Ok lines) = loading.Lines lines
+answer_of (Err TooLong) = loading.TooLong
+answer_of (Err Failed) = loading.Refused
+answer_of (Err Memory) = loading.Refused
 
 -- a call failed: the count rose, and the journal is as it was
 pub record CallFailed (before after : KeeperState) : Type 0 where

@@ -1,10 +1,11 @@
 ghost use Rattle.std.specs.Prelude.{◌≡◌, ◌≢◌, ◌≤◌, List, [], ◌∷◌, ◌++◌, length, IfOk, Err};
 ghost use Rattle.desk_io.specs.History.{Append, Call, Load};
-ghost use Rattle.desk_keeper.specs.Keeper.{KeeperState, Tells, Loads, Appends};
+ghost use Rattle.desk_io.specs.History.{loading_of};
+ghost use Rattle.desk_keeper.specs.Keeper.{KeeperState, Tells, Loads, Appends, answer_of};
 ghost use Rattle.desk_keeper.specs.declared.keeper.KeeperFault.TheVariants as keeper_fault;
 
 use crate::Lines;
-use desk_io::{Memory, Text};
+use desk_io::{LoadAnswer, Memory, Text};
 use std::alloc::Global;
 use thiserror::Error;
 
@@ -30,12 +31,23 @@ impl From<Memory> for KeeperFault {
     }
 }
 
+/// What is noted of the answer to a load.
+pub fn answer_of(loaded: &Result<Lines, KeeperFault>) -> LoadAnswer<'_>
+    ensures { loading_of result ≡ answer_of loaded.now }
+{
+    match loaded {
+        Ok(lines) => LoadAnswer::Lines(lines.as_slice()),
+        Err(KeeperFault::TooLong) => LoadAnswer::TooLong,
+        Err(_) => LoadAnswer::Refused,
+    }
+}
+
 /// A place that keeps a journal, lines of text in the order in which they were appended.
 pub trait Keeper {
     /// The journal, where it tells that, and how many calls have failed.
     ghost state: { Self → KeeperState };
 
-    /// The calls that came to it, in their order.
+    /// The calls that came to it, in their order, and what the loads answered.
     ghost history: { Self → List Call };
 
     /// The lines of the journal, at most `limit`. The journal stays as it is.
@@ -46,8 +58,8 @@ pub trait Keeper {
         ensures found { Tells (state self.old).journal limit result }
         // A fault is counted, and every other answer leaves the keeper as it was.
         ensures state { Loads result (state self.old) (state self.new) }
-        // The call is noted, whatever is answered.
-        ensures noted { history self.new ≡ history self.old ++ Load ∷ [] };
+        // The call is noted with its answer.
+        ensures noted { history self.new ≡ history self.old ++ Load (answer_of result) ∷ [] };
 
     /// Appends all lines in their order, or none of them.
     fn append_all(&mut self, alloc: Global, lines: &[Text]) -> Result<(), KeeperFault>

@@ -1,8 +1,8 @@
-ghost use Rattle.std.specs.Prelude.{◌≡◌, ◌≢◌, ◌↔◌, ◌≤◌, [], true, length, IfOk, IfErr, OnOk, IsErr, Some, Err};
+ghost use Rattle.std.specs.Prelude.{◌≡◌, ◌≢◌, ◌⊎◌, ◌↔◌, ◌<◌, ◌≤◌, [], true, length, IfOk, IfErr, OnOk, IsErr, Some, Err};
 ghost use Rattle.desk_io.specs.Calls.{calls_at_first, after_call, after_fault, fails_next};
 ghost use Rattle.desk_keeper.specs.Keeper.{Tells, Loads, Appends};
 
-use crate::{Keeper, KeeperFault, Lines};
+use crate::{Keeper, KeeperFault, Lines, answer_of};
 use desk_io::{Calls, History, Memory, Request, Text};
 use std::alloc::Global;
 
@@ -48,6 +48,18 @@ impl MemoryKeeper {
         &self.journal
     }
 
+    // A copy of the journal, as a load that does not fail answers it.
+    fn copy(&self, alloc: Global, limit: u32) -> Result<Lines, KeeperFault>
+        ensures lines { IfOk result (λ lines. (lines ≡ journal_of self.now) × (length lines ≤ limit)) }
+        ensures refused { IfErr result (λ fault. (fault ≡ KeeperFault.Memory)
+            ⊎ ((fault ≡ KeeperFault.TooLong) × (limit < length (journal_of self.now)))) }
+    {
+        if self.journal.len() > limit as usize {
+            return Err(KeeperFault::TooLong);
+        }
+        Ok(Lines::wrap(copies(alloc, &self.journal)?))
+    }
+
     // Counts a call, and a fault where the call is listed.
     fn enter(&mut self) -> Result<(), KeeperFault>
         ensures journal { journal_of self.new ≡ journal_of self.old }
@@ -70,7 +82,7 @@ impl Keeper for MemoryKeeper {
     ghost use Rattle.std.specs.Prelude.{◌≡◌, ◌≢◌, ◌↔◌, ◌≤◌, [], ◌∷◌, ◌++◌, true, length, IfOk, Err};
     ghost use Rattle.desk_io.specs.Calls.{after_call, after_fault, fails_next};
     ghost use Rattle.desk_io.specs.History.{Append, Load};
-    ghost use Rattle.desk_keeper.specs.Keeper.{Tells, Loads, Appends};
+    ghost use Rattle.desk_keeper.specs.Keeper.{Tells, Loads, Appends, answer_of};
     ghost use Rattle.desk_keeper.specs.MemoryKeeper.{calls_of, keeper_history_of, keeper_state_of};
 
     ghost state = { keeper_state_of };
@@ -81,21 +93,19 @@ impl Keeper for MemoryKeeper {
         ensures bound { IfOk result (λ lines. length lines ≤ limit) }
         ensures found { Tells (keeper_state_of self.old).journal limit result }
         ensures state { Loads result (keeper_state_of self.old) (keeper_state_of self.new) }
-        ensures noted { keeper_history_of self.new ≡ keeper_history_of self.old ++ Load ∷ [] }
+        ensures noted { keeper_history_of self.new ≡ keeper_history_of self.old ++ Load (answer_of result) ∷ [] }
         // It fails exactly at the listed calls.
         ensures fails { (result ≡ Err KeeperFault.Failed) ↔ (fails_next (calls_of self.old) ≡ true) }
         ensures counted { (calls_of self.new).made ≡ (after_call (calls_of self.old)).made }
         ensures listed { (calls_of self.new).listed ≡ (calls_of self.old).listed }
         ensures once { result ≡ Err KeeperFault.Failed → calls_of self.new ≡ after_fault (after_call (calls_of self.old)) }
     {
-        self.history = self.history.then(&Request::Load);
-        match self.enter() {
-            Ok(()) if self.journal.len() <= limit as usize => {
-                Ok(Lines::wrap(copies(alloc, &self.journal)?))
-            }
-            Ok(()) => Err(KeeperFault::TooLong),
+        let result = match self.enter() {
+            Ok(()) => self.copy(alloc, limit),
             Err(fault) => Err(fault),
-        }
+        };
+        self.history = self.history.then(&Request::Load(answer_of(&result)));
+        result
     }
 
     fn append_all(&mut self, alloc: Global, lines: &[Text]) -> Result<(), KeeperFault>

@@ -1,5 +1,5 @@
 -- The calls of a run, in their order, from the calls of its parts.
-use Rattle.std.proofs.Common.{◌≡◌, inr, ℕ, ◌<◌, Bool, true, false, List, [], ◌∷◌, ◌++◌, length, drop, Option, None, Some, Result, Ok, Err}
+use Rattle.std.proofs.Common.{◌≡◌, inl, inr, ℕ, ◌<◌, Bool, true, List, [], ◌∷◌, ◌++◌, length, drop, Option, None, Some, Result, Ok, Err}
 use Rattle.std.proofs.Common.{refl, sym, ap, subst, ◌∙◌, append_assoc, arith}
 use Rattle.std.proofs.lemmas.List.{append-nil, drop_all}
 use Rattle.std.proofs.lemmas.List.Sums.{fold-append}
@@ -9,14 +9,17 @@ use Rattle.desk_keeper.specs.Keeper.{Journal}
 use Rattle.gtfs_tables.specs.declared.paper.Paper.{Paper}
 use Rattle.desk_run.specs.Becomes.{Becomes}
 use Rattle.desk_run.specs.Commands.{Asked, Chosen}
-use Rattle.desk_run.specs.Order.{CallsToCarry, IsInOrder, MakesFirst, append_of, carrying, load_of, reading, reads_of, status_by}
-use Rattle.desk_run.specs.Order.{with_call, with_calls, writes_of}
+use Rattle.desk_run.specs.Order.{CallsToCarry, IsInOrder, MakesFirst, OnlyReads, StopsAtPaper, append_of, carrying, load_of, reading}
+use Rattle.desk_run.specs.Order.{reads_of, refused_at, status_by, with_call, with_calls, writes_of}
 use Rattle.desk_run.specs.Outcome.{OutcomeView}
 use Rattle.desk_run.specs.Outside.{Histories, Outside}
-use Rattle.desk_run.specs.Reading.{ReadView}
+use Rattle.desk_run.specs.Reading.{ReadView, papers_of}
 use Rattle.desk_run.specs.declared.fault.RunFault.{RunFault}
 use Rattle.desk_run.specs.declared.fault.RunFault.TheVariants as run_fault
 use Rattle.desk_run.specs.declared.outcome.Writing.{Writing}
+use Rattle.desk_run.specs.declared.reading.Loaded.{Loaded}
+use Rattle.desk_run.specs.declared.reading.Loaded.TheVariants as loaded
+use Rattle.desk_run.specs.declared.reading.Page.{Page}
 use Rattle.desk_run.specs.declared.status.TheConstants.{NO}
 
 -- a fact of each of some calls
@@ -27,6 +30,14 @@ Each P (call ∷ calls) = P call × Each P calls
 each_first : (P : Call → Type 0) (made left : List Call) → Each P (made ++ left) → Each P made
 each_first P [] left each = tt
 each_first P (call ∷ made) left (here, each) = (here, each_first P made left each)
+
+each_of_both : (P : Call → Type 0) (calls others : List Call) → Each P calls → Each P others → Each P (calls ++ others)
+each_of_both P [] others each each' = each'
+each_of_both P (call ∷ calls) others (here, each) each' = (here, each_of_both P calls others each each')
+
+-- no list that has an item is empty
+some_left : {X : Type 0} (x : X) (xs : List X) → x ∷ xs ≡ [] → ⊥
+some_left x xs none = let count : length (x ∷ xs) ≡ 0 = ap length none in omega (arith, count)
 
 -- a call is one for the shelf, for the sink, or for the keeper
 abbrev ForShelf : Call → Type 0
@@ -56,13 +67,14 @@ on_keeper h (call ∷ calls) (here, each) =
     ap (λ now. with_calls now calls) (here h) ∙ on_keeper (record h { keeper = h.keeper ++ call ∷ [] }) calls each
     ∙ ap (λ calls. record h { keeper = calls }) (append_assoc h.keeper (call ∷ []) calls)
 
-each_read : (papers : List Paper) → Each ForShelf (reads_of papers)
+each_read : (pages : List Page) → Each ForShelf (reads_of pages)
 each_read [] = tt
-each_read (paper ∷ papers) = (λ h. refl, each_read papers)
+each_read (page ∷ pages) = (λ h. refl, each_read pages)
 
-each_load : (keeps : Bool) → Each ForKeeper (load_of keeps)
-each_load false = tt
-each_load true = (λ h. refl, tt)
+each_load : (journal : Loaded) → Each ForKeeper (load_of journal)
+each_load loaded.Unasked = tt
+each_load (loaded.Lines lines) = (λ h. refl, tt)
+each_load loaded.TooLong = (λ h. refl, tt)
 
 each_write : (writes : List Writing) → Each ForShelf (writes_of writes)
 each_write [] = tt
@@ -196,40 +208,59 @@ module _ (outcome : OutcomeView) (h : Histories) where
             whole = refl;
           }
 
--- where not all was read, and where all was
-module _ (asked : Asked) (h : Histories) (papers : List Paper) (keeps : Bool) (papers_are : papers ≡ asked.papers)
-    (keeps_are : keeps ≡ asked.keeps) (shelf : List Call) where
-  pub ends_at_paper : ComeFirst (reads_of papers) h.shelf shelf → MakesFirst (reading asked) h (record h { shelf = shelf })
-  ends_at_paper come =
-      subst (λ papers. MakesFirst (reads_of papers ++ load_of asked.keeps) h (record h { shelf = shelf })) papers_are
-      (first_on_shelf h (reads_of papers) (load_of asked.keeps) shelf (each_read papers) come)
+-- first some calls of the shelf, and then some of the keeper
+shelf_then_keeper : (h : Histories) (calls others : List Call) → Each ForShelf calls → Each ForKeeper others
+    → with_calls h (calls ++ others) ≡ record h { shelf = h.shelf ++ calls; keeper = h.keeper ++ others }
+shelf_then_keeper h calls others each each' =
+    fold-append with_call h calls others ∙ ap (λ mid. with_calls mid others) (on_shelf h calls each)
+    ∙ on_keeper (record h { shelf = h.shelf ++ calls }) others each'
 
-  module _ (read : shelf ≡ h.shelf ++ reads_of papers) (keeper : List Call) where
-    abbrev papers_read : Histories
-    papers_read = record h { shelf = shelf }
+-- all was read
+pub after_reading : (h : Histories) (read : ReadView)
+    → with_calls h (reading read) ≡ record h { shelf = h.shelf ++ reads_of read.pages; keeper = h.keeper ++ load_of read.journal }
+after_reading h read = shelf_then_keeper h (reads_of read.pages) (load_of read.journal) (each_read read.pages) (each_load read.journal)
 
-    abbrev loaded : Histories
-    loaded = record h { shelf = shelf; keeper = keeper }
+pub all_read : (h : Histories) (read : ReadView) (shelf keeper : List Call) → shelf ≡ h.shelf ++ reads_of read.pages
+    → keeper ≡ h.keeper ++ load_of read.journal → record h { shelf = shelf; keeper = keeper } ≡ with_calls h (reading read)
+all_read h read shelf keeper came loaded = (λ i. record h { shelf = came i; keeper = loaded i }) ∙ sym (after_reading h read)
 
-    to_load : ComeFirst (load_of keeps) h.keeper keeper → MakesFirst (reads_of papers ++ (load_of keeps ++ [])) h loaded
-    to_load come =
-        then_first h papers_read loaded (reads_of papers) (load_of keeps ++ [])
-        (ap (λ calls. record h { shelf = calls }) read ∙ sym (on_shelf h (reads_of papers) (each_read papers)))
-        (first_on_keeper papers_read (load_of keeps) [] keeper (each_load keeps) come)
+-- the read of a paper was refused
+pub after_refused_read : (h : Histories) (pages : List Page) (paper : Paper) (left : List Paper)
+    → with_calls h (reads_of pages ++ refused_at (paper ∷ left) ∷ [])
+    ≡ record h { shelf = h.shelf ++ (reads_of pages ++ refused_at (paper ∷ left) ∷ []) }
+after_refused_read h pages paper left =
+    on_shelf h (reads_of pages ++ refused_at (paper ∷ left) ∷ [])
+    (each_of_both ForShelf (reads_of pages) (refused_at (paper ∷ left) ∷ []) (each_read pages) (λ h. refl, tt))
 
-    as_asked : reads_of papers ++ (load_of keeps ++ []) ≡ reading asked
-    as_asked = ap (λ calls. reads_of papers ++ calls) (append-nil (load_of keeps)) ∙ (λ i. reads_of (papers_are i) ++ load_of (keeps_are i))
+pub ends_at_paper : (asked : Asked) (h : Histories) (papers : List Paper) (shelf : List Call) → papers ≡ asked.papers
+    → StopsAtPaper papers h.shelf shelf → OnlyReads asked None h (record h { shelf = shelf })
+ends_at_paper asked h papers shelf papers_are (inl is) = inl (record {
+  pages = is.pages;
+  left = is.paper ∷ is.left;
+  papers = sym papers_are ∙ is.named;
+  keeps = λ none. absurd (some_left is.paper is.left none);
+  noted = ap (λ calls. record h { shelf = calls }) is.noted ∙ sym (after_refused_read h is.pages is.paper is.left);
+})
+ends_at_paper asked h papers shelf papers_are (inr (some, same)) =
+    inr (subst (λ papers. 0 < length papers) papers_are some, ap (λ calls. record h { shelf = calls }) same)
 
-    pub ends_at_load : ComeFirst (load_of keeps) h.keeper keeper → MakesFirst (reading asked) h loaded
-    ends_at_load come = subst (λ calls. MakesFirst calls h loaded) as_asked (to_load come)
+-- the load was refused
+pub after_refused_load : (h : Histories) (pages : List Page)
+    → with_calls h (reads_of pages ++ refused_at [] ∷ [])
+    ≡ record h { shelf = h.shelf ++ reads_of pages; keeper = h.keeper ++ refused_at [] ∷ [] }
+after_refused_load h pages = shelf_then_keeper h (reads_of pages) (refused_at [] ∷ []) (each_read pages) (λ h. refl, tt)
 
-    pub loaded_first : keeper ≡ h.keeper ++ load_of keeps → MakesFirst (reading asked) h loaded
-    loaded_first came = ends_at_load (all_first (load_of keeps) h.keeper keeper came)
-
-    pub all_read : keeper ≡ h.keeper ++ load_of keeps → loaded ≡ with_calls h (reading asked)
-    unfolding to_load then_first first_on_keeper all_first
-    all_read came = (to_load (all_first (load_of keeps) h.keeper keeper came)).noted
-        ∙ ap (with_calls h) (ap (λ calls. reads_of papers ++ calls) (sym (append-nil (load_of keeps))) ∙ as_asked)
+pub ends_at_load : (asked : Asked) (h : Histories) (pages : List Page) (keeps : Bool) (shelf keeper : List Call)
+    → papers_of pages ≡ asked.papers → keeps ≡ asked.keeps → shelf ≡ h.shelf ++ reads_of pages
+    → (keeps ≡ true) × (keeper ≡ h.keeper ++ refused_at [] ∷ [])
+    → OnlyReads asked None h (record h { shelf = shelf; keeper = keeper })
+ends_at_load asked h pages keeps shelf keeper papers_are keeps_are came (asks, refused) = inl (record {
+  pages = pages;
+  left = [];
+  papers = sym papers_are ∙ sym (append-nil (papers_of pages));
+  keeps = λ _. sym keeps_are ∙ asks;
+  noted = (λ i. record h { shelf = came i; keeper = refused i }) ∙ sym (after_refused_load h pages);
+})
 
 pub fails_above : (fault : RunFault) → NO < status_by (Err fault)
 fails_above run_fault.Read = omega arith
@@ -239,16 +270,20 @@ fails_above run_fault.Memory = omega arith
 
 -- a run that gave an outcome
 pub carried_in_order : (asked : Asked) (found : Option ReadView) (before after : Outside) (result : Result ℕ RunFault)
-    (chosen : Chosen asked found before.world) (read : Histories) → read ≡ with_calls before.calls (reading asked)
+    (chosen : Chosen asked found before.world) (read : Histories) → read ≡ with_calls before.calls (reading chosen.read)
     → CallsToCarry chosen.outcome result read after.calls → Becomes chosen.outcome result before.world after.world
     → IsInOrder asked found before after (status_by result)
-unfolding then_first
 carried_in_order asked found before after result chosen read is carries becomes =
     inr (record {
       chosen = chosen;
       puts = carries.puts;
       are = carries.are;
-      first = then_first before.calls read after.calls (reading asked) (carrying chosen.outcome carries.puts) is carries.first;
+      first = record {
+        made = carries.first.made;
+        left = carries.first.left;
+        order = carries.first.order;
+        noted = carries.first.noted ∙ ap (λ read. with_calls read carries.first.made) is;
+      };
       result = result;
       answered = refl;
       becomes = becomes;

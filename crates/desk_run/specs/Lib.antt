@@ -1,3 +1,4 @@
+pub mod Answers
 pub mod Becomes
 pub mod Causes
 pub mod Commands

@@ -1,10 +1,10 @@
-ghost use Rattle.std.specs.Prelude.{◌≡◌, [], ◌∷◌, ◌++◌, IfOk};
+ghost use Rattle.std.specs.Prelude.{◌≡◌, true, [], ◌∷◌, ◌++◌, IfOk, OnErr};
+ghost use Rattle.std.specs.Result.{result_ok};
 ghost use Rattle.desk_io.specs.History as history;
-ghost use Rattle.desk_io.specs.History.{Come};
 ghost use Rattle.desk_io.specs.Shelf.{Tells};
 ghost use Rattle.gtfs_tables.specs.Papers.{file_name_of, IsWithinLimit};
 ghost use Rattle.gtfs_tables.specs.declared.paper.TheConstants.{MOST_BYTES};
-ghost use Rattle.desk_run.specs.Order.{load_of, reads_of};
+ghost use Rattle.desk_run.specs.Order.{StopsAtPaper, load_of, reads_of};
 ghost use Rattle.desk_run.specs.Reading.{AreRead, IsAmong, IsLoaded, LoadsJournal, ReadsPapers, found_of, papers_of};
 
 use crate::RunFault;
@@ -109,7 +109,7 @@ fn read_paper<S: Shelf>(alloc: Global, shelf: &mut S, paper: Paper) -> Result<Fo
     ensures within { IfOk result IsWithinLimit }
     ensures told { IfOk result (Tells (S.state shelf.old).files (file_name_of paper) MOST_BYTES) }
     ensures state { ReadsPapers result (S.state shelf.old) (S.state shelf.new) }
-    ensures noted { S.history shelf.new ≡ S.history shelf.old ++ history.Read (file_name_of paper) ∷ [] }
+    ensures noted { S.history shelf.new ≡ S.history shelf.old ++ history.Read (file_name_of paper) (result_ok result) ∷ [] }
 {
     match shelf.read(alloc, paper.file_name(), MOST_BYTES) {
         Ok(found) => Ok(found),
@@ -126,18 +126,21 @@ pub(crate) fn read_papers<S: Shelf>(
 ) -> Result<Vec<Page>, RunFault>
     ensures read { IfOk result (λ pages. AreRead (S.state shelf.old).files papers.now pages.items) }
     ensures state { ReadsPapers result (S.state shelf.old) (S.state shelf.new) }
-    ensures come { Come (reads_of papers.now) result (S.history shelf.old) (S.history shelf.new) }
+    ensures come { IfOk result (λ pages. S.history shelf.new ≡ S.history shelf.old ++ reads_of pages.items) }
+    ensures stops { OnErr result (StopsAtPaper papers.now (S.history shelf.old) (S.history shelf.new)) }
 {
-    let mut pages = Vec::new(alloc);
+    // The memory for all pages is taken first, so that it is not wanted once a paper was read.
+    let mut pages = match Vec::with_capacity(alloc, papers.len()) {
+        Ok(pages) => pages,
+        Err(_) => return Err(RunFault::Memory),
+    };
     for paper in papers {
         let found = read_paper(alloc, shelf, *paper)?;
         let page = Page {
             paper: *paper,
             found,
         };
-        if pages.push(page).is_err() {
-            return Err(RunFault::Memory);
-        }
+        pages.push_reserved(page);
     }
     Ok(pages)
 }
@@ -150,7 +153,8 @@ pub(crate) fn load<K: Keeper>(
 ) -> Result<Loaded, RunFault>
     ensures loaded { IfOk result (IsLoaded keeps (K.state keeper.old).journal) }
     ensures state { LoadsJournal keeps result (K.state keeper.old) (K.state keeper.new) }
-    ensures come { Come (load_of keeps) result (K.history keeper.old) (K.history keeper.new) }
+    ensures come { IfOk result (λ journal. K.history keeper.new ≡ K.history keeper.old ++ load_of journal) }
+    ensures refused { OnErr result ((keeps ≡ true) × (K.history keeper.new ≡ K.history keeper.old ++ history.Load history.Refused ∷ [])) }
 {
     if !keeps {
         return Ok(Loaded::Unasked);

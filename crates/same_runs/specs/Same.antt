@@ -1,7 +1,8 @@
--- Two runs of one command that read the same.
-use Rattle.std.specs.Prelude.{◌≡◌, ℕ, List, [], ◌++◌, Option, Some}
+-- Two runs of one command whose calls answered the same.
+use Rattle.std.specs.Prelude.{◌≡◌, ℕ, List, [], ◌++◌, Some}
 use Rattle.desk_io.specs.History.{Call}
 use Rattle.desk_io.specs.Sink.{ArePuts}
+use Rattle.desk_run.specs.Answers.{found_by}
 use Rattle.desk_run.specs.Becomes.{done}
 use Rattle.desk_run.specs.Commands.{Asked, IsGiven}
 use Rattle.desk_run.specs.Order.{carrying, reading, with_calls}
@@ -13,23 +14,24 @@ use Rattle.desk_run.specs.Reading.{ReadView}
 abbrev pub IsDetermined : Asked → Type 0
 IsDetermined asked = (read : ReadView) (one other : OutcomeView) → IsGiven asked read one → IsGiven asked read other → one ≡ other
 
--- all calls were made that read, and that carry an outcome out: its writes, its append and its puts, each with its bytes
-pub record MakesAll (asked : Asked) (outcome : OutcomeView) (before after : Histories) : Type 0 where
+-- All calls were made that read, with these answers. So were all that carry an outcome out: its writes, its append and its puts, each
+-- with its bytes.
+pub record MakesAll (read : ReadView) (outcome : OutcomeView) (before after : Histories) : Type 0 where
   pub puts : List Call
   pub are : ArePuts outcome.text [] puts
-  pub made : after ≡ with_calls before (reading asked ++ carrying outcome puts)
+  pub made : after ≡ with_calls before (reading read ++ carrying outcome puts)
 
--- a run carried one outcome out, whole: in its calls, in the world where that tells what is in it, and in its status
-pub record CarriesOut (asked : Asked) (outcome : OutcomeView) (before after : Outside) (status : ℕ) : Type 0 where
-  pub calls : MakesAll asked outcome before.calls after.calls
+-- a run carried one outcome of what it has read out, whole: in its calls, in the world where that tells what is in it, and in its status
+pub record CarriesOut (read : ReadView) (outcome : OutcomeView) (before after : Outside) (status : ℕ) : Type 0 where
+  pub calls : MakesAll read outcome before.calls after.calls
   pub world : after.world ≡ done outcome before.world
   pub answered : status ≡ status_of outcome.ending
 
--- both runs carried out one outcome, which the command gives of what both have read
-pub record AreAlike (asked : Asked) (found : Option ReadView) (before after later last : Outside) (status second : ℕ) : Type 0 where
+-- both runs have read the same, and carried out one outcome, which the command gives of that
+pub record AreAlike (asked : Asked) (before after later last : Outside) (status second : ℕ) : Type 0 where
   pub read : ReadView
-  pub is : found ≡ Some read
+  pub answered : found_by asked before.calls after.calls ≡ Some read
   pub outcome : OutcomeView
   pub given : IsGiven asked read outcome
-  pub one : CarriesOut asked outcome before after status
-  pub other : CarriesOut asked outcome later last second
+  pub one : CarriesOut read outcome before after status
+  pub other : CarriesOut read outcome later last second

@@ -4,6 +4,7 @@ ghost use Rattle.blocks_command.specs.Blocks.{IsPlan, plan_files};
 ghost use Rattle.desk_feed.specs.Feed.{FeedView, standing};
 ghost use Rattle.desk_program.specs.Commands.{asked_by};
 ghost use Rattle.desk_program.specs.declared.command.CommandName.{CommandName};
+ghost use Rattle.desk_run.specs.Answers.{found_by};
 ghost use Rattle.desk_run.specs.Outcome.{OutcomeView};
 ghost use Rattle.desk_run.specs.Outside.{Outside};
 ghost use Rattle.desk_run.specs.Performs.{Performs};
@@ -21,13 +22,13 @@ pub fn determined_law()
     ensures { (command : CommandName) → IsDetermined (asked_by command) }
 {}
 
-/// Two runs of a command do the same: they make the same writes, appends and puts, with the same bytes. Both have read the same, and
-/// both come to their ends: neither a fault nor want of memory stops them. This holds of real folders too.
+/// Two runs of a command do the same: they make the same writes, appends and puts, with the same bytes. The reads and loads of both
+/// were answered the same, and both come to their ends: neither a fault nor want of memory stops them. This holds of real folders too.
 pub fn same_run_law()
     ensures { (command : CommandName) (before after later last : Outside) (status second n m k l : ℕ)
-        → (one : Performs (asked_by command) before after status n m) → (other : Performs (asked_by command) later last second k l)
-        → other.found ≡ one.found
-        → status ≤ NO → second ≤ NO → AreAlike (asked_by command) one.found before after later last status second }
+        → Performs (asked_by command) before after status n m → Performs (asked_by command) later last second k l
+        → found_by (asked_by command) later.calls last.calls ≡ found_by (asked_by command) before.calls after.calls
+        → status ≤ NO → second ≤ NO → AreAlike (asked_by command) before after later last status second }
 {}
 
 /// The blocks that `blocks` lists in `blocks.csv` are those of the boards of `joined`, of the rows of `chart` and of the feed that

@@ -2,13 +2,13 @@ ghost use Rattle.std.specs.Prelude.{◌≡◌, ◌+◌, length, nat_le, if◌the
 
 use crate::database::{Ask, Database};
 use desk_io::{History, Request, Text};
-use desk_keeper::{Keeper, KeeperFault, Lines};
+use desk_keeper::{Keeper, KeeperFault, Lines, answer_of};
 use sqlite::{Error, ErrorCode};
 use sqlite_resolve::CompileError;
 use std::alloc::Global;
 
 /// A keeper over the file `journal.db` in a folder. It tells nothing of its journal, counts its faults, and
-/// tells which calls came.
+/// tells which calls came, and what the loads answered.
 #[derive(Drop)]
 pub struct SqliteKeeper<'a> {
     rt: &'a HostRuntime,
@@ -122,9 +122,10 @@ impl<'a> Keeper for SqliteKeeper<'a> {
     ghost history = { keeper_history_of };
 
     fn load(&mut self, alloc: Global, limit: u32) -> Result<Lines, KeeperFault> {
-        self.history = self.history.then(&Request::Load);
         let found = self.ask(alloc, Ask::FirstLines(asked(limit)));
-        self.answer_load(found, limit)
+        let result = self.answer_load(found, limit);
+        self.history = self.history.then(&Request::Load(answer_of(&result)));
+        result
     }
 
     fn append_all(&mut self, alloc: Global, lines: &[Text]) -> Result<(), KeeperFault> {

@@ -10,7 +10,7 @@ use Rattle.desk_run.specs.World.{World}
 use Rattle.desk_run.specs.declared.fault.RunFault.TheVariants as run_fault
 use Rattle.desk_run.proofs.Carried.{carried, unloaded, unread}
 use Rattle.desk_run.proofs.EachStatus.{read_in}
-use Rattle.desk_run.proofs.InOrder.{all_read, carried_in_order, ends_at_load, ends_at_paper, fails_above, loaded_first}
+use Rattle.desk_run.proofs.InOrder.{all_read, carried_in_order, ends_at_load, ends_at_paper, fails_above}
 use Rattle.desk_run.proofs.running.attempt.Goals as goal
 
 -- a paper was not read
@@ -29,8 +29,7 @@ returns-in_err-pages g c =
             unread (Unit {0}) asked before.world after.world.shelf c.in_err-pages.field-0.0 c.in_err-pages.ensures.state,
             inl (
               fails_above c.in_err-pages.field-0.0,
-              ends_at_paper asked before.calls _ asked.keeps c.papers.ensures refl _
-                  c.in_err-pages.ensures.come,
+              ends_at_paper asked before.calls _ _ c.papers.ensures c.in_err-pages.ensures.stops,
             ),
           );
       counted = refl;
@@ -53,8 +52,9 @@ returns-in_err-journal g c =
                 c.in_ok-pages.ensures.state c.keeps.ensures c.in_err-journal.ensures.state,
             inl (
               fails_above c.in_err-journal.field-0.0,
-              ends_at_load asked before.calls _ _ c.papers.ensures c.keeps.ensures _
-                  c.in_ok-pages.ensures.come _ c.in_err-journal.ensures.come,
+              ends_at_load asked before.calls c.in_ok-pages.pages.items _ _ _
+                  (c.in_ok-pages.ensures.read.named ∙ c.papers.ensures) c.keeps.ensures c.in_ok-pages.ensures.come
+                  c.in_err-journal.ensures.refused,
             ),
           );
       counted = refl;
@@ -81,7 +81,7 @@ returns g c =
       does = (
         carried asked (Some read) before.world after.world chosen c.carry_out.result becomes,
         carried_in_order asked (Some read) before after c.carry_out.result chosen _
-            (all_read asked before.calls _ _ c.papers.ensures c.keeps.ensures _ c.in_ok-pages.ensures.come _ c.in_ok-journal.ensures.come)
+            (all_read before.calls read _ _ c.in_ok-pages.ensures.come c.in_ok-journal.ensures.come)
             c.carry_out.ensures.calls becomes,
       );
       counted = c.in_ok-outcome.ensures.counted;
@@ -105,8 +105,7 @@ returns-in_err-outcome g c =
             inl (λ i. record { shelf = c.in_ok-pages.ensures.state i; sink = before.world.sink; keeper = c.in_ok-journal.ensures.state i }),
             inl (
               fails_above run_fault.Memory,
-              loaded_first asked before.calls _ _ c.papers.ensures c.keeps.ensures _
-                  c.in_ok-pages.ensures.come _ c.in_ok-journal.ensures.come,
+              all_read before.calls read _ _ c.in_ok-pages.ensures.come c.in_ok-journal.ensures.come,
             ),
           );
       counted = c.outcome.ensures.counted;

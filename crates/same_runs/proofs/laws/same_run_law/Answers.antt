@@ -5,5 +5,4 @@ use Rattle.same_runs.proofs.laws.same_run_law.Goals as goal
 
 pub returns : goal.returns
 returns c = λ command before after later last status second n m k l one other same few few'.
-    alike (asked_by command) one.found other.found before after later last status second (determined command) same few few' one.order
-    other.order
+    alike (asked_by command) before after later last status second n m k l (determined command) one other same few few'
