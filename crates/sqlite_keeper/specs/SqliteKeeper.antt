@@ -1,5 +1,5 @@
 -- What a keeper over a database is seen as, and what it answers to an error of the database.
-use Rattle.std.specs.Prelude.{List, None}
+use Rattle.std.specs.Prelude.{Bool, true, false, List, None, is_some, Result, Ok, Err}
 use Rattle.desk_io.specs.History.{Call}
 use Rattle.desk_keeper.specs.Keeper.{KeeperState}
 use Rattle.desk_keeper.specs.declared.keeper.KeeperFault.{KeeperFault}
@@ -16,6 +16,17 @@ keeper_state_of keeper = record { journal = None; faults = keeper.faults }
 
 abbrev pub keeper_history_of : SqliteKeeper → List Call
 keeper_history_of keeper = keeper.history.calls
+
+-- the database is open, which the last call of it left so
+abbrev pub is_open : SqliteKeeper → Bool
+is_open keeper = is_some keeper.database
+
+-- a call answers what says of no error of the database
+abbrev pub has_succeeded : {T : Type 0} → Result T KeeperFault → Bool
+has_succeeded (Ok x) = true
+has_succeeded (Err fault.TooLong) = true
+has_succeeded (Err fault.Failed) = false
+has_succeeded (Err fault.Memory) = false
 
 -- why a call does nothing at an error of the database: a statement, or what it did, found no memory; or the call failed
 abbrev pub refusal_of : Error → KeeperFault

@@ -45,9 +45,10 @@ impl Database {
     }
 
     /// Does what is asked, and answers the lines that were asked for. An append answers none. The table of the journal is made
-    /// where it is not there.
-    pub fn answer(&mut self, alloc: Global, ask: Ask) -> Result<Vec<Text>, Error> {
-        answer(alloc, &mut self.connection, ask)
+    /// where it is not there. At an error the database is closed, so that who has one knows of none.
+    pub fn answer(mut self, alloc: Global, ask: Ask) -> Result<(Database, Vec<Text>), Error> {
+        let lines = answer(alloc, &mut self.connection, ask)?;
+        Ok((self, lines))
     }
 }
 

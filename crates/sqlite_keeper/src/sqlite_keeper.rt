@@ -22,7 +22,8 @@ pub struct SqliteKeeper<'a> {
 impl<'a> SqliteKeeper<'a> {
     ghost use Rattle.std.specs.Prelude.{◌≡◌, [], length, nat_le, if◌then◌else◌, None, Ok, Err, IfOk, IfErr};
     ghost use Rattle.desk_keeper.specs.Keeper.{Loads};
-    ghost use Rattle.sqlite_keeper.specs.SqliteKeeper.{keeper_history_of, keeper_state_of, refusal_of};
+    ghost use Rattle.std.specs.Prelude.{false, is_ok};
+    ghost use Rattle.sqlite_keeper.specs.SqliteKeeper.{has_succeeded, is_open, keeper_history_of, keeper_state_of, refusal_of};
 
     /// The journal in this folder. The file is not opened before the first call. No fault was counted, and no call came.
     pub fn over(rt: &'a HostRuntime, folder: Text) -> SqliteKeeper<'a>
@@ -40,6 +41,7 @@ impl<'a> SqliteKeeper<'a> {
 
     // The database, opened where it is not open yet. It is put back once a call has succeeded.
     fn open(&mut self) -> Result<Database, Error>
+        ensures taken { is_open self.new ≡ false }
         ensures state { keeper_state_of self.new ≡ keeper_state_of self.old }
         ensures history { keeper_history_of self.new ≡ keeper_history_of self.old }
     {
@@ -51,11 +53,11 @@ impl<'a> SqliteKeeper<'a> {
 
     // Does what is asked of the database, which is closed where that fails.
     fn ask(&mut self, alloc: Global, ask: Ask) -> Result<Vec<Text>, Error>
+        ensures open { is_open self.new ≡ is_ok result }
         ensures state { keeper_state_of self.new ≡ keeper_state_of self.old }
         ensures history { keeper_history_of self.new ≡ keeper_history_of self.old }
     {
-        let mut database = self.open()?;
-        let lines = database.answer(alloc, ask)?;
+        let (database, lines) = self.open()?.answer(alloc, ask)?;
         self.database = Some(database);
         Ok(lines)
     }
@@ -65,6 +67,8 @@ impl<'a> SqliteKeeper<'a> {
     fn answer(&mut self, answered: Result<Vec<Text>, Error>) -> Result<Vec<Text>, KeeperFault>
         ensures done { IfOk answered (λ lines. result ≡ Ok lines) }
         ensures refused { IfErr answered (λ error. result ≡ Err (refusal_of error)) }
+        ensures succeeded { has_succeeded result ≡ is_ok answered }
+        ensures open { is_open self.new ≡ is_open self.old }
         ensures state { Loads result (keeper_state_of self.old) (keeper_state_of self.new) }
         ensures history { keeper_history_of self.new ≡ keeper_history_of self.old }
     {
@@ -90,6 +94,8 @@ impl<'a> SqliteKeeper<'a> {
         ensures found { IfOk found (λ lines. result ≡ (if nat_le (length lines.items) limit then Ok lines.items
             else Err KeeperFault.TooLong)) }
         ensures refused { IfErr found (λ error. result ≡ Err (refusal_of error)) }
+        ensures succeeded { has_succeeded result ≡ is_ok found }
+        ensures open { is_open self.new ≡ is_open self.old }
         ensures state { Loads result (keeper_state_of self.old) (keeper_state_of self.new) }
         ensures history { keeper_history_of self.new ≡ keeper_history_of self.old }
     {
@@ -115,20 +121,36 @@ fn asked(limit: u32) -> i64
 }
 
 impl<'a> Keeper for SqliteKeeper<'a> {
-    ghost use Rattle.sqlite_keeper.specs.SqliteKeeper.{keeper_history_of, keeper_state_of};
+    ghost use Rattle.std.specs.Prelude.{◌≡◌, ◌≢◌, ◌≤◌, [], ◌∷◌, ◌++◌, length, IfOk, Err};
+    ghost use Rattle.desk_io.specs.History.{Append, Load};
+    ghost use Rattle.desk_keeper.specs.Keeper.{Appends, Loads, Tells, answer_of};
+    ghost use Rattle.sqlite_keeper.specs.SqliteKeeper.{has_succeeded, is_open, keeper_history_of, keeper_state_of};
 
     ghost state = { keeper_state_of };
 
     ghost history = { keeper_history_of };
 
-    fn load(&mut self, alloc: Global, limit: u32) -> Result<Lines, KeeperFault> {
+    fn load(&mut self, alloc: Global, limit: u32) -> Result<Lines, KeeperFault>
+        ensures bound { IfOk result (λ lines. length lines ≤ limit) }
+        ensures found { Tells (keeper_state_of self.old).journal limit result }
+        ensures state { Loads result (keeper_state_of self.old) (keeper_state_of self.new) }
+        ensures noted { keeper_history_of self.new ≡ keeper_history_of self.old ++ Load (answer_of result) ∷ [] }
+        // The database is open exactly where it answered no error.
+        ensures open { is_open self.new ≡ has_succeeded result }
+    {
         let found = self.ask(alloc, Ask::FirstLines(asked(limit)));
         let result = self.answer_load(found, limit);
         self.history = self.history.then(&Request::Load(answer_of(&result)));
         result
     }
 
-    fn append_all(&mut self, alloc: Global, lines: &[Text]) -> Result<(), KeeperFault> {
+    fn append_all(&mut self, alloc: Global, lines: &[Text]) -> Result<(), KeeperFault>
+        ensures appends { Appends lines.now result (keeper_state_of self.old) (keeper_state_of self.new) }
+        ensures fits { result ≢ Err KeeperFault.TooLong }
+        ensures noted { keeper_history_of self.new ≡ keeper_history_of self.old ++ Append lines.now ∷ [] }
+        // The database is open exactly where it answered no error.
+        ensures open { is_open self.new ≡ has_succeeded result }
+    {
         self.history = self.history.then(&Request::Append(lines));
         let appended = self.ask(alloc, Ask::Append(lines));
         self.answer(appended)?;
