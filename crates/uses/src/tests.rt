@@ -1,16 +1,19 @@
-ghost use Rattle.std.specs.Prelude.{◌≡◌, ◌<◌, IfOk, IfSome};
+ghost use Rattle.std.specs.Prelude.{◌≡◌, ◌<◌, length, IfOk, IfSome};
 ghost use Rattle.desk_feed.specs.Feed.{HasPapers};
 
+use deadhead_matrix::Matrix;
 use desk_core::Desk;
 use desk_feed::{FEED_PAPERS, Feed, Judged, judge_feed, matrix_of};
-use desk_io::{Memory, MemoryShelf, Steps, Text};
+use desk_io::{Memory, MemoryShelf, Shelf, Steps, Text};
 use desk_run::Read;
 use feed_desk::{Drawn, draw_after};
+use gtfs_tables::{FeedFault, MOST_BYTES};
 use pair_graph::Pairs;
 use std::alloc::Global;
 use std::marker::Brand;
 use std::sync::ledger::{Blank, Ledger};
 use std::test::Fail;
+use trip_model::Timetable;
 
 // Three trips. The second can follow the first where a deadhead leads from B to C in half an hour.
 const FEED: [(&str, &str); 2] = [
@@ -63,11 +66,16 @@ fn followed<L: Ledger>(
 }
 
 // The minutes of a least walk between two places by their names, or none where there is no walk or no such place.
-fn minutes(desk: &Desk, from: &str, to: &str) -> Option<u32> {
-    let timetable = desk.timetable();
+fn walk(timetable: &Timetable, matrix: &Matrix, from: &str, to: &str) -> Option<u32>
+    requires { length matrix.now.walks ≡ length timetable.now.places }
+{
     let from = timetable.find_place(from)?;
     let to = timetable.find_place(to)?;
-    desk.matrix().minutes(from, to)
+    matrix.minutes(from, to)
+}
+
+fn minutes(desk: &Desk, from: &str, to: &str) -> Option<u32> {
+    walk(desk.timetable(), desk.matrix(), from, to)
 }
 
 // What it saves to make the second trip after the first, in the ledger that the blank becomes.
@@ -129,6 +137,45 @@ fn walks_and_weights_between_three_terminals(rt: HostRuntime) -> Result<(), Fail
         let deadheads = Text::wrap(format!(in alloc; "from,to,minutes\n{records}")?);
         let found = answers::<Brand>(alloc, &deadheads, Blank::new(1))?;
         assert!(rt; found == Some(expected));
+    }
+    Ok(())
+}
+
+// What the walks from A to C and back take.
+type Walks = (Option<u32>, Option<u32>);
+
+// How many places a timetable without trips has after these deadheads, and the walks, or none where a record is refused.
+fn read_walks(alloc: Global, deadheads: &Text) -> Result<(u16, Option<Walks>), Memory> {
+    let mut shelf = MemoryShelf::open(alloc, Vec::new(alloc), Vec::new(alloc));
+    shelf.lay(alloc, "deadheads.csv", deadheads.as_str().as_bytes())?;
+    let Ok(found) = shelf.read(alloc, "deadheads.csv", MOST_BYTES) else {
+        return Err(Memory);
+    };
+    let mut timetable = Timetable::open(alloc, 0, 0);
+    let walks = match Matrix::read(alloc, &found, &mut timetable) {
+        Ok(matrix) => Some((
+            walk(&timetable, &matrix, "A", "C"),
+            walk(&timetable, &matrix, "C", "A"),
+        )),
+        Err(FeedFault::Memory) => return Err(Memory),
+        Err(_) => None,
+    };
+    Ok((timetable.places(), walks))
+}
+
+#[test]
+fn a_matrix_of_the_places_that_records_name(rt: HostRuntime) -> Result<(), Fail> {
+    let alloc = rt.alloc();
+    // A record that is refused gives no place.
+    let rows = [
+        ("A,B,5\nB,C,10\n", (3, Some((Some(15), None)))),
+        ("A,B,5\nB,C,10\nA,C,12\n", (3, Some((Some(12), None)))),
+        ("A,B,5\nC,D,x\n", (2, None)),
+    ];
+    for (records, expected) in rows {
+        let deadheads = Text::wrap(format!(in alloc; "from,to,minutes\n{records}")?);
+        let found = read_walks(alloc, &deadheads)?;
+        assert!(rt; found == expected);
     }
     Ok(())
 }
