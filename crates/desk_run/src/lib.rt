@@ -7,16 +7,17 @@
 //! It answers the status. The contract of [`perform`] has all that is promised of a run, by what the command asks. So a new
 //! command proves nothing but its own outcome.
 //!
-//! The contract that the crates above use is `Performs`: by the status, the one outcome that was carried out, whole or in part
-//! (`RunsAs`); the cause of each status (`HasCause`); which status comes where no fault was counted (`IsComplete`); in which order
-//! which calls were made (`IsInOrder`); and how many steps are counted at the most (`IsCounted`).
+//! The contract that the crates above use is `Performs`. What was read is what the calls answered (`found_by`). By that and the
+//! status it has the one outcome that was carried out, whole or in part (`RunsAs`); the cause of each status (`HasCause`); which
+//! status comes where no fault was counted (`IsComplete`); in which order which calls were made (`IsInOrder`); and how many steps
+//! are counted at the most (`IsCounted`).
 //!
 //! `journal_commands` shows a use, in `src/kept.rt`.
 //!
 //! The contracts cite `World` (what stands outside the program), `Outside` (that, and which calls came to it), `Reading` (what is
 //! read of it), `Outcome` (an outcome as contracts see it, and the status of its ending), `Becomes` (what becomes of an outcome),
 //! `Commands` (what a command asks), `Runs` (what a run does to the world), `Causes` (when each status comes), `Order` (which
-//! calls a run makes) and `Performs`; of `desk_io` and `desk_keeper` what a shelf, a sink and a keeper are.
+//! calls a run makes), `Answers` (what these answered) and `Performs`; of `desk_io` and `desk_keeper` what a shelf, a sink and a keeper are.
 #![tactic(auto)]
 
 mod carrying;
