@@ -6,9 +6,14 @@ from collections.abc import Iterable
 MADE = "Made by `tools/book` from the sources; change those, not this page."
 
 
+def paragraphs(text: str) -> str:
+    """A text in which a paragraph or an item of a list is one line."""
+    return re.sub(r"(?<!\n)\n *(?![\n\-])", " ", text.strip())
+
+
 def begun(title: str, text: str) -> str:
-    """The top of a page. A paragraph or an item of a list becomes one line."""
-    return f"# {title}\n\n{MADE} " + re.sub(r"(?<!\n)\n *(?![\n\-])", " ", text.strip()) + "\n"
+    """The top of a page."""
+    return f"# {title}\n\n{MADE} {paragraphs(text)}\n"
 
 
 def link(text: str, file: pathlib.Path) -> str:

@@ -6,6 +6,8 @@ from pages.crates import ROOT
 from pages.tables import FAULTS, PLANNERS, columns, papers, source, texts_of
 
 PAGES = ("FORMATS.md", "PLANNING.md")
+COMMANDS = "COMMANDS.md"
+"""Where options may stand too."""
 GIVEN = re.compile(r"\b(?:FILE|COLUMN|KEY|TRIP|MINUTES|PRICES|WEIGHTS|N)\b|from\|to|\brecord\b|stop_times\.txt")
 WEEK = ("tuesday", "wednesday", "thursday", "friday", "saturday")
 """What stands in the pages as `monday` to `sunday`."""
@@ -48,6 +50,8 @@ def subjects() -> dict[str, list[str]]:
 
 
 def unnamed() -> list[str]:
-    """What neither page names."""
+    """What no page names."""
     text = "\n".join((ROOT / "docs" / page).read_text() for page in PAGES)
-    return [f"{kind} {name}" for kind, names in subjects().items() for name in names if name not in text]
+    of_kind = {"option": text + (ROOT / "docs" / COMMANDS).read_text()}
+    return [f"{kind} {name}" for kind, names in subjects().items() for name in names
+            if not re.search(rf"(?<![\w-]){re.escape(name)}(?![\w-])", of_kind.get(kind, text))]

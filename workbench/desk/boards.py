@@ -18,6 +18,8 @@ WORD = "boards"
 HELP = "a running board for each vehicle, as a page to print or with --csv as records"
 
 COLUMNS = ("block_id", "kind", "trip_id", "line", "headsign", "from", "leaves", "to", "arrives", "minutes")
+"""What a vehicle does, in the order of the day. A kind is `out`, `trip`, `point` (a timing point of the trip before it), `layover`,
+`empty`, `wait` or `home`. A time is `HH:MM:SS`, before midnight with a minus. A trip has its published times, with its shift."""
 
 
 def add_arguments(parser: argparse.ArgumentParser) -> None:

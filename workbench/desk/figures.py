@@ -25,6 +25,10 @@ QUARTER = 15
 MOST_WAITS = 10
 """How many waits and places the text lists. The other forms have all."""
 
+COLUMNS = ("table", "of", "figure", "value")
+"""A figure, in minutes where it is a length of time: its table as in the JSON, or `all`, and the line, block, quarter, place or
+number of a wait."""
+
 Figures = dict[str, Any]
 
 
@@ -129,7 +133,7 @@ def waits_by_place(plan: Plan) -> list[Figures]:
 
 def figures_csv(figures: Figures) -> str:
     """The figures as records of a table, what they are of, a name and a value."""
-    records = [("table", "of", "figure", "value")]
+    records = [COLUMNS]
     records += [("all", "", name, value) for name, value in figures.items() if not isinstance(value, (list, dict, type(None)))]
     for table in ("spans", "lengths"):
         records += [(table, "", name, value) for name, value in (figures[table] or {}).items()]

@@ -1,4 +1,4 @@
-"""The program's texts as JSON: one function a command, which refuses what it does not know.
+"""The program's texts as JSON of `json_forms`: one function a command, which refuses what it does not know.
 
 `as_json` reads a text and writes it again by `texts_written.as_text`: only what comes back byte for byte is given.
 A name has no line end, and in the lines of blocks and of chains no `; `. A text that can be read in two ways is refused.

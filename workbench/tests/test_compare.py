@@ -8,6 +8,7 @@ from typing import Any
 
 from desk.compare_text import compare_text
 from tests.feeds import FolderTest, needs_program, write_feed
+from tests.forms import is_answer
 from tests.small_town import plan, rows, small_town
 
 FOUR_TRIPS = {
@@ -36,6 +37,7 @@ class Compared(FolderTest):
         ended, out, errors = self.desk("compare", first, second, "--json")
         self.assertEqual((ended, errors), (status, ""))
         found = json.loads(out)
+        self.assertTrue(is_answer("compare", found))
         self.assertEqual(self.desk("compare", first, second), (status, compare_text(found), ""))
         return found
 

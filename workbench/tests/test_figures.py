@@ -13,6 +13,7 @@ from typing import Any
 
 from desk import program
 from tests.feeds import FolderTest, needs_program
+from tests.forms import is_answer
 from tests.small_town import plan, rows, small_town, two_trips
 
 KINDS = {"p": "platform", "l": "layover", "e": "empty", "w": "waiting"}
@@ -94,6 +95,7 @@ class OfAFeed(FolderTest):
         status, out, errors = self.desk("figures", feed, "--json")
         self.assertEqual((status, errors), (0, ""))
         found, other = json.loads(out), Simulated(feed)
+        self.assertTrue(is_answer("figures", found))
         self.compare_sums(feed, found, other)
         self.compare_lines(feed, found, other, route_lines)
         self.compare_blocks(found, other)
@@ -213,6 +215,7 @@ class Figures(OfAFeed):
         feed = two_trips(self.room / "feed", {"desk.toml": "services = []\n"})
         plan(feed)
         found = json.loads(self.desk("figures", feed, "--json")[1])
+        self.assertTrue(is_answer("figures", found))
         self.assertEqual((found["vehicles"], found["spans"], found["in_service"], found["empty_share"]), (0, None, [], 0.0))
         self.assertTrue(self.desk("figures", feed)[1].startswith("vehicles 0, empty minutes 0"))
 

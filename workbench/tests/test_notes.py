@@ -15,6 +15,7 @@ from desk.notes import MOST_OF_A_KIND, notes_of
 from desk.notes_note import Note
 from desk.town import Town
 from tests.feeds import Feed, FolderTest, demonstration, needs_program, table, write_feed, zip_feed
+from tests.forms import is_answer
 
 TIMES = "trip_id,arrival_time,departure_time,stop_id,stop_sequence"
 
@@ -575,7 +576,8 @@ class TestAnswers(NotesTest):
         town = write_feed(self.room / "town", silent_feed("no blocks of today"))
         status, text, _ = self.desk("notes", town, "--json")
         self.assertEqual(status, 1)
-        self.assertEqual([sorted(note) for note in json.loads(text)["notes"]], [["do", "file", "found", "kind", "record"]])
+        self.assertTrue(is_answer("notes", json.loads(text)))
+        self.assertEqual(len(json.loads(text)["notes"]), 1)
         self.assertEqual(self.desk("notes", write_feed(self.room / "other", CLEAN), "--json")[:2], (0, '{\n  "notes": []\n}\n'))
 
     def test_many_notes_of_a_kind_are_counted(self) -> None:

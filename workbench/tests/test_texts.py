@@ -8,8 +8,10 @@ from pathlib import Path
 
 from desk import program, texts
 from desk.errors import DeskError
+from desk.json_forms import FORMS, FeedRefused
 from desk.texts_written import as_text
 from tests.feeds import FolderTest, needs_program
+from tests.forms import is_answer, objects_of
 from tests.small_town import EXAMPLES, two_trips
 
 CASES = program.ROOT / "cases"
@@ -64,6 +66,14 @@ class AllTexts(unittest.TestCase):
                 except DeskError:
                     refused.add(name)
         self.assertEqual(refused, UNREADABLE)
+
+    def test_their_keys_are_those_of_the_forms(self) -> None:
+        met: set[str] = set()
+        for name, command, text in [*((str(folder), command, text) for folder, command, text in example_texts()), *case_texts()]:
+            if name not in UNREADABLE:
+                with self.subTest(text=name, command=command):
+                    self.assertTrue(is_answer(command, texts.as_json(command, text), met))
+        self.assertEqual(met, set().union(*(objects_of(FORMS[command] | FeedRefused) for command in texts.READERS)))
 
     def test_a_chart_has_no_form(self) -> None:
         with self.assertRaisesRegex(DeskError, "chart has no form"):
