@@ -83,12 +83,16 @@ def columns() -> dict[str, str]:
 
 
 def required() -> dict[str, list[str]]:
-    """For each variant of `Paper` the columns that its file must have. Those of one definition stand together."""
+    """For each variant of `Paper` the columns that its file must have, in the order in which they are looked for."""
     found: dict[str, list[str]] = {}
     week = re.findall(r"column\.(\w+)", definitions()["service_days", "Calendar", "weekdays"].text)
     for spec in specs():
-        for it in spec.definitions:
-            for paper, column in re.findall(r"column_in paper\.(\w+) (column\.\w+|\(weekday day\))", it.text):
+        texts = {it.name: it.text for it in spec.definitions if "column_in paper." in it.text}
+        parts = {name for name in texts if any(f" {name} header" in text for text in texts.values())}
+        for text in (text for name, text in texts.items() if name not in parts):
+            for part in parts:
+                text = text.replace(f" {part} header", f" {texts[part]}")
+            for paper, column in re.findall(r"column_in paper\.(\w+) (column\.\w+|\(weekday day\))", text):
                 names = [column.removeprefix("column.")] if column.startswith("column.") else week
                 found.setdefault(paper, []).extend(name for name in names if name not in found.get(paper, []))
     return found
@@ -98,7 +102,7 @@ def files() -> str:
     """The table of files and their columns."""
     found = required()
     rows = [(f"`{name}`", ", ".join(f"`{columns()[it]}`" for it in found.get(paper, []))) for paper, name in papers().items()]
-    return table(("File", "Columns that are read by their names"), rows)
+    return table(("File", "Columns that are read by their names, in the order in which they are looked for"), rows)
 
 
 def texts_of(key: Key) -> dict[str, str]:
