@@ -1,0 +1,5 @@
+pub mod EndLemmas
+pub mod ListLemmas
+pub mod LookedLemmas
+pub mod SettleLemmas
+pub mod TreesLemmas
