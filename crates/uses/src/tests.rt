@@ -158,7 +158,7 @@ fn read_walks(alloc: Global, deadheads: &Text) -> Result<(u16, Option<Walks>), M
             walk(&timetable, &matrix, "C", "A"),
         )),
         Err(FeedFault::Memory) => return Err(Memory),
-        Err(_) => None,
+        Err(_refused) => None,
     };
     Ok((timetable.places(), walks))
 }
