@@ -4,6 +4,7 @@ ghost use Rattle.trip_model.specs.declared.limits.TheConstants.{MOST_SLOTS};
 ghost use Rattle.pair_search.specs.Arranged.{slot_in, bare};
 ghost use Rattle.pair_search.specs.Assignment.{AreWeights, IsMatched, Covers, MayBegin};
 ghost use Rattle.pair_search.specs.Determined.{found, found_each};
+ghost use Rattle.pair_search.specs.Inverse.{IsInverse};
 ghost use Rattle.pair_search.specs.Order.{IsRenaming};
 ghost use Rattle.pair_search.specs.declared.limits.TheConstants.{FAR};
 ghost use Rattle.list_search.specs.Lists.{listed};
@@ -53,11 +54,13 @@ fn search(
     requires leave { length leave.old ≡ lists.now.slots }
     requires enter { length enter.old ≡ lists.now.slots }
     requires before { length before.old ≡ lists.now.slots }
+    requires inverse { IsInverse (length next.old) next.old before.old }
     requires slots { vec_len tree.old.dist ≡ lists.now.slots }
     requires dist { tree.old.dist.items ≡ replicate lists.now.slots FAR }
     requires done { tree.old.done.items ≡ replicate lists.now.slots false }
     requires sound { AreWeights (listed lists.now) lists.now.slots }
     requires begins { (out : ℕ → Bool) × MayBegin (listed lists.now) lists.now.slots out a None next.old leave.old enter.old }
+    ensures inverse { IsInverse (length next.new) next.new before.new }
     ensures slots { vec_len tree.new.dist ≡ vec_len tree.old.dist }
     ensures dist { tree.new.dist.items ≡ replicate lists.now.slots FAR }
     ensures done { tree.new.done.items ≡ replicate lists.now.slots false }
@@ -68,11 +71,10 @@ fn search(
     ensures plan { ◌≡◌ {A = Plan} (record { next = next.new; leave = leave.new; enter = enter.new })
         (found (listed lists.now) a (record { next = next.old; leave = leave.old; enter = enter.old })) }
 {
-    invert(next, before);
     leave[a as usize] = GREATEST_PRICE;
     tree.begin(lists, a, enter);
     let grown = tree.grow(lists, a, before, leave, enter);
-    relink(grown.end, &tree.parent, &tree.rows, next);
+    relink(grown.end, &tree.parent, &tree.rows, next, before);
     tree.lower(grown.size, grown.end.fall, leave);
     tree.settle(lists, grown.size, grown.end.fall, enter);
 }
@@ -103,6 +105,7 @@ pub fn link_all(
     let before = room.before.as_mut_slice();
     let tree = &mut room.tree;
     let slots = lists.slots();
+    invert(next, before);
     for added in 0..slots {
         let last = slots - 1 - added;
         let a = rows[last as usize];

@@ -383,6 +383,14 @@ free-over p s end out b next o = by end.to refl
     by None e = tt
     by (Some j) e = sym (inverse-before next p.before o.matched.once o.inverse j) ∙ (o.ended.column j e).3
 
+-- and it is one of the columns
+pub to-over : (p : Problem) (s : TreeView) (end : End) → HasEnded p s end → IfSome end.to (λ j. j < p.n)
+to-over p s end ended = by end.to refl
+  where
+    by : (to : Option ℕ) → end.to ≡ to → IfSome to (λ j. j < p.n)
+    by None e = tt
+    by (Some j) e = (ended.column j e).0
+
 -- where a tree that began so has grown until the search ended
 pub IsOver-grown : (w : ℕ → ℕ → Option ℕ) (n : ℕ) (out : ℕ → Bool) (a : ℕ) (b : Option ℕ) (next before : List (Option ℕ))
     (leave enter : List ℕ) (first : ℕ) (raised : List ℕ) (s : TreeView) (end : End)

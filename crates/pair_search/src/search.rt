@@ -61,7 +61,7 @@ fn search<L: Ledger>(
     tree.begin(side, a, leave, enter, looks, steps);
     let end = tree.grow(side, before, leave, enter, looks, steps);
     shift(a, end.fall, next, &tree.dist, leave, enter);
-    relink(end, &tree.parent, &tree.rows, next);
+    relink(end, &tree.parent, &tree.rows, next, before);
 }
 
 // Adds one row after the other to links that link none, each by a search over the rows added so far: the one that stands last

@@ -1,5 +1,5 @@
-use Rattle.std.proofs.Common.{◌≡◌, ℕ, ◌+◌, ◌-◌, ◌≤◌, ◌∙◌, drop, get_or, length, replicate, false, None, sym, ap, subst, arith}
-use Rattle.std.proofs.lemmas.List.{drop_all, get_or_default}
+use Rattle.std.proofs.Common.{◌≡◌, ℕ, Option, ◌+◌, ◌-◌, ◌≤◌, ◌∙◌, drop, get_or, length, replicate, false, None, sym, ap, subst, arith}
+use Rattle.std.proofs.lemmas.List.{drop_all, get_or_default, length-replicate}
 use Rattle.pair_search.specs.Arranged.{slot_in, bare}
 use Rattle.pair_search.specs.Assignment.{IsMatched, Covers}
 use Rattle.pair_search.specs.Determined.{found, found_each}
@@ -7,8 +7,18 @@ use Rattle.pair_search.specs.Order.{stands_before}
 use Rattle.pair_search.proofs.AddLemmas.{IsMatched-none, IsMatched-all, MayBegin-added, covers-none, Covers-all}
 use Rattle.pair_search.proofs.LentLemmas.{plan-same}
 use Rattle.pair_search.proofs.PlacedLemmas.{found_each-more}
+use Rattle.pair_search.proofs.ShiftLemmas.{AreNextTrips-matched}
 use Rattle.list_search.specs.Lists.{listed}
 use Rattle.list_search.proofs.search.link_all.Goals as goal
+
+pub invert-requires-clause-links : goal.invert-requires-clause-links
+invert-requires-clause-links c =
+    let w = listed c.args.lists.now in
+    let n = c.args.lists.now.slots in
+    AreNextTrips-matched w n (λ _. false) None None c.args.next.now c.args.leave.now c.args.enter.now
+    (c.slots-slots.ensures.sound (omega (arith, c.requires.rows)))
+    (ap length c.requires.next ∙ length-replicate {A = Option ℕ} n None)
+    (IsMatched-none w n (λ _. false) c.args.next.now c.args.leave.now c.args.enter.now c.requires.next c.requires.leave c.requires.enter)
 
 pub loop-added-init : goal.loop-added-init
 loop-added-init c =
@@ -21,6 +31,7 @@ loop-added-init c =
       slots = c.clear.ensures.slots ∙ c.requires.room;
       dist = c.clear.ensures.dist ∙ ap (λ (m : ℕ). replicate m 4503599627370497) c.requires.room;
       done = c.clear.ensures.done ∙ ap (λ (m : ℕ). replicate m false) c.requires.room;
+      inverse = c.invert.ensures;
       turn = turn;
       renaming = c.requires.renaming.1;
       matched =
@@ -66,6 +77,7 @@ loop-added-preserved c =
       slots = done.slots ∙ loop.invariant.slots;
       dist = done.dist;
       done = done.done;
+      inverse = done.inverse;
       turn = loop.invariant.turn;
       renaming = loop.invariant.renaming;
       matched = done.matched (stands_before loop.invariant.turn (n - (loop.added + 1))) begins;

@@ -1,4 +1,4 @@
-use Rattle.std.proofs.Common.{◌≡◌, ◌∙◌, ◌<◌, ◌≤◌, ℕ, Bool, false, List, replicate, set, Option, None, Some, refl, sym, ap, subst}
+use Rattle.std.proofs.Common.{◌≡◌, ◌∙◌, ◌<◌, ◌≤◌, ℕ, length, Bool, false, List, replicate, set, Option, None, Some, refl, sym, ap, subst}
 use Rattle.std.proofs.Common.{⊎_elim, arith}
 use Rattle.std.proofs.lemmas.Bool.{cases_lt}
 use Rattle.std.proofs.lemmas.List.{get_or_past, get_or-replicate, get_or-set_same, length-replicate, length-set}
@@ -12,19 +12,15 @@ use Rattle.pair_search.specs.Relinking.{LeadsBack, IsShifted, IsTightBack, IsPas
 use Rattle.pair_search.specs.Search.{at, as_columns, problem, Problem, TreeView, AreLooked, IsTree}
 use Rattle.pair_search.proofs.EndLemmas.{matched-end, found-end}
 use Rattle.pair_search.proofs.InverseLemmas.{inverse-before}
-use Rattle.pair_search.proofs.ShiftLemmas.{AreNextTrips-matched, enter-low, given-at, IsOver, IsOver-grown, gain-low, covers-over, LeadsBack-over}
-use Rattle.pair_search.proofs.ShiftLemmas.{free-over}
+use Rattle.pair_search.proofs.ShiftLemmas.{enter-low, given-at, IsOver, IsOver-grown, gain-low, covers-over, LeadsBack-over}
+use Rattle.pair_search.proofs.ShiftLemmas.{free-over, to-over}
+use Rattle.std.specs.Prelude.{IfSome}
 use Rattle.pair_search.proofs.ShownLemmas.{IsShown-begun}
 use Rattle.pair_search.proofs.TreeLemmas.{IsTree-begun}
 use Rattle.list_search.specs.Lists.{listed}
 use Rattle.list_search.specs.Trees.{columns_of, tree_of}
 use Rattle.list_search.proofs.EndLemmas.{rows-within, IsShifted-tree}
 use Rattle.list_search.proofs.search.search.Goals as goal
-
-pub invert-requires-clause-links : goal.invert-requires-clause-links
-invert-requires-clause-links c =
-    AreNextTrips-matched (listed c.args.lists.now) c.args.lists.now.slots c.requires.begins.0 (Some c.args.a) None c.args.next.now
-    c.args.leave.now c.args.enter.now c.requires.sound c.requires.next c.requires.begins.1.matched
 
 pub begin-requires-clause-enter_low : goal.begin-requires-clause-enter_low
 begin-requires-clause-enter_low c =
@@ -36,9 +32,9 @@ begin-requires-clause-most c = c.requires.sound.most c.args.a
 
 pub grow-grown-requires-clause-given : goal.grow-grown-requires-clause-given
 grow-grown-requires-clause-given c =
-    given-at (listed c.args.lists.now) c.args.lists.now.slots c.requires.begins.0 c.args.a None c.args.next.now c.invert.new.before
+    given-at (listed c.args.lists.now) c.args.lists.now.slots c.requires.begins.0 c.args.a None c.args.next.now c.args.before.now
     c.args.leave.now c.args.enter.now c.args.a (set c.args.leave.now c.args.a 4503599627370496)
-    (omega (arith, c.args.tree.now.few, c.requires.slots)) c.requires.sound c.requires.next c.requires.leave c.invert.ensures
+    (omega (arith, c.args.tree.now.few, c.requires.slots)) c.requires.sound c.requires.next c.requires.leave c.requires.inverse
     c.requires.begins.1 refl refl
 
 pub grow-grown-requires-clause-begun : goal.grow-grown-requires-clause-begun
@@ -47,7 +43,7 @@ grow-grown-requires-clause-begun c =
     let n = c.args.lists.now.slots in
     let a = c.args.a in
     let raised = set c.args.leave.now a 4503599627370496 in
-    let p : Problem = problem w n a c.invert.new.before raised c.args.enter.now in
+    let p : Problem = problem w n a c.args.before.now raised c.args.enter.now in
     let was = c.args.tree.now in
     let now = c.begin.new.self in
     let looked = c.begin.ensures.looked in
@@ -61,8 +57,8 @@ grow-grown-requires-clause-begun c =
       reach = 0;
     })) (sym looked.done)
     (IsTree-begun p was.dist.items was.parent.items now.dist.items now.parent.items was.done.items now.rows.items now.far.items
-    (given-at w n c.requires.begins.0 a None c.args.next.now c.invert.new.before c.args.leave.now c.args.enter.now a raised
-    (omega (arith, was.few, c.requires.slots)) c.requires.sound c.requires.next c.requires.leave c.invert.ensures c.requires.begins.1 refl
+    (given-at w n c.requires.begins.0 a None c.args.next.now c.args.before.now c.args.leave.now c.args.enter.now a raised
+    (omega (arith, was.few, c.requires.slots)) c.requires.sound c.requires.next c.requires.leave c.requires.inverse c.requires.begins.1 refl
     refl)
     (get_or-set_same c.args.leave.now a 4503599627370496 0 (omega (arith, c.requires.begins.1.start, c.requires.leave)))
     c.requires.dist c.requires.done c.begin.ensures.first.0 c.begin.ensures.first.1
@@ -93,11 +89,11 @@ relink-requires-clause-back c =
     let now = c.grow-grown.new.self in
     let end = c.grow-grown.result.end in
     let grows = c.grow-grown.ensures.grown in
-    let p : Problem = problem w n a c.invert.new.before raised enter in
+    let p : Problem = problem w n a c.args.before.now raised enter in
     let s : TreeView = tree_of now c.grow-grown.result.size grows.reach in
     let over : (out : ℕ → Bool) → MayBegin w n out a None next leave enter → IsOver p s end out None next = λ out begins.
-    IsOver-grown w n out a None next c.invert.new.before leave enter a raised s end
-    (omega (arith, c.args.tree.now.few, c.requires.slots)) c.requires.sound c.requires.next c.requires.leave c.invert.ensures begins
+    IsOver-grown w n out a None next c.args.before.now leave enter a raised s end
+    (omega (arith, c.args.tree.now.few, c.requires.slots)) c.requires.sound c.requires.next c.requires.leave c.requires.inverse begins
     refl refl grows.tree grows.ended in
     subst (λ parent. LeadsBack next parent c.deref-2.result.now end.from) (sym c.deref.ensures.value)
     (subst (λ rows. LeadsBack next now.parent.items rows end.from) (sym c.deref-2.ensures.value)
@@ -117,13 +113,31 @@ relink-requires-clause-free c =
     let now = c.grow-grown.new.self in
     let end = c.grow-grown.result.end in
     let grows = c.grow-grown.ensures.grown in
-    let p : Problem = problem w n a c.invert.new.before raised enter in
+    let p : Problem = problem w n a c.args.before.now raised enter in
     let s : TreeView = tree_of now c.grow-grown.result.size grows.reach in
     let over : (out : ℕ → Bool) → MayBegin w n out a None next leave enter → IsOver p s end out None next = λ out begins.
-    IsOver-grown w n out a None next c.invert.new.before leave enter a raised s end
-    (omega (arith, c.args.tree.now.few, c.requires.slots)) c.requires.sound c.requires.next c.requires.leave c.invert.ensures begins
+    IsOver-grown w n out a None next c.args.before.now leave enter a raised s end
+    (omega (arith, c.args.tree.now.few, c.requires.slots)) c.requires.sound c.requires.next c.requires.leave c.requires.inverse begins
     refl refl grows.tree grows.ended in
     free-over p s end c.requires.begins.0 None next (over c.requires.begins.0 c.requires.begins.1)
+
+pub relink-requires-clause-to : goal.relink-requires-clause-to
+relink-requires-clause-to c =
+    let now = c.grow-grown.new.self in
+    let grows = c.grow-grown.ensures.grown in
+    let p : Problem = problem (listed c.args.lists.now) c.args.lists.now.slots c.args.a c.args.before.now
+    (set c.args.leave.now c.args.a 4503599627370496) c.args.enter.now in
+    subst (λ m. IfSome c.grow-grown.result.end.to (λ j. j < m))
+    (omega (
+      arith,
+      ap length c.deref.ensures.value,
+      now.parent.ok.0,
+      now.parents,
+      c.requires.slots,
+      c.begin.ensures.slots,
+      c.grow-grown.ensures.slots,
+    ))
+    (to-over p (tree_of now c.grow-grown.result.size grows.reach) c.grow-grown.result.end grows.ended)
 
 pub lower-requires-clause-size : goal.lower-requires-clause-size
 lower-requires-clause-size c =
@@ -137,11 +151,11 @@ lower-requires-clause-size c =
     let now = c.grow-grown.new.self in
     let end = c.grow-grown.result.end in
     let grows = c.grow-grown.ensures.grown in
-    let p : Problem = problem w n a c.invert.new.before raised enter in
+    let p : Problem = problem w n a c.args.before.now raised enter in
     let s : TreeView = tree_of now c.grow-grown.result.size grows.reach in
     let over : (out : ℕ → Bool) → MayBegin w n out a None next leave enter → IsOver p s end out None next = λ out begins.
-    IsOver-grown w n out a None next c.invert.new.before leave enter a raised s end
-    (omega (arith, c.args.tree.now.few, c.requires.slots)) c.requires.sound c.requires.next c.requires.leave c.invert.ensures begins
+    IsOver-grown w n out a None next c.args.before.now leave enter a raised s end
+    (omega (arith, c.args.tree.now.few, c.requires.slots)) c.requires.sound c.requires.next c.requires.leave c.requires.inverse begins
     refl refl grows.tree grows.ended in
     omega (arith, grows.tree.count, now.row_places, c.requires.slots, c.begin.ensures.slots, c.grow-grown.ensures.slots)
 
@@ -157,11 +171,11 @@ lower-requires-clause-within c =
     let now = c.grow-grown.new.self in
     let end = c.grow-grown.result.end in
     let grows = c.grow-grown.ensures.grown in
-    let p : Problem = problem w n a c.invert.new.before raised enter in
+    let p : Problem = problem w n a c.args.before.now raised enter in
     let s : TreeView = tree_of now c.grow-grown.result.size grows.reach in
     let over : (out : ℕ → Bool) → MayBegin w n out a None next leave enter → IsOver p s end out None next = λ out begins.
-    IsOver-grown w n out a None next c.invert.new.before leave enter a raised s end
-    (omega (arith, c.args.tree.now.few, c.requires.slots)) c.requires.sound c.requires.next c.requires.leave c.invert.ensures begins
+    IsOver-grown w n out a None next c.args.before.now leave enter a raised s end
+    (omega (arith, c.args.tree.now.few, c.requires.slots)) c.requires.sound c.requires.next c.requires.leave c.requires.inverse begins
     refl refl grows.tree grows.ended in
     λ t lt. omega (arith, rows-within p s end c.requires.begins.0 None next (over c.requires.begins.0 c.requires.begins.1) t lt, c.requires.leave, length-set leave a 4503599627370496)
 
@@ -177,11 +191,11 @@ lower-requires-clause-apart c =
     let now = c.grow-grown.new.self in
     let end = c.grow-grown.result.end in
     let grows = c.grow-grown.ensures.grown in
-    let p : Problem = problem w n a c.invert.new.before raised enter in
+    let p : Problem = problem w n a c.args.before.now raised enter in
     let s : TreeView = tree_of now c.grow-grown.result.size grows.reach in
     let over : (out : ℕ → Bool) → MayBegin w n out a None next leave enter → IsOver p s end out None next = λ out begins.
-    IsOver-grown w n out a None next c.invert.new.before leave enter a raised s end
-    (omega (arith, c.args.tree.now.few, c.requires.slots)) c.requires.sound c.requires.next c.requires.leave c.invert.ensures begins
+    IsOver-grown w n out a None next c.args.before.now leave enter a raised s end
+    (omega (arith, c.args.tree.now.few, c.requires.slots)) c.requires.sound c.requires.next c.requires.leave c.requires.inverse begins
     refl refl grows.tree grows.ended in
     grows.tree.apart
 
@@ -197,11 +211,11 @@ lower-requires-clause-later c =
     let now = c.grow-grown.new.self in
     let end = c.grow-grown.result.end in
     let grows = c.grow-grown.ensures.grown in
-    let p : Problem = problem w n a c.invert.new.before raised enter in
+    let p : Problem = problem w n a c.args.before.now raised enter in
     let s : TreeView = tree_of now c.grow-grown.result.size grows.reach in
     let over : (out : ℕ → Bool) → MayBegin w n out a None next leave enter → IsOver p s end out None next = λ out begins.
-    IsOver-grown w n out a None next c.invert.new.before leave enter a raised s end
-    (omega (arith, c.args.tree.now.few, c.requires.slots)) c.requires.sound c.requires.next c.requires.leave c.invert.ensures begins
+    IsOver-grown w n out a None next c.args.before.now leave enter a raised s end
+    (omega (arith, c.args.tree.now.few, c.requires.slots)) c.requires.sound c.requires.next c.requires.leave c.requires.inverse begins
     refl refl grows.tree grows.ended in
     λ t lt. omega (arith, grows.tree.within t lt, grows.ended.later)
 
@@ -217,11 +231,11 @@ lower-requires-clause-enough c =
     let now = c.grow-grown.new.self in
     let end = c.grow-grown.result.end in
     let grows = c.grow-grown.ensures.grown in
-    let p : Problem = problem w n a c.invert.new.before raised enter in
+    let p : Problem = problem w n a c.args.before.now raised enter in
     let s : TreeView = tree_of now c.grow-grown.result.size grows.reach in
     let over : (out : ℕ → Bool) → MayBegin w n out a None next leave enter → IsOver p s end out None next = λ out begins.
-    IsOver-grown w n out a None next c.invert.new.before leave enter a raised s end
-    (omega (arith, c.args.tree.now.few, c.requires.slots)) c.requires.sound c.requires.next c.requires.leave c.invert.ensures begins
+    IsOver-grown w n out a None next c.args.before.now leave enter a raised s end
+    (omega (arith, c.args.tree.now.few, c.requires.slots)) c.requires.sound c.requires.next c.requires.leave c.requires.inverse begins
     refl refl grows.tree grows.ended in
     grows.ended.rows
 
@@ -237,11 +251,11 @@ settle-requires-clause-size c =
     let now = c.grow-grown.new.self in
     let end = c.grow-grown.result.end in
     let grows = c.grow-grown.ensures.grown in
-    let p : Problem = problem w n a c.invert.new.before raised enter in
+    let p : Problem = problem w n a c.args.before.now raised enter in
     let s : TreeView = tree_of now c.grow-grown.result.size grows.reach in
     let over : (out : ℕ → Bool) → MayBegin w n out a None next leave enter → IsOver p s end out None next = λ out begins.
-    IsOver-grown w n out a None next c.invert.new.before leave enter a raised s end
-    (omega (arith, c.args.tree.now.few, c.requires.slots)) c.requires.sound c.requires.next c.requires.leave c.invert.ensures begins
+    IsOver-grown w n out a None next c.args.before.now leave enter a raised s end
+    (omega (arith, c.args.tree.now.few, c.requires.slots)) c.requires.sound c.requires.next c.requires.leave c.requires.inverse begins
     refl refl grows.tree grows.ended in
     omega (arith, grows.tree.count, now.row_places, c.requires.slots, c.begin.ensures.slots, c.grow-grown.ensures.slots)
 
@@ -257,11 +271,11 @@ settle-requires-clause-rows c =
     let now = c.grow-grown.new.self in
     let end = c.grow-grown.result.end in
     let grows = c.grow-grown.ensures.grown in
-    let p : Problem = problem w n a c.invert.new.before raised enter in
+    let p : Problem = problem w n a c.args.before.now raised enter in
     let s : TreeView = tree_of now c.grow-grown.result.size grows.reach in
     let over : (out : ℕ → Bool) → MayBegin w n out a None next leave enter → IsOver p s end out None next = λ out begins.
-    IsOver-grown w n out a None next c.invert.new.before leave enter a raised s end
-    (omega (arith, c.args.tree.now.few, c.requires.slots)) c.requires.sound c.requires.next c.requires.leave c.invert.ensures begins
+    IsOver-grown w n out a None next c.args.before.now leave enter a raised s end
+    (omega (arith, c.args.tree.now.few, c.requires.slots)) c.requires.sound c.requires.next c.requires.leave c.requires.inverse begins
     refl refl grows.tree grows.ended in
     λ t lt. omega (arith, rows-within p s end c.requires.begins.0 None next (over c.requires.begins.0 c.requires.begins.1) t lt, c.requires.rows)
 
@@ -277,11 +291,11 @@ settle-requires-clause-low c =
     let now = c.grow-grown.new.self in
     let end = c.grow-grown.result.end in
     let grows = c.grow-grown.ensures.grown in
-    let p : Problem = problem w n a c.invert.new.before raised enter in
+    let p : Problem = problem w n a c.args.before.now raised enter in
     let s : TreeView = tree_of now c.grow-grown.result.size grows.reach in
     let over : (out : ℕ → Bool) → MayBegin w n out a None next leave enter → IsOver p s end out None next = λ out begins.
-    IsOver-grown w n out a None next c.invert.new.before leave enter a raised s end
-    (omega (arith, c.args.tree.now.few, c.requires.slots)) c.requires.sound c.requires.next c.requires.leave c.invert.ensures begins
+    IsOver-grown w n out a None next c.args.before.now leave enter a raised s end
+    (omega (arith, c.args.tree.now.few, c.requires.slots)) c.requires.sound c.requires.next c.requires.leave c.requires.inverse begins
     refl refl grows.tree grows.ended in
     λ j near. ⊎_elim
     (λ (inside : j < n). gain-low p s end c.requires.begins.0 None next (over c.requires.begins.0 c.requires.begins.1) j inside near)
@@ -302,11 +316,11 @@ settle-requires-clause-reached c =
     let now = c.grow-grown.new.self in
     let end = c.grow-grown.result.end in
     let grows = c.grow-grown.ensures.grown in
-    let p : Problem = problem w n a c.invert.new.before raised enter in
+    let p : Problem = problem w n a c.args.before.now raised enter in
     let s : TreeView = tree_of now c.grow-grown.result.size grows.reach in
     let over : (out : ℕ → Bool) → MayBegin w n out a None next leave enter → IsOver p s end out None next = λ out begins.
-    IsOver-grown w n out a None next c.invert.new.before leave enter a raised s end
-    (omega (arith, c.args.tree.now.few, c.requires.slots)) c.requires.sound c.requires.next c.requires.leave c.invert.ensures begins
+    IsOver-grown w n out a None next c.args.before.now leave enter a raised s end
+    (omega (arith, c.args.tree.now.few, c.requires.slots)) c.requires.sound c.requires.next c.requires.leave c.requires.inverse begins
     refl refl grows.tree grows.ended in
     λ j lt near.
     let from = grows.tree.reached j lt near in
@@ -324,11 +338,11 @@ settle-requires-clause-done c =
     let now = c.grow-grown.new.self in
     let end = c.grow-grown.result.end in
     let grows = c.grow-grown.ensures.grown in
-    let p : Problem = problem w n a c.invert.new.before raised enter in
+    let p : Problem = problem w n a c.args.before.now raised enter in
     let s : TreeView = tree_of now c.grow-grown.result.size grows.reach in
     let over : (out : ℕ → Bool) → MayBegin w n out a None next leave enter → IsOver p s end out None next = λ out begins.
-    IsOver-grown w n out a None next c.invert.new.before leave enter a raised s end
-    (omega (arith, c.args.tree.now.few, c.requires.slots)) c.requires.sound c.requires.next c.requires.leave c.invert.ensures begins
+    IsOver-grown w n out a None next c.args.before.now leave enter a raised s end
+    (omega (arith, c.args.tree.now.few, c.requires.slots)) c.requires.sound c.requires.next c.requires.leave c.requires.inverse begins
     refl refl grows.tree grows.ended in
     λ j lt done.
     let placed = grows.tree.done j lt done in
@@ -346,11 +360,11 @@ returns-clause-matched c =
     let now = c.grow-grown.new.self in
     let end = c.grow-grown.result.end in
     let grows = c.grow-grown.ensures.grown in
-    let p : Problem = problem w n a c.invert.new.before raised enter in
+    let p : Problem = problem w n a c.args.before.now raised enter in
     let s : TreeView = tree_of now c.grow-grown.result.size grows.reach in
     let over : (out : ℕ → Bool) → MayBegin w n out a None next leave enter → IsOver p s end out None next = λ out begins.
-    IsOver-grown w n out a None next c.invert.new.before leave enter a raised s end
-    (omega (arith, c.args.tree.now.few, c.requires.slots)) c.requires.sound c.requires.next c.requires.leave c.invert.ensures begins
+    IsOver-grown w n out a None next c.args.before.now leave enter a raised s end
+    (omega (arith, c.args.tree.now.few, c.requires.slots)) c.requires.sound c.requires.next c.requires.leave c.requires.inverse begins
     refl refl grows.tree grows.ended in
     let shifted : (out : ℕ → Bool) → MayBegin w n out a None next leave enter
     → IsShifted n a next now.dist.items end.fall raised enter c.lower.new.leave c.settle.new.enter = λ out begins.
@@ -380,11 +394,11 @@ returns-clause-covers c =
     let now = c.grow-grown.new.self in
     let end = c.grow-grown.result.end in
     let grows = c.grow-grown.ensures.grown in
-    let p : Problem = problem w n a c.invert.new.before raised enter in
+    let p : Problem = problem w n a c.args.before.now raised enter in
     let s : TreeView = tree_of now c.grow-grown.result.size grows.reach in
     let over : (out : ℕ → Bool) → MayBegin w n out a None next leave enter → IsOver p s end out None next = λ out begins.
-    IsOver-grown w n out a None next c.invert.new.before leave enter a raised s end
-    (omega (arith, c.args.tree.now.few, c.requires.slots)) c.requires.sound c.requires.next c.requires.leave c.invert.ensures begins
+    IsOver-grown w n out a None next c.args.before.now leave enter a raised s end
+    (omega (arith, c.args.tree.now.few, c.requires.slots)) c.requires.sound c.requires.next c.requires.leave c.requires.inverse begins
     refl refl grows.tree grows.ended in
     let shifted : (out : ℕ → Bool) → MayBegin w n out a None next leave enter
     → IsShifted n a next now.dist.items end.fall raised enter c.lower.new.leave c.settle.new.enter = λ out begins.
@@ -404,11 +418,11 @@ returns-clause-plan c =
     let now = c.grow-grown.new.self in
     let end = c.grow-grown.result.end in
     let grows = c.grow-grown.ensures.grown in
-    let p : Problem = problem w n a c.invert.new.before raised enter in
+    let p : Problem = problem w n a c.args.before.now raised enter in
     let s : TreeView = tree_of now c.grow-grown.result.size grows.reach in
     let over : (out : ℕ → Bool) → MayBegin w n out a None next leave enter → IsOver p s end out None next = λ out begins.
-    IsOver-grown w n out a None next c.invert.new.before leave enter a raised s end
-    (omega (arith, c.args.tree.now.few, c.requires.slots)) c.requires.sound c.requires.next c.requires.leave c.invert.ensures begins
+    IsOver-grown w n out a None next c.args.before.now leave enter a raised s end
+    (omega (arith, c.args.tree.now.few, c.requires.slots)) c.requires.sound c.requires.next c.requires.leave c.requires.inverse begins
     refl refl grows.tree grows.ended in
     let shifted : (out : ℕ → Bool) → MayBegin w n out a None next leave enter
     → IsShifted n a next now.dist.items end.fall raised enter c.lower.new.leave c.settle.new.enter = λ out begins.
@@ -436,7 +450,7 @@ returns-clause-plan c =
     (IsShown-begun w a n enter begun.dist.items was.parent.items begun.parent.items begun.rows.items
     (omega (arith, begun.dist.ok.0, c.begin.ensures.slots, c.requires.slots)) c.begin.ensures.first.0 seen)) in
     let shown = c.grow-grown.ensures.shown next first
-    (λ j. sym (inverse-before next c.invert.new.before c.requires.begins.1.matched.once c.invert.ensures j)) shows in
+    (λ j. sym (inverse-before next c.args.before.now c.requires.begins.1.matched.once c.requires.inverse j)) shows in
     found-end p s end c.requires.begins.0 None next (over c.requires.begins.0 c.requires.begins.1) leave enter c.relink.new.next c.lower.new.leave c.settle.new.enter
     (omega (arith, now.dist.ok.0, c.requires.slots, c.begin.ensures.slots, c.grow-grown.ensures.slots)) c.requires.enter refl refl
     (subst (λ (m : ℕ). IsShown now.dist.items now.parent.items now.done.items now.rows.items end.from end.to end.fall
@@ -449,3 +463,6 @@ returns-clause-plan c =
     → c.relink.new.next ≡ linked_back from most next (at rows end.from) end.to) c.deref-2.ensures.value c.relink.ensures.linked))
     (omega (arith, c.lower.auto.leave, length-set leave a 4503599627370496)) (omega (arith, c.settle.auto.enter))
     (shifted c.requires.begins.0 c.requires.begins.1)
+
+pub returns-clause-inverse : goal.returns-clause-inverse
+returns-clause-inverse c = c.relink.ensures.inverse c.requires.begins.1.matched.once c.requires.inverse

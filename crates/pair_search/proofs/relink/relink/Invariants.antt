@@ -1,5 +1,7 @@
-use Rattle.std.proofs.Common.{◌≡◌, ℕ, ◌<◌, ◌≤◌, Bool, List, Option, Some}
-use Rattle.trip_model.specs.Links.{next_of}
+use Rattle.std.proofs.Common.{◌≡◌, ℕ, ◌<◌, ◌≤◌, Bool, List, length, Option, Some}
+use Rattle.std.specs.Prelude.{IfSome}
+use Rattle.trip_model.specs.Links.{next_of, AreApart}
+use Rattle.pair_search.specs.Inverse.{IsInverse, IsInverseBut}
 use Rattle.pair_search.specs.Determined.{linked_back}
 use Rattle.pair_search.specs.Fronts.{IsOnWayBack}
 use Rattle.pair_search.specs.Relinking.{IsTightBack, IsPassing, IsRelinked}
@@ -8,6 +10,9 @@ use Rattle.pair_search.proofs.relink.relink.Given as goal
 
 abbrev pub invariant-back : goal.invariant-back
 invariant-back l = record {
+  within : IfSome l.to (λ j. j < length l.parent);
+  inverse : AreApart l.initial.next → IsInverse (length l.initial.next) l.initial.next l.initial.before
+      → IsInverseBut l.next l.before l.to;
   upto : l.place ≤ l.fn.end.from;
   relinked : IsRelinked l.initial.next l.next l.rows l.fn.end.from l.place l.to;
   linked : (from : List ℕ) (most : ℕ) → l.fn.end.from < most

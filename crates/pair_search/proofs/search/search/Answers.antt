@@ -15,7 +15,8 @@ use Rattle.pair_search.proofs.EndLemmas.{matched-end, found-end}
 use Rattle.pair_search.proofs.FoundLemmas.{last_front}
 use Rattle.pair_search.proofs.InverseLemmas.{inverse-before}
 use Rattle.pair_search.proofs.ShiftLemmas.{AreNextTrips-matched, enter-low, given-at, IsOver, IsOver-grown, enough, gain-low, covers-over}
-use Rattle.pair_search.proofs.ShiftLemmas.{LeadsBack-over, free-over}
+use Rattle.pair_search.proofs.ShiftLemmas.{LeadsBack-over, free-over, to-over}
+use Rattle.std.specs.Prelude.{IfSome}
 use Rattle.pair_search.proofs.VisitLemmas.{search-once, Takes-append}
 use Rattle.pair_search.proofs.search.search.Given.{Over}
 use Rattle.pair_search.proofs.search.search.Goals as goal
@@ -103,7 +104,7 @@ shift-requires-clause-low g c = λ j near.
     (cases_lt j (side_slots c.args.side.now))
 
 -- the search has ended
-over-relink : (g : Over) (c : goal.After-relink-arg-1 g) (out : ℕ → Bool) (b : Option ℕ)
+over-relink : (g : Over) (c : goal.After-relink-arg-2-1 g) (out : ℕ → Bool) (b : Option ℕ)
     → MayBegin (place_weight c.args.side.now) (side_slots c.args.side.now) out c.args.a b c.args.next.now c.args.leave.now c.args.enter.now
     → IsOver (problem_of c.args.side.now (at c.begin.new.self.rows.items 0) c.invert.new.before c.begin.new.leave c.args.enter.now)
     (tree_of c.grow-end.new.self c.grow-end.ensures.grown.size c.grow-end.ensures.grown.reach)
@@ -130,6 +131,16 @@ relink-requires-clause-back g c =
     (omega (arith, now.parent.ok.0, now.parents, c.begin.ensures.slots, c.grow-end.ensures.slots))
     (omega (arith, now.rows.ok.0, now.row_places, c.begin.ensures.slots, c.grow-end.ensures.slots))))
 
+pub relink-requires-clause-to : goal.relink-requires-clause-to
+relink-requires-clause-to g c =
+    let p : Problem = (problem_of c.args.side.now (at c.begin.new.self.rows.items 0) c.invert.new.before c.begin.new.leave
+    c.args.enter.now) in
+    let now = c.grow-end.new.self in
+    let s : TreeView = (tree_of now c.grow-end.ensures.grown.size c.grow-end.ensures.grown.reach) in
+    subst (λ m. IfSome c.grow-end.result.to (λ j. j < m))
+    (omega (arith, ap length c.deref-2.ensures.value, now.parent.ok.0, now.parents, c.begin.ensures.slots, c.grow-end.ensures.slots))
+    (to-over p s c.grow-end.result c.grow-end.ensures.grown.ended)
+
 pub relink-requires-clause-free : goal.relink-requires-clause-free
 relink-requires-clause-free g c =
     let p : Problem = (problem_of c.args.side.now (at c.begin.new.self.rows.items 0) c.invert.new.before c.begin.new.leave
@@ -139,7 +150,7 @@ relink-requires-clause-free g c =
     (over-relink g c c.requires.begins.0 c.requires.begins.1 c.requires.begins.2)
 
 -- the search has ended
-over-end : (g : Over) (c : goal.After-next-1 g) (out : ℕ → Bool) (b : Option ℕ)
+over-end : (g : Over) (c : goal.After-before-2-1 g) (out : ℕ → Bool) (b : Option ℕ)
     → MayBegin (place_weight c.args.side.now) (side_slots c.args.side.now) out c.args.a b c.args.next.now c.args.leave.now c.args.enter.now
     → IsOver (problem_of c.args.side.now (at c.begin.new.self.rows.items 0) c.invert.new.before c.begin.new.leave c.args.enter.now)
     (tree_of c.grow-end.new.self c.grow-end.ensures.grown.size c.grow-end.ensures.grown.reach)
@@ -154,7 +165,7 @@ over-end g c out b begins =
     c.grow-end.ensures.grown.tree c.grow-end.ensures.grown.ended
 
 -- the prices are shifted
-shifted : (g : Over) (c : goal.After-next-1 g)
+shifted : (g : Over) (c : goal.After-before-2-1 g)
     → IsShifted (side_slots c.args.side.now) (at c.begin.new.self.rows.items 0) c.args.next.now c.grow-end.new.self.dist.items
     c.grow-end.result.fall c.begin.new.leave c.args.enter.now c.shift.new.leave c.shift.new.enter
 shifted g c =
