@@ -1,8 +1,10 @@
 pub mod ChainLemmas
 pub mod CommandLemmas
 pub mod FeedLemmas
+pub mod HeadlineLemmas
 pub mod LeastLemmas
 pub mod PlanLemmas
+pub mod PutLemmas
 pub mod RunLemmas
 pub mod ShiftLemmas
 pub mod TextLemmas

@@ -10,7 +10,6 @@ use Rattle.desk_run.specs.Answers.{found_by}
 use Rattle.desk_run.specs.Becomes.{Becomes}
 use Rattle.desk_run.specs.Commands.{Asked, Chosen, IsGiven}
 use Rattle.desk_run.specs.Order.{IsInOrder, MakesFirst, carrying, reading, status_by, with_call, with_calls}
-use Rattle.desk_run.specs.Outcome.{OutcomeView}
 use Rattle.desk_run.specs.Outside.{Outside}
 use Rattle.desk_run.specs.Performs.{Performs}
 use Rattle.desk_run.specs.Reading.{ReadView}

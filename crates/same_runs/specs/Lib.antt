@@ -1,2 +1,4 @@
 pub mod Blocks
+pub mod Fulfilled
+pub mod Headline
 pub mod Same

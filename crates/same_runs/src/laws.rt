@@ -1,6 +1,6 @@
-//! Laws of two runs. Each is the contract of a function that does nothing.
+//! Laws of runs. Each is the contract of a function that does nothing.
 ghost use Rattle.std.specs.Prelude.{◌≡◌, ℕ, ◌≤◌, length};
-ghost use Rattle.blocks_command.specs.Blocks.{IsPlan, plan_files};
+ghost use Rattle.blocks_command.specs.Blocks.{IsPlan, blocks_asked, plan_files};
 ghost use Rattle.desk_feed.specs.Feed.{FeedView, standing};
 ghost use Rattle.desk_program.specs.Commands.{asked_by};
 ghost use Rattle.desk_program.specs.declared.command.CommandName.{CommandName};
@@ -8,12 +8,13 @@ ghost use Rattle.desk_run.specs.Answers.{found_by};
 ghost use Rattle.desk_run.specs.Outcome.{OutcomeView};
 ghost use Rattle.desk_run.specs.Outside.{Outside};
 ghost use Rattle.desk_run.specs.Performs.{Performs};
-ghost use Rattle.desk_run.specs.declared.status.TheConstants.{NO};
+ghost use Rattle.desk_run.specs.declared.status.TheConstants.{EDITS_REFUSED, NO};
 ghost use Rattle.feed_desk.specs.Plans.{plan_at};
 ghost use Rattle.gtfs_tables.specs.Table.{TableView};
 ghost use Rattle.joined_command.specs.Joined.{IsJoined};
 ghost use Rattle.plan_commands.specs.Chart.{IsChart};
 ghost use Rattle.same_runs.specs.Blocks.{listed};
+ghost use Rattle.same_runs.specs.Fulfilled.{IsFulfilled};
 ghost use Rattle.same_runs.specs.Same.{AreAlike, IsDetermined};
 ghost use Rattle.write_command.specs.Write.{IsWritten};
 
@@ -43,4 +44,11 @@ pub fn same_blocks_law()
         → chart.blocks ≡ listed said outcome plan }
     ensures written { (said : FeedView) (outcome other : OutcomeView) (trips stop_times : TableView) (plan : IsPlan said outcome)
         (written : IsWritten said trips stop_times other) → written.blocks ≡ listed said outcome plan }
+{}
+
+/// A run of `blocks` that comes to its end with an accepted feed, perhaps with refused edits, does what the record `Headline` says. This
+/// holds of real folders too.
+pub fn headline_law()
+    ensures { (before after : Outside) (status n m : ℕ) → Performs blocks_asked before after status n m → status ≤ EDITS_REFUSED
+        → IsFulfilled before after status }
 {}

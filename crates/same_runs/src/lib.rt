@@ -5,7 +5,10 @@
 //! outcome of each command. [`laws::same_blocks_law`] is of two commands: the blocks in `blocks.csv` are those of the boards, of
 //! the chart and of the written feed.
 //!
-//! The contracts cite `Same` (what is determined, and runs that are alike) and `Blocks` (the blocks of a feed). Of `desk_run`
+//! [`laws::headline_law`] is of one run of `blocks`: in one record it says in the subject's words what such a run promises.
+//!
+//! The contracts cite `Same` (what is determined, and runs that are alike), `Blocks` (the blocks of a feed), and `Fulfilled`
+//! with `Headline` (what a run of `blocks` does). Of `desk_run`
 //! they cite `Performs` and `Answers`, of `feed_desk` `Plans`, and of each command what it gives of a feed.
 #![tactic(auto)]
 
