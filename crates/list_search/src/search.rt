@@ -16,6 +16,7 @@ use pair_search::GREATEST_PRICE;
 use pair_search::invert::invert;
 use pair_search::relink::relink;
 use std::alloc::Global;
+use std::marker::Model;
 use trip_model::MOST_SLOTS;
 
 /// The memory of searches over so many rows and columns.
@@ -23,14 +24,23 @@ use trip_model::MOST_SLOTS;
 pub struct Room {
     before: Vec<Option<u16>>,
     tree: Tree,
-    ghost befores: { vec_len before ≡ vec_len tree.dist },
+}
+
+impl Model for Room {
+    ghost use Rattle.std.specs.Prelude.{◌≡◌, ℕ, vec_len};
+
+    ghost Value = { ℕ };
+
+    ghost view = { λ r. vec_len r.tree.dist };
+
+    ghost invariant = { λ r. vec_len r.before ≡ vec_len r.tree.dist };
 }
 
 impl Room {
     /// Takes the memory.
     pub fn open(alloc: Global, slots: u16) -> Result<Room, Memory>
         requires { slots ≤ MOST_SLOTS }
-        ensures { IfOk result (λ opened. vec_len opened.tree.dist ≡ slots) }
+        ensures { IfOk result (λ opened. opened ≡ slots) }
     {
         Ok(Room {
             before: vec![in alloc; None; usize::from(slots)]?,
@@ -79,6 +89,40 @@ fn search(
     tree.settle(lists, grown.size, grown.end.fall, enter);
 }
 
+// Adds one row after the other to links that link none, each by a search over the rows added so far: the last first.
+fn link_rows(
+    lists: &PairLists,
+    rows: &[u16],
+    next: &mut [Option<u16>],
+    leave: &mut [u64],
+    enter: &mut [u64],
+    before: &mut [Option<u16>],
+    tree: &mut Tree,
+)
+    requires rows { length lists.now.rows ≡ lists.now.slots }
+    requires before { length before.old ≡ lists.now.slots }
+    requires slots { vec_len tree.old.dist ≡ lists.now.slots }
+    requires renaming { (turn : ℕ → ℕ) × IsRenaming lists.now.slots (slot_in rows.now) turn }
+    requires all { length rows.now ≡ lists.now.slots }
+    requires next { next.old ≡ replicate lists.now.slots None }
+    requires leave { leave.old ≡ replicate lists.now.slots 0 }
+    requires enter { enter.old ≡ replicate lists.now.slots 0 }
+    ensures slots { vec_len tree.new.dist ≡ vec_len tree.old.dist }
+    ensures matched { IsMatched (listed lists.now) (λ _. false) None None next.new leave.new enter.new }
+    ensures covers { Covers (listed lists.now) (λ _. false) None leave.new enter.new }
+    ensures plan { ◌≡◌ {A = Plan} (record { next = next.new; leave = leave.new; enter = enter.new })
+        (found_each (listed lists.now) rows.now (bare lists.now.slots)) }
+{
+    tree.clear();
+    let slots = lists.slots();
+    invert(next, before);
+    for added in 0..slots {
+        let last = slots - 1 - added;
+        let a = rows[last as usize];
+        search(lists, a, next, leave, enter, before, tree);
+    }
+}
+
 /// Adds one row after the other to links that link none, each by a search over the rows added so far: the last first.
 pub fn link_all(
     lists: &PairLists,
@@ -89,26 +133,18 @@ pub fn link_all(
     room: &mut Room,
 )
     requires rows { length lists.now.rows ≡ lists.now.slots }
-    requires room { vec_len room.old.tree.dist ≡ lists.now.slots }
+    requires room { room.old ≡ lists.now.slots }
     requires renaming { (turn : ℕ → ℕ) × IsRenaming lists.now.slots (slot_in rows.now) turn }
     requires all { length rows.now ≡ lists.now.slots }
     requires next { next.old ≡ replicate lists.now.slots None }
     requires leave { leave.old ≡ replicate lists.now.slots 0 }
     requires enter { enter.old ≡ replicate lists.now.slots 0 }
-    ensures room { vec_len room.new.tree.dist ≡ vec_len room.old.tree.dist }
+    ensures room { room.new ≡ room.old }
     ensures matched { IsMatched (listed lists.now) (λ _. false) None None next.new leave.new enter.new }
     ensures covers { Covers (listed lists.now) (λ _. false) None leave.new enter.new }
     ensures plan { ◌≡◌ {A = Plan} (record { next = next.new; leave = leave.new; enter = enter.new })
         (found_each (listed lists.now) rows.now (bare lists.now.slots)) }
 {
-    room.tree.clear();
     let before = room.before.as_mut_slice();
-    let tree = &mut room.tree;
-    let slots = lists.slots();
-    invert(next, before);
-    for added in 0..slots {
-        let last = slots - 1 - added;
-        let a = rows[last as usize];
-        search(lists, a, next, leave, enter, before, tree);
-    }
+    link_rows(lists, rows, next, leave, enter, before, &mut room.tree);
 }

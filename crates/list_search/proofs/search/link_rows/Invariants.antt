@@ -8,7 +8,7 @@ use Rattle.pair_search.specs.Inverse.{IsInverse}
 use Rattle.pair_search.specs.Order.{stands_before, IsRenaming}
 use Rattle.pair_search.specs.declared.limits.TheConstants.{FAR}
 use Rattle.list_search.specs.Lists.{listed}
-use Rattle.list_search.proofs.search.link_all.Given as goal
+use Rattle.list_search.proofs.search.link_rows.Given as goal
 
 abbrev pub invariant-loop-added : goal.invariant-loop-added
 invariant-loop-added l = record {

@@ -9,7 +9,7 @@ use Rattle.pair_search.proofs.LentLemmas.{plan-same}
 use Rattle.pair_search.proofs.PlacedLemmas.{found_each-more}
 use Rattle.pair_search.proofs.ShiftLemmas.{AreNextTrips-matched}
 use Rattle.list_search.specs.Lists.{listed}
-use Rattle.list_search.proofs.search.link_all.Goals as goal
+use Rattle.list_search.proofs.search.link_rows.Goals as goal
 
 pub invert-requires-clause-links : goal.invert-requires-clause-links
 invert-requires-clause-links c =
@@ -28,9 +28,9 @@ loop-added-init c =
     let all : n ≡ n - 0 = omega arith in
     let turn : ℕ → ℕ = c.requires.renaming.0 in
     record {
-      slots = c.clear.ensures.slots ∙ c.requires.room;
-      dist = c.clear.ensures.dist ∙ ap (λ (m : ℕ). replicate m 4503599627370497) c.requires.room;
-      done = c.clear.ensures.done ∙ ap (λ (m : ℕ). replicate m false) c.requires.room;
+      slots = c.clear.ensures.slots ∙ c.requires.slots;
+      dist = c.clear.ensures.dist ∙ ap (λ (m : ℕ). replicate m 4503599627370497) c.requires.slots;
+      done = c.clear.ensures.done ∙ ap (λ (m : ℕ). replicate m false) c.requires.slots;
       inverse = c.invert.ensures;
       turn = turn;
       renaming = c.requires.renaming.1;
