@@ -5,7 +5,7 @@ import re
 from pages.crates import ROOT
 from pages.tables import FAULTS, PLANNERS, columns, papers, source, texts_of
 
-PAGES = ("FORMATS.md", "PLANNING.md")
+PAGES = ("FORMATS.md", "PLANNING.md", "PERIOD.md")
 COMMANDS = "COMMANDS.md"
 """Where options may stand too."""
 GIVEN = re.compile(r"\b(?:FILE|COLUMN|KEY|TRIP|MINUTES|PRICES|WEIGHTS|N)\b|from\|to|\brecord\b|stop_times\.txt")

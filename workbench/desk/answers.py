@@ -12,6 +12,7 @@ from pathlib import Path
 from desk import program, texts
 from desk.errors import DeskError
 from desk.program import DONE, FEED_REFUSED, NO, RECORDS_REFUSED, Outcome
+from desk.runs import folder_of_run
 from desk.texts import Json
 from desk.town import Town
 
@@ -26,13 +27,13 @@ class FeedRefused(DeskError):
 
 def ask(command: str, town: Town, room: Path | None = None) -> Json:
     """What the program answers of a town, or of a room with its feed and other scripts. A refused feed is a FeedRefused."""
-    folder = town.folder if room is None else room
-    outcome = program.run([command, folder])
-    text = _text(command, town.folder, outcome)
-    try:
-        return read(command, outcome.status, text, folder, town)
-    except DeskError as error:
-        raise DeskError(str(error).replace(str(folder), str(town.folder))) from error
+    with folder_of_run(command, town, room) as folder:
+        outcome = program.run([command, folder])
+        text = _text(command, town.folder, outcome)
+        try:
+            return read(command, outcome.status, text, folder, town)
+        except DeskError as error:
+            raise DeskError(str(error).replace(str(folder), str(town.folder))) from error
 
 
 def read(command: str, status: int, text: bytes, folder: Path | str | None, town: Town | None = None) -> Json:
@@ -48,7 +49,8 @@ def tell(command: str, folder: Path, room: Path | None = None) -> str:
 
     All else is a DeskError with the program's words.
     """
-    outcome = program.run([command, folder if room is None else room])
+    with folder_of_run(command, Town(folder), room) as made:
+        outcome = program.run([command, made])
     text = _text(command, folder, outcome).decode("utf-8", "replace")
     if outcome.status not in (DONE, RECORDS_REFUSED) or not text.endswith("\n"):
         raise DeskError(f"{command} of {folder} ended with status {outcome.status}: {text.rstrip()}")

@@ -17,10 +17,11 @@ from desk.files import reason
 from desk.leftovers import mend
 from desk.pipes import refuse_pipes
 from desk.terminal import shown_on_terminals
+from desk.town import town_above
 from desk.versions import version
-from desk import boards, compare, figures, forward, new, notes, page, part, publish, saved, server, take
+from desk import boards, compare, days, figures, forward, new, notes, page, part, publish, saved, server, take
 
-COMMANDS: tuple[ModuleType, ...] = (new, part, notes, page, server, boards, figures, publish, compare, saved, take, forward)
+COMMANDS: tuple[ModuleType, ...] = (new, days, part, notes, page, server, boards, figures, publish, compare, saved, take, forward)
 """The modules of the commands, in the order of the help.
 
 Each has `add_arguments(parser)` and `run(arguments) -> int`. One of a single word has `WORD` and `HELP`; one of several
@@ -96,7 +97,8 @@ def towns_of(arguments: argparse.Namespace) -> list[Path]:
     """The folders of towns among the words of a command line."""
     named = [getattr(arguments, name, None) for name in ("town", "other")]
     named += [] if arguments.word == "sample" else getattr(arguments, "words", [])
-    return [Path(name) for name in named if name is not None and os.path.isdir(name)]
+    found = [Path(name) for name in named if name is not None and os.path.isdir(name)]
+    return list(dict.fromkeys([*found, *(above for folder in found if (above := town_above(folder)))]))
 
 
 def run_words(words: Sequence[str]) -> int:

@@ -8,6 +8,7 @@ import subprocess
 import sys
 import threading
 from collections.abc import Callable
+from pathlib import Path
 from typing import BinaryIO
 
 from desk.answers import read
@@ -15,6 +16,8 @@ from desk.errors import DeskError, complain
 from desk.files import reason
 from desk.hints import hints_before, hints_of, questions_before
 from desk.program import DONE, RECORDS_REFUSED, WRITE_FAULT, program_path
+from desk.runs import folder_of_run
+from desk.town import Town, town_above
 
 WORDS = {
     "deficits": "where and when vehicles are missing at each terminal",
@@ -53,7 +56,12 @@ def run(arguments: argparse.Namespace) -> int:
     if questions and not is_agreed(questions):
         complain("nothing was kept. Take out what is kept, or give --yes.")
         return 1
-    status, text = ask([command, *words])
+    folder = Path(words[0]) if len(words) == 1 and command != "sample" else None
+    if folder is not None and town_above(folder):
+        with folder_of_run(command, Town(folder)) as room:
+            status, text = ask([command, str(room)])
+    else:
+        status, text = ask([command, *words])
     if not put(as_shown(command, words, status, text) if arguments.json and text else text):
         return WRITE_FAULT
     for hint in (before if status in (DONE, RECORDS_REFUSED) else []) + without_mistakes(hints_of, command, words, status, text):

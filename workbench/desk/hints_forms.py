@@ -15,6 +15,9 @@ WRITTEN = {"blocks": ("blocks.csv", "prices.csv"), "write": ("trips_blocks.txt",
            "joined": ("boards.csv",), "kept": ("edits.csv",)}
 """The files that a command writes, in their order."""
 
+JOURNAL = "journal.db"
+"""The journal, which `keep` and `kept` alone open."""
+
 COLUMNS = {
     "terminals.csv": ("stop_id", "terminal"),
     "tolerances.csv": ("trip_id", "early", "late"),

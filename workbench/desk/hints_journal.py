@@ -11,10 +11,9 @@ from pathlib import Path
 from desk.answers import tell
 from desk.errors import DeskError
 from desk.files import read_bytes, reason, refuse_no_file
+from desk.hints_forms import JOURNAL
 from desk.limits import MOST_BYTES
 from desk.rooms import own_room
-
-JOURNAL = "journal.db"
 
 BESIDE = ("", "-wal", "-journal")
 """The files of a database, by what stands behind its name."""

@@ -41,7 +41,7 @@ def missing_hints(town: Town, path: Path) -> list[str]:
     if path.name == "calendar.txt":
         return ["desk.toml has a date, and neither calendar.txt nor calendar_dates.txt is there. "
                 "Copy them from the agency's feed, or list `services` in place of the date."]
-    like = like_names(town.folder, path.name) if town.folder.is_dir() else {}
+    like = like_names(path.parent, path.name) if path.parent.is_dir() else {}
     return [f"{path.parent / other} has nearly the name of {path.name}. Rename it." for other in like] or folder_hints(town.folder)
 
 

@@ -29,7 +29,8 @@ def fitting(town: Town, misfits: list[Json] | None = None) -> Fitting:
     A DeskError where `audit` cannot be asked, or where it says of other layovers what was not to be expected.
     """
     misfits = audit(town, town.settings).get("misfits", []) if misfits is None else misfits
-    found, ends = Fitting(), {trip.trip_id: town.terminal(trip.last_stop) for trip in town.day()}
+    found = Fitting()
+    ends = {trip.trip_id: town.terminal(trip.last_stop) for trip in town.day()} if misfits else {}
     for misfit in misfits:
         terminal = ends.get(misfit["first"])
         layover = 0 if terminal is None else town.layover(terminal)

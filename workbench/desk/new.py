@@ -7,15 +7,17 @@ import math
 from collections.abc import Callable
 from pathlib import Path
 
-from desk import new_more, new_steps
+from desk import new_days, new_more, new_steps
 from desk.calendars import format_date, parse_date
 from desk.deadheads import Pace, find_depot
 from desk.errors import DeskError, UsageError
 from desk.hints_places import Places
 from desk.hints_refusals import refusal_hints
+from desk.left_out import SortedTrips
 from desk.new_left_out import judge_left_out
 from desk.new_report import Report, counted
 from desk.new_room import carry_own, left_as_they_were, settle, town_room
+from desk.period import has_days
 from desk.town import Town
 
 WORD = "new"
@@ -27,7 +29,9 @@ def add_arguments(parser: argparse.ArgumentParser) -> None:
     parser.epilog = "example: ./desk new agency.zip town --depot 52.1,-0.45"
     parser.add_argument("feed", type=Path, metavar="FEED", help="the agency's feed: a zip or a folder in the form of GTFS")
     parser.add_argument("town", type=Path, metavar="TOWN", help="the folder that is made")
-    parser.add_argument("--date", type=_date, help="the day to plan, as 20260907; else the busiest weekday from today on")
+    which = parser.add_mutually_exclusive_group()
+    which.add_argument("--date", type=_date, help="the day to plan, as 20260907; else the busiest weekday from today on")
+    which.add_argument("--days", action="store_true", help="plan every day type of the calendars, each in a folder of its own")
     parser.add_argument("--speed", type=_number(1, 200), default=25.0, metavar="KMH",
                         help="the speed of empty vehicles in km/h; else 25")
     parser.add_argument("--detour", type=_number(1, 10), default=1.3, metavar="FACTOR",
@@ -43,6 +47,9 @@ def run(arguments: argparse.Namespace) -> int:
     town = arguments.town.resolve()
     if arguments.feed.resolve() == town:
         raise UsageError(f"{arguments.town} is the feed itself: name another folder for the town")
+    arguments.days = arguments.days or has_days(town)
+    if arguments.days and arguments.date:
+        raise UsageError(f"{arguments.town} has a folder for each day type: change the date in the desk.toml of one of them")
     report = Report(str(arguments.town))
     if arguments.more and not town.is_dir():
         raise UsageError(f"{arguments.town} is not there: without --more it is made")
@@ -69,14 +76,23 @@ def _with_hints(error: DeskError, agency: Town) -> DeskError:
 def _make(room: Path, arguments: argparse.Namespace, report: Report) -> None:
     """Makes all files of the town in the room."""
     trips = new_steps.unpack_feed(arguments.feed, room, report)
-    date = new_steps.choose_day(room, arguments.date, report)
-    town = Town(room, {} if date is None else {"date": format_date(date)})
-    judge_left_out(town, trips, report)
+    days = new_days.find_days(room, arguments.town, report) if arguments.days else None
+    date = None if days else new_steps.choose_day(room, arguments.date, report)
+    town = days.on_busiest(room) if days else Town(room, {} if date is None else {"date": format_date(date)})
+    _judge_left_out(town, days, trips, report)
     terminals = new_steps.draft_places(town, trips, report)
     depot = find_depot(arguments.depot, terminals, town.stops) if arguments.depot is not None else None
     new_steps.draft_running(town, terminals, depot, Pace(arguments.detour, arguments.speed), report)
-    new_steps.draft_settings(town, date, terminals, report)
+    if days:
+        new_days.draft_shared(town, days, terminals, report)
+        new_days.draft_folders(room, days, arguments.replace, report)
+    else:
+        new_steps.draft_settings(town, date, terminals, report)
     new_steps.judge_limits(town, terminals, report)
+    if days:
+        report.title = (f"{arguments.town}: {counted(len(days.found.types), 'day type')}, the busiest with "
+                        f"{counted(len(town.day()), 'trip')}, from {arguments.feed}")
+        return
     day = f"on {date:%A} {date}" if date else "without a date"
     report.title = (f"{arguments.town}: {counted(len(town.day()), 'trip')} {day}, between "
                     f"{counted(len(Places(Town(room), town.day()).day), 'terminal')}, from {arguments.feed}")
@@ -89,12 +105,25 @@ def _make_more(room: Path, arguments: argparse.Namespace, report: Report) -> Non
     town = new_more.keep_settings(own, room, arguments.date, report)
     if arguments.date:
         new_more.check_asked(town, arguments.date)
-    new_more.judge_day(town, report)
-    judge_left_out(town, trips, report)
+    days = new_days.find_days(room, arguments.town, report) if arguments.days else None
+    if days:
+        town = days.on_busiest(room, town.settings)
+        new_days.draft_folders(room, days, False, report)
+    else:
+        new_more.judge_day(town, report)
+    _judge_left_out(town, days, trips, report)
     terminals = new_more.add_places(own, town, trips, report)
     new_more.add_running(own, town, terminals, arguments.depot, Pace(arguments.detour, arguments.speed), report)
     new_steps.judge_limits(town, terminals, report)
     report.title = f"{arguments.town}: {counted(len(town.day()), 'trip')}, with what {arguments.feed} needs"
+
+
+def _judge_left_out(town: Town, days: new_days.NewDays | None, trips: SortedTrips, report: Report) -> None:
+    """Tells how many trips were left out: of all days, or of the one that is planned."""
+    if days:
+        new_days.tell_left(trips, report)
+    else:
+        judge_left_out(town, trips, report)
 
 
 def _date(text: str) -> datetime.date:

@@ -4,7 +4,7 @@ from __future__ import annotations
 from contextlib import suppress
 
 from desk.errors import DeskError
-from desk.layovers import fitting
+from desk.layovers import Fitting, fitting
 from desk.limits import MOST_TRIPS
 from desk.new_report import Report, counted, some
 from desk.new_settings import LAYOVER
@@ -13,16 +13,21 @@ from desk.town import Town
 
 def layovers_of_today(town: Town, report: Report) -> dict[str, int]:
     """The layovers below that of all terminals with which the blocks of today can run; none where `audit` cannot be asked."""
-    usual = f"a vehicle stays {LAYOVER} minutes at each terminal"
     found = None
     if any(trip.block_id for trip in town.day()) and len(town.day()) <= MOST_TRIPS:
         with suppress(DeskError):
             found = fitting(Town(town.folder, {**town.settings, "layover": LAYOVER}))
+    tell_layovers(found, report)
+    return dict(sorted(found.layovers.items())) if found else {}
+
+
+def tell_layovers(found: Fitting | None, report: Report) -> None:
+    """Tells with which layovers the blocks of today can run, where that is known."""
+    usual = f"a vehicle stays {LAYOVER} minutes at each terminal"
     if found is None:
         report.look("desk.toml", f"{usual}; [layovers] has others")
-        return {}
+        return
     less = [f"{name} {minutes}" for name, minutes in sorted(found.layovers.items())]
     never = f", but for {counted(len(found.never), 'pair')} of trips that no layover mends" if found.never else ""
     report.look("desk.toml", f"{usual}{f' but {some(less)}' if less else ''}: with more the blocks of today would not run, as `audit` says"
                 f"{never}" if less or found.never else f"{usual}; the blocks of today can run so, as `audit` says")
-    return dict(sorted(found.layovers.items()))

@@ -8,8 +8,7 @@ from tempfile import TemporaryDirectory
 
 from desk.left_out import SortedTrips, write_without
 from desk.new_report import Report, counted
-from desk.new_room import AGENCY_FILES
-from desk.town import Town
+from desk.town import AGENCY_FILES, Town
 
 
 @contextmanager

@@ -20,13 +20,15 @@ MOST_LEFT = 200
 class Report:
     """The lines of the report, collected on the way. Each item names its file first.
 
-    `left` has the trips that are left out, and `first` what is said before all else.
+    `left` has the trips that are left out, and `first` what is said before all else. `next` is the command that comes next.
     """
 
     town: str
     title: str = ""
     first: list[str] = field(default_factory=list)
     days: list[str] = field(default_factory=list)
+    days_title: str = "Trips by day:"
+    next: str = "notes"
     left: list[str] = field(default_factory=list)
     drafted: list[str] = field(default_factory=list)
     problems: list[str] = field(default_factory=list)
@@ -50,7 +52,7 @@ class Report:
         if self.first:
             lines += [*(line for text in self.first for line in _folded(text, "")), ""]
         if self.days:
-            lines += ["Trips by day:", *(f"  {day}" for day in self.days), ""]
+            lines += [self.days_title, *(line for day in self.days for line in _folded(day, "  ")), ""]
         if self.left:
             lines += ["Left out, since the program would refuse them; agency/ has them:"]
             lines += [line for trip in self.left[:MOST_LEFT] for line in _folded(trip, "  ")]
@@ -63,7 +65,7 @@ class Report:
             lines += ["", title] if items else []
             for number, item in enumerate(items, 1):
                 lines += _folded(item, f"  {number}. ")
-        lines += ["", f"Next: ./desk notes {one_line(self.town)}"]
+        lines += ["", f"Next: ./desk {self.next} {one_line(self.town)}"]
         return "".join(line + "\n" for line in lines)
 
 

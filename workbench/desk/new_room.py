@@ -18,9 +18,7 @@ from desk.files import new_mode, read_bytes, reason, refuse_no_file, sync_folder
 from desk.hints_files import GTFS
 from desk.locks import locked
 from desk.rooms import own_room
-
-AGENCY_FILES = ("trips.txt", "stop_times.txt", "calendar.txt", "calendar_dates.txt")
-"""The agency's files that the program reads."""
+from desk.town import AGENCY_FILES
 
 PLANNER_FILES = ("desk.toml", "terminals.csv", "deadheads.csv", "depot.csv")
 """The planner's files that are drafted."""

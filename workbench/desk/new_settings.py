@@ -22,6 +22,10 @@ _NO_DAY = """\
 # date = "20260907"
 """
 
+_DAYS = """\
+# Each folder of days/ names its date in a desk.toml of its own. This file is for all of them. A line of theirs goes before one of these.
+"""
+
 _REST = """\
 
 # Of the services that run on that day these alone are planned. Without this line all of them are.
@@ -48,19 +52,35 @@ block_prefix = "B"
 # {route} = "big"
 """
 
+_DAY_TYPE = """\
+# {label}: {dates}. The plan of this one, {name}, is that of all.
+date = "{date}"
+
+# What differs on these dates from desk.toml of the town stands here too, as another layover.
+"""
+
 _FITTING = """\
 # The greatest ones, up to the layover above, with which vehicles can make the blocks of today. `audit` says so.
 """
 
 
 def settings_text(date: datetime.date | None, services: Sequence[str], terminal: str, route: str,
-                  layovers: Mapping[str, int] | None = None) -> str:
-    """The text of `desk.toml` for a day, with services, a terminal and a route of the feed as examples, and with these layovers."""
-    head = _NO_DAY if date is None else _DAY.format(name=f"a {date:%A}", date=f"{date:%Y%m%d}")
+                  layovers: Mapping[str, int] | None = None, has_days: bool = False) -> str:
+    """The text of `desk.toml` for a day, with services, a terminal and a route of the feed as examples, and with these layovers.
+
+    Where the town has days it is for all of them, and has no date.
+    """
+    no_date = _DAYS if has_days else _NO_DAY
+    head = no_date if date is None else _DAY.format(name=f"a {date:%A}", date=f"{date:%Y%m%d}")
     shown = ", ".join(_quoted(name) for name in services[:NAMES_SHOWN]) or '"weekday", "school"'
     lines = "".join(f"{_quoted(name)} = {minutes}\n" for name, minutes in (layovers or {}).items())
     return head + _REST.format(services=shown, layover=LAYOVER, terminal=_quoted(terminal or "Station"),
                                layovers=_FITTING + lines if lines else "", route=_quoted(route or "line_1"))
+
+
+def day_text(label: str, dates: int, date: datetime.date) -> str:
+    """The text of the `desk.toml` of a day type, of so many dates, which is planned for this one."""
+    return _DAY_TYPE.format(label=label, dates="1 date" if dates == 1 else f"{dates} dates", name=f"a {date:%A}", date=f"{date:%Y%m%d}")
 
 
 def with_key(settings: bytes, key: str, value: str) -> bytes:

@@ -17,11 +17,10 @@ from desk.limits import MOST_BYTES, MOST_EMPTY_MINUTES, MOST_PLACES, MOST_TRIPS
 from desk.new_layovers import layovers_of_today
 from desk.new_left_out import sound_feed, tell_left_out
 from desk.new_report import TOLD, Report, counted, some
-from desk.new_room import AGENCY_FILES
 from desk.new_settings import LAYOVER, settings_text
 from desk.parts import proposals
 from desk.stations import NEAR, Terminal, draft_terminals, far_terminals, terminals_text
-from desk.town import Town
+from desk.town import AGENCY_FILES, Town
 from desk.unpack import unpack
 
 

@@ -17,6 +17,8 @@ from desk.files import reason
 from desk.hints_machine import folder_hints
 from desk.hints_toml import toml_hints
 from desk.notes_note import Note, View
+from desk.notes_period import notes_of_period
+from desk.period import has_days
 from desk.town import Town
 
 WORD = "notes"
@@ -45,7 +47,8 @@ def add_arguments(parser: argparse.ArgumentParser) -> None:
 
 def run(arguments: argparse.Namespace) -> int:
     """Prints the notes. The status is 1 where there are some."""
-    notes = notes_of(Town(arguments.town))
+    town = Path(arguments.town)
+    notes = notes_of_period(town, notes_of) if has_days(town) else notes_of(Town(town))
     notes = notes if arguments.minutes else notes_minutes.in_one(notes, arguments.town)
     print(as_json(notes) if arguments.json else as_text(notes), end="")
     return 1 if notes else 0

@@ -46,7 +46,7 @@ def trips(view: View) -> Iterator[Note]:
         return
     found = LINE.fullmatch(view.refusal)
     named = OF_A_TRIP.fullmatch(found[3]) if found else None
-    sorted_trips, is_selected = sort_trips(view.town.folder), view.town.selection()
+    sorted_trips, is_selected = sort_trips(view.town.feed), view.town.selection()
     for left in sorted_trips.left:
         is_named = named[1] == left.trip if named else found and (found[1], found[2]) == (left.file, str(left.row))
         # What is wrong on any day, or with a trip of the day, refuses the feed.

@@ -24,7 +24,7 @@ def repeated(view: View) -> Iterator[Note]:
         for number, fields in records:
             trip, start, end, headway = (fields[at] for at in places)
             if here.get(trip) == number:
-                yield Note("repeated-trip", str(path.relative_to(view.town.folder)), number,
+                yield Note("repeated-trip", str(path.relative_to(view.town.feed)), number,
                            f"{shown(trip)} runs every {headway} seconds from {start} to {end}, and is planned once",
                            "Make the town with `./desk new`, which writes each repetition as a trip")
 

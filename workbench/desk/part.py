@@ -15,9 +15,10 @@ from desk.new_report import counted
 from desk.new_room import settle, town_room
 from desk.new_settings import with_key
 from desk.parts import NOT_PARTED, WAYS, Part
+from desk.period import has_days
 from desk.records import copy_records, open_records
 from desk.rooms import SCRIPTS
-from desk.town import Town
+from desk.town import DAYS, Town
 
 WORD = "part"
 HELP = "make towns of a town with too many trips: by agency, or by routes that share no terminal"
@@ -39,6 +40,8 @@ def add_arguments(parser: argparse.ArgumentParser) -> None:
 def run(arguments: argparse.Namespace) -> int:
     """Makes the towns. The status is 1 where one of them has more trips than the program plans."""
     town = Town(arguments.town.resolve())
+    if town.above:
+        raise DeskError(f"{arguments.town} is a day type of {town.above}: part that town")
     parts = WAYS[arguments.by](town)
     if len(parts) < 2:
         raise DeskError(f"{NOT_PARTED[arguments.by]}, so there is nothing to part --by {arguments.by}")
@@ -51,7 +54,7 @@ def run(arguments: argparse.Namespace) -> int:
         more = f", more than the {MOST_TRIPS:,} that the program plans" if part.trips > MOST_TRIPS else ""
         sys.stdout.write(f"{_shown(arguments.town, folder)}: {counted(part.trips, 'trip')} of the day on "
                          f"{counted(len(part.routes), 'route')}{more}\n")
-    left = [name for name in LEFT if town.has(name)]
+    left = [name for name in LEFT if town.has(name)] + ([f"{DAYS}/"] if has_days(town.folder) else [])
     if left:
         sys.stdout.write(f"left in {arguments.town} alone: {', '.join(left)}\n")
     for folder in folders:

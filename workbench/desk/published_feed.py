@@ -11,12 +11,11 @@ from desk.calendars import format_date
 from desk.day import Day
 from desk.extras import Extra, listed_extras
 from desk.hints_files import GTFS
-from desk.new_room import AGENCY_FILES
 from desk.plans import Ride
 from desk.records import open_records, record_text
 from desk.stations import distinct
 from desk.times import format_time
-from desk.town import Town
+from desk.town import AGENCY_FILES, Town
 
 WRITTEN = {"trips.txt": "trips_blocks.txt", "stop_times.txt": "stop_times_blocks.txt"}
 """The agency's files that `write` writes, each under another name."""
@@ -62,8 +61,8 @@ def make_feed(day: Day, room: Path, target: Path) -> Handover:
 
 def agency_files(town: Town) -> dict[str, Path]:
     """The agency's files: those in `agency/`, or of a town without that its own, and the calendars as the program reads them."""
-    agency = town.folder / "agency"
-    files = {path.name: path for path in (agency if agency.is_dir() else town.folder).iterdir() if path.is_file()}
+    agency = town.feed / "agency"
+    files = {path.name: path for path in (agency if agency.is_dir() else town.feed).iterdir() if path.is_file()}
     others = {name: path for name, path in files.items() if agency.is_dir() or name in GTFS}
     read = {name: town.path(name) for name in AGENCY_FILES if town.has(name)}
     return {name: path for name, path in others.items() if name not in AGENCY_FILES} | read

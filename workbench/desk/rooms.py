@@ -19,6 +19,7 @@ from pathlib import Path
 
 from desk.files import read_bytes
 from desk.locks import is_taken
+from desk.toml import toml_text
 from desk.town import Town
 
 PREFIX = "blockdesk-room-"
@@ -93,6 +94,10 @@ def room_of(town: Town, scripts: Mapping[str, bytes]) -> Iterator[Path]:
         for file in FEED_FILES:
             if town.path(file).exists():
                 (room / file).symlink_to(town.path(file).resolve())
+        if town.above:
+            # The program reads one file of settings, and those of a day type stand in two.
+            (room / "desk.toml").unlink()
+            (room / "desk.toml").write_text(toml_text(town.settings), encoding="utf-8")
         for file, content in scripts.items():
             (room / file).write_bytes(content)
         yield room
@@ -101,9 +106,10 @@ def room_of(town: Town, scripts: Mapping[str, bytes]) -> Iterator[Path]:
 def state_of(town: Town, names: tuple[str, ...] = FEED_FILES + SCRIPTS) -> str:
     """A word that is another one as soon as one of these files is written, comes or goes."""
     parts = []
-    for name in names:
+    shared = [town.above / "desk.toml"] if town.above else []
+    for name in (*names, *shared):
         try:
-            found = town.path(name).stat()
+            found = town.path(str(name)).stat()
             parts.append(f"{name} {found.st_ino} {found.st_size} {found.st_mtime_ns}")
         except OSError:
             parts.append(f"{name} missing")

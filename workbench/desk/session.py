@@ -171,7 +171,7 @@ class Session:
 def write_files(town: Path, folder: Path, words: str, command: str) -> str:
     """Has the program write files into a town, or into a room with its feed, and gives what it says."""
     try:
-        said = tell(command, town, folder).rstrip("\n").rpartition("\n")[2]
+        said = tell(command, town, None if folder == town else folder).rstrip("\n").rpartition("\n")[2]
     except DeskError as error:
         raise DeskError(f"{words} could not be written: {error}") from error
     if command == "joined":

@@ -1,7 +1,12 @@
-"""A town: the folder with an agency's files and a planner's own, and the trips of the day that it selects."""
+"""A town: the folder with an agency's files and a planner's own, and the trips of the day that it selects.
+
+A town may have a folder for each of its day types, below `days/`. Such a folder has files of its own, and shares all others with the
+town. Its settings are those of the town, but where its own `desk.toml` says something else.
+"""
 from __future__ import annotations
 
 import datetime
+import os
 from collections.abc import Callable
 from dataclasses import dataclass
 from functools import cached_property
@@ -15,6 +20,17 @@ from desk.records import Records, open_records
 from desk.stops import Stop, read_stops
 from desk.times import is_no_time, parse_time
 from desk.toml import read_toml
+
+
+DAYS = "days"
+"""The folder of a town in which the folders of its day types stand."""
+
+AGENCY_FILES = ("trips.txt", "stop_times.txt", "calendar.txt", "calendar_dates.txt")
+"""The agency's files that the program reads. A day type has none of its own."""
+
+OF_A_DAY = ("desk.toml", "edits.csv", "planner_edits.csv", "blocks.csv", "prices.csv", "boards.csv", "trips_blocks.txt",
+            "stop_times_blocks.txt", "journal.db", "saved")
+"""What each day type has for itself. Any other file is that of the town, where the day's folder has none of its own."""
 
 
 @dataclass(slots=True)
@@ -39,18 +55,35 @@ class DayTrip:
     last_sequence: int = -1
 
 
+def town_above(folder: Path) -> Path | None:
+    """The folder of the town whose day type this folder has, or None where it is none: `town` of `town/days/fri`."""
+    whole = Path(os.path.abspath(folder))
+    if whole.parent.name != DAYS or not (whole / "desk.toml").is_file() or not (whole.parents[1] / "trips.txt").is_file():
+        return None
+    return folder.parent.parent if folder.name and folder.parent.name == DAYS else whole.parents[1]
+
+
 class Town:
-    """The files of a folder. Each is read when it is first asked for, and once."""
+    """The files of a folder. Each is read when it is first asked for, and once. `above` is the town whose day type it has, or None."""
 
     def __init__(self, folder: Path | str, settings: dict[str, Any] | None = None) -> None:
         """The town of a folder. With `settings`, these stand in place of what its `desk.toml` says."""
         self.folder = Path(folder)
+        self.above = town_above(self.folder)
         if settings is not None:
             self.settings = settings
 
+    @property
+    def feed(self) -> Path:
+        """The folder in which the agency's files stand."""
+        return self.above or self.folder
+
     def path(self, name: str) -> Path:
         """Where a file of the town stands, or would stand."""
-        return self.folder / name
+        own = self.folder / name
+        if self.above is None or name in OF_A_DAY:
+            return own
+        return own if name not in AGENCY_FILES and os.path.lexists(own) else self.above / name
 
     def has(self, name: str) -> bool:
         """Whether a file of this name stands in the town."""
@@ -58,18 +91,14 @@ class Town:
 
     def agency_path(self, name: str) -> Path:
         """Where a file of the agency stands that the program does not read: in `agency/`, else in the town itself."""
-        unpacked = self.folder / "agency" / name
+        unpacked = self.feed / "agency" / name
         return unpacked if unpacked.is_file() else self.path(name)
 
     @cached_property
     def settings(self) -> dict[str, Any]:
-        """What `desk.toml` says; nothing where it is not there."""
-        if not self.has("desk.toml"):
-            return {}
-        try:
-            return read_toml(read_text(self.path("desk.toml")))
-        except (ValueError, RecursionError) as error:
-            raise DeskError(f"desk.toml: not TOML: {error}") from error
+        """What `desk.toml` says; nothing where it is not there. That of a day type goes before that of its town, key by key."""
+        own = _settings_of(self.folder / "desk.toml")
+        return _laid_over(_settings_of(self.above / "desk.toml"), own) if self.above else own
 
     def table(self, key: str) -> dict[str, Any]:
         """A table of `desk.toml`, empty where there is none."""
@@ -85,7 +114,7 @@ class Town:
     @cached_property
     def calendars(self) -> Calendars:
         """The agency's calendars."""
-        return read_calendars(self.folder)
+        return read_calendars(self.feed)
 
     @cached_property
     def terminals(self) -> dict[str, str]:
@@ -170,6 +199,22 @@ class Town:
                 vehicles = str(classes.get(route, "")) if classes else None
                 trips[fields[name]] = DayTrip(fields[name], number, fields[service], route, headsign, block, vehicles)
         return trips
+
+
+def _settings_of(path: Path) -> dict[str, Any]:
+    """What a `desk.toml` says; nothing where it is not there."""
+    if not path.is_file():
+        return {}
+    try:
+        return read_toml(read_text(path))
+    except (ValueError, RecursionError) as error:
+        raise DeskError(f"desk.toml: not TOML: {error}") from error
+
+
+def _laid_over(shared: dict[str, Any], own: dict[str, Any]) -> dict[str, Any]:
+    """Settings with others before them, in tables name by name."""
+    tables = {key: {**shared[key], **value} for key, value in own.items() if isinstance(value, dict) and isinstance(shared.get(key), dict)}
+    return {**shared, **own, **tables}
 
 
 def _read_ends(records: Records, trips: dict[str, DayTrip]) -> None:
