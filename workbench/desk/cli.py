@@ -19,9 +19,9 @@ from desk.pipes import refuse_pipes
 from desk.terminal import shown_on_terminals
 from desk.town import town_above
 from desk.versions import version
-from desk import boards, compare, days, figures, forward, new, notes, page, part, publish, saved, server, take
+from desk import boards, compare, days, figures, forward, new, notes, page, part, plan, publish, saved, server, take
 
-COMMANDS: tuple[ModuleType, ...] = (new, days, part, notes, page, server, boards, figures, publish, compare, saved, take, forward)
+COMMANDS: tuple[ModuleType, ...] = (new, days, plan, part, notes, page, server, boards, figures, publish, compare, saved, take, forward)
 """The modules of the commands, in the order of the help.
 
 Each has `add_arguments(parser)` and `run(arguments) -> int`. One of a single word has `WORD` and `HELP`; one of several
@@ -96,7 +96,7 @@ def with_signs(words: Sequence[str]) -> list[str]:
 def towns_of(arguments: argparse.Namespace) -> list[Path]:
     """The folders of towns among the words of a command line."""
     named = [getattr(arguments, name, None) for name in ("town", "other")]
-    named += [] if arguments.word == "sample" else getattr(arguments, "words", [])
+    named += [] if arguments.word == "sample" else [*getattr(arguments, "words", []), *getattr(arguments, "towns", [])]
     found = [Path(name) for name in named if name is not None and os.path.isdir(name)]
     return list(dict.fromkeys([*found, *(above for folder in found if (above := town_above(folder)))]))
 

@@ -56,7 +56,7 @@ def find_days(room: Path, own: Path, report: Report) -> NewDays:
     days = NewDays(period_of(Town(room, {})), own)
     dates = days.found.dates
     report.days_title = f"{counted(len(days.found.types), 'day type')} of {counted(len(dates), 'date')}, {dates[0]} to {dates[-1]}:"
-    report.next = "days"
+    report.next = "plan"
     if dates[-1] < today():
         report.mend("desk.toml", f"the calendars end on {dates[-1]}, before today. Ask the agency for its newest feed.")
     return days

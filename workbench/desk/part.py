@@ -16,6 +16,7 @@ from desk.new_room import settle, town_room
 from desk.new_settings import with_key
 from desk.parts import NOT_PARTED, WAYS, Part
 from desk.period import has_days
+from desk.plan_run import LEFT as PLAN
 from desk.records import copy_records, open_records
 from desk.rooms import SCRIPTS
 from desk.town import DAYS, Town
@@ -26,7 +27,7 @@ HELP = "make towns of a town with too many trips: by agency, or by routes that s
 OF_TRIPS = ("stop_times.txt", "frequencies.txt", "tolerances.csv")
 """The files whose records name trips, beside `trips.txt`."""
 
-LEFT = (*SCRIPTS, *OWN)
+LEFT = (*SCRIPTS, *OWN, PLAN)
 """The files that stay in the town alone: its scripts, and what the program has written."""
 
 

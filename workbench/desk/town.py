@@ -29,7 +29,7 @@ AGENCY_FILES = ("trips.txt", "stop_times.txt", "calendar.txt", "calendar_dates.t
 """The agency's files that the program reads. A day type has none of its own."""
 
 OF_A_DAY = ("desk.toml", "edits.csv", "planner_edits.csv", "blocks.csv", "prices.csv", "boards.csv", "trips_blocks.txt",
-            "stop_times_blocks.txt", "journal.db", "saved")
+            "stop_times_blocks.txt", "plan.json", "journal.db", "saved")
 """What each day type has for itself. Any other file is that of the town, where the day's folder has none of its own."""
 
 

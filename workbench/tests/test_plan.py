@@ -1,0 +1,135 @@
+"""The plan of a period: what the program says of each day type, the fleet, and runs on several machines."""
+from __future__ import annotations
+
+import json
+import os
+import shutil
+import subprocess
+import sys
+import unittest
+from pathlib import Path
+
+from desk.program import ROOT
+from tests.feeds import FolderTest, needs_program, write_feed
+from tests.made_periods import with_dates_alone, with_night_and_school
+from tests.small_town import two_trips
+
+DESK = ROOT / "desk"
+
+
+def spread(lines: list[str], folder: Path) -> None:
+    """Runs lines as commands in a folder, two at a time: by `parallel` where it is there, else by `xargs`."""
+    words = ["parallel", "-j2"] if shutil.which("parallel") else ["xargs", "-P2", "-I{}", "sh", "-c", "{}"]
+    subprocess.run(words, input="\n".join(lines) + "\n", text=True, cwd=folder, check=True, stdout=subprocess.DEVNULL)
+
+
+@needs_program
+class PlanTest(FolderTest):
+    """Towns with days, and one of one day."""
+
+    def setUp(self) -> None:
+        super().setUp()
+        self.town = self.room / "town"
+        self.desk("new", write_feed(self.room / "agency", with_dates_alone()), self.town, "--days")
+
+    def test_every_day_type_and_the_fleet(self) -> None:
+        status, text, errors = self.desk("plan", self.town)
+        self.assertEqual((status, errors), (0, ""), text)
+        lines = text.splitlines()
+        self.assertEqual(lines[0], f"{self.town}: 5 day types")
+        self.assertEqual(lines[2].split(), ["Friday", "11", "68", "4", "0", "3", "0", "yes"])
+        self.assertEqual(lines[-1], "fleet: 3 vehicles, on Friday; today 4, on Friday")
+        for day in (self.town / "days").iterdir():
+            self.assertEqual(sorted(path.name for path in day.iterdir()), ["blocks.csv", "boards.csv", "desk.toml", "plan.json", "prices.csv"])
+            verdict = self.desk("check", day)[1]
+            said = json.loads((day / "plan.json").read_text())
+            self.assertEqual(verdict, f"yes, vehicles {said['least']['vehicles']}, minutes {said['least']['minutes']}\n")
+            self.assertEqual(self.desk("figures", day)[0], 0)
+
+    def test_what_is_refused(self) -> None:
+        """A record, a day type of which the program refuses the feed, and today's blocks that cannot be run are told."""
+        write_feed(self.town / "days" / "fri", {"edits.csv": "cancel,nothing\n"})
+        write_feed(self.town / "days" / "sat", {"deadheads.csv": "from,to,minutes\nAbbey,Abbey,3\n"})
+        write_feed(self.town / "days" / "sun", {"desk.toml": 'date = "20261011"\nlayover = 40\n'})
+        status, text, errors = self.desk("plan", self.town)
+        self.assertEqual((status, errors), (1, ""))
+        self.assertIn("days/fri: record 1: refused, nothing: unknown trip\n", text)
+        self.assertIn("days/sat: feed refused: deadheads.csv record 1: same terminal\n", text)
+        self.assertIn("days/sun: today's blocks cannot be run: 8 pairs of trips do not fit, the first ", text)
+        self.assertIn("fleet: not known, since 1 day type of 5 has no plan\n", text)
+        found = json.loads(self.desk("plan", self.town, "--gather", "--json")[1])["towns"][0]
+        self.assertEqual([day["folder"] for day in found["days"] if "error" in day], ["days/sat"])
+
+    def test_a_plan_of_other_files_is_not_reported(self) -> None:
+        self.desk("plan", self.town)
+        self.assertEqual(self.desk("plan", self.town, "--gather")[0], 0)
+        write_feed(self.town / "days" / "fri", {"edits.csv": "cancel,fri_1_0_1157\n"})
+        (self.town / "days" / "sat" / "blocks.csv").write_text("")
+        (self.town / "days" / "sun" / "plan.json").unlink()
+        status, text, _ = self.desk("plan", self.town, "--gather")
+        self.assertEqual(status, 1)
+        for line in ("days/fri: its files have changed since it was planned: plan it again", "days/sun: no run has left a plan",
+                     "days/sat: its files have changed since it was planned: plan it again"):
+            self.assertIn(line + "\n", text)
+        (self.town / "desk.toml").write_text((self.town / "desk.toml").read_text().replace("layover = 5", "layover = 6"))
+        self.assertIn("since 5 day types of 5 have no plan", self.desk("plan", self.town, "--gather")[1])
+
+    def test_a_day_type_without_a_folder(self) -> None:
+        shutil.rmtree(self.town / "days" / "sun")
+        status, text, _ = self.desk("plan", self.town)
+        self.assertEqual(status, 1)
+        self.assertIn("Sunday: no folder of days/ plans its 13 dates\n", text)
+
+    def test_several_towns(self) -> None:
+        """Each is reported, and the vehicles of all of them. A town of one day is one run."""
+        other = two_trips(self.room / "other")
+        status, text, errors = self.desk("plan", self.town, other)
+        self.assertEqual((status, errors), (0, ""), text)
+        self.assertEqual(text.splitlines()[-3:], ["fleet: 1 vehicle; today 2", "", "all towns: 4 vehicles"])
+        self.assertEqual(len(self.desk("plan", self.town, other, "--commands")[1].splitlines()), 6)
+        self.assertEqual(self.desk("plan", other)[0], 0)
+        self.assertEqual(self.desk("plan", self.room / "nothing")[0], 1)
+
+    def test_a_program_that_is_not_there(self) -> None:
+        """What a run cannot leave is told."""
+        script = self.room / "none"
+        script.write_text("#!/bin/sh\nkill -9 $PPID\n")
+        script.chmod(0o755)
+        words = [sys.executable, "-S", str(DESK), "plan", str(self.town)]
+        ran = subprocess.run(words, env=os.environ | {"BLOCKDESK": str(script)}, capture_output=True, text=True, check=False)
+        self.assertEqual(ran.returncode, 1)
+        self.assertIn("the run ended with status -9", ran.stderr)
+        self.assertIn("days/sun: no run has left a plan\n", ran.stdout)
+
+
+@needs_program
+class MachinesTest(FolderTest):
+    """The single runs over two folders, as if each were on a machine of its own."""
+
+    def test_two_machines_report_what_one_does(self) -> None:
+        feed = write_feed(self.room / "agency", with_night_and_school())
+        here, there, alone = (self.room / name for name in ("here", "there", "alone"))
+        here.mkdir()
+        self.desk("new", feed, here / "town", "--days")
+        for copy in (there, alone):
+            shutil.copytree(here, copy)
+
+        def plan(folder: Path, *words: str) -> str:
+            """What the command puts in a folder."""
+            return subprocess.run([DESK, "plan", "town", *words], cwd=folder, capture_output=True, text=True, check=True).stdout
+
+        lines = plan(here, "--commands").splitlines()
+        self.assertEqual(len(lines), 6)
+        spread(lines[:3], here)
+        spread(lines[3:], there)
+        self.assertEqual([(folder / "town" / "days" / name / "plan.json").exists() for folder in (here, there) for name in ("school-fri", "sun")],
+                         [True, False, False, True])
+        for day in (there / "town" / "days").iterdir():
+            if (day / "plan.json").exists():
+                shutil.copytree(day, here / "town" / "days" / day.name, dirs_exist_ok=True)
+        self.assertEqual(plan(here, "--gather"), plan(alone))
+        self.assertEqual(plan(here, "--gather", "--json"), plan(alone, "--gather", "--json"))
+
+
+if __name__ == "__main__":
+    unittest.main()
