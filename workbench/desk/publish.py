@@ -4,7 +4,6 @@ from __future__ import annotations
 import argparse
 import shutil
 import sys
-import zipfile
 from pathlib import Path
 from tempfile import TemporaryDirectory
 
@@ -17,10 +16,13 @@ from desk.figures import figures_text, make_figures
 from desk.files import refuse_if_there, whole_file, write_whole
 from desk.lines import LineNames
 from desk.new_report import counted, some
+from desk.period import has_days
 from desk.plans import Plan, read_plan
 from desk.proof import read_day
+from desk.publish_period import publish_period
 from desk.published_check import judge
 from desk.published_feed import Handover, make_feed
+from desk.published_zip import write_zip
 from desk.rooms import room_of, scripts_of
 from desk.town import Town
 
@@ -36,8 +38,8 @@ def add_arguments(parser: argparse.ArgumentParser) -> None:
     parser.epilog = "example: ./desk publish town town.zip --boards --figures"
     parser.add_argument("town", type=Path, metavar="TOWN", help="the folder of the feed")
     parser.add_argument("zip", type=Path, metavar="OUT.zip", help="where the feed is written")
-    parser.add_argument("--boards", action="store_true", help=f"the running boards too, in OUT{BOARDS}")
-    parser.add_argument("--figures", action="store_true", help=f"the figures too, in OUT{FIGURES}")
+    parser.add_argument("--boards", action="store_true", help=f"the running boards too, in OUT{BOARDS}, or with days in OUT-DAY{BOARDS}")
+    parser.add_argument("--figures", action="store_true", help=f"the figures too, in OUT{FIGURES}, or with days in OUT-DAY{FIGURES}")
     parser.add_argument("--replace", action="store_true", help="write over files that are there")
 
 
@@ -49,6 +51,21 @@ def run(arguments: argparse.Namespace) -> int:
     beside = [out.with_name(out.stem + end) for end, asked in ((BOARDS, arguments.boards), (FIGURES, arguments.figures)) if asked]
     for path in (out, *beside):
         refuse_if_there(path, arguments.replace)
+    return _publish_days(out, arguments) if has_days(arguments.town) else _publish_day(out, beside, arguments)
+
+
+def _publish_days(out: Path, arguments: argparse.Namespace) -> int:
+    """Writes the zip of a town with days, and beside it what is asked for of each day type."""
+    plans, status = publish_period(arguments.town, out, arguments.replace)
+    for plan in plans:
+        if arguments.boards or arguments.figures:
+            with room_of(plan.day.town, scripts_of(plan.day.town)) as room:
+                _write_beside(plan.day, _plan(plan.day.town, room), out.with_name(f"{out.stem}-{plan.name}{out.suffix}"), arguments)
+    return status
+
+
+def _publish_day(out: Path, beside: list[Path], arguments: argparse.Namespace) -> int:
+    """Writes the zip of a town of one day."""
     day = read_day(Town(arguments.town))
     verdict = day.proof.verdict if day.proof else {}
     if verdict.get("verdict") != "yes" or not day.blocks:
@@ -57,23 +74,13 @@ def run(arguments: argparse.Namespace) -> int:
         feed, packed = Path(work) / "feed", Path(work) / "feed.zip"
         feed.mkdir()
         made = make_feed(day, room, feed)
-        _write_zip(feed, packed)
+        write_zip(feed, packed)
         judge(day, packed, made)
         with open(packed, "rb") as source, whole_file(out, replace=arguments.replace) as file:
             shutil.copyfileobj(source, file)
         if beside:
             _write_beside(day, _plan(day.town, room), out, arguments)
     return _tell(day, out, beside, made)
-
-
-def _write_zip(folder: Path, packed: Path) -> None:
-    """Writes the files of a folder as a zip. The same files make the same zip."""
-    with zipfile.ZipFile(packed, "w", zipfile.ZIP_DEFLATED) as archive:
-        for path in sorted(folder.iterdir()):
-            entry = zipfile.ZipInfo(path.name)
-            entry.compress_type = zipfile.ZIP_DEFLATED
-            with open(path, "rb") as source, archive.open(entry, "w", force_zip64=True) as target:
-                shutil.copyfileobj(source, target)
 
 
 def _plan(town: Town, room: Path) -> Plan:

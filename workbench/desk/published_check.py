@@ -2,7 +2,7 @@
 from __future__ import annotations
 
 from collections import Counter
-from collections.abc import Iterable
+from collections.abc import Iterable, Mapping
 from pathlib import Path
 from tempfile import TemporaryDirectory
 from typing import Any
@@ -31,25 +31,31 @@ def judge(day: Day, feed: Path, made: Handover) -> None:
     with TemporaryDirectory(prefix="desk-") as name:
         folder = Path(name)
         unpack(feed, folder)
-        for file in PLANNER_FILES:
-            (folder / file).unlink(missing_ok=True)
-            if day.town.has(file):
-                (folder / file).symlink_to(day.town.path(file).resolve())
-        (folder / "desk.toml").write_text(toml_text(_settings(day, made)), encoding="utf-8")
-        town = Town(folder)
+        town = as_planned(day, folder, [made.service])
         _judge_trips(day, town, made)
-        _judge_blocks(day, town, made)
+        judge_blocks(day, town, made.unlisted)
 
 
-def _settings(day: Day, made: Handover) -> dict[str, Any]:
-    """The settings with which the feed is read: those of the town, with the service of the extra trips.
+def as_planned(day: Day, folder: Path, services: Iterable[str]) -> Town:
+    """The town of a folder with a feed, which gets the planner's files and settings of a day, and these services beside the listed ones."""
+    for file in PLANNER_FILES:
+        (folder / file).unlink(missing_ok=True)
+        if day.town.has(file):
+            (folder / file).symlink_to(day.town.path(file).resolve())
+    (folder / "desk.toml").unlink(missing_ok=True)
+    (folder / "desk.toml").write_text(toml_text(_settings(day, services)), encoding="utf-8")
+    return Town(folder)
+
+
+def _settings(day: Day, services: Iterable[str]) -> dict[str, Any]:
+    """The settings with which the feed is read: those of the town, with these services.
 
     A terminal that extra trips alone end at is met in `deadheads.csv` first, so its layover is 0 and not that of other terminals.
     """
     layovers = {day.town.of_post(ride.end): ride.layover for block in day.blocks for ride in block.rides if ride.trip is None}
     settings = with_layovers(day.town.settings, layovers)
     if isinstance(settings.get("services"), list):
-        settings["services"] = [*settings["services"], made.service]
+        settings["services"] = [*settings["services"], *services]
     return settings
 
 
@@ -87,7 +93,7 @@ def _names(town: Town) -> Iterable[str]:
         return [fields[at] for _, fields in records]
 
 
-def _judge_blocks(day: Day, town: Town, made: Handover) -> None:
+def judge_blocks(day: Day, town: Town, unlisted: Mapping[str, str]) -> None:
     """Judges that `audit` says of the blocks that they are least, and as many as those of the plan where no trip is left out."""
     said = ask("audit", town)
     why = ""
@@ -97,8 +103,8 @@ def _judge_blocks(day: Day, town: Town, made: Handover) -> None:
     elif said["verdict"] != "least":
         what, number = next(iter(said["above"].items()))
         why = f"above by {number} {what}"
-    elif not made.unlisted and (said["vehicles"], said["minutes"]) != day.cost[1:]:
+    elif not unlisted and (said["vehicles"], said["minutes"]) != day.cost[1:]:
         why = f"it says {said['vehicles']} vehicles and {said['minutes']} minutes"
     if why:
-        left = "".join(f"; extra trip {name} is left out: {reason}" for name, reason in made.unlisted.items())
+        left = "".join(f"; extra trip {name} is left out: {reason}" for name, reason in unlisted.items())
         raise DeskError(f"nothing is written: `audit` of the feed does not say `least`: {why}{left}")

@@ -1,8 +1,9 @@
 """The feed that is handed over: the agency's files, with the blocks and the times of a plan."""
 from __future__ import annotations
 
+import datetime
 from collections import Counter
-from collections.abc import Iterable
+from collections.abc import Iterable, Mapping, Sequence
 from dataclasses import dataclass, field
 from pathlib import Path
 
@@ -13,6 +14,7 @@ from desk.extras import Extra, listed_extras
 from desk.hints_files import GTFS
 from desk.plans import Ride
 from desk.records import open_records, record_text
+from desk.records import row_text as _row
 from desk.stations import distinct
 from desk.times import format_time
 from desk.town import AGENCY_FILES, Town
@@ -55,7 +57,7 @@ def make_feed(day: Day, room: Path, target: Path) -> Handover:
         if name in agency_files(town):
             _write_named(agency_files(town)[name], target / name, columns, trips, made)
     if made.extras:
-        _add_service(town, target / "calendar_dates.txt", made.service)
+        add_services(target / "calendar_dates.txt", {made.service: [town.date] if town.date else []})
     return made
 
 
@@ -75,15 +77,15 @@ def _rides(day: Day) -> dict[str, Ride]:
 
 def _free_service(town: Town) -> str:
     """The name of a service that no other has, for the extra trips of the date."""
-    with open_records(town.path("trips.txt")) as records:
-        at = records.column("service_id")
-        taken = {fields[at] for _, fields in records} | town.calendars.services()
+    taken = services_of(town)
     return distinct(f"extra-{format_date(town.date)}" if town.date else "extra", "desk", lambda name: name in taken)
 
 
-def _row(header: Iterable[str], values: dict[str, str]) -> str:
-    """A record with these values in the columns of a header."""
-    return record_text([values.get(column, "") for column in header])
+def services_of(town: Town) -> set[str]:
+    """All services of a feed, of its trips and of its calendars."""
+    with open_records(town.path("trips.txt")) as records:
+        at = records.column("service_id")
+        return {fields[at] for _, fields in records} | town.calendars.services()
 
 
 def _write_trips(day: Day, source: Path, target: Path, made: Handover) -> set[str]:
@@ -137,13 +139,14 @@ def _write_named(source: Path, target: Path, columns: tuple[str, ...], trips: se
         target.unlink()
 
 
-def _add_service(town: Town, path: Path, service: str) -> None:
-    """Adds the service of the extra trips to `calendar_dates.txt`, which is made where it is not there."""
-    values = {"service_id": service, "date": format_date(town.date), "exception_type": "1"}
-    text = record_text(tuple(values))
-    header: Iterable[str] = values
+def add_services(path: Path, services: Mapping[str, Iterable[datetime.date]]) -> None:
+    """Adds services, each on its dates, to `calendar_dates.txt`, which is made where it is not there."""
+    header: Sequence[str] = ("service_id", "date", "exception_type")
+    text = record_text(header)
     if path.exists():
         with open_records(path) as records:
             text, header = record_text(records.header) + "".join(record_text(fields) for _, fields in records), records.header
         path.unlink()
-    path.write_text(text + _row(header, values), encoding="utf-8", errors="surrogateescape", newline="")
+    text += "".join(_row(header, {"service_id": service, "date": format_date(date), "exception_type": "1"})
+                    for service, dates in services.items() for date in dates)
+    path.write_text(text, encoding="utf-8", errors="surrogateescape", newline="")

@@ -8,7 +8,7 @@ from __future__ import annotations
 import csv
 import io
 import re
-from collections.abc import Callable, Iterable, Iterator, Sequence
+from collections.abc import Callable, Iterable, Iterator, Mapping, Sequence
 from contextlib import contextmanager
 from pathlib import Path
 from typing import TextIO
@@ -139,6 +139,11 @@ def record_text(fields: Sequence[str]) -> str:
     if not text or _NEEDS_QUOTES.search(text) or text.count(",") >= len(fields):
         text = ",".join(_quoted(field) for field in fields) or '""'
     return text + "\n"
+
+
+def row_text(header: Sequence[str], values: Mapping[str, str]) -> str:
+    """A record with these values in the columns of a header, and with empty fields in the others."""
+    return record_text([values.get(column, "") for column in header])
 
 
 def _quoted(field: str) -> str:
