@@ -1,4 +1,4 @@
-"""`desk compare`: two plans of one day side by side, and what a planner has to tell whom.
+"""`desk compare`: two plans side by side, of one day or of two, and what a planner has to tell whom.
 
 The numbers of each are those that the program says of it. Blocks are compared by their trips, their times and their empty
 running, and not by their names. A vehicle that is saved in the morning gives all later blocks another number.
@@ -11,54 +11,27 @@ import os
 import sys
 from collections import Counter
 from collections.abc import Callable
-from dataclasses import dataclass
 from pathlib import Path
-from typing import Any
 
 from desk.answers import ask
+from desk.compare_days import as_trips_of
+from desk.compare_periods import compare_periods, periods_text
+from desk.compare_side import Found, Side
 from desk.compare_text import compare_text
 from desk.errors import DeskError
 from desk.files import read_bytes
 from desk.lines import LineNames
+from desk.period import has_days
 from desk.plans import StatedBlock, read_blocks, timetable
 from desk.rooms import own_room
 from desk.saved import FILES
 from desk.scripts import fields_of
 from desk.times import format_minute
-from desk.town import Town
+from desk.toml import toml_text
+from desk.town import Town, town_above
 
 WORD = "compare"
-HELP = "two plans of one day side by side, and what to tell whom"
-
-Found = dict[str, Any]
-
-
-@dataclass(frozen=True, eq=False)
-class Side:
-    """A plan that is compared: what `check` says of it, its blocks by their names, and the minutes of the trips that run."""
-
-    title: str
-    town: Town
-    verdict: Found
-    blocks: dict[str, StatedBlock]
-    times: dict[str, tuple[int, int]]
-    block_of: dict[str, str]
-
-    def key(self, name: str) -> tuple[object, ...]:
-        """What a block does. Two blocks are the same where it is equal."""
-        block = self.blocks[name]
-        return tuple((trip, empty, self.times.get(trip)) for trip, empty in zip(block.trips, block.deadheads))
-
-    def leaves(self, name: str) -> str:
-        """The minute in which a block leaves the depot."""
-        block = self.blocks[name]
-        return format_minute(self.times[block.trips[0]][0] - block.deadheads[0]) if block.trips[0] in self.times else "?"
-
-    def ends(self, name: str) -> str:
-        """The minute in which the last trip of a block ends."""
-        trip = self.blocks[name].trips[-1]
-        return format_minute(self.times[trip][1]) if trip in self.times else "?"
-
+HELP = "two plans side by side, of one day, of two days or of two periods, and what to tell whom"
 
 def add_arguments(parser: argparse.ArgumentParser) -> None:
     """The words of `desk compare`."""
@@ -70,13 +43,36 @@ def add_arguments(parser: argparse.ArgumentParser) -> None:
 def run(arguments: argparse.Namespace) -> int:
     """Prints what differs. The status is 1 where `check` says no to one of the plans."""
     first, second = version_of(arguments.town, arguments.other), version_of(arguments.other, arguments.town)
+    if has_days(first) != has_days(second):
+        raise DeskError(f"{first if has_days(first) else second} has days: name the folder of one of them, or two towns with days")
+    if has_days(first):
+        found = compare_periods(first, second, compared)
+        text = periods_text(found)
+    else:
+        found = compared(first, second)
+        text = compare_text(found)
+    sys.stdout.write(json.dumps(found, ensure_ascii=False, indent=2) + "\n" if arguments.json else text)
+    return 0 if is_proved(found) else 1
+
+
+def compared(first: Path, second: Path) -> Found:
+    """What differs between two plans. Of two days or of two feeds those trips are the same that passengers would call so."""
     with own_room() as room:
         sides = [read_side(path, base, room / name)
                  for path, base, name in ((first, second, "first"), (second, first, "second"))]
-        refuse_two_days(*sides)
-        found = compare(*sides)
-        sys.stdout.write(json.dumps(found, ensure_ascii=False, indent=2) + "\n" if arguments.json else compare_text(found))
-    return 0 if all(side.verdict["verdict"] == "yes" for side in sides) else 1
+        days = [side.town.date for side in sides]
+        if days[0] == days[1]:
+            is_of_one_feed = len({read_bytes(side.town.path("trips.txt")) for side in sides}) == 1
+            return compare(sides[0], sides[1] if is_of_one_feed else as_trips_of(*sides, at_one_minute=False))
+        if None in days:
+            raise DeskError(f"{sides[0].title} is of {days[0] or 'no date'} and {sides[1].title} of {days[1] or 'no date'}: "
+                            "write a date into both")
+        return compare(sides[0], as_trips_of(*sides)) | {"days": [f"{day:%A} {day}" for day in days]}
+
+
+def is_proved(found: Found) -> bool:
+    """Whether `check` says yes to all plans that are compared."""
+    return all(pair[side]["check"]["verdict"] == "yes" for pair in found.get("pairs", [found]) for side in ("first", "second"))
 
 
 def version_of(name: str, town: str) -> Path:
@@ -88,10 +84,10 @@ def version_of(name: str, town: str) -> Path:
 def read_side(path: Path, other: Path, room: Path) -> Side:
     """The plan of a folder or of a `blocks.csv`. What does not stand beside it is that of the feed with which it is compared."""
     blocks = path / "blocks.csv" if path.is_dir() else path
-    feed = blocks.parent if (blocks.parent / "trips.txt").is_file() else _folder(other)
+    feed = blocks.parent if has_feed(blocks.parent) else _folder(other)
     if not blocks.is_file():
         raise DeskError(f"{blocks} is not there" + (f": `./desk blocks {path}` writes it" if path.is_dir() else ""))
-    if not (feed / "trips.txt").is_file():
+    if not has_feed(feed):
         raise DeskError(f"{path} and {other} are no feeds: one of them has to have trips.txt")
     town = Town(feed)
     if (feed / "blocks.csv").resolve() != blocks.resolve():
@@ -101,6 +97,11 @@ def read_side(path: Path, other: Path, room: Path) -> Side:
     return Side(str(path), town, ask("check", town), stated, timetable(town), names)
 
 
+def has_feed(folder: Path) -> bool:
+    """Whether a folder has a feed: its own, or as that of a day type that of its town."""
+    return (folder / "trips.txt").is_file() or town_above(folder) is not None
+
+
 def _folder(path: Path) -> Path:
     """The folder of a plan."""
     return path if path.is_dir() else path.parent
@@ -108,21 +109,17 @@ def _folder(path: Path) -> Path:
 
 def lay_over(feed: Path, blocks: Path, room: Path) -> Path:
     """A folder that shows a feed with these blocks, and with the script and the prices that stand beside them."""
-    files = {path.name: path for path in feed.iterdir() if path.is_file() or path.name == "agency"}
+    town = Town(feed)
+    files = {path.name: path for folder in (town.feed, feed) for path in folder.iterdir() if path.is_file() or path.name == "agency"}
     files |= {name: blocks.parent / name for name in FILES if (blocks.parent / name).is_file()}
     files["blocks.csv"] = blocks
     room.mkdir()
     for name, path in files.items():
         (room / name).symlink_to(path.resolve())
+    if town.above:
+        (room / "desk.toml").unlink()
+        (room / "desk.toml").write_text(toml_text(town.settings), encoding="utf-8")
     return room
-
-
-def refuse_two_days(first: Side, second: Side) -> None:
-    """A DeskError where the plans are of two dates."""
-    dates = [side.town.date for side in (first, second)]
-    if dates[0] != dates[1]:
-        raise DeskError(f"{first.title} is of {dates[0] or 'no date'} and {second.title} of {dates[1] or 'no date'}: "
-                        "two plans of one day can be compared")
 
 
 def compare(first: Side, second: Side) -> Found:
@@ -189,8 +186,9 @@ def _labels(first: Side, second: Side) -> Callable[[str, Side], Found]:
 
     def label(name: str, side: Side) -> Found:
         """A trip of one of the two plans."""
-        trip = trips[side].get(name)
-        start, end = (trip.start, trip.end) if trip else extras[side].get(name, ("", ""))
+        own = side.own.get(name, name)
+        trip = trips[side].get(own)
+        start, end = (trip.start, trip.end) if trip else extras[side].get(own, ("", ""))
         departs = format_minute(side.times[name][0]) if name in side.times else "?"
         return {"trip": name, "line": lines[side].of(trip), "departs": departs, "from": start, "to": end}
 

@@ -18,14 +18,18 @@ def compare_text(found: Found) -> str:
 def _numbers(found: Found) -> list[str]:
     """What the program says of each, and how many trips and blocks differ."""
     lines = []
-    for word, side in (("was", found["first"]), ("is", found["second"])):
-        lines.append(f"{word} {side['plan']}: {verdict_text(side['check'])}")
+    for number, (word, side) in enumerate((("was", found["first"]), ("is", found["second"]))):
+        day = f", {found['days'][number]}" if "days" in found else ""
+        lines.append(f"{word} {side['plan']}{day}: {verdict_text(side['check'])}")
     trips = found["trips"]
+    alone = len(trips["cancelled"]), len(trips["new"])
+    more = (f"{alone[0]} on the first day alone, {alone[1]} on the second alone" if "days" in found
+            else f"{alone[0]} cancelled, {alone[1]} new")
     return lines + [
         f"blocks: {found['first']['blocks']} were, {found['second']['blocks']} are, {len(found['same'])} the same, "
         f"{len(found['changed'])} changed, {len(found['gone'])} gone, {len(found['new'])} new",
         f"trips: {trips['both']} in both, {len(trips['in_other_blocks'])} of them in other blocks, {len(trips['moved'])} at other times, "
-        f"{len(trips['cancelled'])} cancelled, {len(trips['new'])} new"]
+        f"{more}"]
 
 
 def _same(found: Found) -> list[str]:
@@ -37,16 +41,17 @@ def _same(found: Found) -> list[str]:
 def _drivers(found: Found) -> list[str]:
     """What the drivers of each block have to know."""
     lines: list[str] = []
+    nowhere = "does not run" if "days" in found else "cancelled"
     for block in found["changed"]:
         lines.append(f" {_name(block['first'], block['second'])}")
-        lines += _each("no more", block["lost"], "second", "now", "cancelled")
+        lines += _each("no more", block["lost"], "second", "now", nowhere)
         lines += _each("new", block["gained"], "first", "was", "did not run")
         lines += [f"  at another time: {trip}" for trip in block["moved"]]
         if not block["lost"] and not block["gained"] and not block["moved"]:
             lines.append("  the same trips in another order, or with other empty running")
     for block in found["gone"]:
         lines.append(f" {block['block']} is gone")
-        lines += _each("no more", block["trips"], "second", "now", "cancelled")
+        lines += _each("no more", block["trips"], "second", "now", nowhere)
     for block in found["new"]:
         lines.append(f" {block['block']} is new")
         lines += _each("new", block["trips"], "first", "was", "did not run")
@@ -68,6 +73,9 @@ def _depot(found: Found) -> list[str]:
 def _passengers(found: Found) -> list[str]:
     """What passengers have to know: trips that do not run, run at another time, or are new."""
     trips = found["trips"]
+    if "days" in found:
+        lines = [f" {day}: {_trip(trip)}" for day, kind in zip(found["days"], ("cancelled", "new")) for trip in trips[kind]]
+        return ["trips of one of the days alone", *lines] if lines else []
     lines = [f" cancelled: {_trip(trip)}" for trip in trips["cancelled"]]
     lines += [f" {trip['minutes']:+} min: {_trip(trip)}, was {trip['departed']}" for trip in trips["moved"]]
     lines += [f" new: {_trip(trip)}" for trip in trips["new"]]

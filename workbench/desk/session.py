@@ -9,7 +9,8 @@ from dataclasses import replace
 from pathlib import Path
 
 from desk.answers import tell
-from desk.compare import Side, partners, trips_that_differ
+from desk.compare import partners, trips_that_differ
+from desk.compare_side import Side
 from desk.day import CLAIM, Day, ask_in, plan_day
 from desk.edits import Script, record_of, writing
 from desk.errors import DeskError, UsageError
