@@ -97,7 +97,7 @@ def length_text(minutes: int) -> str:
 
 def _named(town: Town) -> str:
     """What the town is called: its folder."""
-    return town.folder.resolve().name
+    return town.title
 
 
 def _heading(title: str, level: int, sides: list[str]) -> str:

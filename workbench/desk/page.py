@@ -1,4 +1,4 @@
-"""`desk page`: the day as one file that needs no other, to look at, to send, and to print."""
+"""`desk page`: the day, or each day of a period, as one file that needs no other, to look at, to send, and to print."""
 from __future__ import annotations
 
 import argparse
@@ -10,6 +10,8 @@ from desk.day import Day
 from desk.errors import DeskError, complain
 from desk.files import refuse_if_there, write_whole
 from desk.hints_scripts import script_hints
+from desk.period import TownPeriod, has_days
+from desk.period_view import PeriodView
 from desk.policy import checksum
 from desk.proof import read_day
 from desk.town import Town
@@ -36,20 +38,23 @@ def run(arguments: argparse.Namespace) -> int:
     """Writes the page. The status is 1 where a record of the script is refused, or another plan stands in the town."""
     if arguments.output:
         refuse_if_there(arguments.output, arguments.replace)
-    day = read_day(Town(arguments.town))
-    page = static_page(as_text(as_view(day)))
+    period = PeriodView(TownPeriod(arguments.town)) if has_days(Path(arguments.town)) else None
+    days = [read_day(town) for town in (period.towns if period else [Town(arguments.town)])]
+    views = [as_view(day) for day in days]
+    page = static_page(as_text(period.with_all(views) if period else views[0]))
     if arguments.output:
         write_whole(arguments.output, page, replace=arguments.replace)
     else:
         sys.stdout.write(page)
-    return tell_what_to_look_at(day)
+    return max(tell_what_to_look_at(day) for day in days)
 
 
 def tell_what_to_look_at(day: Day) -> int:
     """Says what of a day a planner should know beside the page."""
     refused = [record.said for record in day.records if not record.ok]
+    place = f"{day.town.folder}: " if day.town.above else ""
     for line in (*(f"edits.csv: {said}" for said in refused), *script_hints(day.town, "\n".join(refused))):
-        complain(line)
+        complain(place + line)
     if day.written == "other":
         complain(f"blocks.csv in {day.town.folder} is of another plan: `./desk blocks {day.town.folder}` writes the one that is drawn")
     return 1 if refused or day.written == "other" else 0

@@ -7,12 +7,15 @@ import secrets
 import sys
 import webbrowser
 from contextlib import suppress
+from functools import partial
 from pathlib import Path
 
 from desk import program
 from desk.edits import writing
 from desk.errors import DeskError, UsageError
 from desk.files import reason
+from desk.period import TownPeriod, has_days
+from desk.period_view import PeriodView
 from desk.rooms import own_room
 from desk.session import Session
 from desk.web import WebServer
@@ -38,18 +41,28 @@ def run(arguments: argparse.Namespace) -> int:
         raise DeskError(f"{folder} is no folder")
     if not 0 <= arguments.port <= 65_535:
         raise UsageError("a port is a number from 0 to 65535")
-    with writing(folder / "edits.csv"):
-        pass
-    session = Session(folder, arguments.planner)
-    session.day()
+    sessions = sessions_of(folder, arguments.planner)
+    (sessions[0] if isinstance(sessions, list) else sessions).day()
     run_directly()
     try:
-        server = WebServer(session, secrets.token_urlsafe(24), arguments.port)
+        server = WebServer(sessions, secrets.token_urlsafe(24), arguments.port)
     except OSError as error:
         raise DeskError(f"port {arguments.port} cannot be had: {reason(error)}") from error
     with server:
         serve(server, arguments.browser)
     return 0
+
+
+def sessions_of(folder: Path, planner: str | None) -> Session | list[Session]:
+    """The session of a town, or of a town with days one for each day type."""
+    period = PeriodView(TownPeriod(folder)) if has_days(folder) else None
+    for path in [town.folder for town in period.towns] if period else [folder]:
+        with writing(path / "edits.csv"):
+            pass
+    if period is None:
+        return Session(folder, planner)
+    period.read_plans()
+    return [Session(town.folder, planner, partial(period.beside, at)) for at, town in enumerate(period.towns)]
 
 
 def run_directly() -> None:
@@ -75,7 +88,8 @@ def serve(server: WebServer, browser: bool) -> None:
         except KeyboardInterrupt:
             with suppress(OSError):  # Its terminal may be gone.
                 sys.stdout.write("\n")
-        server.session.close()
+        for session in server.sessions:
+            session.close()
 
 
 def handed_over(address: str, room: Path) -> Path:

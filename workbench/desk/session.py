@@ -5,6 +5,7 @@ An edit is one run of the program. The page asks for the proof of the plan once 
 from __future__ import annotations
 
 import threading
+from collections.abc import Callable
 from dataclasses import replace
 from pathlib import Path
 
@@ -41,8 +42,10 @@ CHANGED = "Another program has changed the folder. It is read again, and nothing
 class Session:
     """A town that is open, by all planners at once or by the one who is named."""
 
-    def __init__(self, folder: Path, planner: str | None = None) -> None:
+    def __init__(self, folder: Path, planner: str | None = None, beside: Callable[[Json], Json] | None = None) -> None:
+        """The session of a folder, for one planner where one is named. `beside` gives what else the page has beside a view."""
         self.folder = folder
+        self.beside = beside
         self.planner = planner
         self.script_name = "edits.csv" if planner is None else "planner_edits.csv"
         self.guard = threading.Lock()
@@ -165,7 +168,8 @@ class Session:
     def _view(self, day: Day) -> Json:
         """The day as the page reads it, with who edits."""
         if self._seen is None or self._seen[0] is not day:
-            self._seen = day, as_view(day) | {"planner": self.planner}
+            view = as_view(day)
+            self._seen = day, view | {"planner": self.planner} | (self.beside(view) if self.beside else {})
         return self._seen[1]
 
 

@@ -74,6 +74,12 @@ class Town:
             self.settings = settings
 
     @property
+    def title(self) -> str:
+        """What the town is called: its folder, and of a day type that of its town before it."""
+        name = self.folder.resolve().name
+        return f"{self.above.resolve().name}, {name}" if self.above else name
+
+    @property
     def feed(self) -> Path:
         """The folder in which the agency's files stand."""
         return self.above or self.folder

@@ -32,7 +32,7 @@ def as_view(day: Day) -> Json:
     done, undone = standing(day.records)
     fixed, vehicles, minutes = day.cost
     return {
-        "title": day.town.folder.resolve().name,
+        "title": day.town.title,
         "date": day_text(day.town),
         "state": day.state,
         "made": f"{day.made:%Y-%m-%d %H:%M:%S}",

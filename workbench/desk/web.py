@@ -49,23 +49,30 @@ class Refusal(Exception):
 
 
 class WebServer(ThreadingHTTPServer):
-    """The server of one session on 127.0.0.1, with its token and the page's own files.
+    """The server of a session, or of one for each day type, on 127.0.0.1, with its token and the page's own files.
 
-    `waiting` has the lines whose request has not come whole, each with the second since which it is waited for.
+    `session` is the first of them. `waiting` has the lines whose request has not come whole, each with the second since which it is waited for.
     """
 
     daemon_threads = True
     request_queue_size = 64
 
-    def __init__(self, session: Session, token: str, port: int = 0) -> None:
-        self.session = session
+    def __init__(self, sessions: Session | list[Session], token: str, port: int = 0) -> None:
+        self.sessions = sessions if isinstance(sessions, list) else [sessions]
+        self.session = self.sessions[0]
         self.token = token
+        # The page of a day type stands below its number, and all that it asks for beside it.
+        self.visits = [f"{number}/" for number in range(len(sessions))] if isinstance(sessions, list) else [""]
         self.waiting: dict[socket.socket, float] = {}
-        self.pages = {path.name: (KINDS[path.suffix], path.read_bytes()) for path in STATIC.iterdir() if path.suffix in KINDS}
-        self.pages[""] = self.pages["index.html"]
-        self.asked: dict[str, Callable[[], Json]] = {"day": session.day, "state": session.state}
-        self.told: dict[str, Callable[[Json], Json]] = {
-            "edit": session.edit, "proof": session.proof, "suggest": session.suggest, "keep": session.keep, "export": session.export}
+        files = {path.name: (KINDS[path.suffix], path.read_bytes()) for path in STATIC.iterdir() if path.suffix in KINDS}
+        files[""] = files["index.html"]
+        self.pages = {visit + name: file for visit in self.visits for name, file in files.items()}
+        self.asked: dict[str, Callable[[], Json]] = {}
+        self.told: dict[str, Callable[[Json], Json]] = {}
+        for visit, session in zip(self.visits, self.sessions):
+            self.asked |= {visit + "day": session.day, visit + "state": session.state}
+            self.told |= {visit + "edit": session.edit, visit + "proof": session.proof, visit + "suggest": session.suggest,
+                          visit + "keep": session.keep, visit + "export": session.export}
         super().__init__(("127.0.0.1", port), Handler)
 
     def get_request(self) -> tuple[socket.socket, Any]:
@@ -116,7 +123,7 @@ class WebServer(ThreadingHTTPServer):
     @property
     def address(self) -> str:
         """The address of the page."""
-        return f"http://{self.hosts[0]}/{self.token}/"
+        return f"http://{self.hosts[0]}/{self.token}/{self.visits[0]}"
 
 
 class Handler(BaseHTTPRequestHandler):
@@ -169,7 +176,7 @@ class Handler(BaseHTTPRequestHandler):
     def _is_visit(self) -> bool:
         """Whether somebody comes to the page itself from elsewhere, as from the file that `--browser` hands over."""
         how = tuple(self.headers.get(f"Sec-Fetch-{name}") for name in ("Mode", "Dest"))
-        return self.command == "GET" and self._name == "" and how == ("navigate", "document")
+        return self.command == "GET" and self._name in self.server.visits and how == ("navigate", "document")
 
     @property
     def _name(self) -> str:

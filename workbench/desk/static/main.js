@@ -5,6 +5,7 @@ import { SIZES } from "./bars.js";
 import { changed } from "./changes.js";
 import { Chart } from "./chart.js";
 import { Day } from "./day.js";
+import { showDays } from "./days.js";
 import { Editing } from "./editing.js";
 import { Filters } from "./filters.js";
 import { Folds } from "./folds.js";
@@ -96,6 +97,9 @@ class Page {
     this.filters.offer(this.day);
     this.foundBar = this.foundBar && this.filters.hit;
     showHead(view, this.before);
+    if (view.days) {
+      showDays(view.days, view.tab, (at) => this.choose(at));
+    }
     byId("legend").replaceChildren(...legendOf(this.day.lines, this.lines));
     if (this.canEdit) {
       this.stale.add("Edits");
@@ -105,6 +109,17 @@ class Page {
       showUndo(view);
       this.hand.follow(wasHere, isOwn);
       this.proveSoon();
+    }
+  }
+
+  /** Goes to another day type, which `desk open` has under its number. */
+  choose(at) {
+    if (this.views) {
+      this.day = null;
+      this.foundBar = null;
+      this.show(this.views[at]);
+    } else {
+      location.assign(`../${at}/`);
     }
   }
 
@@ -303,7 +318,9 @@ async function begin() {
   const stands = byId("day");
   const page = new Page(stands === null);
   if (stands) {
-    page.show(JSON.parse(stands.textContent));
+    const told = JSON.parse(stands.textContent);
+    page.views = told.views;
+    page.show(told.views?.[0] ?? told);
   } else {
     await page.reload();
     setInterval(() => page.look(), EVERY);
