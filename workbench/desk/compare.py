@@ -22,7 +22,7 @@ from desk.errors import DeskError
 from desk.files import read_bytes
 from desk.lines import LineNames
 from desk.period import has_days
-from desk.plans import StatedBlock, read_blocks, timetable
+from desk.plans import read_blocks, timetable
 from desk.rooms import own_room
 from desk.saved import FILES
 from desk.scripts import fields_of

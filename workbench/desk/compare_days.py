@@ -38,7 +38,7 @@ def as_trips_of(first: Side, second: Side, at_one_minute: bool = True) -> Side:
 
 
 def same_trips(first: Side, second: Side, at_one_minute: bool) -> dict[str, str]:
-    """The trip of the first plan that each of the second is, where there is one. A trip of one name must depart at one minute, if so asked."""
+    """The trip of the first plan that each of the second is, where there is one. Where asked, trips of one name depart at one minute."""
     same = {name: name for name in second.block_of if name in first.block_of
             and (not at_one_minute or departs(first, name) == departs(second, name) is not None)}
     by_direction = all(has_directions(side) for side in (first, second))

@@ -39,12 +39,14 @@ def as_text(period: TownPeriod, name: Path) -> str:
     folders = _folders(period)
     for kind in kinds:
         folder = folders.get(kind.dates)
-        lines += ["", f"{kind.label}: {counted(len(kind.dates), 'date')}, {counted(kind.trips, 'trip')}" + (f", in {folder}" if folder else "")]
+        where = f", in {folder}" if folder else ""
+        lines += ["", f"{kind.label}: {counted(len(kind.dates), 'date')}, {counted(kind.trips, 'trip')}{where}"]
         lines += textwrap.wrap(spans_text(kind.dates, dates), WIDTH, initial_indent="  ", subsequent_indent="  ")
     alone = [kind.label for kind in kinds if len(kind.dates) == 1]
     lines += ["", f"dates that stand alone: {', '.join(alone)}"] if alone else []
-    if period.found.without:
-        lines += ["", *textwrap.wrap(f"no trips on {counted(len(period.found.without), 'date')}: {spans_text(period.found.without, dates)}", WIDTH)]
+    without = period.found.without
+    if without:
+        lines += ["", *textwrap.wrap(f"no trips on {counted(len(without), 'date')}: {spans_text(without, dates)}", WIDTH)]
     if not period.days:
         lines += ["", f"It is planned as one day. `./desk new FEED {one_line(str(name))} --more --days` makes a folder for each day type."]
     else:

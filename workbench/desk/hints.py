@@ -19,6 +19,7 @@ from desk.keeping import compared
 from desk.limits import MOST_TRIPS
 from desk.notes_days import no_trips
 from desk.notes_note import View
+from desk.period import day_folders
 from desk.program import DONE, FEED_REFUSED, KEEPER_FAULT, READ_FAULT, RECORDS_REFUSED, USAGE, WRITE_FAULT
 from desk.town import Town
 from desk.unlisted import told, unlisted_of_plan
@@ -34,9 +35,17 @@ def hints_of(command: str, words: Sequence[str], status: int, text: str) -> list
     if command not in COMMANDS or len(words) != 1:
         return []
     try:
-        return _hints(command, Town(words[0]), status, text)
+        return _of_days(command, Town(words[0])) + _hints(command, Town(words[0]), status, text)
     except (DeskError, OSError):
         return []
+
+
+def _of_days(command: str, town: Town) -> list[str]:
+    """That a town has days, whose trips the program has taken as those of one day."""
+    first = next(iter(day_folders(town.folder)), None)
+    if first is None or town.date is not None or town.selects()[0] is not None:
+        return []
+    return [f"{town.folder} has days, and all of their trips were taken as those of one day. Name one of them, as `./desk {command} {first}`."]
 
 
 def hints_before(command: str, words: Sequence[str]) -> list[str]:

@@ -130,4 +130,5 @@ def draft_folders(room: Path, days: NewDays, replace: bool, report: Report) -> N
     report.draft(f"{DAYS}/", f"{counted(fresh, 'folder')} with a desk.toml" + (f"; {counted(len(there), 'folder')} kept" if there else ""))
     for name in sorted(taken - set(there.values()) - {kind.folder for kind in days.found.types}):
         if (days.own / DAYS / name).is_dir():
-            report.mend(f"{DAYS}/{name}", "no trip runs on its date, or another folder has that day type. Change the date, or take it away.")
+            report.mend(f"{DAYS}/{name}", "no trip runs on its date, or another folder has that day type. Change the date, or take it "
+                        "away.")

@@ -66,8 +66,8 @@ def differences(day: Path, town: Town) -> Iterator[Note]:
         settings, shared = Town(day).settings, town.settings
     except DeskError:
         return
-    yield from (Note("differs", f"{DAYS}/{day.name}/desk.toml", None, f"{what}", "Take the line away where the day type needs nothing of its own")
-                for what in _keys(settings, shared))
+    for what in _keys(settings, shared):
+        yield Note("differs", f"{DAYS}/{day.name}/desk.toml", None, what, "Take the line away where the day type needs nothing of its own")
 
 
 def _keys(settings: dict[str, Any], shared: dict[str, Any], table: str = "") -> Iterator[str]:

@@ -1,4 +1,4 @@
-"""The feed for a period, read again: on every date the agency's trips run, at their times and in the planned blocks, and these are least."""
+"""The feed for a period, read again: on every date the agency's trips run, at their times and in their blocks, and these are least."""
 from __future__ import annotations
 
 import datetime
@@ -21,7 +21,7 @@ from desk.published_check import as_planned, judge_blocks
 from desk.records import open_records
 from desk.rooms import own_room
 from desk.times import parse_time
-from desk.town import AGENCY_FILES, Town
+from desk.town import AGENCY_FILES
 from desk.unpack import unpack
 
 OF_THE_PLAN = ("trip_id", "service_id", "block_id")
@@ -83,7 +83,8 @@ class Feed:
 
 def sum_of(row: Iterable[tuple[str, str]], shift: int = 0) -> int:
     """A number for the fields of a row, with its times in seconds, moved by some minutes. Those of all rows of a trip are added."""
-    plain = sorted((column, str((parse_time(text) or 0) + 60 * shift) if column in TIMES and text.strip(" ") else text) for column, text in row)
+    plain = sorted((column, str((parse_time(text) or 0) + 60 * shift) if column in TIMES and text.strip(" ") else text)
+                   for column, text in row)
     return int.from_bytes(hashlib.blake2b(repr(plain).encode("utf-8", "surrogateescape"), digest_size=12).digest(), "big")
 
 

@@ -30,7 +30,8 @@ WAIT = 0.02
 
 def add_arguments(parser: argparse.ArgumentParser) -> None:
     """The words of the command."""
-    parser.epilog = "example: ./desk plan town; over several machines: ./desk plan town --commands | parallel, then ./desk plan town --gather"
+    parser.epilog = ("example: ./desk plan town; over several machines: ./desk plan town --commands | parallel, and then "
+                     "./desk plan town --gather")
     parser.add_argument("towns", nargs="+", type=Path, metavar="TOWN", help="the folder of a town, or of one of its day types")
     how = parser.add_mutually_exclusive_group()
     how.add_argument("--commands", action="store_true", help="print the single runs, one a line, and run none")
@@ -82,7 +83,8 @@ def run_all(folders: Sequence[Path]) -> None:
         while waiting or running:
             while waiting and len(running) < processors():
                 folder, words = waiting.pop()
-                running.append((folder, subprocess.Popen(words, stdin=subprocess.DEVNULL, stdout=subprocess.DEVNULL, stderr=subprocess.PIPE)))
+                process = subprocess.Popen(words, stdin=subprocess.DEVNULL, stdout=subprocess.DEVNULL, stderr=subprocess.PIPE)
+                running.append((folder, process))
             _progress(done, len(folders))
             time.sleep(WAIT)
             for folder, process in [pair for pair in running if pair[1].poll() is not None]:

@@ -39,6 +39,11 @@ class PlannedTown:
         return [f"{DAYS}/{day.name}" for day in self.days] or [self.name]
 
     @property
+    def dates(self) -> list[int]:
+        """For how many dates each holds."""
+        return [len(day.dates) for day in self.days] or [1]
+
+    @property
     def labels(self) -> list[str]:
         """What each is called."""
         return [day.label for day in self.days] or [self.name]
@@ -88,7 +93,7 @@ def _lines(town: PlannedTown) -> Iterator[str]:
 def _row(town: PlannedTown, number: int) -> list[str]:
     """The row of a day type."""
     said = town.said[number]
-    dates = str(len(town.days[number].dates)) if town.days else "1"
+    dates = str(town.dates[number])
     if "error" in said:
         return [town.labels[number], dates, *["-"] * 5, "no plan"]
     numbers = [str((said[key] or {}).get(name, "-")) for key in ("audit", "least") for name in ("vehicles", "minutes")]
@@ -107,15 +112,15 @@ def _told(said: Json) -> Iterator[str]:
     if said["misfit"]:
         first = said["misfit"]
         short = "no way" if first["short"] is None else f"short by {first['short']}"
-        yield (f"today's blocks cannot be run: {counted(said['misfits'], 'pair')} of trips do not fit, the first {shown(first['first'])} to "
-               f"{shown(first['second'])}, {short}")
+        yield (f"today's blocks cannot be run: {counted(said['misfits'], 'pair')} of trips do not fit, the first {shown(first['first'])} "
+               f"to {shown(first['second'])}, {short}")
 
 
 def report_json(towns: Sequence[PlannedTown]) -> str:
     """The report as JSON."""
-    found = [{"town": town.name, "fleet": _fleet_json(town.fleet()), "today": _fleet_json(town.fleet("audit")), "troubles": town.troubles,
-              "days": [{"folder": place, "name": label, "dates": len(town.days[number].dates) if town.days else 1, **said}
-                       for number, (place, label, said) in enumerate(zip(town.places, town.labels, town.said))]} for town in towns]
+    found = [{"town": town.name, "fleet": _fleet_json(town.fleet()), "today": _fleet_json(town.fleet("audit")),
+              "troubles": town.troubles, "days": [{"folder": place, "name": label, "dates": dates, **said} for place, label, dates, said
+                                                  in zip(town.places, town.labels, town.dates, town.said)]} for town in towns]
     return json.dumps({"towns": found}, ensure_ascii=False, indent=2) + "\n"
 
 

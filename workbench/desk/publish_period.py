@@ -61,8 +61,8 @@ def _read(town: Town) -> Day:
 def _lines(out: Path, period: TownPeriod, plans: Sequence[DayPlan], trips: PeriodTrips, dropped: Counter[str]) -> Iterator[str]:
     """What was written."""
     dates = period.found.dates
-    yield (f"{out}: {counted(len(plans), 'day type')} of {counted(len(dates), 'date')}; read again, `audit` says least of each, and on every "
-           "date the agency's trips run")
+    yield (f"{out}: {counted(len(plans), 'day type')} of {counted(len(dates), 'date')}; read again, `audit` says least of each, and on "
+           "every date the agency's trips run")
     for plan in plans:
         rides = sum(len(block.rides) for block in plan.day.blocks)
         yield f"{DAYS}/{plan.name}: {counted(rides, 'trip')} in {counted(len(plan.day.blocks), 'block')}"

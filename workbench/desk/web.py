@@ -51,7 +51,8 @@ class Refusal(Exception):
 class WebServer(ThreadingHTTPServer):
     """The server of a session, or of one for each day type, on 127.0.0.1, with its token and the page's own files.
 
-    `session` is the first of them. `waiting` has the lines whose request has not come whole, each with the second since which it is waited for.
+    `session` is the first of them. `waiting` has the lines whose request has not come whole, each with the second since which it is
+    waited for.
     """
 
     daemon_threads = True

@@ -96,6 +96,8 @@ class NewDaysTest(FolderTest):
         self.assertEqual(self.desk("kept", day)[0], 0)
         self.assertEqual((day / "edits.csv").read_text(), "cancel,sun_1_0_540\n")
         self.assertEqual(sorted(path.name for path in (self.room / "town" / "days" / "sat").iterdir()), ["desk.toml"])
+        self.assertIn("has days, and all of their trips were taken as those of one day. Name one of them, as `./desk blocks ",
+                      self.desk("blocks", self.room / "town")[2])
 
     @needs_program
     def test_shared_files_and_those_of_a_day(self, _: mock.Mock) -> None:
