@@ -110,7 +110,8 @@ def _folder(path: Path) -> Path:
 def lay_over(feed: Path, blocks: Path, room: Path) -> Path:
     """A folder that shows a feed with these blocks, and with the script and the prices that stand beside them."""
     town = Town(feed)
-    files = {path.name: path for folder in (town.feed, feed) for path in folder.iterdir() if path.is_file() or path.name == "agency"}
+    names = {path.name for folder in (town.feed, feed) for path in folder.iterdir() if path.is_file() or path.name == "agency"}
+    files = {name: town.path(name) for name in names if town.path(name).exists()}
     files |= {name: blocks.parent / name for name in FILES if (blocks.parent / name).is_file()}
     files["blocks.csv"] = blocks
     room.mkdir()

@@ -14,7 +14,7 @@ HEAD = ["day type", "dates were", "are", "trips were", "are", "in both", "in oth
 
 def compare_periods(first: Path, second: Path, compared: Callable[[Path, Path], Found]) -> Found:
     """What differs between two towns with days, day type by day type: those of one folder, else of one name."""
-    days = [{day.name: day for day in TownPeriod(folder).days} for folder in (first, second)]
+    days = [{day.name: day for day in TownPeriod(folder).planned} for folder in (first, second)]
     labels = {day.label: day for day in days[1].values() if day.name not in days[0]}
     pairs = []
     for name, day in days[0].items():

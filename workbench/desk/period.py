@@ -56,6 +56,11 @@ class TownPeriod:
         order = {id(kind): number for number, kind in enumerate(self.found.types)}
         return sorted(days, key=lambda day: (order.get(id(day.kind), len(order)), day.name))
 
+    @property
+    def planned(self) -> list[PlannedDay]:
+        """The folders on whose date trips run."""
+        return [day for day in self.days if day.kind]
+
     def _planned(self, path: Path) -> PlannedDay:
         """The day of a folder. An error in its settings is a DeskError that names it."""
         town = Town(path)

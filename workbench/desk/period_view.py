@@ -3,17 +3,22 @@ from __future__ import annotations
 
 from collections.abc import Sequence
 
+from desk.errors import DeskError
 from desk.period import TownPeriod
 from desk.plan_run import left_of
 from desk.texts import Json
+from desk.town import DAYS
 
 
 class PeriodView:
     """The day types of a town, in the order of their tabs. The vehicles of each are those that the program has said last, or None."""
 
     def __init__(self, period: TownPeriod) -> None:
-        self.towns = [day.town for day in period.days]
-        self.days: list[Json] = [{"label": day.label, "folder": day.name, "dates": len(day.dates), "vehicles": None} for day in period.days]
+        if not period.planned:
+            raise DeskError(f"no trip runs on the dates of the folders in {period.town.folder / DAYS}: `./desk days {period.town.folder}` "
+                            "lists the day types")
+        self.towns = [day.town for day in period.planned]
+        self.days: list[Json] = [{"label": day.label, "folder": day.name, "dates": len(day.dates), "vehicles": None} for day in period.planned]
 
     def read_plans(self) -> None:
         """Takes the vehicles of the plans that `./desk plan` has left of the files as they stand."""

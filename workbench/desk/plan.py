@@ -60,7 +60,7 @@ def _town_of(folder: Path) -> PlannedTown:
     """A town with the folders that are planned: those of its day types, or itself. A folder of no feed is a DeskError."""
     if has_days(folder):
         period = TownPeriod(folder)
-        return PlannedTown(str(folder), [day.town for day in period.days], period.days, list(period.troubles()))
+        return PlannedTown(str(folder), [day.town for day in period.planned], period.planned, list(period.troubles()))
     town = Town(folder)
     if not town.has("trips.txt"):
         raise DeskError(" ".join(folder_hints(folder)) or f"{folder} has no trips.txt")

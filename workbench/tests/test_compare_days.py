@@ -82,6 +82,7 @@ class DaysTest(FolderTest):
         self.assertEqual([trip["trip"][:6] for trip in found["trips"]["cancelled"]], ["school"] * 6)
         self.assertEqual((found["trips"]["new"], found["trips"]["both"]), ([], 52))
         self.assertTrue(found["trips"]["in_other_blocks"])
+        write_feed(town, {"edits.csv": "cancel,sun_1_0_540\n", "blocks.csv": "of no day type\n"})
         self.desk("save", town / "days" / "sun", "first")
         self.assertEqual(len(self.found(Path("first"), town / "days" / "sun")["same"]), 1)
         status, _, errors = self.desk("compare", town, town / "days" / "sun")

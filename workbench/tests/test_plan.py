@@ -76,9 +76,12 @@ class PlanTest(FolderTest):
 
     def test_a_day_type_without_a_folder(self) -> None:
         shutil.rmtree(self.town / "days" / "sun")
+        write_feed(self.town / "days" / "sat", {"desk.toml": "layover = 5\n"})
         status, text, _ = self.desk("plan", self.town)
         self.assertEqual(status, 1)
         self.assertIn("Sunday: no folder of days/ plans its 13 dates\n", text)
+        self.assertIn("days/sat: no trip runs on its date, which desk.toml does not have\n", text)
+        self.assertIn("fleet: 3 vehicles, on Friday; today 4, on Friday\n", text)
 
     def test_several_towns(self) -> None:
         """Each is reported, and the vehicles of all of them. A town of one day is one run."""
