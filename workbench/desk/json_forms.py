@@ -12,7 +12,7 @@ two ways. It can be so with one of these names:
 - a place with ` HH:MM to ` in `chains`
 - a trip with `1: `, where one block alone leaves open which part is its name
 """
-from typing import Any, Literal, TypedDict
+from typing import Any, Literal, NotRequired, TypedDict
 
 FeedRefused = TypedDict("FeedRefused", {"feed_refused": str})
 """The feed is refused, with this text."""
@@ -167,7 +167,59 @@ TripsOfBoth = TypedDict("TripsOfBoth", {"both": int, "in_other_blocks": list[Oth
 
 Compare = TypedDict("Compare", {"first": Side, "second": Side, "trips": TripsOfBoth, "same": list[Pair], "changed": list[Changed],
                                 "gone": list[Gone], "new": list[New]})
-"""Two plans side by side."""
+"""Two plans of one day side by side."""
+
+CompareDays = TypedDict("CompareDays", {"first": Side, "second": Side, "trips": TripsOfBoth, "same": list[Pair],
+                                        "changed": list[Changed], "gone": list[Gone], "new": list[New], "days": list[str]})
+"""Two plans of two days side by side, with both days."""
+
+DayTypes = TypedDict("DayTypes", {"name": str, "folders": list[str], "dates": list[int], "first": Side, "second": Side,
+                                  "trips": TripsOfBoth, "same": list[Pair], "changed": list[Changed], "gone": list[Gone],
+                                  "new": list[New], "days": NotRequired[list[str]]})
+"""A day type in two periods: its folder and how many dates it has in each, and its two plans. `days` is there where they differ."""
+
+ComparePeriods = TypedDict("ComparePeriods", {"first": str, "second": str, "pairs": list[DayTypes], "gone": list[str],
+                                              "new": list[str]})
+"""Two towns with days side by side. `gone` and `new` are day types of one of them alone."""
+
+Day = TypedDict("Day", {"name": str, "folder": str | None, "trips": int, "services": list[str], "dates": list[str]})
+"""A day type, and the folder that plans it, if there is one."""
+
+Days = TypedDict("Days", {"days": list[Day], "without": list[str], "troubles": list[str]})
+"""The day types of a period, the dates without trips, and what is to be mended."""
+
+Fleet = TypedDict("Fleet", {"vehicles": int, "on": str})
+"""The most vehicles over all day types, and the day type that needs them."""
+
+TodayNot = TypedDict("TodayNot", {"verdict": Literal["no"]})
+"""The stated blocks of a day type cannot be run."""
+
+TodayLeast = TypedDict("TodayLeast", {"verdict": Literal["least"], "vehicles": int, "minutes": int, "least": Plan})
+"""They are least."""
+
+TodayAbove = TypedDict("TodayAbove", {"verdict": Literal["above"], "vehicles": int, "minutes": int, "least": Plan,
+                                      "above": AboveVehicles | AboveMinutes})
+"""They are above the least."""
+
+Proved = TypedDict("Proved", {"verdict": Literal["yes"], "vehicles": int, "minutes": int})
+"""What `check` says of the plan of a day type."""
+
+NotProved = TypedDict("NotProved", {"verdict": Literal["no"], "reason": str})
+"""It says no, for the first reason."""
+
+Planned = TypedDict("Planned", {"folder": str, "name": str, "dates": int, "trips": int, "audit": TodayNot | TodayLeast | TodayAbove,
+                                "misfits": int, "misfit": Misfit | None, "least": Plan, "check": Proved | NotProved, "refused": list[str]})
+"""A day type that is planned: today's blocks with the first misfit, the plan, and the lines of refused records."""
+
+NotPlanned = TypedDict("NotPlanned", {"folder": str, "name": str, "dates": int, "error": str, "hints": list[str]})
+"""A day type without a plan: why there is none, and what to do."""
+
+PlannedTown = TypedDict("PlannedTown", {"town": str, "fleet": Fleet | None, "today": Fleet | None, "troubles": list[str],
+                                        "days": list[Planned | NotPlanned]})
+"""A town: its fleet by the plan and today, what is to be mended in its folders, and its day types."""
+
+Towns = TypedDict("Towns", {"towns": list[PlannedTown]})
+"""The towns that are planned. What stands of a day type is in `plan.json` of its folder too."""
 
 Lengths = TypedDict("Lengths", {"shortest": int, "shortest_block": str, "median": int | float, "mean": float, "longest": int,
                                 "longest_block": str})
@@ -197,5 +249,6 @@ Figures = TypedDict("Figures", {
 
 FORMS: dict[str, Any] = {
     "deficits": Deficits, "fixed": Fixed, "blocks": Blocks, "check": Yes | No, "chains": Chains, "shifts": Shifts, "joined": Joined,
-    "planners": Planners, "audit": Misfits | Least | Above, "notes": Notes, "compare": Compare, "figures": Figures}
+    "planners": Planners, "audit": Misfits | Least | Above, "notes": Notes, "compare": Compare | CompareDays | ComparePeriods,
+    "days": Days, "plan": Towns, "figures": Figures}
 """The answers of each command as JSON. Those of the program may also answer with `FeedRefused`."""

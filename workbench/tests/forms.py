@@ -8,10 +8,11 @@ from desk.json_forms import FORMS, FeedRefused
 
 
 def is_of(value: Any, form: Any, met: set[str] | None = None) -> bool:
-    """Whether a value has a form: of an object exactly its keys. The names of the objects that are met are put into `met`."""
+    """Whether a value has a form: of an object its keys and no others. The names of the objects that are met are put into `met`."""
     if is_typeddict(form):
         keys = get_type_hints(form)
-        is_met = isinstance(value, dict) and set(value) == set(keys) and all(is_of(value[key], keys[key], met) for key in keys)
+        is_met = (isinstance(value, dict) and form.__required_keys__ <= set(value) <= set(keys)
+                  and all(is_of(it, keys[key], met) for key, it in value.items()))
         if is_met and met is not None:
             met.add(form.__name__)
         return is_met
@@ -26,7 +27,7 @@ def is_of(value: Any, form: Any, met: set[str] | None = None) -> bool:
 
 def is_answer(command: str, value: Any, met: set[str] | None = None) -> bool:
     """Whether a value is of the form of a command's answer, or of a refused feed where the command may answer so."""
-    form = FORMS[command] if command in ("notes", "compare", "figures") else FORMS[command] | FeedRefused
+    form = FORMS[command] if command in ("notes", "compare", "days", "plan", "figures") else FORMS[command] | FeedRefused
     return is_of(value, form, met)
 
 

@@ -7,6 +7,7 @@ import unittest
 from pathlib import Path
 
 from tests.feeds import FolderTest, needs_program, table, write_feed
+from tests.forms import is_answer
 from tests.made_periods import with_dates_alone, with_night_and_school
 
 TRIPS = "route_id,service_id,trip_id,direction_id"
@@ -31,7 +32,9 @@ class DaysTest(FolderTest):
         """What differs, of two folders that are planned."""
         status, text, errors = self.desk("compare", first, second, "--json")
         self.assertEqual((status, errors), (0, ""))
-        return json.loads(text)
+        found = json.loads(text)
+        self.assertTrue(is_answer("compare", found))
+        return found
 
     def test_trips_of_one_name_and_time_and_of_one_line_and_minute(self) -> None:
         """M1 has its name and time. M2 is called S2. M3 leaves at another minute, so it is none of the second day. S4 is of the other
@@ -108,7 +111,9 @@ class DaysTest(FolderTest):
         self.assertIn(["Saturday", "12", "12", "33", "33"], [line[:5] for line in lines])
         self.assertIn("Sunday: no such day type any more\n", text)
         self.assertIn(f"`./desk compare {first}/days/fri {second}/days/fri` tells of Friday\n", text)
-        self.assertEqual(len(json.loads(self.desk("compare", first, second, "--json")[1])["pairs"]), 4)
+        found = json.loads(self.desk("compare", first, second, "--json")[1])
+        self.assertTrue(is_answer("compare", found))
+        self.assertEqual(len(found["pairs"]), 4)
 
 
 if __name__ == "__main__":

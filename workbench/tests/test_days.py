@@ -11,6 +11,7 @@ from desk.day_types import find_period, trips_of_services
 from desk.period import spans_text
 from desk.town import Town
 from tests.feeds import Feed, FolderTest, demonstration, needs_program, write_feed, zip_feed
+from tests.forms import is_answer
 from tests.made_periods import with_dates_alone, with_night_and_school
 
 NOW = datetime.date(2026, 10, 1)
@@ -147,6 +148,7 @@ class NewDaysTest(FolderTest):
         self.assertIn("dates that stand alone: 24 December\n", text)
         self.assertIn("no trips on 1 date: Fri 25 Dec 2026\n", text)
         told = json.loads(self.desk("days", self.room / "town", "--json")[1])
+        self.assertTrue(is_answer("days", told))
         self.assertEqual(sum(len(kind["dates"]) for kind in told["days"]) + len(told["without"]), 88)
 
     def test_folders_that_are_no_day_types(self, _: mock.Mock) -> None:

@@ -11,6 +11,7 @@ from pathlib import Path
 
 from desk.program import ROOT
 from tests.feeds import FolderTest, needs_program, write_feed
+from tests.forms import is_answer
 from tests.made_periods import with_dates_alone, with_night_and_school
 from tests.small_town import two_trips
 
@@ -57,7 +58,9 @@ class PlanTest(FolderTest):
         self.assertIn("days/sat: feed refused: deadheads.csv record 1: same terminal\n", text)
         self.assertIn("days/sun: today's blocks cannot be run: 8 pairs of trips do not fit, the first ", text)
         self.assertIn("fleet: not known, since 1 day type of 5 has no plan\n", text)
-        found = json.loads(self.desk("plan", self.town, "--gather", "--json")[1])["towns"][0]
+        answer = json.loads(self.desk("plan", self.town, "--gather", "--json")[1])
+        self.assertTrue(is_answer("plan", answer))
+        found = answer["towns"][0]
         self.assertEqual([day["folder"] for day in found["days"] if "error" in day], ["days/sat"])
 
     def test_a_plan_of_other_files_is_not_reported(self) -> None:
