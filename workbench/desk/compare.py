@@ -23,11 +23,10 @@ from desk.files import read_bytes
 from desk.lines import LineNames
 from desk.period import has_days
 from desk.plans import read_blocks, timetable
-from desk.rooms import own_room
+from desk.rooms import lay_settings, own_room
 from desk.saved import FILES
 from desk.scripts import fields_of
 from desk.times import format_minute
-from desk.toml import toml_text
 from desk.town import Town, town_above
 
 WORD = "compare"
@@ -117,9 +116,7 @@ def lay_over(feed: Path, blocks: Path, room: Path) -> Path:
     room.mkdir()
     for name, path in files.items():
         (room / name).symlink_to(path.resolve())
-    if town.above:
-        (room / "desk.toml").unlink()
-        (room / "desk.toml").write_text(toml_text(town.settings), encoding="utf-8")
+    lay_settings(town, room)
     return room
 
 

@@ -45,7 +45,8 @@ def _of_days(command: str, town: Town) -> list[str]:
     first = next(iter(day_folders(town.folder)), None)
     if first is None or town.date is not None or town.selects()[0] is not None:
         return []
-    return [f"{town.folder} has days, and all of their trips were taken as those of one day. Name one of them, as `./desk {command} {first}`."]
+    return [f"{town.folder} has days, and all of their trips were taken as those of one day. Name one of them, as `./desk {command} "
+            f"{first}`."]
 
 
 def hints_before(command: str, words: Sequence[str]) -> list[str]:

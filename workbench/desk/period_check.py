@@ -16,7 +16,7 @@ from desk.day_types import DAY
 from desk.errors import DeskError
 from desk.period import TownPeriod
 from desk.period_trips import DayPlan, PeriodTrips
-from desk.plan import processors
+from desk.processors import processors
 from desk.published_check import as_planned, judge_blocks
 from desk.records import open_records
 from desk.rooms import own_room

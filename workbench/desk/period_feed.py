@@ -86,7 +86,7 @@ def _write_times(town: Town, plans: Sequence[DayPlan], trips: PeriodTrips, targe
                 rows[fields[trip]].append(fields)
         for name, versions in others.items():
             for version in versions:
-                for fields in _rows_of(name, version, plans) if version.shift else rows[name]:
+                for fields in _moved_rows(name, version, plans) if version.shift else rows[name]:
                     file.write(record_text([*fields[:trip], version.trip, *fields[trip + 1:]]))
         for extra in trips.extras:
             file.write("".join(row_text(records.header, row) for row in _extra_rows(extra)))
@@ -105,7 +105,7 @@ def _versions_by_name(trips: PeriodTrips) -> tuple[dict[str, bool], dict[str, li
     return own, others
 
 
-def _rows_of(name: str, version: Version, plans: Sequence[DayPlan]) -> list[list[str]]:
+def _moved_rows(name: str, version: Version, plans: Sequence[DayPlan]) -> list[list[str]]:
     """The rows of a moved trip, as the program writes them for the first of its day types."""
     plan = next(plan for plan in plans if plan.name == version.days[0])
     return plan.moved[name]

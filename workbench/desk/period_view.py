@@ -18,7 +18,8 @@ class PeriodView:
             raise DeskError(f"no trip runs on the dates of the folders in {period.town.folder / DAYS}: `./desk days {period.town.folder}` "
                             "lists the day types")
         self.towns = [day.town for day in period.planned]
-        self.days: list[Json] = [{"label": day.label, "folder": day.name, "dates": len(day.dates), "vehicles": None} for day in period.planned]
+        self.days: list[Json] = [{"label": day.label, "folder": day.name, "dates": len(day.dates), "vehicles": None}
+                                 for day in period.planned]
 
     def read_plans(self) -> None:
         """Takes the vehicles of the plans that `./desk plan` has left of the files as they stand."""

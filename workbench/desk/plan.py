@@ -18,6 +18,7 @@ from desk.hints_machine import folder_hints
 from desk.period import TownPeriod, has_days
 from desk.plan_report import PlannedTown, report_json, report_text
 from desk.plan_run import LEFT, left_of, plan_one
+from desk.processors import processors
 from desk.program import ROOT
 from desk.town import Town
 
@@ -98,11 +99,6 @@ def run_all(folders: Sequence[Path]) -> None:
         for _, process in running:
             process.terminate()
             process.wait()
-
-
-def processors() -> int:
-    """How many processors this run may use."""
-    return len(os.sched_getaffinity(0))
 
 
 def _progress(done: int, count: int) -> None:

@@ -27,6 +27,9 @@ LEFT = "plan.json"
 CLAIM = (*WRITTEN["blocks"], *WRITTEN["joined"])
 """The files of a plan."""
 
+SAID = ({"files", "error", "hints"}, {"files", "trips", "audit", "misfits", "misfit", "least", "check", "refused"})
+"""What `plan.json` has: where the program refuses the feed, and where it has planned."""
+
 Json = dict[str, Any]
 
 
@@ -70,10 +73,11 @@ def left_of(town: Town) -> Json:
         return {"error": "no run has left a plan", "hints": []}
     try:
         said = json.loads(read_bytes(path))
-        files = said.pop("files")
-    except (ValueError, KeyError, AttributeError) as error:
-        raise DeskError(f"{path} is none that `./desk plan` writes: {error}") from error
-    if files != state(town):
+    except ValueError:
+        said = None
+    if not isinstance(said, dict) or not any(names <= said.keys() for names in SAID):
+        return {"error": f"its {LEFT} is none that `./desk plan` writes: plan it again", "hints": []}
+    if said.pop("files") != state(town):
         return {"error": "its files have changed since it was planned: plan it again", "hints": []}
     return said
 

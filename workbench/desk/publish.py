@@ -2,10 +2,8 @@
 from __future__ import annotations
 
 import argparse
-import shutil
 import sys
 from pathlib import Path
-from tempfile import TemporaryDirectory
 
 from desk.answers import tell
 from desk.board_rows import make_boards
@@ -13,7 +11,7 @@ from desk.boards_page import boards_page
 from desk.day import Day
 from desk.errors import DeskError, UsageError, complain
 from desk.figures import figures_text, make_figures
-from desk.files import refuse_if_there, whole_file, write_whole
+from desk.files import refuse_if_there, write_whole
 from desk.lines import LineNames
 from desk.new_report import counted, some
 from desk.period import has_days
@@ -22,7 +20,7 @@ from desk.proof import read_day
 from desk.publish_period import publish_period
 from desk.published_check import judge
 from desk.published_feed import Handover, make_feed
-from desk.published_zip import write_zip
+from desk.published_zip import write_judged
 from desk.rooms import room_of, scripts_of
 from desk.town import Town
 
@@ -70,14 +68,8 @@ def _publish_day(out: Path, beside: list[Path], arguments: argparse.Namespace) -
     verdict = day.proof.verdict if day.proof else {}
     if verdict.get("verdict") != "yes" or not day.blocks:
         raise DeskError(f"nothing is written: {verdict.get('reason', 'no proof') if day.blocks else 'no trip runs'}")
-    with room_of(day.town, scripts_of(day.town)) as room, TemporaryDirectory(prefix="desk-") as work:
-        feed, packed = Path(work) / "feed", Path(work) / "feed.zip"
-        feed.mkdir()
-        made = make_feed(day, room, feed)
-        write_zip(feed, packed)
-        judge(day, packed, made)
-        with open(packed, "rb") as source, whole_file(out, replace=arguments.replace) as file:
-            shutil.copyfileobj(source, file)
+    with room_of(day.town, scripts_of(day.town)) as room:
+        made = write_judged(out, arguments.replace, lambda feed: make_feed(day, room, feed), lambda packed, made: judge(day, packed, made))
         if beside:
             _write_beside(day, _plan(day.town, room), out, arguments)
     return _tell(day, out, beside, made)

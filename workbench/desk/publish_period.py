@@ -1,25 +1,22 @@
 """`./desk publish` of a town with days: one feed for the whole period, read again before it stands there."""
 from __future__ import annotations
 
-import shutil
 import sys
 from collections import Counter
 from collections.abc import Iterator, Sequence
 from concurrent.futures import ThreadPoolExecutor
 from pathlib import Path
-from tempfile import TemporaryDirectory
 
 from desk.day import Day
 from desk.errors import DeskError, complain
-from desk.files import whole_file
 from desk.new_report import counted
 from desk.period import TownPeriod
 from desk.period_check import judge_period
 from desk.period_feed import make_period_feed
 from desk.period_trips import DayPlan, PeriodTrips, day_plan, period_trips
-from desk.plan import processors
+from desk.processors import processors
 from desk.proof import read_day
-from desk.published_zip import write_zip
+from desk.published_zip import write_judged
 from desk.town import DAYS, Town
 
 
@@ -33,14 +30,8 @@ def publish_period(folder: Path, out: Path, replace: bool) -> tuple[list[DayPlan
         days = list(pool.map(_read, [day.town for day in period.days]))
     plans = [day_plan(planned, day) for planned, day in zip(period.days, days)]
     trips = period_trips(period.town, plans)
-    with TemporaryDirectory(prefix="desk-") as work:
-        feed, packed = Path(work) / "feed", Path(work) / "feed.zip"
-        feed.mkdir()
-        dropped = make_period_feed(period.town, plans, trips, feed)
-        write_zip(feed, packed)
-        judge_period(period, plans, trips, packed)
-        with open(packed, "rb") as source, whole_file(out, replace=replace) as file:
-            shutil.copyfileobj(source, file)
+    dropped = write_judged(out, replace, lambda feed: make_period_feed(period.town, plans, trips, feed),
+                           lambda packed, _: judge_period(period, plans, trips, packed))
     sys.stdout.write("".join(f"{line}\n" for line in _lines(out, period, plans, trips, dropped)))
     return plans, _complain(plans)
 

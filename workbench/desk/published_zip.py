@@ -1,9 +1,29 @@
-"""A feed as a zip. The same files make the same zip."""
+"""A feed as a zip, which stands in its place only once it is judged. The same files make the same zip."""
 from __future__ import annotations
 
 import shutil
 import zipfile
+from collections.abc import Callable
 from pathlib import Path
+from tempfile import TemporaryDirectory
+from typing import TypeVar
+
+from desk.files import whole_file
+
+Made = TypeVar("Made")
+
+
+def write_judged(out: Path, replace: bool, make: Callable[[Path], Made], judge: Callable[[Path, Made], None]) -> Made:
+    """Writes the zip of a feed. `make` makes its files in a folder, and `judge` raises an error where the zip is not to be written."""
+    with TemporaryDirectory(prefix="desk-") as work:
+        feed, packed = Path(work) / "feed", Path(work) / "feed.zip"
+        feed.mkdir()
+        made = make(feed)
+        write_zip(feed, packed)
+        judge(packed, made)
+        with open(packed, "rb") as source, whole_file(out, replace=replace) as file:
+            shutil.copyfileobj(source, file)
+    return made
 
 
 def write_zip(folder: Path, packed: Path) -> None:

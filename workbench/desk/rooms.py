@@ -94,13 +94,17 @@ def room_of(town: Town, scripts: Mapping[str, bytes]) -> Iterator[Path]:
         for file in FEED_FILES:
             if town.path(file).exists():
                 (room / file).symlink_to(town.path(file).resolve())
-        if town.above:
-            # The program reads one file of settings, and those of a day type stand in two.
-            (room / "desk.toml").unlink()
-            (room / "desk.toml").write_text(toml_text(town.settings), encoding="utf-8")
+        lay_settings(town, room)
         for file, content in scripts.items():
             (room / file).write_bytes(content)
         yield room
+
+
+def lay_settings(town: Town, room: Path) -> None:
+    """Writes the settings of a day type into a room. The program reads one file of them, and those of a day type stand in two."""
+    if town.above:
+        (room / "desk.toml").unlink()
+        (room / "desk.toml").write_text(toml_text(town.settings), encoding="utf-8")
 
 
 def state_of(town: Town, names: tuple[str, ...] = FEED_FILES + SCRIPTS) -> str:

@@ -69,9 +69,11 @@ class PlanTest(FolderTest):
         write_feed(self.town / "days" / "fri", {"edits.csv": "cancel,fri_1_0_1157\n"})
         (self.town / "days" / "sat" / "blocks.csv").write_text("")
         (self.town / "days" / "sun" / "plan.json").unlink()
+        (self.town / "days" / "24-dec" / "plan.json").write_text("{}")
         status, text, _ = self.desk("plan", self.town, "--gather")
         self.assertEqual(status, 1)
         for line in ("days/fri: its files have changed since it was planned: plan it again", "days/sun: no run has left a plan",
+                     "days/24-dec: its plan.json is none that `./desk plan` writes: plan it again",
                      "days/sat: its files have changed since it was planned: plan it again"):
             self.assertIn(line + "\n", text)
         (self.town / "desk.toml").write_text((self.town / "desk.toml").read_text().replace("layover = 5", "layover = 6"))
