@@ -4,7 +4,7 @@ from __future__ import annotations
 import datetime
 import re
 from collections import Counter
-from collections.abc import Iterable, Sequence
+from collections.abc import Collection, Iterable, Sequence
 from typing import NamedTuple
 
 from desk.stations import distinct
@@ -55,7 +55,7 @@ def names_of(types: Sequence[Dates]) -> list[tuple[str, str]]:
         elif own and found in schools and any(not other.has_school and other.weekdays & own for other in types):
             label, folder = f"school days, {label}", f"school-{folder}"
         label = distinct(label, _range(found.weekdays, " to "), lambda name: name in [label for label, _ in names])
-        names.append((label, _free(folder, [folder for _, folder in names])))
+        names.append((label, free_name(folder, [folder for _, folder in names])))
     return names
 
 
@@ -106,6 +106,6 @@ def short_date(date: datetime.date) -> str:
     return f"{date.day}-{MONTHS[date.month - 1][:3].lower()}"
 
 
-def _free(name: str, taken: Sequence[str]) -> str:
+def free_name(name: str, taken: Collection[str]) -> str:
     """A name, or with a number behind it the first that is free."""
     return next(other for number in range(1, len(taken) + 2) if (other := name if number == 1 else f"{name}-{number}") not in taken)

@@ -9,6 +9,7 @@ from pathlib import Path
 
 from desk.calendars import format_date
 from desk.dates import today
+from desk.day_names import free_name
 from desk.day_types import DayType, Period
 from desk.errors import DeskError
 from desk.files import write_whole
@@ -116,8 +117,7 @@ def draft_folders(room: Path, days: NewDays, replace: bool, report: Report) -> N
             raise DeskError(f"{days.own / DAYS} cannot be copied: {error}") from error
     there, taken = days.folders(), {path.name for path in day_folders(days.own)}
     for kind in days.found.types:
-        name = there.get(kind.dates) or next(name for number in range(1, len(taken) + 2)
-                                             if (name := kind.folder if number == 1 else f"{kind.folder}-{number}") not in taken)
+        name = there.get(kind.dates) or free_name(kind.folder, taken)
         taken.add(name)
         folder = room / DAYS / name
         folder.mkdir(parents=True, exist_ok=True)
