@@ -8,6 +8,7 @@ use Rattle.trip_model.specs.Links.{next_of}
 use Rattle.assignment_model.specs.Prices.{price}
 use Rattle.pair_search.specs.Assignment.{AreWeights, IsMatched, Covers, MayBegin}
 use Rattle.pair_search.specs.Order.{IsRenaming, stands_before}
+use Rattle.pair_search.proofs.InverseLemmas.{unlinked}
 
 false-lt : (a i : ℕ) → nat_le a i ≡ false → i < a
 false-lt a i e = ⊎_elim (λ (lt : i < a). lt) (λ (le : a ≤ i). absurd (both_ways (nat_le a i) e (le-leb a i le))) (cases_lt i a)
@@ -27,10 +28,7 @@ IsMatched-none w n out links leave enter links-is leave-is enter-is = record {
 }
   where
     none : (i : ℕ) → next_of links i ≡ None
-    none i = ap (λ xs. next_of xs i) links-is ∙ ⊎_elim
-        (λ (lt : i < n). get_or-replicate n i None None lt)
-        (λ (le : n ≤ i). get_or_past (replicate {A = Option ℕ} n None) i None (omega (arith, le, length-replicate {A = Option ℕ} n None)))
-        (cases_lt i n)
+    none i = ap (λ xs. next_of xs i) links-is ∙ unlinked n i
 
     zero-at : (xs : List ℕ) → xs ≡ replicate n 0 → (i : ℕ) → price xs i ≡ 0
     zero-at xs is i = ap (λ xs. price xs i) is ∙ ⊎_elim

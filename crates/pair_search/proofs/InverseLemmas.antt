@@ -1,8 +1,9 @@
 -- Going row by row through links gives their inverse.
-use Rattle.std.proofs.Common.{◌≡◌, ◌≢◌, ℕ, ◌+◌, ◌<◌, List, length, set, Option, None, Some, refl, sym, ap, subst, ◌∙◌, ⊎_elim, arith}
+use Rattle.std.proofs.Common.{◌≡◌, ◌≢◌, ℕ, ◌+◌, ◌<◌, ◌≤◌, List, length, replicate, set, Option, None, Some, refl, sym, ap, subst}
+use Rattle.std.proofs.Common.{◌∙◌, ⊎_elim, arith}
 use Rattle.std.specs.Prelude.{IfSome, IfNone}
-use Rattle.std.proofs.lemmas.Bool.{cases_eq}
-use Rattle.std.proofs.lemmas.List.{get_or-set_same, get_or-set_other}
+use Rattle.std.proofs.lemmas.Bool.{cases_eq, cases_lt}
+use Rattle.std.proofs.lemmas.List.{get_or-replicate, get_or_past, get_or-set_same, get_or-set_other, length-replicate}
 use Rattle.std.proofs.lemmas.Option.{none-some, same_Some}
 use Rattle.trip_model.specs.Links.{next_of, before_of, AreApart}
 use Rattle.trip_model.proofs.BeforeLemmas.{next-before, before-next, next-within}
@@ -55,6 +56,23 @@ inverse-before next before once so j = at-column (before_of next j) refl
     at-column : (found : Option ℕ) → before_of next j ≡ found → next_of before j ≡ before_of next j
     at-column None none = alone (next_of before j) refl none ∙ sym none
     at-column (Some i) e = so.told i j (next-within next i j (next-before next i j e)) (next-before next i j e) ∙ sym e
+
+-- of links that link none no row has a next
+pub unlinked : (n i : ℕ) → next_of (replicate n None) i ≡ None
+unlinked n i = ⊎_elim
+    (λ (lt : i < n). get_or-replicate n i None None lt)
+    (λ (le : n ≤ i). get_or_past (replicate {A = Option ℕ} n None) i None (omega (arith, le, length-replicate {A = Option ℕ} n None)))
+    (cases_lt i n)
+
+-- where no row is linked, nothing stands before a column
+pub inverse-none : (n : ℕ) (next before : List (Option ℕ)) → IsInverse (length next) next before → next ≡ replicate n None
+    → (j : ℕ) → next_of before j ≡ None
+inverse-none n next before so none j = at-column (next_of before j) refl
+  where
+    at-column : (found : Option ℕ) → next_of before j ≡ found → next_of before j ≡ None
+    at-column None e = e
+    at-column (Some i) e =
+        absurd (none-some j (sym (ap (λ links. next_of links i) none ∙ unlinked n i) ∙ (so.linked i j e).1))
 
 -- as a search has ended at a column that no row is linked to, or at none
 pub IsInverseBut-begun : (next before : List (Option ℕ)) (to : Option ℕ) → IfSome to (λ j. before_of next j ≡ None) → AreApart next

@@ -151,6 +151,7 @@ impl Tree {
             (grown (place_weight side.now) (record { next = next; leave = leave.now; enter = enter.now }) (side_slots side.now) front) }
         ensures visited { Takes (IsOfOthers side.now (at self.old.rows.items 0)) looks.old.list looks.new.list steps.old steps.new }
         ensures counted { steps.new ≤ steps.old + side_slots side.now * side_slots side.now }
+        ensures alone { ((j : ℕ) → next_of before.now j ≡ None) → steps.new ≡ steps.old }
     {
         let mut size = 1;
         let mut best = End {

@@ -6,6 +6,7 @@ ghost use Rattle.trip_model.specs.Links.{next_of, before_of};
 ghost use Rattle.pair_search.specs.Arranged.{slots_of, found_by, bare, all_found, turned_plan};
 ghost use Rattle.pair_search.specs.Assignment.{AreWeights, IsMatched, Covers, MayBegin};
 ghost use Rattle.pair_search.specs.Determined.{found, found_each};
+ghost use Rattle.pair_search.specs.Inverse.{IsInverse};
 ghost use Rattle.pair_search.specs.Turned.{MayBeginTurned, IsFoundTurned};
 ghost use Rattle.pair_search.specs.Side.{side_slots, side_weight, place_weight};
 ghost use Rattle.pair_search.specs.Order.{slot_at, IsRenaming};
@@ -43,8 +44,10 @@ fn search<L: Ledger>(
     requires leave { length leave.old ≡ side_slots side.now }
     requires enter { length enter.old ≡ side_slots side.now }
     requires before { length before.old ≡ side_slots side.now }
+    requires inverse { IsInverse (length next.old) next.old before.old }
     requires begins { (out : ℕ → Bool) × (b : Option ℕ)
         × MayBegin (place_weight side.now) (side_slots side.now) out a b next.old leave.old enter.old }
+    ensures inverse { IsInverse (length next.new) next.new before.new }
     ensures path { IsPath (next_of next.old) (before_of next.old) (next_of next.new) a }
     ensures matched { (out : ℕ → Bool) (b : Option ℕ)
         → MayBegin (place_weight side.now) (side_slots side.now) out a b next.old leave.old enter.old
@@ -56,8 +59,8 @@ fn search<L: Ledger>(
         (found (place_weight side.now) a (record { next = next.old; leave = leave.old; enter = enter.old })) }
     ensures visited { Takes (SearchesOnce side.now) looks.old.list looks.new.list steps.old steps.new }
     ensures counted { steps.new ≤ steps.old + side_slots side.now * side_slots side.now + side_slots side.now }
+    ensures alone { next.old ≡ replicate (side_slots side.now) None → steps.new ≤ steps.old + side_slots side.now }
 {
-    invert(next, before);
     tree.begin(side, a, leave, enter, looks, steps);
     let end = tree.grow(side, before, leave, enter, looks, steps);
     shift(a, end.fall, next, &tree.dist, leave, enter);
@@ -90,9 +93,10 @@ fn link_rows<L: Ledger>(
     ensures plan { ◌≡◌ {A = Plan} (record { next = next.new; leave = leave.new; enter = enter.new })
         (found_each (place_weight side.now) (slots_of departures.now) (bare (side_slots side.now))) }
     ensures visited { Takes (AreSearches (side_slots side.now) side.now) looks.old.list looks.new.list steps.old steps.new }
-    ensures counted { steps.new ≤ steps.old + side_slots side.now * (side_slots side.now * side_slots side.now + side_slots side.now) }
+    ensures counted { steps.new ≤ steps.old + side_slots side.now * side_slots side.now * side_slots side.now }
 {
     let slots = side.slots();
+    invert(next, before);
     for added in 0..slots {
         let last = slots - 1 - added;
         let a = departures[last as usize].slot;
@@ -138,6 +142,7 @@ impl Placed {
         let before = self.before.as_mut_slice();
         link_places(side, next, placed);
         price_places(side, enter, entering);
+        invert(placed, before);
         search(
             side,
             a,
@@ -174,7 +179,7 @@ impl Placed {
         ensures plan { ◌≡◌ {A = Plan} (record { next = next.new; leave = leave.new; enter = enter.new })
             (all_found (slots_of side.now.columns) (side_weight side.now) (slots_of departures.now)) }
         ensures visited { Takes (AreSearches (side_slots side.now) side.now) looks.old.list looks.new.list steps.old steps.new }
-        ensures counted { steps.new ≤ steps.old + side_slots side.now * (side_slots side.now * side_slots side.now + side_slots side.now) }
+        ensures counted { steps.new ≤ steps.old + side_slots side.now * side_slots side.now * side_slots side.now }
     {
         self.set_slots(side.slots());
         let placed = self.links.as_mut_slice();
@@ -303,7 +308,7 @@ pub fn link_all<L: Ledger>(
     ensures plan { ◌≡◌ {A = Plan} (record { next = links.new; leave = leave.new.items; enter = enter.new.items })
         (all_found (slots_of side.now.columns) (side_weight side.now) (slots_of departures.now)) }
     ensures visited { Takes (AreSearches (side_slots side.now) side.now) looks.old.list looks.new.list steps.old steps.new }
-    ensures counted { steps.new ≤ steps.old + side_slots side.now * (side_slots side.now * side_slots side.now + side_slots side.now) }
+    ensures counted { steps.new ≤ steps.old + side_slots side.now * side_slots side.now * side_slots side.now }
 {
     lists.set_slots(side.slots());
     let next = lists.next.as_mut_slice();

@@ -185,8 +185,7 @@ impl Plan {
         ensures plan { self.new ≡ solved pairs.now }
         ensures visited { Takes (AreOfSide (AreSearches (length pairs.now.moves)) pairs.now false None) looks.old.list looks.new.list
             steps.old steps.new }
-        ensures counted { steps.new ≤ steps.old + length
-            pairs.now.moves * (length pairs.now.moves * length pairs.now.moves + length pairs.now.moves) }
+        ensures counted { steps.new ≤ steps.old + length pairs.now.moves * length pairs.now.moves * length pairs.now.moves }
     {
         // Its clauses say that the network is one of one day, along which departures rise.
         let slots = pairs.slots();

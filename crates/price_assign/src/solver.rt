@@ -83,14 +83,14 @@ impl Solver {
         self.plan.put(slot, next, leave, enter);
     }
 
-    /// Makes a certified plan for the pairs, whatever the plan was. At most n^3 + n^2 steps for n slots.
+    /// Makes a certified plan for the pairs, whatever the plan was. At most n^3 steps for n slots.
     pub fn solve<L: Ledger>(&mut self, pairs: &Pairs<'_>, looks: &mut Looks, steps: &mut Steps<L>)
         ensures slots { length self.new.next ≡ length pairs.now.moves }
         ensures certified { IsCertified (pairs_network pairs.now) self.new }
         ensures plan { self.new ≡ solved pairs.now }
         ensures visited { Takes (AreOfSide (AreSearches (length pairs.now.moves)) pairs.now false None) looks.old.list looks.new.list
             steps.old steps.new }
-        ensures counted { let n = length pairs.now.moves in steps.new ≤ steps.old + n * n * n + n * n }
+        ensures counted { let n = length pairs.now.moves in steps.new ≤ steps.old + n * n * n }
     {
         self.plan.solve(
             pairs,

@@ -1,5 +1,7 @@
-use Rattle.std.proofs.Common.{◌≡◌, ℕ, ◌+◌, ◌-◌, ◌≤◌, ◌∙◌, List, drop, get_or, None, refl, sym, ap, subst, arith}
-use Rattle.std.proofs.lemmas.List.{drop_all, get_or_default}
+use Rattle.std.proofs.Common.{◌≡◌, ℕ, ◌+◌, ◌-◌, ◌*◌, ◌≤◌, ◌∙◌, List, Option, drop, length, get_or, false, None, refl, sym, ap}
+use Rattle.std.proofs.Common.{subst, ⊎_elim, arith}
+use Rattle.std.proofs.lemmas.Bool.{cases_eq}
+use Rattle.std.proofs.lemmas.List.{drop_all, get_or_default, length-replicate}
 use Rattle.pair_search.specs.Arranged.{slots_of, bare}
 use Rattle.pair_search.specs.Assignment.{IsMatched, Covers}
 use Rattle.pair_search.specs.Determined.{found, found_each}
@@ -12,7 +14,16 @@ use Rattle.pair_search.proofs.LentLemmas.{plan-same}
 use Rattle.pair_search.proofs.PlacedLemmas.{found_each-more}
 use Rattle.pair_search.specs.Visits.{AreSearches, SearchesOnce, Takes}
 use Rattle.pair_search.proofs.VisitLemmas.{AreSearches-more, Takes-append, Takes-none}
+use Rattle.pair_search.proofs.ShiftLemmas.{AreNextTrips-matched}
 use Rattle.pair_search.proofs.search.link_rows.Goals as goal
+
+pub invert-requires-clause-links : goal.invert-requires-clause-links
+invert-requires-clause-links g c =
+    let w = place_weight c.args.side.now in
+    let n = side_slots c.args.side.now in
+    AreNextTrips-matched w n (λ _. false) None None c.args.next.now c.args.leave.now c.args.enter.now c.requires.sound
+    (ap length c.requires.next ∙ length-replicate {A = Option ℕ} n None)
+    (IsMatched-none w n (λ _. false) c.args.next.now c.args.leave.now c.args.enter.now c.requires.next c.requires.leave c.requires.enter)
 
 pub loop-added-init : goal.loop-added-init
 loop-added-init g c =
@@ -34,7 +45,9 @@ loop-added-init g c =
           (sym (ap (λ rows. found_each (place_weight side) rows (bare n))
           (drop_all (n - 0) (slots_of c.args.departures.now) (omega (arith, slots-length c.args.departures.now, c.requires.all)))));
       visited = Takes-none (AreSearches 0 side) refl c.args.looks.now.list c.args.steps.now;
-      counted = omega arith;
+      inverse = c.invert.ensures;
+      begun = λ _. (c.requires.next, refl);
+      counted = λ lt. omega (arith, lt);
     }
 
 pub search-requires-clause-begins : goal.search-requires-clause-begins
@@ -90,7 +103,14 @@ loop-added-preserved g c =
           Takes-append (AreSearches loop.added side) (SearchesOnce side) (AreSearches (loop.added + 1) side)
           (AreSearches-more side loop.added) c.args.looks.now.list loop.looks.list c.search.new.looks.list c.args.steps.now loop.steps
           c.search.new.steps loop.invariant.visited done.visited;
-      counted = omega (arith, done.counted, loop.invariant.counted);
+      inverse = done.inverse;
+      begun = λ none. absurd (omega (arith, none));
+      counted = λ _. ⊎_elim
+          (λ (first : loop.added ≡ 0).
+          omega (arith, first, (loop.invariant.begun first).1, done.alone (loop.invariant.begun first).0))
+          (λ (more : loop.added ≡ 0 → ⊥).
+          omega (arith, done.counted, loop.invariant.counted (omega (arith, more))))
+          (cases_eq loop.added 0);
     }
 
 pub returns-clause-matched : goal.returns-clause-matched
@@ -123,3 +143,17 @@ returns-clause-visited g c =
     let loop = c.loop-added in
     subst (λ n. Takes (AreSearches n side) c.args.looks.now.list loop.looks.list c.args.steps.now loop.steps)
     (omega (arith, c.loop-added-test.false, loop.auto.added-end, c.slots-slots.ensures.count)) loop.invariant.visited
+
+pub returns-clause-counted : goal.returns-clause-counted
+returns-clause-counted g c =
+    let loop = c.loop-added in
+    let all : loop.added ≡ side_slots c.args.side.now =
+    omega (arith, c.loop-added-test.false, loop.auto.added-end, c.slots-slots.ensures.count) in
+    ⊎_elim
+    (λ (none : loop.added ≡ 0). omega (arith, (loop.invariant.begun none).1))
+    (λ (some : loop.added ≡ 0 → ⊥).
+    fewer (side_slots c.args.side.now) loop.added c.args.steps.now loop.steps all (loop.invariant.counted (omega (arith, some))))
+    (cases_eq loop.added 0)
+  where
+    fewer : (n added had steps : ℕ) → added ≡ n → steps + n * n ≤ had + added * (n * n + n) → steps ≤ had + n * n * n
+    fewer n added had steps all counted = omega (arith, ap (λ m. m * (n * n + n)) all, counted)

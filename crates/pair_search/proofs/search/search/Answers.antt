@@ -13,19 +13,13 @@ use Rattle.pair_search.specs.Side.{side_slots, place_weight}
 use Rattle.pair_search.specs.Visits.{IsOfOthers, RowLooks, SearchesOnce}
 use Rattle.pair_search.proofs.EndLemmas.{matched-end, found-end}
 use Rattle.pair_search.proofs.FoundLemmas.{last_front}
-use Rattle.pair_search.proofs.InverseLemmas.{inverse-before}
+use Rattle.pair_search.proofs.InverseLemmas.{inverse-before, inverse-none}
 use Rattle.pair_search.proofs.ShiftLemmas.{AreNextTrips-matched, enter-low, given-at, IsOver, IsOver-grown, enough, gain-low, covers-over}
 use Rattle.pair_search.proofs.ShiftLemmas.{LeadsBack-over, free-over, to-over}
 use Rattle.std.specs.Prelude.{IfSome}
 use Rattle.pair_search.proofs.VisitLemmas.{search-once, Takes-append}
 use Rattle.pair_search.proofs.search.search.Given.{Over}
 use Rattle.pair_search.proofs.search.search.Goals as goal
-
-pub invert-requires-clause-links : goal.invert-requires-clause-links
-invert-requires-clause-links g c =
-    let side = c.args.side.now in
-    AreNextTrips-matched (place_weight side) (side_slots side) c.requires.begins.0 (Some c.args.a) c.requires.begins.1 c.args.next.now
-    c.args.leave.now c.args.enter.now c.requires.sound c.requires.next c.requires.begins.2.matched
 
 pub begin-requires-clause-enter_low : goal.begin-requires-clause-enter_low
 begin-requires-clause-enter_low g c =
@@ -36,34 +30,34 @@ begin-requires-clause-enter_low g c =
 pub grow-end-requires-clause-given : goal.grow-end-requires-clause-given
 grow-end-requires-clause-given g c =
     let side = c.args.side.now in
-    given-at (place_weight side) (side_slots side) c.requires.begins.0 c.args.a c.requires.begins.1 c.args.next.now c.invert.new.before
+    given-at (place_weight side) (side_slots side) c.requires.begins.0 c.args.a c.requires.begins.1 c.args.next.now c.args.before.now
     c.args.leave.now c.args.enter.now (at c.begin.new.self.rows.items 0) c.begin.new.leave
-    (omega (arith, c.requires.few)) c.requires.sound c.requires.next c.requires.leave c.invert.ensures c.requires.begins.2
+    (omega (arith, c.requires.few)) c.requires.sound c.requires.next c.requires.leave c.requires.inverse c.requires.begins.2
     c.begin.ensures.first c.begin.ensures.leave
 
 pub grow-end-requires-clause-begun : goal.grow-end-requires-clause-begun
 grow-end-requires-clause-begun g c =
     let side = c.args.side.now in
-    subst (λ first. IsTree (problem_of side first c.invert.new.before c.begin.new.leave c.args.enter.now)
+    subst (λ first. IsTree (problem_of side first c.args.before.now c.begin.new.leave c.args.enter.now)
     (tree_of c.begin.new.self 1 0)) (sym c.begin.ensures.first)
-    (c.begin.ensures.tree c.invert.new.before
-    (given-at (place_weight side) (side_slots side) c.requires.begins.0 c.args.a c.requires.begins.1 c.args.next.now c.invert.new.before
+    (c.begin.ensures.tree c.args.before.now
+    (given-at (place_weight side) (side_slots side) c.requires.begins.0 c.args.a c.requires.begins.1 c.args.next.now c.args.before.now
     c.args.leave.now c.args.enter.now c.args.a c.begin.new.leave
-    (omega (arith, c.requires.few)) c.requires.sound c.requires.next c.requires.leave c.invert.ensures c.requires.begins.2 refl
+    (omega (arith, c.requires.few)) c.requires.sound c.requires.next c.requires.leave c.requires.inverse c.requires.begins.2 refl
     c.begin.ensures.leave))
 
 -- the search has ended
 over-shift : (g : Over) (c : goal.After-shift-arg-2-1 g) (out : ℕ → Bool) (b : Option ℕ)
     → MayBegin (place_weight c.args.side.now) (side_slots c.args.side.now) out c.args.a b c.args.next.now c.args.leave.now c.args.enter.now
-    → IsOver (problem_of c.args.side.now (at c.begin.new.self.rows.items 0) c.invert.new.before c.begin.new.leave c.args.enter.now)
+    → IsOver (problem_of c.args.side.now (at c.begin.new.self.rows.items 0) c.args.before.now c.begin.new.leave c.args.enter.now)
     (tree_of c.grow-end.new.self c.grow-end.ensures.grown.size c.grow-end.ensures.grown.reach)
     c.grow-end.result out b c.args.next.now
 over-shift g c out b begins =
     let side = c.args.side.now in
-    IsOver-grown (place_weight side) (side_slots side) out c.args.a b c.args.next.now c.invert.new.before c.args.leave.now c.args.enter.now
+    IsOver-grown (place_weight side) (side_slots side) out c.args.a b c.args.next.now c.args.before.now c.args.leave.now c.args.enter.now
     (at c.begin.new.self.rows.items 0) c.begin.new.leave
     (tree_of c.grow-end.new.self c.grow-end.ensures.grown.size c.grow-end.ensures.grown.reach)
-    c.grow-end.result (omega (arith, c.requires.few)) c.requires.sound c.requires.next c.requires.leave c.invert.ensures begins
+    c.grow-end.result (omega (arith, c.requires.few)) c.requires.sound c.requires.next c.requires.leave c.requires.inverse begins
     c.begin.ensures.first c.begin.ensures.leave
     c.grow-end.ensures.grown.tree c.grow-end.ensures.grown.ended
 
@@ -82,7 +76,7 @@ shift-requires-clause-within g c = λ i j linked.
 
 pub shift-requires-clause-enough : goal.shift-requires-clause-enough
 shift-requires-clause-enough g c =
-    let p : Problem = (problem_of c.args.side.now (at c.begin.new.self.rows.items 0) c.invert.new.before c.begin.new.leave
+    let p : Problem = (problem_of c.args.side.now (at c.begin.new.self.rows.items 0) c.args.before.now c.begin.new.leave
     c.args.enter.now) in
     let s : TreeView = (tree_of c.grow-end.new.self c.grow-end.ensures.grown.size c.grow-end.ensures.grown.reach) in
     subst (λ xs. (i j : ℕ) → next_of c.args.next.now i ≡ Some j → c.grow-end.result.fall - at xs j ≤ at c.begin.new.leave i)
@@ -92,7 +86,7 @@ shift-requires-clause-enough g c =
 
 pub shift-requires-clause-low : goal.shift-requires-clause-low
 shift-requires-clause-low g c = λ j near.
-    let p : Problem = (problem_of c.args.side.now (at c.begin.new.self.rows.items 0) c.invert.new.before c.begin.new.leave
+    let p : Problem = (problem_of c.args.side.now (at c.begin.new.self.rows.items 0) c.args.before.now c.begin.new.leave
     c.args.enter.now) in
     let s : TreeView = (tree_of c.grow-end.new.self c.grow-end.ensures.grown.size c.grow-end.ensures.grown.reach) in
     ⊎_elim
@@ -106,21 +100,21 @@ shift-requires-clause-low g c = λ j near.
 -- the search has ended
 over-relink : (g : Over) (c : goal.After-relink-arg-2-1 g) (out : ℕ → Bool) (b : Option ℕ)
     → MayBegin (place_weight c.args.side.now) (side_slots c.args.side.now) out c.args.a b c.args.next.now c.args.leave.now c.args.enter.now
-    → IsOver (problem_of c.args.side.now (at c.begin.new.self.rows.items 0) c.invert.new.before c.begin.new.leave c.args.enter.now)
+    → IsOver (problem_of c.args.side.now (at c.begin.new.self.rows.items 0) c.args.before.now c.begin.new.leave c.args.enter.now)
     (tree_of c.grow-end.new.self c.grow-end.ensures.grown.size c.grow-end.ensures.grown.reach)
     c.grow-end.result out b c.args.next.now
 over-relink g c out b begins =
     let side = c.args.side.now in
-    IsOver-grown (place_weight side) (side_slots side) out c.args.a b c.args.next.now c.invert.new.before c.args.leave.now c.args.enter.now
+    IsOver-grown (place_weight side) (side_slots side) out c.args.a b c.args.next.now c.args.before.now c.args.leave.now c.args.enter.now
     (at c.begin.new.self.rows.items 0) c.begin.new.leave
     (tree_of c.grow-end.new.self c.grow-end.ensures.grown.size c.grow-end.ensures.grown.reach)
-    c.grow-end.result (omega (arith, c.requires.few)) c.requires.sound c.requires.next c.requires.leave c.invert.ensures begins
+    c.grow-end.result (omega (arith, c.requires.few)) c.requires.sound c.requires.next c.requires.leave c.requires.inverse begins
     c.begin.ensures.first c.begin.ensures.leave
     c.grow-end.ensures.grown.tree c.grow-end.ensures.grown.ended
 
 pub relink-requires-clause-back : goal.relink-requires-clause-back
 relink-requires-clause-back g c =
-    let p : Problem = (problem_of c.args.side.now (at c.begin.new.self.rows.items 0) c.invert.new.before c.begin.new.leave
+    let p : Problem = (problem_of c.args.side.now (at c.begin.new.self.rows.items 0) c.args.before.now c.begin.new.leave
     c.args.enter.now) in
     let s : TreeView = (tree_of c.grow-end.new.self c.grow-end.ensures.grown.size c.grow-end.ensures.grown.reach) in
     let now = c.grow-end.new.self in
@@ -133,7 +127,7 @@ relink-requires-clause-back g c =
 
 pub relink-requires-clause-to : goal.relink-requires-clause-to
 relink-requires-clause-to g c =
-    let p : Problem = (problem_of c.args.side.now (at c.begin.new.self.rows.items 0) c.invert.new.before c.begin.new.leave
+    let p : Problem = (problem_of c.args.side.now (at c.begin.new.self.rows.items 0) c.args.before.now c.begin.new.leave
     c.args.enter.now) in
     let now = c.grow-end.new.self in
     let s : TreeView = (tree_of now c.grow-end.ensures.grown.size c.grow-end.ensures.grown.reach) in
@@ -143,29 +137,29 @@ relink-requires-clause-to g c =
 
 pub relink-requires-clause-free : goal.relink-requires-clause-free
 relink-requires-clause-free g c =
-    let p : Problem = (problem_of c.args.side.now (at c.begin.new.self.rows.items 0) c.invert.new.before c.begin.new.leave
+    let p : Problem = (problem_of c.args.side.now (at c.begin.new.self.rows.items 0) c.args.before.now c.begin.new.leave
     c.args.enter.now) in
     let s : TreeView = (tree_of c.grow-end.new.self c.grow-end.ensures.grown.size c.grow-end.ensures.grown.reach) in
     free-over p s c.grow-end.result c.requires.begins.0 c.requires.begins.1 c.args.next.now
     (over-relink g c c.requires.begins.0 c.requires.begins.1 c.requires.begins.2)
 
 -- the search has ended
-over-end : (g : Over) (c : goal.After-before-2-1 g) (out : ℕ → Bool) (b : Option ℕ)
+over-end : (g : Over) (c : goal.After-before-1 g) (out : ℕ → Bool) (b : Option ℕ)
     → MayBegin (place_weight c.args.side.now) (side_slots c.args.side.now) out c.args.a b c.args.next.now c.args.leave.now c.args.enter.now
-    → IsOver (problem_of c.args.side.now (at c.begin.new.self.rows.items 0) c.invert.new.before c.begin.new.leave c.args.enter.now)
+    → IsOver (problem_of c.args.side.now (at c.begin.new.self.rows.items 0) c.args.before.now c.begin.new.leave c.args.enter.now)
     (tree_of c.grow-end.new.self c.grow-end.ensures.grown.size c.grow-end.ensures.grown.reach)
     c.grow-end.result out b c.args.next.now
 over-end g c out b begins =
     let side = c.args.side.now in
-    IsOver-grown (place_weight side) (side_slots side) out c.args.a b c.args.next.now c.invert.new.before c.args.leave.now c.args.enter.now
+    IsOver-grown (place_weight side) (side_slots side) out c.args.a b c.args.next.now c.args.before.now c.args.leave.now c.args.enter.now
     (at c.begin.new.self.rows.items 0) c.begin.new.leave
     (tree_of c.grow-end.new.self c.grow-end.ensures.grown.size c.grow-end.ensures.grown.reach)
-    c.grow-end.result (omega (arith, c.requires.few)) c.requires.sound c.requires.next c.requires.leave c.invert.ensures begins
+    c.grow-end.result (omega (arith, c.requires.few)) c.requires.sound c.requires.next c.requires.leave c.requires.inverse begins
     c.begin.ensures.first c.begin.ensures.leave
     c.grow-end.ensures.grown.tree c.grow-end.ensures.grown.ended
 
 -- the prices are shifted
-shifted : (g : Over) (c : goal.After-before-2-1 g)
+shifted : (g : Over) (c : goal.After-before-1 g)
     → IsShifted (side_slots c.args.side.now) (at c.begin.new.self.rows.items 0) c.args.next.now c.grow-end.new.self.dist.items
     c.grow-end.result.fall c.begin.new.leave c.args.enter.now c.shift.new.leave c.shift.new.enter
 shifted g c =
@@ -178,7 +172,7 @@ shifted g c =
 
 pub returns-clause-matched : goal.returns-clause-matched
 returns-clause-matched g c = λ out b begins.
-    let p : Problem = (problem_of c.args.side.now (at c.begin.new.self.rows.items 0) c.invert.new.before c.begin.new.leave
+    let p : Problem = (problem_of c.args.side.now (at c.begin.new.self.rows.items 0) c.args.before.now c.begin.new.leave
     c.args.enter.now) in
     let now = c.grow-end.new.self in
     let s : TreeView = (tree_of now c.grow-end.ensures.grown.size c.grow-end.ensures.grown.reach) in
@@ -195,7 +189,7 @@ returns-clause-matched g c = λ out b begins.
 
 pub returns-clause-covers : goal.returns-clause-covers
 returns-clause-covers g c = λ out b begins.
-    let p : Problem = (problem_of c.args.side.now (at c.begin.new.self.rows.items 0) c.invert.new.before c.begin.new.leave
+    let p : Problem = (problem_of c.args.side.now (at c.begin.new.self.rows.items 0) c.args.before.now c.begin.new.leave
     c.args.enter.now) in
     let s : TreeView = (tree_of c.grow-end.new.self c.grow-end.ensures.grown.size c.grow-end.ensures.grown.reach) in
     covers-over p s c.grow-end.result out b c.args.next.now c.shift.new.leave c.shift.new.enter (over-end g c out b begins) (shifted g c)
@@ -230,7 +224,7 @@ returns-clause-plan g c =
     ∙ get_or-set_same c.args.leave.now a 4503599627370496 0 (omega (arith, c.requires.begins.2.start, c.requires.leave)) in
     let begun : Shows start 0 None (at c.begin.new.leave (at start.rows.items 0)) first =
     subst (λ (f : ℕ). Shows start 0 None f first) (sym opened_price) c.begin.ensures.shown in
-    let at_end = c.grow-end.ensures.shown next first (λ j. sym (inverse-before next c.invert.new.before matched.once c.invert.ensures j))
+    let at_end = c.grow-end.ensures.shown next first (λ j. sym (inverse-before next c.args.before.now matched.once c.requires.inverse j))
     begun in
     let shown : Shows now end.from end.to end.fall over =
     subst (λ (m : ℕ). Shows now end.from end.to end.fall (grown w (opened a plan) m (first_front w a enter m))) (sym c.requires.next)
@@ -238,7 +232,7 @@ returns-clause-plan g c =
     c.begin.ensures.leave at_end) in
     let first_is = c.begin.ensures.first in
     let s : TreeView = (tree_of now c.grow-end.ensures.grown.size c.grow-end.ensures.grown.reach) in
-    found-end (problem w n (at start.rows.items 0) c.invert.new.before c.begin.new.leave enter) s end c.requires.begins.0 c.requires.begins.1
+    found-end (problem w n (at start.rows.items 0) c.args.before.now c.begin.new.leave enter) s end c.requires.begins.0 c.requires.begins.1
     next (over-end g c c.requires.begins.0 c.requires.begins.1 c.requires.begins.2) c.args.leave.now enter c.relink.new.next
     c.shift.new.leave c.shift.new.enter
     (omega (arith, now.dist.ok.0, c.begin.ensures.slots, c.grow-end.ensures.slots)) c.requires.enter
@@ -253,3 +247,11 @@ returns-clause-plan g c =
     (omega (arith, c.shift.auto.leave, ap length c.begin.ensures.leave, length-set c.args.leave.now a 4503599627370496))
     (omega (arith, c.shift.auto.enter)) (shifted g c)
     ∙ ap (λ x. found w x plan) first_is
+
+pub returns-clause-inverse : goal.returns-clause-inverse
+returns-clause-inverse g c = c.relink.ensures.inverse c.requires.begins.2.matched.once c.requires.inverse
+
+pub returns-clause-alone : goal.returns-clause-alone
+returns-clause-alone g c = λ none.
+    let n = side_slots c.args.side.now in
+    omega (arith, c.begin.ensures.counted, c.grow-end.ensures.alone (inverse-none n c.args.next.now c.args.before.now c.requires.inverse none))

@@ -1,4 +1,4 @@
-use Rattle.std.proofs.Common.{◌≡◌, ℕ, ◌+◌, ◌∙◌, List, length, map, Option, None, sym, ap, arith}
+use Rattle.std.proofs.Common.{◌≡◌, ℕ, ◌+◌, ◌∙◌, List, length, map, Option, None, Some, sym, ap, arith}
 use Rattle.std.proofs.Math.Path.{fun_ext}
 use Rattle.std.proofs.lemmas.List.{length-replicate}
 use Rattle.std.specs.Option.{option_map}
@@ -10,11 +10,37 @@ use Rattle.pair_search.proofs.ArrangedLemmas.{slots-length}
 use Rattle.pair_search.proofs.PlacedLemmas.{slot_in-is, place_in-is, links-renamed, prices-placed, prices-by_slots, found_by-is}
 use Rattle.pair_search.proofs.RenameLemmas.{AreRenamed-placed, AreRenamed-slotted, AreWeights-placed, MayBegin-placed, IsMatched-slotted}
 use Rattle.pair_search.proofs.RenameLemmas.{Covers-slotted, IsPath-slotted}
+use Rattle.pair_search.proofs.ShiftLemmas.{AreNextTrips-matched}
 use Rattle.pair_search.proofs.lists.Placed.search.Goals as goal
 
 pub link_places-requires-clause-within : goal.link_places-requires-clause-within
 link_places-requires-clause-within g c = λ i j e.
     (c.requires.sound.within i j (price c.args.leave.now i + price c.args.enter.now j) (c.requires.begins.2.matched.tight i j e)).1
+
+pub invert-requires-clause-links : goal.invert-requires-clause-links
+invert-requires-clause-links g c =
+    let side = c.args.side.now in
+    let was =
+    AreRenamed-placed (side_slots side) (side_slot side) (side_place side) c.args.next.now c.link_places.new.placed c.args.enter.now
+    c.price_places.new.entering c.slots.ensures.renaming
+    (λ i j e. (c.requires.sound.within i j (price c.args.leave.now i + price c.args.enter.now j)
+    (c.requires.begins.2.matched.tight i j e)).1) c.link_places.ensures c.price_places.ensures.prices c.requires.enter
+    c.price_places.ensures.length in
+    let begins =
+    MayBegin-placed (side_weight side) (side_slots side) (side_slot side) (side_place side) c.requires.begins.0 c.args.a
+    c.requires.begins.1 c.args.next.now c.link_places.new.placed c.args.leave.now c.args.enter.now
+    c.price_places.new.entering c.requires.sound c.slots.ensures.renaming was c.requires.begins.2 in
+    AreNextTrips-matched (place_weight side) (side_slots side) c.requires.begins.0 (Some c.args.a)
+    (option_map (side_place side) c.requires.begins.1) c.link_places.new.placed c.args.leave.now c.price_places.new.entering
+    (AreWeights-placed (side_weight side) (side_slots side) (side_slot side) (side_place side) c.requires.sound c.slots.ensures.renaming)
+    (omega (
+      arith,
+      c.link_places.auto.placed,
+      ap length c.as_mut_slice-placed.ensures.value,
+      ap length c.set_slots.ensures.links,
+      length-replicate {A = Option ℕ} c.slots.result None,
+      c.slots.ensures.count,
+    )) begins.matched
 
 pub search-requires-clause-sound : goal.search-requires-clause-sound
 search-requires-clause-sound g c =

@@ -3,6 +3,7 @@ use Rattle.std.proofs.Common.{refl, sym, ap, subst, arith}
 use Rattle.std.proofs.Math.Nat.{mul-le-mul_left}
 use Rattle.std.proofs.lemmas.List.{get_or_read}
 use Rattle.std.proofs.lemmas.List.Elements.{All-nil}
+use Rattle.std.proofs.lemmas.Option.{none-some}
 use Rattle.assignment_model.specs.Prices.{Plan}
 use Rattle.pair_search.specs.Determined.{first_nearest, grown}
 use Rattle.pair_search.specs.Fronts.{IsShown, IsOnWay}
@@ -52,6 +53,7 @@ loop-column-init g c =
           Takes-none (TreeLooks side was.rows.items 1) (record { once = once-none side; each = All-nil (IsOfTree was.rows.items 1) })
           c.args.looks.now.list c.args.steps.now;
       counted = omega arith;
+      alone = λ _. refl;
     }
 
 pub nearest-requires-clause-room : goal.nearest-requires-clause-room
@@ -304,6 +306,7 @@ loop-column-preserved g c =
           c.args.looks.now.list loop.looks.list c.visit.new.looks.list c.args.steps.now loop.steps c.visit.new.steps
           loop.invariant.visited c.visit.ensures.visited;
       counted = omega (arith, loop.invariant.counted, c.visit.ensures.counted);
+      alone = λ none. absurd (none-some row (sym (none column) ∙ c.in-Some-before.is));
     }
 
 pub returns-clause-grown : goal.returns-clause-grown

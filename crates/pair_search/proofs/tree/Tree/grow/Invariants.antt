@@ -24,6 +24,7 @@ invariant-loop-column g l = record {
   seen : IsSeen l.side l.enter l.self;
   visited : Takes (TreeLooks l.side l.self.rows.items l.size) l.initial.looks.list l.looks.list l.initial.steps l.steps;
   counted : l.steps + side_slots l.side ≤ l.initial.steps + side_slots l.side * l.size;
+  alone : ((j : ℕ) → next_of l.before j ≡ None) → l.steps ≡ l.initial.steps;
 }
 
 abbrev pub decreases-loop-column : goal.decreases-loop-column
