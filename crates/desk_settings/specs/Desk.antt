@@ -17,6 +17,7 @@ use Rattle.service_days.specs.Dates.{date_of}
 use Rattle.toml.specs.Data.{Data, Items, no_items, item, Members, no_members, member, is_before, as_integer, as_str, as_array, as_table}
 use Rattle.toml.specs.Parse.{parse_document}
 use Rattle.desk_settings.specs.Names.{with_name}
+use Rattle.desk_settings.specs.Prefer.{preferences_in, standard_preferences}
 use Rattle.desk_settings.specs.declared.desk.DeskTable.{DeskTable}
 use Rattle.desk_settings.specs.declared.desk.TheConstants.{MOST_CLASS, MOST_PREFIX}
 
@@ -82,7 +83,17 @@ date_in value = option_and_then if_date (as_str value)
 -- rule: what holds without `desk.toml`
 -- what holds where `desk.toml` does not say otherwise
 abbrev pub standard_desk : DeskTable
-standard_desk = record { services = None; date = None; classes = []; layover = 0; layovers = []; early = 0; late = 0; prefix = codes "B" }
+standard_desk = record {
+  services = None;
+  date = None;
+  classes = [];
+  layover = 0;
+  layovers = [];
+  early = 0;
+  late = 0;
+  prefix = codes "B";
+  prefer = standard_preferences;
+}
 
 -- the keys of members ascend in byte order
 abbrev pub Ascend : Members → Type 0
@@ -100,6 +111,7 @@ with_key desk key value =
     else if bytes_eq key (codes "early") then option_map (λ minutes. record desk { early = minutes }) (minutes_in MOST_TOLERANCE value)
     else if bytes_eq key (codes "late") then option_map (λ minutes. record desk { late = minutes }) (minutes_in MOST_TOLERANCE value)
     else if bytes_eq key (codes "block_prefix") then option_map (λ prefix. record desk { prefix = prefix }) (prefix_in value)
+    else if bytes_eq key (codes "prefer") then option_map (λ prefer. record desk { prefer = prefer }) (preferences_in value)
     else None
 
 -- whether the key is unknown or its value of another form

@@ -1,4 +1,5 @@
 pub mod Names
+pub mod Prefer
 pub mod Desk
 pub mod Terminals
 pub mod Tolerances

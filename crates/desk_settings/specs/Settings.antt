@@ -9,10 +9,11 @@ use Rattle.desk_settings.specs.Desk.{desk_of}
 use Rattle.desk_settings.specs.Terminals.{terminals_of}
 use Rattle.desk_settings.specs.Tolerances.{tolerances_of}
 use Rattle.desk_settings.specs.declared.desk.DeskTable.{DeskTable}
+use Rattle.desk_settings.specs.declared.prefer.Preference.{Preference}
 
 -- the services that are selected, None where all are; the date whose services are selected, if there is one; the classes of
--- routes. Then the minutes of layover, and those of places; the minutes of tolerance; the prefix of block names. Last the
--- terminals of stops, and the tolerances of trips, early before late
+-- routes. Then the minutes of layover, and those of places; the minutes of tolerance; the prefix of block names; what is
+-- preferred among plans that are equally good. Last the terminals of stops, and the tolerances of trips, early before late
 pub record SettingsView : Type 0 where
   pub services : Option (List (List ℕ))
   pub date : Option ℕ
@@ -22,6 +23,7 @@ pub record SettingsView : Type 0 where
   pub early : ℕ
   pub late : ℕ
   pub prefix : List ℕ
+  pub prefer : List Preference
   pub terminals : Entries Name
   pub tolerances : Entries (ℕ × ℕ)
 
@@ -36,6 +38,7 @@ settings_with desk terminals tolerances = record {
   early = desk.early;
   late = desk.late;
   prefix = desk.prefix;
+  prefer = desk.prefer;
   terminals = terminals;
   tolerances = tolerances;
 }

@@ -8,6 +8,7 @@ use crate::class::Class;
 use crate::date::Date;
 use crate::minutes::{Layover, Minutes, Tolerance};
 use crate::names::Names;
+use crate::prefer::{Preferences, preferences_in};
 use desk_io::{Found, Memory, Text};
 use gtfs_tables::{Entries, FeedFault, Paper, optional_bytes};
 use service_days::read_date;
@@ -39,6 +40,8 @@ pub(crate) struct DeskTable {
     pub(crate) late: Tolerance,
     /// What the names of blocks begin with.
     pub(crate) prefix: Text,
+    /// What is preferred among plans that are equally good.
+    pub(crate) prefer: Preferences,
 }
 
 impl Drop for DeskTable {
@@ -52,6 +55,7 @@ impl Drop for DeskTable {
             early: _,
             late: _,
             prefix: _,
+            prefer: _,
         } = self;
     }
 }
@@ -206,6 +210,7 @@ impl DeskTable {
             early: Tolerance::of(0),
             late: Tolerance::of(0),
             prefix,
+            prefer: Preferences::standard(alloc)?,
         })
     }
 
@@ -223,6 +228,7 @@ impl DeskTable {
             "early" => put(&mut self.early, minutes_in(value)),
             "late" => put(&mut self.late, minutes_in(value)),
             "block_prefix" => put(&mut self.prefix, prefix_in(alloc, value)?),
+            "prefer" => put(&mut self.prefer, preferences_in(alloc, value)?),
             _ => false,
         })
     }

@@ -5,7 +5,8 @@
 //! file that is not there has no entries. Look-ups by name take time that hardly grows with the number of entries.
 //!
 //! Where there is a date ([`Settings::date`]), [`Settings::keep_services`] selects the services that run on it.
-//! [`chosen_in`] says which records of `trips.txt` are selected.
+//! [`chosen_in`] says which records of `trips.txt` are selected. [`Settings::prefer`] is what a planner prefers among plans
+//! that are equally good.
 //!
 //! [`Names`] are names without repeats, each with its number.
 //!
@@ -23,7 +24,8 @@
 //! - `Desk`: the table of `desk.toml`, key after key
 //! - `Terminals`, `Tolerances`: the two tables, record after record
 //! - `Names`: names without repeats
-//! - `Selected`: which records of `trips.txt` are selected
+//! - `Prefer`: what is preferred among plans that are equally good
+//! - `Selected`: which records of `trips.txt` are selected, and their fields
 //! - of `gtfs_tables` `Entries`
 #![tactic(auto)]
 
@@ -33,6 +35,7 @@ mod desk;
 pub mod laws;
 mod minutes;
 mod names;
+mod prefer;
 mod selected;
 mod settings;
 mod terminals;
@@ -40,5 +43,6 @@ mod tolerances;
 
 pub use desk::{MOST_CLASS, MOST_PREFIX};
 pub use names::Names;
+pub use prefer::{Preference, Preferences};
 pub use selected::chosen_in;
 pub use settings::Settings;

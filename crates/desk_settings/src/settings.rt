@@ -14,6 +14,7 @@ use crate::desk::{DeskTable, desk_of};
 use crate::laws::key_order_law;
 use crate::minutes::Tolerance;
 use crate::names::Names;
+use crate::prefer::Preferences;
 use crate::terminals::terminals_of;
 use crate::tolerances::tolerances_of;
 use desk_io::{Found, Memory, Text};
@@ -29,7 +30,8 @@ use std::marker::Model;
 /// - the minutes of layover, with a list of places that have their own
 /// - the minutes of tolerance, early and late
 /// - the prefix of block names
-/// the list of stops with their terminals, and that of trips with their tolerances
+/// - what is preferred among plans that are equally good, in the order of importance
+/// - the list of stops with their terminals, and that of trips with their tolerances
 ///
 /// Entries for places, stops and trips that no feed names are kept.
 pub struct Settings {
@@ -141,6 +143,13 @@ impl Settings {
         let alloc = self.desk.classes.allocator();
         self.desk.services = Some(kept_services(alloc, &self.desk.services, services)?);
         Ok(())
+    }
+
+    /// What is preferred among plans that are equally good, in the order of importance.
+    pub fn prefer(&self) -> &Preferences
+        ensures { result.now ≡ self.now.prefer }
+    {
+        &self.desk.prefer
     }
 
     /// Whether vehicles are of classes, as they are where `desk.toml` has a class for a route.
