@@ -1,11 +1,10 @@
 -- The blocks that a feed states by the `block_id` of its trips.
 use Rattle.std.specs.Prelude.{ℕ, ◌<◌, ◌≤◌, ◌==◌, ◌||◌, ◌≡◌, Bool, true, false, List, [], ◌∷◌, length, map, filter, slice_index_or, All}
 use Rattle.std.specs.Prelude.{if◌then◌else◌}
-use Rattle.std.specs.List.{range_with_len}
 use Rattle.std.specs.Str.{IsUtf8, bytes_eq}
 use Rattle.gtfs_tables.specs.Table.{TableView}
 use Rattle.gtfs_tables.specs.declared.paper.Column.TheVariants as column
-use Rattle.gtfs_tables.specs.Reading.{field_at, place_of}
+use Rattle.desk_settings.specs.Selected.{field_of, selected_fields, slot_field}
 use Rattle.trip_model.specs.declared.limits.TheConstants.{MOST_SLOTS}
 use Rattle.trip_model.specs.Order.{by_departure}
 use Rattle.trip_model.specs.Plain.{trip_moves}
@@ -16,13 +15,9 @@ pub record NamedBlock : Type 0 where
   pub name : List ℕ
   pub slots : List ℕ
 
--- the numbers, from 0, of the selected records, in their order
-abbrev pub selected : TableView → List Bool → List ℕ
-selected trips chosen = filter (λ r. slice_index_or chosen r false) (range_with_len 0 (length trips.rows))
-
 -- the `block_id` of a record, in the first column of that name; empty where there is no such column
 abbrev pub block_field : TableView → ℕ → List ℕ
-block_field trips r = field_at (slice_index_or trips.rows r []) (place_of column.BlockId trips.header)
+block_field trips r = field_of column.BlockId trips r
 
 -- the `block_id` of each selected record is text
 abbrev pub AreNames : TableView → List Bool → Type 0
@@ -30,11 +25,11 @@ AreNames trips chosen = (r : ℕ) → r < length trips.rows → slice_index_or c
 
 -- the `block_id` of the selected records, in their order: that of the n-th, counted from 0, is of the trip in slot n
 abbrev pub stated_names : TableView → List Bool → List (List ℕ)
-stated_names trips chosen = map (block_field trips) (selected trips chosen)
+stated_names trips chosen = selected_fields column.BlockId trips chosen
 
--- the name that a slot has; empty for one without a record, as that of an extra trip
+-- the name that a slot has; empty for one without a record
 abbrev pub name_at : List (List ℕ) → ℕ → List ℕ
-name_at names s = slice_index_or names s []
+name_at names s = slot_field names s
 
 -- the trip of a slot has no name, and so a block of its own
 abbrev pub is_alone : List (List ℕ) → ℕ → Bool

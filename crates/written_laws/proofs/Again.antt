@@ -9,7 +9,7 @@ use Rattle.gtfs_tables.specs.declared.paper.Column.TheVariants as column
 use Rattle.gtfs_tables.specs.declared.table.TableFault.{TableFault}
 use Rattle.gtfs_tables.specs.Table.{TableView, IsTable}
 use Rattle.gtfs_tables.specs.Reading.{field_at, place_of}
-use Rattle.desk_settings.specs.Selected.{chosen_in, is_selected, is_text_chosen}
+use Rattle.desk_settings.specs.Selected.{chosen_in, is_selected, is_text_chosen, selected}
 use Rattle.desk_settings.specs.Settings.{SettingsView}
 use Rattle.trip_model.specs.Links.{blocks_along}
 use Rattle.trip_model.specs.Order.{by_departure}
@@ -18,7 +18,7 @@ use Rattle.trip_model.specs.Timetable.{TimetableView, Slot, slot_names}
 use Rattle.deadhead_matrix.specs.Matrix.{MatrixView}
 use Rattle.block_writer.specs.Trips.{header_written, trips_rows, with_blocks}
 use Rattle.block_writer.proofs.ReadAgain as writer
-use Rattle.block_audit.specs.Stated.{blocks_by, block_field, selected, stated_in}
+use Rattle.block_audit.specs.Stated.{blocks_by, block_field, stated_in}
 use Rattle.claim_files.proofs.EachRecord.{same_Ok}
 use Rattle.written_laws.specs.Follows.{IsEditedFrom}
 use Rattle.written_laws.specs.Written.{as_written}

@@ -18,7 +18,7 @@ use Rattle.gtfs_tables.specs.Reading.{◌>>=◌, column_in, each_record, filled_
 use Rattle.gtfs_tables.specs.Table.{TableView, table_of}
 use Rattle.gtfs_tables.specs.Entries.{Name}
 use Rattle.desk_settings.specs.Names.{is_among}
-use Rattle.desk_settings.specs.Selected.{chosen_in as chosen_of, is_selected}
+use Rattle.desk_settings.specs.Selected.{chosen_in as chosen_of, is_selected, selected}
 use Rattle.desk_settings.specs.Settings.{SettingsView, class_of, is_chosen, is_classed}
 use Rattle.trip_model.specs.Timetable.{TimetableView, Slot, slot_names}
 use Rattle.feed_read.specs.Base.{base_of, ends_of, places_met, slot_of}
@@ -26,7 +26,6 @@ use Rattle.feed_read.specs.FeedTrips.{feed_trips_in, feed_trips_of}
 use Rattle.feed_read.specs.Trips.{Selected, chosen_in, classed_columns_in, columns_in, nothing_selected, trips_in, with_chosen}
 use Rattle.feed_read.specs.Trips.{with_classed_trip, with_selected, with_trip}
 use Rattle.feed_read.specs.StopTimes.{stop_times_for}
-use Rattle.block_audit.specs.Stated.{selected}
 use Rattle.claim_files.proofs.EachRecord.{provided-parts, read-parts, same_Ok}
 use Rattle.written_laws.proofs.Base.{slots-of}
 use Rattle.written_laws.proofs.Columns.{column_in-found}

@@ -13,11 +13,12 @@ use Rattle.gtfs_tables.specs.Papers.{column_name_of}
 use Rattle.gtfs_tables.specs.Spaces.{without_spaces}
 use Rattle.gtfs_tables.specs.Table.{TableView, IsTable, column_of}
 use Rattle.gtfs_tables.specs.Reading.{field_at, place_of}
+use Rattle.desk_settings.specs.Selected.{selected}
 use Rattle.std.specs.Str.{bytes_eq}
 use Rattle.trip_model.specs.Timetable.{TimetableView, Slot, number_of, slot_names}
 use Rattle.block_writer.specs.Fields.{slot_in, with_field}
 use Rattle.block_writer.specs.Trips.{block_numbers, block_of, header_written, name_of, number_in, trip_written, trips_rows, with_blocks}
-use Rattle.block_audit.specs.Stated.{block_field, selected, stated_names}
+use Rattle.block_audit.specs.Stated.{block_field, stated_names}
 use Rattle.claim_files.proofs.NamesFound.{number-distinct}
 use Rattle.written_laws.proofs.Columns.{column-found}
 use Rattle.written_laws.specs.PlanLaws as spec

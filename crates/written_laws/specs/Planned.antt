@@ -6,12 +6,12 @@ use Rattle.desk_io.specs.declared.shelf.Found.TheVariants.{File}
 use Rattle.gtfs_tables.specs.Table.{TableView, IsTable, table_of}
 use Rattle.gtfs_tables.specs.declared.paper.Column.TheVariants as column
 use Rattle.gtfs_tables.specs.Reading.{field_at, place_of}
+use Rattle.desk_settings.specs.Selected.{selected}
 use Rattle.desk_settings.specs.Settings.{SettingsView}
 use Rattle.trip_model.specs.Timetable.{TimetableView, slot_names}
 use Rattle.feed_read.specs.Base.{base_of}
 use Rattle.block_writer.specs.StopTimes.{stop_times_written}
 use Rattle.block_writer.specs.Trips.{name_of, number_in, trips_written}
-use Rattle.block_audit.specs.Stated.{selected}
 use Rattle.written_laws.specs.Follows.{IsEditedFrom}
 use Rattle.written_laws.specs.Written.{AreWritable}
 
