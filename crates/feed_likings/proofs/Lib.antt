@@ -1,0 +1,5 @@
+pub mod AlikeLemmas
+pub mod FieldLemmas
+pub mod NumberedLemmas
+pub mod OrderLemmas
+pub mod UnitLemmas

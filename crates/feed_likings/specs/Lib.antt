@@ -1,0 +1,5 @@
+pub mod Units
+pub mod Alike
+pub mod Numbered
+pub mod Likings
+pub mod Laws

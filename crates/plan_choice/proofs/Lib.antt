@@ -1,0 +1,4 @@
+pub mod ChosenLemmas
+pub mod LikingsLemmas
+pub mod ListingLemmas
+pub mod StartLemmas
