@@ -11,8 +11,10 @@ use Rattle.desk_feed.specs.Judging.{IsGivenOf, said_in}
 use Rattle.desk_feed.specs.Schedule.{IsMatrixFor}
 use Rattle.claim_files.specs.Written.{AreOfPlan, IsAccepted}
 use Rattle.assignment_model.specs.Prices.{Plan}
+use Rattle.plan_choice.specs.Likings.{LikingsView}
 use Rattle.desk_core.specs.Counts.{blocks_in}
 use Rattle.feed_names.specs.Laws.{TripsAreNamed}
+use Rattle.feed_likings.specs.Likings.{likings_in}
 use Rattle.feed_desk.specs.Drawn.{HasFollowed}
 use Rattle.feed_desk.specs.Plans.{plan_at}
 use Rattle.feed_desk.specs.declared.follow.Followed.{Followed}
@@ -20,17 +22,17 @@ use Rattle.blocks_command.specs.Answers.{answer_text, numbers_text}
 use Rattle.blocks_command.specs.Blocks.{IsPlanned, blocks_does, plan_files}
 
 -- what is written and put of a desk that has followed a script is that of its plans
-pub planned-of : {D E : Type 0} (base : TimetableView) (lines : List Line) (matrix : MatrixView) (prefix : List ℕ) (followed : Followed D)
-    → HasFollowed (answer_text matrix prefix) base lines matrix followed → IsUtf8 prefix → (result : Result OutcomeView E)
+pub planned-of : {D E : Type 0} (base : TimetableView) (lines : List Line) (matrix : MatrixView) (likings : LikingsView)
+    (prefix : List ℕ) (followed : Followed D) → HasFollowed (answer_text matrix prefix) base lines matrix likings followed → IsUtf8 prefix → (result : Result OutcomeView E)
     → IfOk result (λ outcome. outcome ≡ record {
       writes = plan_files followed.desk.script.timetable followed.desk.matrix prefix followed.desk.plan;
       lines = None;
       text = string_bytes followed.text ++ numbers_text followed.desk.script.timetable followed.desk.matrix followed.desk.plan;
       ending = followed.ending;
     })
-    → IfOk result (IsPlanned base lines matrix prefix)
-planned-of base lines matrix prefix followed has begun (Err e) done = tt
-planned-of base lines matrix prefix followed has begun (Ok outcome) done = record {
+    → IfOk result (IsPlanned base lines matrix likings prefix)
+planned-of base lines matrix likings prefix followed has begun (Err e) done = tt
+planned-of base lines matrix likings prefix followed has begun (Ok outcome) done = record {
   are = has.are;
   pulls = has.pulls;
   begun = begun;
@@ -48,15 +50,16 @@ AcceptsPlans = (timetable : TimetableView) (matrix : MatrixView) (prefix : List 
     → AreOfPlan timetable matrix prefix plan blocks
     → IsAccepted timetable matrix prefix blocks plan.leave plan.enter
 
-pub plan-given : {E : Type 0} (read : ReadView) (said : FeedView) (matrix : MatrixView) → AcceptsPlans → TripsAreNamed
+pub plan-given : {E : Type 0} (read : ReadView) (said : FeedView) (matrix : MatrixView) (likings : LikingsView) → AcceptsPlans → TripsAreNamed
     → said_in read ≡ Ok said → IsMatrixFor said matrix
-    → (result : Result OutcomeView E) (prefix : List ℕ) → prefix ≡ said.settings.prefix
-    → IfOk result (IsPlanned said.base said.lines matrix prefix) → IfOk result (IsGivenOf blocks_does read said)
-plan-given read said matrix accepts named says is (Err e) prefix prefix_is planned = tt
-plan-given read said matrix accepts named says is (Ok outcome) prefix prefix_is planned =
-    let here : IsPlanned said.base said.lines matrix said.settings.prefix outcome =
-    subst (λ p. IsPlanned said.base said.lines matrix p outcome) prefix_is planned in
-    let plan = plan_at said.base said.lines matrix (length said.lines) in
+    → (result : Result OutcomeView E) (prefix : List ℕ) → prefix ≡ said.settings.prefix → likings ≡ likings_in read said.settings said.base
+    → IfOk result (IsPlanned said.base said.lines matrix likings prefix) → IfOk result (IsGivenOf blocks_does read said)
+plan-given read said matrix likings accepts named says is (Err e) prefix prefix_is liked planned = tt
+plan-given read said matrix likings accepts named says is (Ok outcome) prefix prefix_is liked planned =
+    let here : IsPlanned said.base said.lines matrix (likings_in read said.settings said.base) said.settings.prefix outcome =
+    subst (λ l. IsPlanned said.base said.lines matrix l said.settings.prefix outcome) liked
+    (subst (λ p. IsPlanned said.base said.lines matrix likings p outcome) prefix_is planned) in
+    let plan = plan_at said.base said.lines matrix (likings_in read said.settings said.base) (length said.lines) in
     let last = here.are.planned (length said.lines) (omega arith) in
     record {
       gives = record {

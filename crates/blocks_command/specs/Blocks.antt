@@ -6,6 +6,7 @@ use Rattle.trip_model.specs.Timetable.{TimetableView}
 use Rattle.edit_script.specs.declared.edit.Line.{Line}
 use Rattle.deadhead_matrix.specs.Matrix.{MatrixView}
 use Rattle.assignment_model.specs.Prices.{Plan}
+use Rattle.plan_choice.specs.Likings.{LikingsView}
 use Rattle.deadhead_matrix.specs.Pulls.{IsPull}
 use Rattle.block_build.specs.Files.{blocks_text, prices_text}
 use Rattle.claim_files.specs.Written.{IsAccepted}
@@ -15,8 +16,9 @@ use Rattle.desk_run.specs.Outcome.{OutcomeView}
 use Rattle.desk_run.specs.declared.outcome.Writing.{Writing}
 use Rattle.desk_feed.specs.Edited.{ending_after, standing_after}
 use Rattle.desk_feed.specs.Feed.{FeedView, standing}
-use Rattle.desk_feed.specs.Judging.{FeedAsked, doing, of_feed}
+use Rattle.desk_feed.specs.Judging.{FeedAsked, doing_by, of_feed}
 use Rattle.desk_feed.specs.Schedule.{IsMatrixFor}
+use Rattle.feed_likings.specs.Likings.{likings_in}
 use Rattle.feed_desk.specs.Answers.{answers_by}
 use Rattle.feed_desk.specs.Plans.{ArePlanned, most_steps_of, plan_at}
 use Rattle.blocks_command.specs.Answers.{answer_text, numbers_text}
@@ -30,39 +32,39 @@ plan_files timetable matrix prefix plan =
 
 -- What is written and put of a feed's plans. The files are those of the last one. Of each record it is put what the plan after it
 -- says, and last come the numbers after all records.
-abbrev pub plans_outcome : TimetableView → List Line → MatrixView → List ℕ → OutcomeView
-plans_outcome base lines matrix prefix =
-    let last = plan_at base lines matrix (length lines) in
+abbrev pub plans_outcome : TimetableView → List Line → MatrixView → LikingsView → List ℕ → OutcomeView
+plans_outcome base lines matrix likings prefix =
+    let last = plan_at base lines matrix likings (length lines) in
     record {
       writes = plan_files (standing_after base lines) matrix prefix last;
       lines = None;
-      text = answers_by (answer_text matrix prefix) base lines (plan_at base lines matrix) (length lines)
+      text = answers_by (answer_text matrix prefix) base lines (plan_at base lines matrix likings) (length lines)
           ++ numbers_text (standing_after base lines) matrix last;
       ending = ending_after base lines;
     }
 
 -- It is done of the plan at each moment. Pulls and prefix are valid.
-pub record IsPlanned (base : TimetableView) (lines : List Line) (matrix : MatrixView) (prefix : List ℕ)
+pub record IsPlanned (base : TimetableView) (lines : List Line) (matrix : MatrixView) (likings : LikingsView) (prefix : List ℕ)
     (outcome : OutcomeView) : Type 0 where
-  pub are : ArePlanned base lines matrix
+  pub are : ArePlanned base lines matrix likings
   pub pulls : All IsPull matrix.pulls
   pub begun : IsUtf8 prefix
-  pub done : outcome ≡ plans_outcome base lines matrix prefix
+  pub done : outcome ≡ plans_outcome base lines matrix likings prefix
 
 -- what is written of the last plan is a claim on which the verdict is yes, with the vehicles and the minutes of its blocks
 abbrev pub IsLastAccepted : TimetableView → MatrixView → List ℕ → Plan → Type 0
 IsLastAccepted timetable matrix prefix plan = IsAccepted timetable matrix prefix (blocks_in timetable plan) plan.leave plan.enter
 
 -- and of a feed: its prices prove it to `check`
-pub record IsPlan (said : FeedView) (outcome : OutcomeView) : Type 0 where
+pub record IsPlan (likings : LikingsView) (said : FeedView) (outcome : OutcomeView) : Type 0 where
   pub matrix : MatrixView
   pub matrix_is : IsMatrixFor said matrix
-  pub planned : IsPlanned said.base said.lines matrix said.settings.prefix outcome
-  pub accepted : IsLastAccepted (standing said) matrix said.settings.prefix (plan_at said.base said.lines matrix (length said.lines))
+  pub planned : IsPlanned said.base said.lines matrix likings said.settings.prefix outcome
+  pub accepted : IsLastAccepted (standing said) matrix said.settings.prefix (plan_at said.base said.lines matrix likings (length said.lines))
 
 -- what `blocks` asks of a feed
 abbrev pub blocks_does : FeedAsked
-blocks_does = doing IsPlan most_steps_of
+blocks_does = doing_by (λ read said. IsPlan (likings_in read said.settings said.base) said) most_steps_of
 
 -- what `blocks` asks of a run
 unfoldable pub blocks_asked : Asked

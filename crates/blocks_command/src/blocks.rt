@@ -18,8 +18,10 @@ use desk_keeper::Keeper;
 use desk_run::{Outcome, Writing, perform};
 use edit_script::Line;
 use feed_desk::{Followed, blocks_now, follow_script};
+use feed_likings::read_likings;
 use feed_names::laws::names_law;
 use gtfs_tables::Paper;
+use plan_choice::Likings;
 use std::alloc::Global;
 use std::sync::ledger::Ledger;
 use trip_model::Timetable;
@@ -74,16 +76,17 @@ fn planned<L: Ledger>(
     timetable: Timetable,
     lines: &[Line],
     matrix: Matrix,
+    likings: &Likings,
     prefix: &str,
     steps: &mut Steps<L>,
 ) -> Result<Outcome<'static>, Memory>
     requires script { IsScript lines.now }
     requires places { length timetable.places ≡ length matrix.walks }
-    ensures planned { IfOk result (IsPlanned timetable lines.now matrix prefix.now) }
+    ensures planned { IfOk result (IsPlanned timetable lines.now matrix likings.now prefix.now) }
     ensures counted { steps.new ≤ steps.old + (most_steps (length timetable.slots) + most_to timetable lines.now (length lines.now)) }
 {
     let answers = Numbers { alloc, prefix };
-    let followed = follow_script(alloc, timetable, lines, matrix, answers, steps)?;
+    let followed = follow_script(alloc, timetable, lines, matrix, likings, answers, steps)?;
     finished(alloc, followed, prefix)
 }
 
@@ -106,7 +109,16 @@ impl FeedCommand for WriteBlocks {
         let prefix = said.settings.prefix();
         let pulls = said.pulls;
         let matrix = matrix_of(alloc, &said.timetable, said.deadheads, pulls)?;
-        planned(alloc, said.timetable, said.lines, matrix, prefix, steps)
+        let likings = read_likings(alloc, said.settings, said.read, &said.timetable)?;
+        planned(
+            alloc,
+            said.timetable,
+            said.lines,
+            matrix,
+            &likings,
+            prefix,
+            steps,
+        )
     }
 }
 

@@ -6,14 +6,20 @@ use Rattle.edit_script.specs.Script.{all_but_last}
 use Rattle.edit_script.specs.declared.edit.Edit.{Edit}
 use Rattle.edit_script.specs.declared.edit.Edit.TheVariants.{Shift, Cancel, Restore, Extra, Undo, Redo, Show}
 use Rattle.pair_graph.specs.Pairs.{pairs_of}
+use Rattle.plan_choice.specs.Chosen.{chosen_plan, pair_liking}
+use Rattle.plan_choice.specs.Likings.{LikingsView}
 use Rattle.price_assign.specs.Found.{solved}
 use Rattle.price_repair.specs.Repaired.{plan_taken, plan_added, plan_replaced}
 use Rattle.trip_model.specs.Timetable.{TimetableView, number_of, slot_names}
 use Rattle.undo_log.specs.Log.{last_item, latest_items}
 
--- the plan of a timetable, made from nothing
-abbrev pub first_plan : TimetableView → MatrixView → Plan
-first_plan timetable matrix = solved (pairs_of timetable matrix None)
+-- how it is liked that one trip of a timetable is next after another
+abbrev pub likes : TimetableView → MatrixView → LikingsView → ℕ → ℕ → ℕ
+likes timetable matrix likings = pair_liking (pairs_of timetable matrix None) likings
+
+-- the plan of a timetable, made from nothing: of its least plans the one that is liked best
+abbrev pub first_plan : TimetableView → MatrixView → LikingsView → Plan
+first_plan timetable matrix likings = chosen_plan (pairs_of timetable matrix None) likings (solved (pairs_of timetable matrix None))
 
 -- rule: which plan stands after a record
 -- the plan for a timetable after the edit of the trip in a slot: that trip is taken out, added, or taken out and then added

@@ -1,8 +1,10 @@
 ghost use Rattle.std.specs.Prelude.{◌≡◌, ◌≢◌, ℕ, ◌+◌, ◌*◌, ◌≤◌, [], length, pos, IfErr, IfOk, IfSome, IsNone, OnErr, OnOk, ◌↔◌, Some};
+ghost use Rattle.assignment_model.specs.Choice.{IsChosen};
 ghost use Rattle.assignment_model.specs.Prices.{Plan as PlanView};
+ghost use Rattle.deadhead_matrix.specs.Fitting.{network_of};
 ghost use Rattle.deadhead_matrix.specs.Plans.{IsPlanFor};
 ghost use Rattle.deficit_steps.specs.Holds.{Holds};
-ghost use Rattle.desk_core.specs.Computed.{first_plan};
+ghost use Rattle.desk_core.specs.Computed.{first_plan, likes};
 ghost use Rattle.desk_core.specs.Counts.{blocks_in, minutes_in};
 ghost use Rattle.desk_core.specs.Desk.{ArePlansFor, IsDone, IsRefused, most_steps};
 ghost use Rattle.edit_script.specs.Edits.{EditsTrip, InForm};
@@ -21,6 +23,7 @@ use deficit_steps::laws::held_law;
 use desk_io::{Memory, Steps};
 use edit_script::{Edit, EditFault, Script};
 use pair_graph::Pairs;
+use plan_choice::Likings;
 use plan_history::{Changed, PlanHistory};
 use price_assign::Plan;
 use std::alloc::Global;
@@ -58,12 +61,13 @@ impl<D: InStep> Model for Desk<D> {
 }
 
 impl<D: InStep> Desk<D> {
-    /// The desk of a script to which nothing was done, and of the matrix of its places, with a first plan. At most
-    /// n^3 + n^2 + 28n steps for n slots.
+    /// The desk of a script to which nothing was done, and of the matrix of its places. Its first plan is, of all least ones, that
+    /// which is liked best. At most n^3 + n^2 + 28n steps for n slots.
     pub fn open<L: Ledger>(
         alloc: Global,
         script: Script,
         matrix: Matrix,
+        likings: &Likings,
         steps: &mut Steps<L>,
     ) -> Result<Desk<D>, Memory>
         requires places { length script.timetable.places ≡ length matrix.walks }
@@ -71,15 +75,19 @@ impl<D: InStep> Desk<D> {
         requires later { script.later ≡ [] }
         ensures script { IfOk result (λ desk. desk.script ≡ script) }
         ensures matrix { IfOk result (λ desk. desk.matrix ≡ matrix) }
-        ensures plan { IfOk result (λ desk. desk.plan ≡ first_plan script.timetable matrix) }
+        ensures plan { IfOk result (λ desk. desk.plan ≡ first_plan script.timetable matrix likings.now) }
         ensures certified { IfOk result (λ desk. IsPlanFor script.timetable matrix desk.plan) }
+        ensures chosen { IfOk result (λ desk. IsChosen (network_of script.timetable matrix) (likes script.timetable matrix likings.now)
+            (blocks_in script.timetable desk.plan)) }
         ensures earlier { IfOk result (λ desk. desk.earlier ≡ []) }
         ensures later { IfOk result (λ desk. desk.later ≡ []) }
         ensures counted { let n = length script.timetable.slots in steps.new ≤ steps.old + (n * n * n + n * n + 28 * n) }
     {
         let kept = D::begin(alloc, script.timetable(), steps)?;
         let mut history = PlanHistory::open(alloc)?;
-        history.solve(&Pairs::of(script.timetable(), &matrix), steps);
+        let pairs = Pairs::of(script.timetable(), &matrix);
+        history.solve(&pairs, steps);
+        history.choose(&pairs, likings, steps)?;
         Ok(Desk {
             script,
             matrix,

@@ -7,6 +7,7 @@
 //!
 //! The contract that the crates above use:
 //!
+//! - The first plan is, of all least ones, that which is liked best.
 //! - At each moment the plan is certified for the timetable and the matrix. The deficits hold the moves of the trips that run.
 //! - A refused edit leaves the desk as it was.
 //! - An accepted edit changes the links along the paths of its repair alone.
@@ -23,7 +24,7 @@
 //! - `Counts`: its blocks and their empty minutes
 //! - `Standing`: moments
 //! - of `edit_script` `Script`; of `assignment_model` `Prices` and `Paths`
-//! - of `plan_history` `History` and `Stands`
+//! - of `plan_history` `History` and `Stands`; of `plan_choice` `Likings` and `Chosen`
 //!
 //! `Repair` has terms for proofs alone.
 #![tactic(auto)]

@@ -75,12 +75,16 @@ ending_of said = ending_after said.base said.lines
 abbrev pub refused_of : FeedView → List ℕ
 refused_of said = refused_text said.base said.lines
 
--- what a command asks that comes to its end with each accepted feed
-abbrev pub doing : (FeedView → OutcomeView → Type 0) → (FeedView → ℕ) → FeedAsked
-doing Accepts most = record {
+-- what a command asks that comes to its end with each accepted feed, by what was read
+abbrev pub doing_by : (ReadView → FeedView → OutcomeView → Type 0) → (FeedView → ℕ) → FeedAsked
+doing_by Accepts most = record {
   further = [];
   keeps = false;
   Ends = λ read said end. end ≡ ending_of said;
-  Gives = λ read. Accepts;
+  Gives = Accepts;
   most = λ read. most;
 }
+
+-- and by what the feed says alone
+abbrev pub doing : (FeedView → OutcomeView → Type 0) → (FeedView → ℕ) → FeedAsked
+doing Accepts most = doing_by (λ read. Accepts) most

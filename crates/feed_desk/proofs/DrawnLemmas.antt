@@ -5,6 +5,7 @@ use Rattle.trip_model.specs.Timetable.{TimetableView, IsTimetable}
 use Rattle.edit_script.specs.declared.edit.Line.{Line}
 use Rattle.deadhead_matrix.specs.Matrix.{MatrixView}
 use Rattle.assignment_model.specs.Prices.{Plan}
+use Rattle.plan_choice.specs.Likings.{LikingsView}
 use Rattle.desk_core.specs.Counts.{blocks_in}
 use Rattle.desk_core.specs.Desk.{DeskView}
 use Rattle.desk_feed.specs.Edited.{standing_after}
@@ -16,8 +17,8 @@ use Rattle.feed_desk.specs.declared.draw.Drawn.{Drawn}
 use Rattle.feed_desk.specs.declared.follow.Followed.{Followed}
 use Rattle.feed_desk.proofs.MomentsLemmas.{refusals-are}
 
-module _ (base : TimetableView) (lines : List Line) (matrix : MatrixView) (plan : Plan) (blocks : List (List ℕ))
-    (drawn : IsDrawn base lines matrix plan blocks) where
+module _ (base : TimetableView) (lines : List Line) (matrix : MatrixView) (likings : LikingsView) (plan : Plan)
+    (blocks : List (List ℕ)) (drawn : IsDrawn base lines matrix likings plan blocks) where
   last-planned : IsPlannedAt (standing_after base lines) matrix plan
   last-planned = subst (IsPlannedAt (standing_after base lines) matrix) (sym drawn.last) (drawn.are.planned (length lines) (omega arith))
 
@@ -30,12 +31,12 @@ module _ (base : TimetableView) (lines : List Line) (matrix : MatrixView) (plan 
   drawn-scheduled = subst (IsScheduled (standing_after base lines) matrix plan) (sym drawn.along) last-planned.scheduled
 
 -- the blocks of the desk that has followed a script are drawn
-pub has-drawn : {D : Type 0} (base : TimetableView) (lines : List Line) (matrix : MatrixView) (followed : Followed D) (drawn : Drawn D)
-    → HasFollowed refusals base lines matrix followed
+pub has-drawn : {D : Type 0} (base : TimetableView) (lines : List Line) (matrix : MatrixView) (likings : LikingsView)
+    (followed : Followed D) (drawn : Drawn D) → HasFollowed refusals base lines matrix likings followed
     → drawn.desk ≡ followed.desk → drawn.blocks ≡ blocks_in followed.desk.script.timetable followed.desk.plan
     → drawn.refused ≡ string_bytes followed.text → drawn.ending ≡ followed.ending
-    → HasDrawn base lines matrix drawn
-has-drawn base lines matrix followed drawn has desk blocks refused end = record {
+    → HasDrawn base lines matrix likings drawn
+has-drawn base lines matrix likings followed drawn has desk blocks refused end = record {
   plan = record {
     are = has.are;
     last = ap (λ (d : DeskView). d.plan) desk ∙ has.plan;
@@ -43,6 +44,6 @@ has-drawn base lines matrix followed drawn has desk blocks refused end = record 
   };
   timetable = ap (λ (d : DeskView). d.script.timetable) desk ∙ has.timetable;
   matrix_is = ap (λ (d : DeskView). d.matrix) desk ∙ has.matrix_is;
-  refused = refused ∙ has.text ∙ refusals-are base lines (plan_at base lines matrix) (length lines);
+  refused = refused ∙ has.text ∙ refusals-are base lines (plan_at base lines matrix likings) (length lines);
   ending = end ∙ has.ending;
 }

@@ -13,7 +13,9 @@ use Rattle.trip_model.specs.Timetable.{Slot, TimetableView, IsTimetable}
 use Rattle.trip_model.specs.declared.trip.Move.{Move}
 use Rattle.deadhead_matrix.specs.Fitting.{network_of}
 use Rattle.deadhead_matrix.specs.Matrix.{MatrixView}
+use Rattle.assignment_model.specs.Choice.{IsChosen}
 use Rattle.assignment_model.specs.Prices.{Plan}
+use Rattle.plan_choice.specs.Likings.{LikingsView}
 use Rattle.deadhead_matrix.specs.Plans.{IsPlanFor}
 use Rattle.deadhead_matrix.specs.Pulls.{IsPull}
 use Rattle.fixed_fleet.specs.Rule.{first_in_first_out}
@@ -25,7 +27,8 @@ use Rattle.edit_script.specs.declared.edit.Line.TheVariants as line
 use Rattle.edit_script.specs.declared.fault.EditFault.TheVariants as fault
 use Rattle.edit_script.specs.declared.edit.Line.{Line}
 use Rattle.edit_script.specs.declared.fault.EditFault.{EditFault}
-use Rattle.desk_core.specs.Computed.{PlansView, first_plan, plans_after}
+use Rattle.desk_core.specs.Computed.{PlansView, first_plan, likes, plans_after}
+use Rattle.desk_core.specs.Counts.{blocks_in}
 use Rattle.desk_core.specs.Desk.{DeskView, IsRefused, plans_of}
 use Rattle.desk_core.specs.Standing.{IsLed, IsOpened}
 use Rattle.desk_feed.specs.Script.{IsStepped, first_records, line_at, record_at, refusal_in, refusal_text, refused_to, standing_at}
@@ -278,8 +281,9 @@ module _ (makes : MakesMoves) (are_made : AreMade) (reaches : ReachesMaxima) whe
 -- the plans of all moments
 module _ (restores : AreRestored) (proves : AreProved) (makes : MakesMoves) (are_made : AreMade) (reaches : ReachesMaxima)
     (base : TimetableView) (lines : List Line) (first last : DeskView) (n : ℕ) (desks : ℕ → DeskView)
-    (are : AreMoments base lines first n last desks) (opened : IsOpened first) (begun : first.plan ≡ first_plan base first.matrix)
-    (pulls : All IsPull first.matrix.pulls) where
+    (are : AreMoments base lines first n last desks) (opened : IsOpened first) (likings : LikingsView)
+    (begun : first.plan ≡ first_plan base first.matrix likings) (pulls : All IsPull first.matrix.pulls)
+    (chosen : IsChosen (network_of base first.matrix) (likes base first.matrix likings) (blocks_in base first.plan)) where
   -- from one moment to a later one a desk is led by the edits between them
   led-on : (m d : ℕ) → m + d ≤ n → (moments : List DeskView) × IsLed (desks m) moments (desks (m + d))
   led-on m zero le = ([], ap desks (let same : m + zero ≡ m = omega arith in same))
@@ -352,7 +356,7 @@ module _ (restores : AreRestored) (proves : AreProved) (makes : MakesMoves) (are
       by line.NotAnEdit (Some refused) followed = ap (λ (d : DeskView). d.plan.next) followed
 
   -- the plans of each moment are those that are computed
-  computed : (m : ℕ) → m ≤ n → plans_of (desks m) ≡ plans_at base lines first.matrix m
+  computed : (m : ℕ) → m ≤ n → plans_of (desks m) ≡ plans_at base lines first.matrix likings m
   unfolding plans_at
   computed zero le = ap plans_of are.begins ∙ (λ i. record { plan = begun i; earlier = opened.earlier i; later = opened.later i })
   computed (suc m) le =
@@ -375,13 +379,15 @@ module _ (restores : AreRestored) (proves : AreProved) (makes : MakesMoves) (are
       by (line.Edit edit) (Some refused) followed = ap plans_of followed
       by line.NotAnEdit (Some refused) followed = ap plans_of followed
 
-  plan-is : (m : ℕ) → m ≤ n → (desks m).plan ≡ plan_at base lines first.matrix m
+  plan-is : (m : ℕ) → m ≤ n → (desks m).plan ≡ plan_at base lines first.matrix likings m
   plan-is m le = ap (λ (plans : PlansView). plans.plan) (computed m le)
 
-  pub are-planned : n ≡ length lines → ArePlanned base lines first.matrix
+  pub are-planned : n ≡ length lines → ArePlanned base lines first.matrix likings
   are-planned all = record {
     planned = λ m le. subst (IsPlannedAt (standing_at base lines m) first.matrix) (plan-is m (omega (arith, all, le)))
         (planned m (omega (arith, all, le)));
+    chosen = subst (λ plan. IsChosen (network_of base first.matrix) (likes base first.matrix likings) (blocks_in base plan))
+        (ap (λ (d : DeskView). d.plan) (sym are.begins) ∙ plan-is zero (omega arith)) chosen;
     restored = λ m k m_in k_in standing.
         sym (plan-is m (omega (arith, all, m_in))) ∙ restored m k (omega (arith, all, m_in)) (omega (arith, all, k_in)) standing
         ∙ plan-is k (omega (arith, all, k_in));
@@ -390,7 +396,7 @@ module _ (restores : AreRestored) (proves : AreProved) (makes : MakesMoves) (are
     folds = λ m le. standing-folds base (first_records lines m);
     repaired = λ m lt.
         subst (λ (old : Plan). AreRelinked (line_at lines m) (refusal_in (step_at base lines m)) (standing_at base lines m) old.next
-        (plan_at base lines first.matrix (suc m)).next)
+        (plan_at base lines first.matrix likings (suc m)).next)
         (plan-is m (omega (arith, all, lt)))
         (subst (λ (new : Plan). AreRelinked (line_at lines m) (refusal_in (step_at base lines m)) (standing_at base lines m)
         (desks m).plan.next new.next)
@@ -400,7 +406,7 @@ module _ (restores : AreRestored) (proves : AreProved) (makes : MakesMoves) (are
   -- a desk has followed the script with these plans
   pub has-followed : {D : Type 0} (answer : Answer) (followed : Followed D) → n ≡ length lines → followed.desk ≡ last
       → string_bytes followed.text ≡ answers_by answer base lines (λ k. (desks k).plan) n → followed.ending ≡ ending_after base lines
-      → HasFollowed answer base lines first.matrix followed
+      → HasFollowed answer base lines first.matrix likings followed
   has-followed answer followed all is put end_is =
       let last_is = subst (IsMoment base lines first.matrix n) are.ends (are.each n (omega arith)) in
       record {
@@ -408,8 +414,8 @@ module _ (restores : AreRestored) (proves : AreProved) (makes : MakesMoves) (are
         pulls = pulls;
         timetable = ap (λ (d : DeskView). d.script.timetable) is ∙ last_is.at.timetable ∙ ap (standing_at base lines) all;
         matrix_is = ap (λ (d : DeskView). d.matrix) is ∙ last_is.matrix_is;
-        plan = ap (λ (d : DeskView). d.plan) (is ∙ sym are.ends) ∙ plan-is n (omega arith) ∙ ap (plan_at base lines first.matrix) all;
-        text = put ∙ answers-same answer base lines (λ k. (desks k).plan) (plan_at base lines first.matrix) n plan-is
-            ∙ ap (answers_by answer base lines (plan_at base lines first.matrix)) all;
+        plan = ap (λ (d : DeskView). d.plan) (is ∙ sym are.ends) ∙ plan-is n (omega arith) ∙ ap (plan_at base lines first.matrix likings) all;
+        text = put ∙ answers-same answer base lines (λ k. (desks k).plan) (plan_at base lines first.matrix likings) n plan-is
+            ∙ ap (answers_by answer base lines (plan_at base lines first.matrix likings)) all;
         ending = end_is;
       }

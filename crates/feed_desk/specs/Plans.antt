@@ -10,8 +10,11 @@ use Rattle.edit_script.specs.declared.edit.Line.{Line}
 use Rattle.edit_script.specs.declared.edit.Line.TheVariants as line
 use Rattle.edit_script.specs.declared.fault.EditFault.{EditFault}
 use Rattle.deadhead_matrix.specs.Matrix.{MatrixView}
+use Rattle.deadhead_matrix.specs.Fitting.{network_of}
+use Rattle.assignment_model.specs.Choice.{IsChosen}
 use Rattle.assignment_model.specs.Prices.{Plan}
-use Rattle.desk_core.specs.Computed.{PlansView, first_plan, plans_after}
+use Rattle.plan_choice.specs.Likings.{LikingsView}
+use Rattle.desk_core.specs.Computed.{PlansView, first_plan, likes, plans_after}
 use Rattle.desk_core.specs.Counts.{blocks_in}
 use Rattle.desk_core.specs.Desk as desk
 use Rattle.desk_feed.specs.Feed.{FeedView}
@@ -48,10 +51,10 @@ abbrev pub plans_by : Line → Option EditFault → TimetableView → TimetableV
 plans_by (line.Edit edit) None before after matrix plans = plans_after edit before after matrix plans
 plans_by line refused before after matrix plans = plans
 
-module _ (base : TimetableView) (lines : List Line) (matrix : MatrixView) where
+module _ (base : TimetableView) (lines : List Line) (matrix : MatrixView) (likings : LikingsView) where
   -- the plans after so many of the first records, computed record by record
   unfoldable pub plans_at : ℕ → PlansView
-  plans_at zero = record { plan = first_plan base matrix; earlier = []; later = [] }
+  plans_at zero = record { plan = first_plan base matrix likings; earlier = []; later = [] }
   plans_at (suc n) = plans_by (line_at lines n) (refusal_in (step_at base lines n)) (standing_at base lines n)
       (standing_at base lines (suc n)) matrix (plans_at n)
 
@@ -61,18 +64,20 @@ module _ (base : TimetableView) (lines : List Line) (matrix : MatrixView) where
   plan_at m = (plans_at m).plan
 
 -- What holds of the plan at each moment of a script. A moment is after so many of its records. It is a plan of the timetable that
--- stands then. Where the same edits stand the plans are equal, prices included. A refused record leaves the plan as it is. The
--- edit of a trip changes links along the paths of its repair alone. The edits that stand are each accepted over those before.
-pub record ArePlanned (base : TimetableView) (lines : List Line) (matrix : MatrixView) : Type 0 where
-  pub planned : (m : ℕ) → m ≤ length lines → IsPlannedAt (standing_at base lines m) matrix (plan_at base lines matrix m)
+-- stands then. Of the base timetable no least blocking is liked more. Where the same edits stand the plans are equal, prices
+-- included. A refused record leaves the plan as it is. The edit of a trip changes links along the paths of its repair alone. The
+-- edits that stand are each accepted over those before.
+pub record ArePlanned (base : TimetableView) (lines : List Line) (matrix : MatrixView) (likings : LikingsView) : Type 0 where
+  pub planned : (m : ℕ) → m ≤ length lines → IsPlannedAt (standing_at base lines m) matrix (plan_at base lines matrix likings m)
+  pub chosen : IsChosen (network_of base matrix) (likes base matrix likings) (blocks_in base (plan_at base lines matrix likings 0))
   pub restored : (m k : ℕ) → m ≤ length lines → k ≤ length lines → (state_at base lines m).standing ≡ (state_at base lines k).standing
-      → plan_at base lines matrix m ≡ plan_at base lines matrix k
+      → plan_at base lines matrix likings m ≡ plan_at base lines matrix likings k
   pub unchanged : (n : ℕ) → n < length lines → IsSome (refusal_in (step_at base lines n))
-      → plan_at base lines matrix (suc n) ≡ plan_at base lines matrix n
+      → plan_at base lines matrix likings (suc n) ≡ plan_at base lines matrix likings n
   pub folds : (m : ℕ) → m ≤ length lines → Folds base (state_at base lines m).standing
   pub repaired : (n : ℕ) → n < length lines
-      → AreRelinked (line_at lines n) (refusal_in (step_at base lines n)) (standing_at base lines n) (plan_at base lines matrix n).next
-      (plan_at base lines matrix (suc n)).next
+      → AreRelinked (line_at lines n) (refusal_in (step_at base lines n)) (standing_at base lines n) (plan_at base lines matrix likings n).next
+      (plan_at base lines matrix likings (suc n)).next
 
 -- the most steps of a record, with so many slots after it: none where it is refused
 abbrev pub most_of : Line → ℕ → Option EditFault → ℕ

@@ -14,6 +14,7 @@ use desk_core::{Desk, InStep};
 use desk_io::{Memory, Steps, Text};
 use desk_run::Ending;
 use edit_script::Line;
+use plan_choice::Likings;
 use std::alloc::Global;
 use std::sync::ledger::Ledger;
 use trip_model::Timetable;
@@ -45,22 +46,24 @@ pub fn blocks_now<D: InStep>(alloc: Global, desk: &Desk<D>) -> Result<Blocks, Me
     blocks_of(alloc, desk.timetable(), desk.plan().links())
 }
 
-/// The desk after the script of a feed, with the blocks of its plan.
+/// The desk after the script of a feed, with the blocks of its plan. The plan before the script is, of all least ones, that which is
+/// liked best.
 pub fn draw_after<D: InStep, L: Ledger>(
     alloc: Global,
     timetable: Timetable,
     lines: &[Line],
     matrix: Matrix,
+    likings: &Likings,
     steps: &mut Steps<L>,
 ) -> Result<Drawn<D>, Memory>
     requires script { IsScript lines.now }
     requires places { length timetable.places ≡ length matrix.walks }
-    ensures drawn { IfOk result (HasDrawn timetable lines.now matrix) }
+    ensures drawn { IfOk result (HasDrawn timetable lines.now matrix likings.now) }
     ensures within { IfOk result (λ drawn. All (All (λ s. s < length drawn.desk.script.timetable.slots)) drawn.blocks) }
     ensures counted { steps.new ≤ steps.old + (most_steps (length timetable.slots) + most_to timetable lines.now (length lines.now)) }
 {
     let answers = Refusals { alloc };
-    let followed = follow_script(alloc, timetable, lines, matrix, answers, steps)?;
+    let followed = follow_script(alloc, timetable, lines, matrix, likings, answers, steps)?;
     let blocks = blocks_now(alloc, &followed.desk)?;
     Ok(Drawn {
         desk: followed.desk,

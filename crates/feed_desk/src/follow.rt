@@ -18,6 +18,7 @@ use desk_run::Ending;
 use edit_script::laws::machine_law;
 use edit_script::{EditFault, Follower, Line, Script, follow_records};
 use fixed_fleet::laws::plain_blocks_law;
+use plan_choice::Likings;
 use std::alloc::Global;
 use std::sync::ledger::Ledger;
 use trip_model::Timetable;
@@ -105,18 +106,19 @@ impl<A: Answers<D>, D: InStep, L: Ledger> Follower<Steps<L>> for Following<A, D>
     }
 }
 
-/// Schedules the base timetable of a feed, and follows its script with a desk.
+/// Schedules the base timetable of a feed, by the least plan that is liked best, and follows its script with a desk.
 pub fn follow_script<A: Answers<D> + Drop, D: InStep, L: Ledger>(
     alloc: Global,
     timetable: Timetable,
     lines: &[Line],
     matrix: Matrix,
+    likings: &Likings,
     answers: A,
     steps: &mut Steps<L>,
 ) -> Result<Followed<D>, Memory>
     requires script { IsScript lines.now }
     requires places { length timetable.places ≡ length matrix.walks }
-    ensures followed { IfOk result (HasFollowed (A.answer answers matrix) timetable lines.now matrix) }
+    ensures followed { IfOk result (HasFollowed (A.answer answers matrix) timetable lines.now matrix likings.now) }
     ensures counted { steps.new ≤ steps.old + (most_steps (length timetable.slots) + most_to timetable lines.now (length lines.now)) }
 {
     plan_law();
@@ -127,7 +129,7 @@ pub fn follow_script<A: Answers<D> + Drop, D: InStep, L: Ledger>(
     // Their clauses say that no pull is longer than a day, that the plan is certified, and that the timetable is valid.
     let _places = matrix.places();
     let script = Script::open(alloc, timetable)?;
-    let desk = Desk::open(alloc, script, matrix, steps)?;
+    let desk = Desk::open(alloc, script, matrix, likings, steps)?;
     let _plan = desk.plan();
     let _slots = desk.timetable().slots();
     let mut following = Following {

@@ -5,7 +5,8 @@
 //! Every command that draws, writes or lists blocks of a feed takes them from here, so these are the same blocks.
 //!
 //! The contract that the crates above use: each moment of the script has one plan. It is certified and least over all blockings
-//! of the timetable that stands then. Where the same edits stand the plans are equal. What is drawn is the last one.
+//! of the timetable that stands then. Of the base timetable no least blocking is liked more. Where the same edits stand the plans
+//! are equal. What is drawn is the last one.
 //!
 //! `joined_command` shows a use, in `src/joined.rt`.
 //!

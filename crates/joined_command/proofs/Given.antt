@@ -14,6 +14,7 @@ use Rattle.deadhead_matrix.specs.declared.entry.Entry.{Entry}
 use Rattle.deadhead_matrix.specs.Deadheads.{deadheads_of}
 use Rattle.deadhead_matrix.specs.Fitting.{network_of}
 use Rattle.deadhead_matrix.specs.Matrix.{MatrixView, AreLeastWalks}
+use Rattle.plan_choice.specs.Likings.{LikingsView}
 use Rattle.joined_deficits.specs.Joined.{TakeTime, joined_moves}
 use Rattle.desk_run.specs.Outcome.{OutcomeView}
 use Rattle.desk_run.specs.Reading.{ReadView, found_of}
@@ -23,7 +24,8 @@ use Rattle.desk_feed.specs.Feed.{FeedView, deadheads_in, lines_in, pulls_in, sai
 use Rattle.desk_feed.specs.Judging.{IsGivenOf, ending_of, refused_of, said_in}
 use Rattle.desk_feed.specs.Schedule.{IsMatrixFor}
 use Rattle.desk_feed.proofs.ScriptLemmas.{standing-places}
-use Rattle.feed_desk.specs.Drawn.{HasDrawn}
+use Rattle.feed_likings.specs.Likings.{likings_in}
+use Rattle.feed_desk.specs.Drawn.{HasDrawn, IsDrawn}
 use Rattle.feed_desk.specs.declared.draw.Drawn.{Drawn}
 use Rattle.feed_desk.proofs.DrawnLemmas.{drawn-scheduled, drawn-valid}
 use Rattle.joined_command.specs.Joined.{boards_outcome, joined_does}
@@ -72,24 +74,25 @@ entries-said law found said e =
     (law (found paper.Deadheads) base.0 entries.0.0 entries.0.1 entries.1)
 
 -- what is drawn is a blocking of the trips that run
-pub drawn-blocking : {D : Type 0} (base : TimetableView) (lines : List Line) (matrix : MatrixView) (drawn : Drawn D) → HasDrawn base lines matrix drawn
+pub drawn-blocking : {D : Type 0} (base : TimetableView) (lines : List Line) (matrix : MatrixView)
+    (likings : LikingsView) (drawn : Drawn D) → HasDrawn base lines matrix likings drawn
     → IsBlocking (network_of drawn.desk.script.timetable drawn.desk.matrix) drawn.blocks
-drawn-blocking base lines matrix drawn has =
+drawn-blocking base lines matrix likings drawn has =
     subst (λ (t : TimetableView). IsBlocking (network_of t drawn.desk.matrix) drawn.blocks) (sym has.timetable)
     (subst (λ matrix. IsBlocking (network_of (standing_after base lines) matrix) drawn.blocks) (sym has.matrix_is)
-    (drawn-scheduled base lines matrix drawn.desk.plan drawn.blocks has.plan).least.fewest.blocking)
+    (drawn-scheduled base lines matrix likings drawn.desk.plan drawn.blocks has.plan).least.fewest.blocking)
 
-pub joined-given : {D E : Type 0} (read : ReadView) (said : FeedView) (matrix : MatrixView) (drawn : Drawn D) → JoinedIsLeast → EntriesTakeTime
-    → said_in read ≡ Ok said
-    → IsMatrixFor said matrix → HasDrawn said.base said.lines matrix drawn
+pub joined-given : {D E : Type 0} (read : ReadView) (said : FeedView) (matrix : MatrixView) (likings : LikingsView) (drawn : Drawn D)
+    → JoinedIsLeast → EntriesTakeTime → said_in read ≡ Ok said → IsMatrixFor said matrix → HasDrawn said.base said.lines matrix likings drawn
+    → likings ≡ likings_in read said.settings said.base
     → (result : Result OutcomeView E)
     → IfOk result (λ outcome. outcome ≡ boards_outcome drawn.refused drawn.ending said.settings.prefix drawn.desk.script.timetable
     drawn.desk.matrix drawn.blocks)
     → IfOk result (IsGivenOf joined_does read said)
-joined-given read said matrix drawn least law says is has (Err e) done = tt
-joined-given read said matrix drawn least law says is has (Ok outcome) done =
-    let scheduled = drawn-scheduled said.base said.lines matrix drawn.desk.plan drawn.blocks has.plan in
-    let valid = drawn-valid said.base said.lines matrix drawn.desk.plan drawn.blocks has.plan in
+joined-given read said matrix likings drawn least law says is has liked (Err e) done = tt
+joined-given read said matrix likings drawn least law says is has liked (Ok outcome) done =
+    let scheduled = drawn-scheduled said.base said.lines matrix likings drawn.desk.plan drawn.blocks has.plan in
+    let valid = drawn-valid said.base said.lines matrix likings drawn.desk.plan drawn.blocks has.plan in
     let here : outcome ≡ boards_outcome (refused_of said) (ending_of said) said.settings.prefix (standing said) matrix drawn.blocks =
     done ∙ (λ i. boards_outcome (has.refused i) (has.ending i) said.settings.prefix (has.timetable i) (has.matrix_is i) drawn.blocks) in
     let count : length matrix.walks ≡ length (standing said).places = is.count
@@ -100,7 +103,7 @@ joined-given read said matrix drawn least law says is has (Ok outcome) done =
         matrix_is = is;
         plan = drawn.desk.plan;
         blocks = drawn.blocks;
-        drawn = has.plan;
+        drawn = subst (λ l. IsDrawn said.base said.lines matrix l drawn.desk.plan drawn.blocks) liked has.plan;
         done = here;
         sum = least (standing said) matrix drawn.blocks valid is.walks count
             (subst TakeTime (sym is.entries_are) (entries-said law (found_of read.pages) said says)) scheduled.least;

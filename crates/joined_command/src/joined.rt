@@ -16,6 +16,7 @@ use desk_keeper::Keeper;
 use desk_run::{Outcome, Writing, perform};
 use desk_settings::Settings;
 use feed_desk::{Drawn, draw_after};
+use feed_likings::read_likings;
 use joined_deficits::laws::{entries_law, joined_law};
 use joined_deficits::{boards_text, joined_deficits, joined_lines, joined_moves};
 use std::alloc::Global;
@@ -85,7 +86,15 @@ impl FeedCommand for WriteBoards {
         joined_law();
         let pulls = said.pulls;
         let matrix = matrix_of(said.alloc, &said.timetable, said.deadheads, pulls)?;
-        let drawn = draw_after(said.alloc, said.timetable, said.lines, matrix, steps)?;
+        let likings = read_likings(said.alloc, said.settings, said.read, &said.timetable)?;
+        let drawn = draw_after(
+            said.alloc,
+            said.timetable,
+            said.lines,
+            matrix,
+            &likings,
+            steps,
+        )?;
         boarded(said.alloc, said.settings, &drawn, steps)
     }
 }

@@ -10,6 +10,7 @@ use desk_io::{Memory, Shelf, Sink, Steps, Text};
 use desk_keeper::Keeper;
 use desk_run::{Outcome, perform};
 use feed_desk::{Drawn, draw_after};
+use feed_likings::read_likings;
 use std::alloc::Global;
 use std::sync::ledger::Ledger;
 
@@ -45,7 +46,15 @@ impl FeedCommand for ShowChart {
     ) -> Result<Outcome<'a>, Memory> {
         let pulls = said.pulls;
         let matrix = matrix_of(said.alloc, &said.timetable, said.deadheads, pulls)?;
-        let drawn = draw_after(said.alloc, said.timetable, said.lines, matrix, steps)?;
+        let likings = read_likings(said.alloc, said.settings, said.read, &said.timetable)?;
+        let drawn = draw_after(
+            said.alloc,
+            said.timetable,
+            said.lines,
+            matrix,
+            &likings,
+            steps,
+        )?;
         let text = charts(said.alloc, &drawn, said.settings.prefix())?;
         putting_after(said.alloc, &drawn.refused, &text, drawn.ending)
     }

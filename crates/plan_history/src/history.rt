@@ -1,21 +1,27 @@
-ghost use Rattle.std.specs.Prelude.{◌≡◌, ◌≢◌, ◌↔◌, ◌+◌, ◌*◌, ◌<◌, ◌≤◌, ◌++◌, ◌∷◌, [], length, Some, IfOk, OnOk, OnErr, IsNone, IfSome};
+ghost use Rattle.std.specs.Prelude.{◌≡◌, ◌≢◌, ◌↔◌, ℕ, ◌+◌, ◌*◌, ◌<◌, ◌≤◌, ◌++◌, ◌∷◌, List, [], length, Some, IfOk, OnOk, OnErr, IsNone, IfSome};
+ghost use Rattle.assignment_model.specs.Choice.{IsChosen};
 ghost use Rattle.assignment_model.specs.Paths.{with_slot, IsTaken, IsAdded};
 ghost use Rattle.assignment_model.specs.Prices.{Plan as PlanView, IsCertified};
 ghost use Rattle.pair_graph.specs.Pairs.{pairs_network};
+ghost use Rattle.plan_choice.specs.Chosen.{chosen_plan, pair_liking};
 ghost use Rattle.plan_history.specs.History.{HistoryView, IsReplaced};
 ghost use Rattle.plan_history.specs.Stands.{differences};
 ghost use Rattle.price_assign.specs.Found.{solved};
 ghost use Rattle.price_repair.specs.Repaired.{plan_taken, plan_added, plan_replaced};
 ghost use Rattle.price_repair.specs.Without.{IsCertifiedWith, IsCertifiedWithout};
+ghost use Rattle.trip_model.specs.Blocking.{StandsOnce};
+ghost use Rattle.trip_model.specs.Links.{blocks_along};
 ghost use Rattle.undo_log.specs.Log.{latest_items, last_item};
 ghost use Rattle.undo_log.specs.declared.log.TheConstants.{UNDO_DEPTH};
 
 use crate::item::{Item, lead_back, lead_forth};
 use crate::keep::keep;
+use crate::links::set_links;
 use crate::stand::{Changed, Stand, copy_stands};
 use desk_io::{Memory, Steps};
 use pair_graph::Pairs;
 use pair_search::Looks;
+use plan_choice::{Likings, chosen_links};
 use price_assign::{Plan, Solver};
 use price_repair::{after_add, after_take};
 use std::alloc::Global;
@@ -104,7 +110,7 @@ impl PlanHistory {
         self.log.undone()
     }
 
-    /// Makes the first plan, certified for the pairs. At most n^3 + n^2 steps for n slots.
+    /// Makes the first plan, certified for the pairs. At most n^3 steps for n slots.
     pub fn solve<L: Ledger>(&mut self, pairs: &Pairs<'_>, steps: &mut Steps<L>)
         requires earlier { self.old.earlier ≡ [] }
         requires later { self.old.later ≡ [] }
@@ -113,11 +119,40 @@ impl PlanHistory {
         ensures plan { self.new.plan ≡ solved pairs.now }
         ensures earlier { self.new.earlier ≡ [] }
         ensures later { self.new.later ≡ [] }
-        ensures counted { let n = length pairs.now.moves in steps.new ≤ steps.old + n * n * n + n * n }
+        ensures counted { let n = length pairs.now.moves in steps.new ≤ steps.old + n * n * n }
     {
         // Its clauses say that the network is one of one day.
         let _slots = pairs.slots();
         self.solver.solve(pairs, &mut Looks::new(), steps);
+    }
+
+    /// Chooses among all least plans the one that is liked best, in place of the first plan. The prices stay as they are. At
+    /// most n^2 steps for n slots. `Err` says that memory was refused; the plan is then as it was.
+    pub fn choose<L: Ledger>(
+        &mut self,
+        pairs: &Pairs<'_>,
+        likings: &Likings,
+        steps: &mut Steps<L>,
+    ) -> Result<(), Memory>
+        requires slots { length self.old.plan.next ≡ length pairs.now.moves }
+        requires certified { IsCertified (pairs_network pairs.now) self.old.plan }
+        requires earlier { self.old.earlier ≡ [] }
+        requires later { self.old.later ≡ [] }
+        ensures slots { length self.new.plan.next ≡ length pairs.now.moves }
+        ensures certified { IsCertified (pairs_network pairs.now) self.new.plan }
+        ensures plan { OnOk result (self.new.plan ≡ chosen_plan pairs.now likings.now self.old.plan) }
+        ensures chosen { OnOk result ((order : List ℕ) → StandsOnce (pairs_network pairs.now).live order
+            → IsChosen (pairs_network pairs.now) (pair_liking pairs.now likings.now) (blocks_along self.new.plan.next order)) }
+        ensures earlier { self.new.earlier ≡ [] }
+        ensures later { self.new.later ≡ [] }
+        ensures unchanged { OnErr result (self.new ≡ self.old) }
+        ensures counted { let n = length pairs.now.moves in steps.new ≤ steps.old + n * n }
+    {
+        // Its clauses say that the network is one of one day.
+        let _slots = pairs.slots();
+        let next = chosen_links(self.alloc, pairs, self.solver.plan(), likings, steps)?;
+        set_links(&mut self.solver, &next);
+        Ok(())
     }
 
     /// Takes the memory that the next edit needs: for a change of each slot and of one more. Nothing else that is seen changes.

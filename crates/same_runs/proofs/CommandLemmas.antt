@@ -14,6 +14,8 @@ use Rattle.trip_model.specs.Timetable.{TimetableView}
 use Rattle.deadhead_matrix.specs.Fitting.{network_of}
 use Rattle.deadhead_matrix.specs.Matrix.{MatrixView}
 use Rattle.block_writer.specs.StopTimes.{stop_time_columns}
+use Rattle.plan_choice.specs.Likings.{LikingsView}
+use Rattle.feed_likings.specs.Likings.{likings_in}
 use Rattle.blocks_command.specs.Blocks.{blocks_asked, blocks_does, plans_outcome}
 use Rattle.block_audit.specs.declared.misfit.Misfit.{Misfit}
 use Rattle.block_audit.specs.Misfits.{misfits_in}
@@ -184,7 +186,7 @@ blocks-determined : IsDetermined blocks_asked
 unfolding blocks_asked
 blocks-determined =
     determined-feed blocks_does (λ read said one other is is'.
-    is.planned.done ∙ ap (λ matrix. plans_outcome said.base said.lines matrix said.settings.prefix)
+    is.planned.done ∙ ap (λ matrix. plans_outcome said.base said.lines matrix (likings_in read said.settings said.base) said.settings.prefix)
     (one-matrix said is.matrix is'.matrix is.matrix_is is'.matrix_is) ∙ sym is'.planned.done)
 
 chart-determined : IsDetermined chart_asked
@@ -192,7 +194,7 @@ unfolding chart_asked
 chart-determined =
     determined-feed chart_does (λ read said one other is is'.
     let matrix = one-matrix said is.matrix is'.matrix is.matrix_is is'.matrix_is in
-    let blocks = one-list said is.matrix is'.matrix is.plan is'.plan is.blocks is'.blocks is.matrix_is is'.matrix_is is.drawn is'.drawn in
+    let blocks = one-list (likings_in read said.settings said.base) said is.matrix is'.matrix is.plan is'.plan is.blocks is'.blocks is.matrix_is is'.matrix_is is.drawn is'.drawn in
     is.done ∙ (λ i. refusing_first (refused_of said) (chart_text (standing said) (matrix i) said.settings.prefix (blocks i))
     (ending_of said)) ∙ sym is'.done)
 
@@ -201,15 +203,15 @@ unfolding joined_asked
 joined-determined =
     determined-feed joined_does (λ read said one other is is'.
     let matrix = one-matrix said is.matrix is'.matrix is.matrix_is is'.matrix_is in
-    let blocks = one-list said is.matrix is'.matrix is.plan is'.plan is.blocks is'.blocks is.matrix_is is'.matrix_is is.drawn is'.drawn in
+    let blocks = one-list (likings_in read said.settings said.base) said is.matrix is'.matrix is.plan is'.plan is.blocks is'.blocks is.matrix_is is'.matrix_is is.drawn is'.drawn in
     is.done ∙ (λ i. boards_outcome (refused_of said) (ending_of said) said.settings.prefix (standing said) (matrix i) (blocks i))
     ∙ sym is'.done)
 
 -- what is written of two papers that are tables of texts
-one-written : (said : FeedView) (trips stop_times : TableView) (one other : OutcomeView) → IsWritten said trips stop_times one
-    → IsWritten said trips stop_times other → one ≡ other
-one-written said trips stop_times one other is is' =
-    let blocks = one-list said is.matrix is'.matrix is.plan is'.plan is.blocks is'.blocks is.matrix_is is'.matrix_is is.drawn is'.drawn in
+one-written : (likings : LikingsView) (said : FeedView) (trips stop_times : TableView) (one other : OutcomeView) → IsWritten likings said trips stop_times one
+    → IsWritten likings said trips stop_times other → one ≡ other
+one-written likings said trips stop_times one other is is' =
+    let blocks = one-list likings said is.matrix is'.matrix is.plan is'.plan is.blocks is'.blocks is.matrix_is is'.matrix_is is.drawn is'.drawn in
     is.done
     ∙ (λ i. record {
       writes = feed_files said trips stop_times (blocks i);
@@ -220,34 +222,34 @@ one-written said trips stop_times one other is is' =
     ∙ sym is'.done
 
 -- and where one of them is refused
-one-write : (said : FeedView) (trips stop_times : Result TableView FeedFault) (one other : OutcomeView)
-    → WritesBy said trips stop_times one → WritesBy said trips stop_times other → one ≡ other
-one-write said trips stop_times one other (inl is) (inl is') =
+one-write : (likings : LikingsView) (said : FeedView) (trips stop_times : Result TableView FeedFault) (one other : OutcomeView)
+    → WritesBy likings said trips stop_times one → WritesBy likings said trips stop_times other → one ≡ other
+one-write likings said trips stop_times one other (inl is) (inl is') =
     is.done ∙ ap refusing (one-paper paper.Trips (trip_columns said.settings) trips is.refused is'.refused is.for is'.for) ∙ sym is'.done
-one-write said trips stop_times one other (inl is) (inr (inl is')) =
+one-write likings said trips stop_times one other (inl is) (inr (inl is')) =
     absurd (no-refusal paper.Trips (trip_columns said.settings) trips is.refused _ is.for is')
-one-write said trips stop_times one other (inl is) (inr (inr is')) =
+one-write likings said trips stop_times one other (inl is) (inr (inr is')) =
     absurd (no-refusal paper.Trips (trip_columns said.settings) trips is.refused _ is.for is')
-one-write said trips stop_times one other (inr (inl is)) (inl is') =
+one-write likings said trips stop_times one other (inr (inl is)) (inl is') =
     absurd (no-refusal paper.Trips (trip_columns said.settings) trips is'.refused _ is'.for is)
-one-write said trips stop_times one other (inr (inr is)) (inl is') =
+one-write likings said trips stop_times one other (inr (inr is)) (inl is') =
     absurd (no-refusal paper.Trips (trip_columns said.settings) trips is'.refused _ is'.for is)
-one-write said (Err refused) stop_times one other (inr (inl is)) (inr is') = absurd is
-one-write said (Err refused) stop_times one other (inr (inr is)) (inr is') = absurd is
-one-write said (Ok trips) stop_times one other (inr (inl is)) (inr (inl is')) =
+one-write likings said (Err refused) stop_times one other (inr (inl is)) (inr is') = absurd is
+one-write likings said (Err refused) stop_times one other (inr (inr is)) (inr is') = absurd is
+one-write likings said (Ok trips) stop_times one other (inr (inl is)) (inr (inl is')) =
     is.1.done ∙ ap refusing (one-paper paper.StopTimes stop_time_columns stop_times is.1.refused is'.1.refused is.1.for is'.1.for)
     ∙ sym is'.1.done
-one-write said (Ok trips) stop_times one other (inr (inl is)) (inr (inr is')) =
+one-write likings said (Ok trips) stop_times one other (inr (inl is)) (inr (inr is')) =
     absurd (no-refusal paper.StopTimes stop_time_columns stop_times is.1.refused _ is.1.for is'.1)
-one-write said (Ok trips) stop_times one other (inr (inr is)) (inr (inl is')) =
+one-write likings said (Ok trips) stop_times one other (inr (inr is)) (inr (inl is')) =
     absurd (no-refusal paper.StopTimes stop_time_columns stop_times is'.1.refused _ is'.1.for is.1)
-one-write said (Ok trips) (Err refused) one other (inr (inr is)) (inr (inr is')) = absurd is.1
-one-write said (Ok trips) (Ok stop_times) one other (inr (inr is)) (inr (inr is')) =
-    one-written said trips stop_times one other is.1.1 is'.1.1
+one-write likings said (Ok trips) (Err refused) one other (inr (inr is)) (inr (inr is')) = absurd is.1
+one-write likings said (Ok trips) (Ok stop_times) one other (inr (inr is)) (inr (inr is')) =
+    one-written likings said trips stop_times one other is.1.1 is'.1.1
 
 write-determined : IsDetermined write_asked
 unfolding write_asked
-write-determined = determined-feed write_does (λ read said one other. one-write said (write_trips_in read) (stop_times_in read) one other)
+write-determined = determined-feed write_does (λ read said one other. one-write (likings_in read said.settings said.base) said (write_trips_in read) (stop_times_in read) one other)
 
 -- so each command's outcome is determined
 pub determined : (command : CommandName) → IsDetermined (asked_by command)

@@ -5,7 +5,9 @@ use Rattle.std.proofs.lemmas.Bool.{false≢true}
 use Rattle.std.proofs.lemmas.List.Sums.{fold-append}
 use Rattle.desk_io.specs.declared.shelf.Found.{Found}
 use Rattle.gtfs_tables.specs.declared.fault.FeedFault.{FeedFault}
+use Rattle.gtfs_tables.specs.Reading.{table_in}
 use Rattle.gtfs_tables.specs.declared.paper.Paper.{Paper}
+use Rattle.gtfs_tables.specs.declared.paper.Paper.TheVariants as paper
 use Rattle.edit_script.specs.Machine.{State, after_record, begun, or_stays, timetable_at, with_record}
 use Rattle.edit_script.specs.declared.edit.Line.{Line}
 use Rattle.edit_script.specs.declared.fault.EditFault.{EditFault}
@@ -17,6 +19,7 @@ use Rattle.desk_run.specs.Commands.{IsGiven}
 use Rattle.desk_run.specs.Outcome.{OutcomeView, status_of}
 use Rattle.desk_run.specs.Reading.{ReadView, found_of}
 use Rattle.desk_run.specs.declared.status.TheConstants.{EDITS_REFUSED}
+use Rattle.feed_likings.specs.Likings.{likings_by, likings_in}
 use Rattle.feed_desk.specs.Answers.{answers_by}
 use Rattle.feed_desk.specs.Plans.{plan_at}
 use Rattle.blocks_command.specs.Answers.{answer_text, numbers_text}
@@ -36,13 +39,14 @@ state-stays base lines n some =
     by (Err refused) some = refl
 
 -- what `blocks` gives of an accepted feed
-pub headline : (found : Paper → Found) (said : FeedView) (outcome : OutcomeView) → said_by found ≡ Ok said → IsPlan said outcome
-    → Headline found outcome
+pub headline : (found : Paper → Found) (said : FeedView) (outcome : OutcomeView) → said_by found ≡ Ok said
+    → IsPlan (likings_by said.settings said.base (table_in paper.Trips (found paper.Trips))) said outcome → Headline found outcome
 headline found said outcome accepted p =
     let base = said.base in
     let lines = said.lines in
     let are = p.planned.are in
-    let plan = plan_at base lines p.matrix in
+    let likings = likings_by said.settings said.base (table_in paper.Trips (found paper.Trips)) in
+    let plan = plan_at base lines p.matrix likings in
     let prefix = said.settings.prefix in
     record {
       said = said;
@@ -58,8 +62,10 @@ headline found said outcome accepted p =
           let part : IsPartOf line before = subst (λ number. IsPartOf (accepted_line number numbers) before) (next n)
           (answers-part p.matrix prefix base lines plan (length lines) n low none) in
           subst (λ (o : OutcomeView). IsPartOf line o.text) (sym p.planned.done) (part-before line before last part));
+      last = (answers_by (answer_text p.matrix prefix) base lines plan (length lines), ap (λ (o : OutcomeView). o.text) p.planned.done);
       without = λ m low. (let w = (are.planned m low).without in (w.blocks, w.fewest, w.count));
       least = λ m low. (are.planned m low).scheduled.least;
+      chosen = are.chosen;
       written = ap (λ (o : OutcomeView). o.writes) p.planned.done;
       claimed = p.accepted;
       undone = λ m k low low' same. (ap (fold after_record base) same, are.restored m k low low' same);
@@ -75,6 +81,7 @@ pub headline-of : (read : ReadView) (outcome : OutcomeView) → IsGiven blocks_a
 unfolding blocks_asked
 headline-of read outcome given low = by (said_in read) refl given.gives
   where
-    by : (result : Result FeedView FeedFault) → said_in read ≡ result → Does IsPlan result outcome → Headline (found_of read.pages) outcome
+    by : (result : Result FeedView FeedFault) → said_in read ≡ result → Does (λ said. IsPlan (likings_in read said.settings said.base) said) result outcome
+        → Headline (found_of read.pages) outcome
     by (Ok said) is does = headline (found_of read.pages) said outcome is does
     by (Err refused) is does = absurd (omega (arith, low, ap (λ (o : OutcomeView). status_of o.ending) does))

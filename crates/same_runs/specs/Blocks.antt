@@ -4,13 +4,14 @@ use Rattle.deadhead_matrix.specs.Matrix.{MatrixView}
 use Rattle.desk_core.specs.Counts.{blocks_in}
 use Rattle.desk_feed.specs.Feed.{FeedView, standing}
 use Rattle.desk_run.specs.Outcome.{OutcomeView}
+use Rattle.plan_choice.specs.Likings.{LikingsView}
 use Rattle.feed_desk.specs.Plans.{plan_at}
 use Rattle.blocks_command.specs.Blocks.{IsPlan}
 
--- the blocks of the plan after the script of a feed
-abbrev pub blocks_after : FeedView → MatrixView → List (List ℕ)
-blocks_after said matrix = blocks_in (standing said) (plan_at said.base said.lines matrix (length said.lines))
+-- the blocks of the plan after the script of a feed, by how links are liked
+abbrev pub blocks_after : LikingsView → FeedView → MatrixView → List (List ℕ)
+blocks_after likings said matrix = blocks_in (standing said) (plan_at said.base said.lines matrix likings (length said.lines))
 
 -- those that `blocks` lists in `blocks.csv`
-abbrev pub listed : (said : FeedView) (outcome : OutcomeView) → IsPlan said outcome → List (List ℕ)
-listed said outcome plan = blocks_after said plan.matrix
+abbrev pub listed : (likings : LikingsView) (said : FeedView) (outcome : OutcomeView) → IsPlan likings said outcome → List (List ℕ)
+listed likings said outcome plan = blocks_after likings said plan.matrix

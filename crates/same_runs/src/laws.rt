@@ -12,6 +12,7 @@ ghost use Rattle.desk_run.specs.declared.status.TheConstants.{EDITS_REFUSED, NO}
 ghost use Rattle.feed_desk.specs.Plans.{plan_at};
 ghost use Rattle.gtfs_tables.specs.Table.{TableView};
 ghost use Rattle.joined_command.specs.Joined.{IsJoined};
+ghost use Rattle.plan_choice.specs.Likings.{LikingsView};
 ghost use Rattle.plan_commands.specs.Chart.{IsChart};
 ghost use Rattle.same_runs.specs.Blocks.{listed};
 ghost use Rattle.same_runs.specs.Fulfilled.{IsFulfilled};
@@ -35,15 +36,16 @@ pub fn same_run_law()
 /// The blocks that `blocks` lists in `blocks.csv` are those of the boards of `joined`, of the rows of `chart` and of the feed that
 /// `write` writes, where these commands read the same feed.
 pub fn same_blocks_law()
-    ensures listed { (said : FeedView) (outcome : OutcomeView) (plan : IsPlan said outcome)
+    ensures listed { (likings : LikingsView) (said : FeedView) (outcome : OutcomeView) (plan : IsPlan likings said outcome)
         → outcome.writes ≡ plan_files (standing said) plan.matrix said.settings.prefix
-        (plan_at said.base said.lines plan.matrix (length said.lines)) }
-    ensures joined { (said : FeedView) (outcome other : OutcomeView) (plan : IsPlan said outcome) (joined : IsJoined said other)
-        → joined.blocks ≡ listed said outcome plan }
-    ensures drawn { (said : FeedView) (outcome other : OutcomeView) (plan : IsPlan said outcome) (chart : IsChart said other)
-        → chart.blocks ≡ listed said outcome plan }
-    ensures written { (said : FeedView) (outcome other : OutcomeView) (trips stop_times : TableView) (plan : IsPlan said outcome)
-        (written : IsWritten said trips stop_times other) → written.blocks ≡ listed said outcome plan }
+        (plan_at said.base said.lines plan.matrix likings (length said.lines)) }
+    ensures joined { (likings : LikingsView) (said : FeedView) (outcome other : OutcomeView) (plan : IsPlan likings said outcome)
+        (joined : IsJoined likings said other) → joined.blocks ≡ listed likings said outcome plan }
+    ensures drawn { (likings : LikingsView) (said : FeedView) (outcome other : OutcomeView) (plan : IsPlan likings said outcome)
+        (chart : IsChart likings said other) → chart.blocks ≡ listed likings said outcome plan }
+    ensures written { (likings : LikingsView) (said : FeedView) (outcome other : OutcomeView) (trips stop_times : TableView)
+        (plan : IsPlan likings said outcome) (written : IsWritten likings said trips stop_times other)
+        → written.blocks ≡ listed likings said outcome plan }
 {}
 
 /// A run of `blocks` that comes to its end with an accepted feed, perhaps with refused edits, does what the record `Headline` says. This

@@ -39,6 +39,7 @@ use Rattle.written_laws.specs.PlanLaws.{WrittenFeedStatesPlan}
 use Rattle.written_laws.specs.Planned.{AreReadable, IsFeed, IsWhole}
 use Rattle.written_laws.proofs.Chosen.{of-feed}
 use Rattle.written_laws.proofs.Moves.{same-moves}
+use Rattle.plan_choice.specs.Likings.{LikingsView}
 use Rattle.desk_run.specs.Outcome.{OutcomeView, putting}
 use Rattle.desk_run.specs.declared.status.Ending.TheVariants as ending
 use Rattle.desk_feed.specs.Feed.{FeedView, said_by, said_with, standing}
@@ -100,8 +101,8 @@ stated-plan states settings trips_bytes stop_times_bytes trips stop_times read n
 -- A feed whose timetable was read, between the places of another that knows more, and what was written of it after its script.
 module _ (states : WrittenFeedStatesPlan) (settings : SettingsView) (read more : TimetableView) (entries : List Entry) (pulls : List Pull)
     (lines : List Line) (trips_bytes stop_times_bytes : List ℕ) (trips stop_times : TableView) (outcome : OutcomeView)
-    (feed : IsFeed settings trips_bytes stop_times_bytes trips stop_times read)
-    (written : IsWritten (said_with settings (with_slots read.slots more) entries pulls lines) trips stop_times outcome)
+    (feed : IsFeed settings trips_bytes stop_times_bytes trips stop_times read) (likings : LikingsView)
+    (written : IsWritten likings (said_with settings (with_slots read.slots more) entries pulls lines) trips stop_times outcome)
     (whole : IsWholeAfter (said_with settings (with_slots read.slots more) entries pulls lines) stop_times) where
   abbrev said : FeedView
   said = said_with settings (with_slots read.slots more) entries pulls lines
@@ -129,10 +130,10 @@ module _ (states : WrittenFeedStatesPlan) (settings : SettingsView) (read more :
   said_again = said_with settings base_again entries pulls []
 
   valid : IsTimetable now
-  valid = drawn-valid said.base lines written.matrix written.plan written.blocks written.drawn
+  valid = drawn-valid said.base lines written.matrix likings written.plan written.blocks written.drawn
 
   scheduled : IsScheduled now written.matrix written.plan written.blocks
-  scheduled = drawn-scheduled said.base lines written.matrix written.plan written.blocks written.drawn
+  scheduled = drawn-scheduled said.base lines written.matrix likings written.plan written.blocks written.drawn
 
   follows : IsEditedFrom read now
   follows =

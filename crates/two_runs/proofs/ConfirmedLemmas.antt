@@ -30,6 +30,8 @@ use Rattle.desk_run.specs.Runs.{HasEnded}
 use Rattle.desk_run.specs.World.{World}
 use Rattle.desk_run.proofs.EachStatus.{pages_told}
 use Rattle.desk_core.specs.Counts.{blocks_in, minutes_in}
+use Rattle.plan_choice.specs.Likings.{LikingsView}
+use Rattle.feed_likings.specs.Likings.{likings_in}
 use Rattle.feed_desk.specs.Answers.{answers_by}
 use Rattle.feed_desk.specs.Plans.{fixed_number, IsPlannedAt, plan_at}
 use Rattle.blocks_command.specs.Answers.{answer_text}
@@ -94,12 +96,12 @@ module _ (files : Files) (blocks prices : List ℕ) where
 
 -- a run of `blocks` that has done all has done so with an accepted feed
 planned_said : (read : ReadView) (outcome : OutcomeView) → IsGiven blocks_asked read outcome → status_of outcome.ending ≤ EDITS_REFUSED
-    → (said : FeedView) × (said_in read ≡ Ok said) × IsPlan said outcome
+    → (said : FeedView) × (said_in read ≡ Ok said) × IsPlan (likings_in read said.settings said.base) said outcome
 unfolding blocks_asked
 planned_said read outcome given low = by (said_in read) refl given.gives
   where
-    by : (result : Result FeedView FeedFault) → said_in read ≡ result → Does IsPlan result outcome
-        → (said : FeedView) × (said_in read ≡ Ok said) × IsPlan said outcome
+    by : (result : Result FeedView FeedFault) → said_in read ≡ result → Does (λ said. IsPlan (likings_in read said.settings said.base) said) result outcome
+        → (said : FeedView) × (said_in read ≡ Ok said) × IsPlan (likings_in read said.settings said.base) said outcome
     by (Ok said) is does = (said, is, does)
     by (Err refused) is does = absurd (omega (arith, low, ap (λ (o : OutcomeView). status_of o.ending) does))
 
@@ -110,18 +112,23 @@ with_texts blocks prices = with_two_told (file_name_of paper.Blocks) blocks (fil
 module _ (seen again : Option ReadView) (before left later after : World) (first second : ℕ)
     (one : HasEnded blocks_asked seen before left first) (two : HasEnded check_asked again later after second)
     (all : first ≤ EDITS_REFUSED) where
-  abbrev planned : (said : FeedView) × (said_in one.chosen.read ≡ Ok said) × IsPlan said one.chosen.outcome
+  abbrev planned : (said : FeedView) × (said_in one.chosen.read ≡ Ok said)
+      × IsPlan (likings_in one.chosen.read said.settings said.base) said one.chosen.outcome
   planned = planned_said one.chosen.read one.chosen.outcome one.chosen.given (omega (arith, all, one.answered))
 
   abbrev said : FeedView
   said = planned.0
 
-  abbrev plan : IsPlan said one.chosen.outcome
+  -- how links are liked
+  abbrev likings : LikingsView
+  likings = likings_in one.chosen.read said.settings said.base
+
+  abbrev plan : IsPlan likings said one.chosen.outcome
   plan = planned.2
 
   -- the plan at the last moment, and its blocks
   abbrev last_plan : Plan
-  last_plan = plan_at said.base said.lines plan.matrix (length said.lines)
+  last_plan = plan_at said.base said.lines plan.matrix likings (length said.lines)
 
   last_planned : IsPlannedAt (standing said) plan.matrix last_plan
   last_planned = plan.planned.are.planned (length said.lines) (omega arith)
@@ -189,7 +196,8 @@ module _ (seen again : Option ReadView) (before left later after : World) (first
 
     confirmed : IsConfirmed before left later after second
     confirmed = record {
-      answers = answers_by (answer_text plan.matrix said.settings.prefix) said.base said.lines (plan_at said.base said.lines plan.matrix)
+      answers = answers_by (answer_text plan.matrix said.settings.prefix) said.base said.lines
+          (plan_at said.base said.lines plan.matrix likings)
           (length said.lines);
       refused = refused_of said;
       fixed = fixed_number (standing said);

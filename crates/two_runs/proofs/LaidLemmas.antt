@@ -27,6 +27,7 @@ use Rattle.deadhead_matrix.specs.Deadheads.{deadheads_of}
 use Rattle.deadhead_matrix.specs.Depot.{pulls_of}
 use Rattle.claim_files.proofs.EachRecord.{read-parts, same_Ok}
 use Rattle.claim_files.proofs.FieldsBack.{then as and_then}
+use Rattle.plan_choice.specs.Likings.{LikingsView}
 use Rattle.desk_run.specs.Becomes.{with_writings}
 use Rattle.desk_run.specs.Commands.{IsGiven}
 use Rattle.desk_run.specs.Outcome.{OutcomeView, status_of}
@@ -35,6 +36,7 @@ use Rattle.desk_run.specs.declared.status.TheConstants.{EDITS_REFUSED}
 use Rattle.desk_feed.specs.Feed.{FeedView, deadheads_in, feed_papers, kept_on, lines_by, lines_in, pulls_in, said_by, said_with}
 use Rattle.desk_feed.specs.Feed.{settings_in, timetable_in}
 use Rattle.desk_feed.specs.Judging.{Does, refusing, said_in}
+use Rattle.feed_likings.specs.Likings.{likings_in}
 use Rattle.write_command.specs.Write.{IsWritten, Writes, WritesBy, feed_files, files_of, stop_times_in, stop_times_name, stop_times_of}
 use Rattle.write_command.specs.Write.{trips_in, trips_name, trips_of, write_asked}
 use Rattle.two_runs.specs.Audited.{IsLaid}
@@ -149,27 +151,28 @@ says-again one other said alike parts again read is no_script =
     (ap (λ depot. pulls_of depot parts.more) alike.depot ∙ parts.pulls_are)
     (and_then (lines_in one) [] _ _ (ap lines_by no_script) refl))))
 
--- what a run of `write` has written that has done all
+-- what a run of `write` has written that has done all, and how it likes links
 pub record HasWritten (said : FeedView) (trips stop_times : Result TableView FeedFault) (outcome : OutcomeView) : Type 0 where
   pub first : TableView
   pub second : TableView
   pub first_is : trips ≡ Ok first
   pub second_is : stop_times ≡ Ok second
-  pub written : IsWritten said first second outcome
+  pub likings : LikingsView
+  pub written : IsWritten likings said first second outcome
 
 refused-high : (outcome : OutcomeView) (refused : FeedFault) → status_of outcome.ending ≤ EDITS_REFUSED → outcome ≡ refusing refused → ⊥
 refused-high outcome refused low done = omega (arith, low, ap (λ (o : OutcomeView). status_of o.ending) done)
 
-has-written : (said : FeedView) (trips stop_times : Result TableView FeedFault) (outcome : OutcomeView)
-    → status_of outcome.ending ≤ EDITS_REFUSED → WritesBy said trips stop_times outcome
+has-written : (likings : LikingsView) (said : FeedView) (trips stop_times : Result TableView FeedFault) (outcome : OutcomeView)
+    → status_of outcome.ending ≤ EDITS_REFUSED → WritesBy likings said trips stop_times outcome
     → HasWritten said trips stop_times outcome
-has-written said trips stop_times outcome low (inl bad) = absurd (refused-high outcome bad.refused low bad.done)
-has-written said (Err due) stop_times outcome low (inr (inl none)) = absurd none
-has-written said (Err due) stop_times outcome low (inr (inr none)) = absurd none
-has-written said (Ok first) stop_times outcome low (inr (inl bad)) = absurd (refused-high outcome bad.1.refused low bad.1.done)
-has-written said (Ok first) (Err due) outcome low (inr (inr does)) = absurd does.1
-has-written said (Ok first) (Ok second) outcome low (inr (inr does)) =
-    record { first = first; second = second; first_is = refl; second_is = refl; written = does.1.1 }
+has-written likings said trips stop_times outcome low (inl bad) = absurd (refused-high outcome bad.refused low bad.done)
+has-written likings said (Err due) stop_times outcome low (inr (inl none)) = absurd none
+has-written likings said (Err due) stop_times outcome low (inr (inr none)) = absurd none
+has-written likings said (Ok first) stop_times outcome low (inr (inl bad)) = absurd (refused-high outcome bad.1.refused low bad.1.done)
+has-written likings said (Ok first) (Err due) outcome low (inr (inr does)) = absurd does.1
+has-written likings said (Ok first) (Ok second) outcome low (inr (inr does)) =
+    record { first = first; second = second; first_is = refl; second_is = refl; likings = likings; written = does.1.1 }
 
 pub written-said : (read : ReadView) (outcome : OutcomeView) → IsGiven write_asked read outcome → status_of outcome.ending ≤ EDITS_REFUSED
     → (said : FeedView) × (said_in read ≡ Ok said) × HasWritten said (trips_in read) (stop_times_in read) outcome
@@ -178,7 +181,7 @@ written-said read outcome given low = by (said_in read) refl given.gives
   where
     by : (result : Result FeedView FeedFault) → said_in read ≡ result → Does (Writes read) result outcome
         → (said : FeedView) × (said_in read ≡ Ok said) × HasWritten said (trips_in read) (stop_times_in read) outcome
-    by (Ok said) is does = (said, is, has-written said (trips_in read) (stop_times_in read) outcome low does)
+    by (Ok said) is does = (said, is, has-written (likings_in read said.settings said.base) said (trips_in read) (stop_times_in read) outcome low does)
     by (Err refused) is does = absurd (refused-high outcome refused low does)
 
 -- the files of a shelf with the two, and where the shelf tells them

@@ -17,6 +17,7 @@ use Rattle.gtfs_tables.specs.declared.paper.TheConstants.{MOST_BYTES}
 use Rattle.feed_read.specs.Base.{base_of}
 use Rattle.written_laws.specs.PlanLaws.{WrittenFeedStatesPlan}
 use Rattle.written_laws.specs.Planned.{IsFeed}
+use Rattle.plan_choice.specs.Likings.{LikingsView}
 use Rattle.desk_run.specs.Becomes.{with_writings}
 use Rattle.desk_run.specs.Outcome.{OutcomeView, status_of}
 use Rattle.desk_run.specs.Reading.{ReadView, AreRead, found_of, pages_in}
@@ -53,7 +54,7 @@ module _ (states : WrittenFeedStatesPlan) (files laid : Files) (first second : T
   -- what is to be shown of what a feed says
   abbrev TellsOf : FeedView → Type 0
   TellsOf said =
-      (written : IsWritten said first second outcome) → IsWholeAfter said second
+      (likings : LikingsView) (written : IsWritten likings said first second outcome) → IsWholeAfter said second
       → IsLaid (with_both files (trips_of said first written.blocks) (stop_times_of said second)) laid
       → IsReadable (with_both files (trips_of said first written.blocks) (stop_times_of said second)) trips_name
       → IsReadable (with_both files (trips_of said first written.blocks) (stop_times_of said second)) stop_times_name
@@ -64,7 +65,7 @@ module _ (states : WrittenFeedStatesPlan) (files laid : Files) (first second : T
   tells-parts : (said : FeedView) → (parts : HasParts before said) → table_in paper.Trips (before paper.Trips) ≡ Ok first
       → table_in paper.StopTimes (before paper.StopTimes) ≡ Ok second
       → TellsOf (said_with parts.settings (record parts.more { slots = parts.read.slots }) parts.entries parts.pulls parts.lines)
-  tells-parts said parts first_is second_is written whole is trips_readable stop_times_readable does =
+  tells-parts said parts first_is second_is likings written whole is trips_readable stop_times_readable does =
       let trips = file-of paper.Trips (before paper.Trips) first first_is in
       let stop_times = file-of paper.StopTimes (before paper.StopTimes) second second_is in
       let feed : IsFeed parts.settings trips.bytes stop_times.bytes first second parts.read = record {
@@ -88,11 +89,11 @@ module _ (states : WrittenFeedStatesPlan) (files laid : Files) (first second : T
       let stop_times_found : after paper.StopTimes ≡ File stop_times_text = ap (found_as MOST_BYTES) is.stop_times
       ∙ found-readable both stop_times_name stop_times_text stop_times_stand stop_times_readable in
       let read = read_again states parts.settings parts.read parts.more parts.entries parts.pulls parts.lines trips.bytes stop_times.bytes
-      first second outcome feed written whole trips_unmarked stop_times_unmarked in
+      first second outcome feed likings written whole trips_unmarked stop_times_unmarked in
       let table = table_again states parts.settings parts.read parts.more parts.entries parts.pulls parts.lines trips.bytes
-      stop_times.bytes first second outcome feed written whole trips_unmarked stop_times_unmarked in
+      stop_times.bytes first second outcome feed likings written whole trips_unmarked stop_times_unmarked in
       finds-least states parts.settings parts.read parts.more parts.entries parts.pulls parts.lines trips.bytes stop_times.bytes first
-      second outcome feed written whole trips_unmarked stop_times_unmarked after
+      second outcome feed likings written whole trips_unmarked stop_times_unmarked after
       (says-again after before said (laid-alike files trips_text stop_times_text laid is) parts _
       ((λ i. base_of parts.settings (trips_found i) (stop_times_found i)) ∙ read) refl (ap (found_as MOST_BYTES) is.edits))
       (ap (table_in paper.Trips) trips_found ∙ ap (or_refused paper.Trips) table)
@@ -155,7 +156,7 @@ module _ (states : WrittenFeedStatesPlan) (seen heard : Option ReadView) (before
         let first_is = sym (ap (λ pages. table_in paper.Trips (found_of pages paper.Trips)) read_first) ∙ has.first_is in
         let second_is = sym (ap (λ pages. table_in paper.StopTimes (found_of pages paper.StopTimes)) read_first) ∙ has.second_is in
         let told =
-        tells states files laid has.first has.second one.chosen.outcome two.chosen.outcome said.0 says first_is second_is has.written
+        tells states files laid has.first has.second one.chosen.outcome two.chosen.outcome said.0 says first_is second_is has.likings has.written
         (can.whole said.0 has.second says second_is)
         (subst (λ written. IsLaid written laid) both is) (subst (λ written. IsReadable written trips_name) both can.trips)
         (subst (λ written. IsReadable written stop_times_name) both can.stop_times) audited in

@@ -7,6 +7,7 @@ use desk_feed::{FEED_PAPERS, Feed, Judged, judge_feed, matrix_of};
 use desk_io::{Memory, MemoryShelf, Shelf, Steps, Text};
 use desk_run::Read;
 use feed_desk::{Drawn, draw_after};
+use feed_likings::read_likings;
 use gtfs_tables::{FeedFault, MOST_BYTES};
 use pair_graph::Pairs;
 use std::alloc::Global;
@@ -55,14 +56,15 @@ fn followed<L: Ledger>(
         return Ok(None);
     };
     let Feed {
-        settings: _,
+        settings,
         timetable,
         deadheads,
         pulls,
         lines,
     } = feed;
     let matrix = matrix_of(alloc, &timetable, &deadheads, pulls)?;
-    Ok(Some(draw_after(alloc, timetable, &lines, matrix, steps)?))
+    let likings = read_likings(alloc, &settings, read, &timetable)?;
+    Ok(Some(draw_after(alloc, timetable, &lines, matrix, &likings, steps)?))
 }
 
 // The minutes of a least walk between two places by their names, or none where there is no walk or no such place.

@@ -16,6 +16,7 @@ use Rattle.trip_model.specs.Timetable.{TimetableView}
 use Rattle.feed_read.specs.Base.{base_of}
 use Rattle.deadhead_matrix.specs.Matrix.{MatrixView}
 use Rattle.assignment_model.specs.Prices.{Plan}
+use Rattle.plan_choice.specs.Likings.{LikingsView}
 use Rattle.block_writer.specs.StopTimes.{stop_time_columns, stop_times_written}
 use Rattle.block_writer.specs.Texts.{AreTexts, IsRefusedPaper, IsTextPaper}
 use Rattle.block_writer.specs.Trips.{trips_written}
@@ -29,6 +30,7 @@ use Rattle.desk_run.specs.declared.status.Ending.TheVariants as ending
 use Rattle.desk_feed.specs.Feed.{FeedView, standing}
 use Rattle.desk_feed.specs.Judging.{FeedAsked, ending_of, of_feed, refused_of, refusing}
 use Rattle.desk_feed.specs.Schedule.{IsMatrixFor}
+use Rattle.feed_likings.specs.Likings.{likings_in}
 use Rattle.feed_desk.specs.Drawn.{IsDrawn}
 use Rattle.feed_desk.specs.Plans.{most_steps_of}
 
@@ -97,12 +99,12 @@ AreReadAgain said trips stop_times blocks =
 
 -- The files are those of the blocks of the plan after the script, and their names begin with a text. They are read again as the
 -- feed. The lines of refused records are put, and then that the files were written.
-pub record IsWritten (said : FeedView) (trips stop_times : TableView) (outcome : OutcomeView) : Type 0 where
+pub record IsWritten (likings : LikingsView) (said : FeedView) (trips stop_times : TableView) (outcome : OutcomeView) : Type 0 where
   pub matrix : MatrixView
   pub matrix_is : IsMatrixFor said matrix
   pub plan : Plan
   pub blocks : List (List ℕ)
-  pub drawn : IsDrawn said.base said.lines matrix plan blocks
+  pub drawn : IsDrawn said.base said.lines matrix likings plan blocks
   pub text : IsUtf8 said.settings.prefix
   pub again : AreReadAgain said trips stop_times blocks
   pub done : outcome ≡ record {
@@ -120,14 +122,14 @@ pub record IsRefusal (paper : Paper) (columns : List Column) (read : Result Tabl
 
 -- what is done of two papers: the feed is written where both are tables of texts. Else the first refusal is put, that of the
 -- trips before that of the stop times
-abbrev pub WritesBy : FeedView → Result TableView FeedFault → Result TableView FeedFault → OutcomeView → Type 0
-WritesBy said trips stop_times outcome =
+abbrev pub WritesBy : LikingsView → FeedView → Result TableView FeedFault → Result TableView FeedFault → OutcomeView → Type 0
+WritesBy likings said trips stop_times outcome =
     IsRefusal paper.Trips (trip_columns said.settings) trips outcome
     ⊎ (IsTextPaper (λ first. IsRefusal paper.StopTimes stop_time_columns stop_times outcome) trips
-    ⊎ IsTextPaper (λ first. IsTextPaper (λ second. IsWritten said first second outcome) stop_times) trips)
+    ⊎ IsTextPaper (λ first. IsTextPaper (λ second. IsWritten likings said first second outcome) stop_times) trips)
 
 abbrev pub Writes : ReadView → FeedView → OutcomeView → Type 0
-Writes read said outcome = WritesBy said (trips_in read) (stop_times_in read) outcome
+Writes read said outcome = WritesBy (likings_in read said.settings said.base) said (trips_in read) (stop_times_in read) outcome
 
 -- how the run ends: as the script does where all fields of both are texts, and else as refused
 pub record EndsOf (said : FeedView) (trips stop_times : TableView) (end : Ending) : Type 0 where

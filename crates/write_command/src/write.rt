@@ -19,6 +19,7 @@ use desk_keeper::Keeper;
 use desk_run::{Content, Outcome, Read, Writing, perform};
 use desk_settings::{Settings, chosen_in};
 use feed_desk::{Drawn, draw_after};
+use feed_likings::read_likings;
 use gtfs_tables::{FeedFault, Paper, Table};
 use std::alloc::Global;
 use std::borrow::Cow;
@@ -117,7 +118,8 @@ fn written_of<'a, L: Ledger>(
     let alloc = said.alloc;
     let pulls = said.pulls;
     let matrix = matrix_of(alloc, &said.timetable, said.deadheads, pulls)?;
-    let drawn = draw_after(alloc, said.timetable, said.lines, matrix, steps)?;
+    let likings = read_likings(alloc, said.settings, said.read, &said.timetable)?;
+    let drawn = draw_after(alloc, said.timetable, said.lines, matrix, &likings, steps)?;
     let stands = drawn.desk.timetable();
     match writable_of(alloc, said.settings, said.read, stands, slots)? {
         Writable::Refused(outcome) => Ok(outcome),

@@ -4,6 +4,7 @@ use Rattle.blocks_command.proofs.blocks.WriteBlocksFeedCommand.outcome.Goals as 
 
 pub returns-clause-given : goal.returns-clause-given
 returns-clause-given g c =
-    plan-given c.args.said.read.now (said_to c.args.said) c.in_ok-matrix.matrix
+    plan-given c.args.said.read.now (said_to c.args.said) c.in_ok-matrix.matrix c.in_ok-likings.likings
     c.accepted_law.ensures.accepted c.names_law.ensures c.requires.says c.in_ok-matrix.ensures
-    c.planned.result c.prefix-prefix.result.now c.prefix-prefix.ensures c.planned.ensures.planned
+    c.planned.result c.prefix-prefix.result.now c.prefix-prefix.ensures c.in_ok-likings.ensures
+    c.planned.ensures.planned

@@ -4,10 +4,11 @@ use Rattle.joined_command.proofs.joined.WriteBoardsFeedCommand.outcome.Goals as 
 
 pub boarded-requires-clause-blocking : goal.boarded-requires-clause-blocking
 boarded-requires-clause-blocking g c =
-    drawn-blocking c.args.said.timetable c.args.said.lines.now c.in_ok-matrix.matrix c.in_ok-drawn.drawn c.in_ok-drawn.ensures.drawn
+    drawn-blocking c.args.said.timetable c.args.said.lines.now c.in_ok-matrix.matrix c.in_ok-likings.likings
+    c.in_ok-drawn.drawn c.in_ok-drawn.ensures.drawn
 
 pub returns-clause-given : goal.returns-clause-given
 returns-clause-given g c =
-    joined-given c.args.said.read.now (said_to c.args.said) c.in_ok-matrix.matrix c.in_ok-drawn.drawn
+    joined-given c.args.said.read.now (said_to c.args.said) c.in_ok-matrix.matrix c.in_ok-likings.likings c.in_ok-drawn.drawn
     c.joined_law.ensures.least c.entries_law.ensures c.requires.says c.in_ok-matrix.ensures c.in_ok-drawn.ensures.drawn
-    c.boarded.result c.boarded.ensures.boarded
+    c.in_ok-likings.ensures c.boarded.result c.boarded.ensures.boarded
