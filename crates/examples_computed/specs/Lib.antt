@@ -1,3 +1,4 @@
+pub mod Choices
 pub mod Claims
 pub mod Edits
 pub mod Feeds

@@ -7,6 +7,7 @@ ghost use Rattle.feed_desk.specs.Answers.{answers_by};
 ghost use Rattle.feed_desk.specs.Plans.{plan_at};
 ghost use Rattle.edit_script.specs.Machine.{machine, numbers_of, timetable_at};
 ghost use Rattle.examples_computed.specs.Edits.{answers, one_trip, records, script, script_file};
+ghost use Rattle.plan_choice.specs.Likings.{nothing_liked};
 ghost use Rattle.trip_model.specs.Timetable.{slot_at};
 
 /// Of one trip that may be 10 minutes late: it is shifted by 5 minutes and cancelled, the cancelling is undone and done again. Then a
@@ -26,5 +27,6 @@ pub fn a_file_of_edits()
 
 /// What is printed of them. The shift is refused, since no trip may be moved.
 pub fn four_answers()
-    ensures { answers_by (answer_text one_deadhead (codes "B")) two_trips script (plan_at two_trips script one_deadhead) 4 ≡ answers }
+    ensures { answers_by (answer_text one_deadhead (codes "B")) two_trips script (plan_at two_trips script one_deadhead nothing_liked) 4
+        ≡ answers }
 {}

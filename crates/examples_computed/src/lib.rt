@@ -8,11 +8,12 @@
 //! which the verdict is yes. A script of four records is read from its bytes, and its answers are those that `blocks` prints.
 //!
 //! Beside them are a time and its rounding, a table, a deficit, the sum of the maxima, a script with an undo, a refused feed and its
-//! line, and a verdict that is no.
+//! line, a choice between two least plans, and a verdict that is no.
 //!
 //! The matrix of the examples is written down: no definition computes least walks, since they are known by what they are.
 #![tactic(auto)]
 
+mod choices;
 mod claims;
 mod deficits;
 mod edits;
@@ -21,6 +22,7 @@ mod files;
 mod plans;
 mod times;
 
+pub use choices::{a_choice, a_stated_feed};
 pub use claims::{a_claim, a_no, a_yes};
 pub use deficits::{a_deficit, a_sum_of_maxima};
 pub use edits::{a_file_of_edits, a_script, four_answers};

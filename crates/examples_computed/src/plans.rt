@@ -4,10 +4,11 @@ ghost use Rattle.desk_core.specs.Counts.{blocks_in, minutes_in};
 ghost use Rattle.desk_feed.specs.Numbers.{numbers_line};
 ghost use Rattle.examples_computed.specs.Claims.{blocks_file, one_deadhead, one_plan, prices_file, two_trips};
 ghost use Rattle.feed_desk.specs.Plans.{fixed_number, plan_at};
+ghost use Rattle.plan_choice.specs.Likings.{nothing_liked};
 
 /// Of `examples/depot`, without a script: the second trip follows the first.
 pub fn a_plan()
-    ensures { plan_at two_trips [] one_deadhead 0 ≡ one_plan }
+    ensures { plan_at two_trips [] one_deadhead nothing_liked 0 ≡ one_plan }
 {}
 
 /// Without deadheads the day needs two vehicles. The plan has one, with 10 empty minutes out, 20 between the trips and 15 home.

@@ -6,6 +6,7 @@ use Rattle.trip_model.specs.Order.{by_departure}
 use Rattle.pair_search.specs.Arranged.{arranged, departing, found_by, all_found}
 use Rattle.pair_search.specs.Determined.{visited, grown, linked_back, found}
 use Rattle.pair_search.specs.Side.{side_weight}
+use Rattle.plan_choice.specs.Chosen.{chosen_plan}
 use Rattle.price_assign.specs.Found.{found_left, found_right, solved}
 use Rattle.price_repair.specs.Repaired.{plan_taken, plan_added, plan_replaced}
 use Rattle.desk_feed.specs.Numbers.{numbers_line}
@@ -16,5 +17,5 @@ use Rattle.blocks_command.specs.Answers.{answer_text}
 use Rattle.examples_computed.proofs.edits.four_answers.Goals as goal
 
 pub returns : goal.returns
-unfolding digits block_from first_maximum first_maximum_up_to by_departure arranged departing found_by all_found visited grown linked_back found side_weight found_left found_right solved plan_taken plan_added plan_replaced numbers_line first_records reason_text refusal_line answers_by plans_at answer_text
+unfolding digits block_from first_maximum first_maximum_up_to by_departure arranged departing found_by all_found visited grown linked_back found side_weight found_left found_right chosen_plan solved plan_taken plan_added plan_replaced numbers_line first_records reason_text refusal_line answers_by plans_at answer_text
 returns c = refl
