@@ -19,9 +19,10 @@ from desk.pipes import refuse_pipes
 from desk.terminal import shown_on_terminals
 from desk.town import town_above
 from desk.versions import version
-from desk import boards, compare, days, figures, forward, new, notes, page, part, plan, publish, saved, server, take
+from desk import adopt, boards, compare, days, figures, forward, new, notes, page, part, plan, publish, saved, server, take
 
-COMMANDS: tuple[ModuleType, ...] = (new, days, plan, part, notes, page, server, boards, figures, publish, compare, saved, take, forward)
+COMMANDS: tuple[ModuleType, ...] = (new, days, plan, part, notes, page, server, boards, figures, publish, adopt, compare, saved,
+                                   take, forward)
 """The modules of the commands, in the order of the help.
 
 Each has `add_arguments(parser)` and `run(arguments) -> int`. One of a single word has `WORD` and `HELP`; one of several

@@ -16,7 +16,7 @@ from pathlib import Path
 from desk.answers import ask
 from desk.compare_days import as_trips_of
 from desk.compare_periods import compare_periods, periods_text
-from desk.compare_side import Found, Side
+from desk.compare_side import Found, Side, counts_of
 from desk.compare_text import compare_text
 from desk.errors import DeskError
 from desk.files import read_bytes
@@ -93,7 +93,8 @@ def read_side(path: Path, other: Path, room: Path) -> Side:
         town = Town(lay_over(feed, blocks, room))
     stated = {block.name: block for block in read_blocks(blocks)}
     names = {trip: block.name for block in stated.values() for trip in block.trips}
-    return Side(str(path), town, ask("check", town), stated, timetable(town), names)
+    times = timetable(town)
+    return Side(str(path), town, ask("check", town), stated, times, names, counts_of(town, stated.values(), times))
 
 
 def has_feed(folder: Path) -> bool:
@@ -205,4 +206,4 @@ def _extra_ends(town: Town) -> dict[str, tuple[str, str]]:
 
 def _side(side: Side) -> Found:
     """The lines on a plan as a whole."""
-    return {"plan": side.title, "check": side.verdict, "blocks": len(side.blocks), "trips": len(side.block_of)}
+    return {"plan": side.title, "check": side.verdict, "blocks": len(side.blocks), "trips": len(side.block_of), **side.counts}

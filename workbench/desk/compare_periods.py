@@ -5,11 +5,12 @@ from collections.abc import Callable
 from pathlib import Path
 
 from desk.compare_side import Found
-from desk.figures import columns
+from desk.figures import columns, hours
 from desk.period import PlannedDay, TownPeriod
 from desk.town import DAYS
 
 HEAD = ["day type", "dates were", "are", "trips were", "are", "in both", "in other blocks", "vehicles were", "are", "check"]
+COUNTED = ["day type", "neighbours kept were", "are", "changes of line were", "are", "waiting was", "is"]
 
 
 def compare_periods(first: Path, second: Path, compared: Callable[[Path, Path], Found]) -> Found:
@@ -34,8 +35,9 @@ def _told(day: PlannedDay, other: PlannedDay) -> Found:
 
 
 def periods_text(found: Found) -> str:
-    """The text: a row for each day type, and where more is told."""
-    lines = [f"was {found['first']}, is {found['second']}", *columns(HEAD, [_row(pair) for pair in found["pairs"]]).splitlines()]
+    """The text: two rows for each day type, and where more is told."""
+    lines = [f"was {found['first']}, is {found['second']}", *columns(HEAD, [_row(pair) for pair in found["pairs"]]).splitlines(),
+             *columns(COUNTED, [_counts(pair) for pair in found["pairs"]]).splitlines()]
     lines += [f"{label}: no such day type any more" for label in found["gone"]] + [f"{label}: a new day type" for label in found["new"]]
     differ = [pair for pair in found["pairs"] if pair["changed"] or pair["gone"] or pair["new"]]
     lines += [f"`./desk compare {found['first']}/{DAYS}/{pair['folders'][0]} {found['second']}/{DAYS}/{pair['folders'][1]}` tells of "
@@ -50,3 +52,10 @@ def _row(pair: Found) -> list[str]:
     verdict = "yes" if all(side["check"]["verdict"] == "yes" for side in sides) else "no"
     return [pair["name"], *map(str, pair["dates"]), *(str(side["trips"]) for side in sides), str(pair["trips"]["both"]),
             str(len(pair["trips"]["in_other_blocks"])), *vehicles, verdict]
+
+
+def _counts(pair: Found) -> list[str]:
+    """The neighbours and the waiting of a pair of day types."""
+    sides = pair["first"], pair["second"]
+    return [pair["name"], *(f"{side['kept_neighbours']} of {side['stated_neighbours']}" for side in sides),
+            *(str(side["line_changes"]) for side in sides), *(hours(side["waiting"]) for side in sides)]

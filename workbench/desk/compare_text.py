@@ -4,6 +4,7 @@ from __future__ import annotations
 from collections.abc import Iterator
 from typing import Any
 
+from desk.figures import hours
 from desk.texts_written import verdict_text
 
 Found = dict[str, Any]
@@ -29,7 +30,15 @@ def _numbers(found: Found) -> list[str]:
         f"blocks: {found['first']['blocks']} were, {found['second']['blocks']} are, {len(found['same'])} the same, "
         f"{len(found['changed'])} changed, {len(found['gone'])} gone, {len(found['new'])} new",
         f"trips: {trips['both']} in both, {len(trips['in_other_blocks'])} of them in other blocks, {len(trips['moved'])} at other times, "
-        f"{more}"]
+        f"{more}", *counts_text(found["first"], found["second"])]
+
+
+def counts_text(first: Found, second: Found) -> list[str]:
+    """The neighbours and the waiting of both plans."""
+    kept = [f"{side['kept_neighbours']} of {side['stated_neighbours']}" for side in (first, second)]
+    return [f"neighbours that the feed states: {kept[0]} were kept, {kept[1]} are",
+            f"changes of line: {first['line_changes']} were, {second['line_changes']} are",
+            f"waiting: {hours(first['waiting'])} was, {hours(second['waiting'])} is"]
 
 
 def _same(found: Found) -> list[str]:

@@ -13,13 +13,14 @@ from collections.abc import Iterable
 from typing import Any
 
 from desk.lines import LineNames
+from desk.neighbours import count_neighbours
 from desk.plans import Block, Plan, read_plan
 from desk.records import record_text
 from desk.times import format_minute
 from desk.town import Town
 
 WORD = "figures"
-HELP = "hours, spans, waits and vehicles in service of the plan"
+HELP = "hours, spans, waits, neighbours and vehicles in service of the plan"
 
 QUARTER = 15
 MOST_WAITS = 10
@@ -58,10 +59,18 @@ def make_figures(plan: Plan, lines: LineNames) -> Figures:
     return {
         "vehicles": plan.vehicles, "empty": plan.minutes, "trips": sum(block["trips"] for block in blocks),
         "platform": _sum(blocks, "platform"), "layover": _sum(blocks, "layover"), "waiting": _sum(blocks, "waiting"),
-        "span": _sum(blocks, "span"), "empty_share": plan.minutes / running if running else 0.0,
+        "span": _sum(blocks, "span"), "empty_share": plan.minutes / running if running else 0.0, **neighbour_figures(plan),
         "spans": summary(blocks, "span"), "lengths": summary(blocks, "length"),
         "lines": line_figures(plan, lines), "blocks": blocks, "in_service": in_service(plan.blocks),
         "waits": waits(plan), "places": waits_by_place(plan)}
+
+
+def neighbour_figures(plan: Plan) -> Figures:
+    """How many trips follow on another one in their block, which of these the feed states, and where the line changes."""
+    rides = [ride for block in plan.blocks for ride in block.rides]
+    trips = [ride.trip for ride in rides if ride.trip]
+    return count_neighbours(([ride.name for ride in block.rides] for block in plan.blocks), trips,
+                            {ride.name: ride.departs for ride in rides})
 
 
 def block_figures(block: Block) -> Figures:
@@ -165,6 +174,8 @@ def _text_of_all(figures: Figures) -> str:
             lines.append(f"{title}: shortest {hours(found['shortest'])} ({found['shortest_block']}), median "
                          f"{hours(round(found['median']))}, mean {hours(round(found['mean']))}, longest {hours(found['longest'])} "
                          f"({found['longest_block']})")
+    lines += [f"neighbours in blocks {figures['neighbours']}, changes of line {figures['line_changes']}",
+              f"neighbours that the feed states {figures['stated_neighbours']}, kept {figures['kept_neighbours']}"]
     return "".join(line + "\n" for line in lines)
 
 

@@ -61,5 +61,9 @@ KEYS = {
     "layovers": '`[layovers]` and below it `"Market Square" = 3`, a whole number from 0 to 240 for a terminal',
     "early": "`early = 0`, a whole number from 0 to 60",
     "late": "`late = 2`, a whole number from 0 to 60",
-    "block_prefix": '`block_prefix = "V"`, a text of at most 32 bytes'}
+    "block_prefix": '`block_prefix = "V"`, a text of at most 32 bytes',
+    "prefer": '`prefer = ["stated", "line", "waiting"]`, these in any order, or some of them, or none'}
 """The keys of `desk.toml`, and the form of each."""
+
+PREFERRED = ("stated", "line", "waiting")
+"""What may be preferred."""

@@ -8,7 +8,7 @@ from typing import Any
 
 from desk.calendars import parse_date
 from desk.errors import DeskError
-from desk.hints_forms import KEYS
+from desk.hints_forms import KEYS, PREFERRED
 from desk.hints_names import Known, folded, shown
 from desk.hints_toml import MOST_INTEGER, entry_line, quoted_line
 from desk.hints_trips import TripFile
@@ -70,7 +70,9 @@ def _why(key: str, value: Any) -> str | None:
     if key == "date":
         return _why_date(value)
     if key == "services":
-        return _why_services(value)
+        return _why_texts(key, value)
+    if key == "prefer":
+        return _why_texts(key, value) or _why_preferred(value)
     if key in ("classes", "layovers"):
         return f"`{key}` is {_kind(value)} and no table"
     if key == "block_prefix":
@@ -109,12 +111,22 @@ def _days_of(digits: str) -> str:
     return f": {calendar.month_name[month]} {year} has {calendar.monthrange(year, month)[1]} days"
 
 
-def _why_services(value: Any) -> str | None:
-    """What is wrong with a list of services."""
+def _why_texts(key: str, value: Any) -> str | None:
+    """What is wrong with a list of texts."""
     if not isinstance(value, list):
-        return f"`services` is {_kind(value)} and no list"
+        return f"`{key}` is {_kind(value)} and no list"
     wrong = next((item for item in value if not isinstance(item, str)), None)
-    return None if wrong is None else f"`services` has {_kind(wrong)} in its list"
+    return None if wrong is None else f"`{key}` has {_kind(wrong)} in its list"
+
+
+def _why_preferred(names: list[str]) -> str | None:
+    """What is wrong with a list of what is preferred."""
+    for at, name in enumerate(names):
+        if name not in PREFERRED:
+            return f"`prefer` has {shown(name)} in its list"
+        if name in names[:at]:
+            return f"`prefer` has {shown(name)} twice in its list"
+    return None
 
 
 def _why_prefix(value: Any) -> str | None:

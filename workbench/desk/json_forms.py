@@ -130,8 +130,9 @@ Note = TypedDict("Note", {"kind": str, "file": str, "record": int | None, "found
 Notes = TypedDict("Notes", {"notes": list[Note]})
 """All notes. Those on whole minutes are one, and each of them with `--minutes`."""
 
-Side = TypedDict("Side", {"plan": str, "check": Yes | No, "blocks": int, "trips": int})
-"""One of two plans: its name, what `check` says of it, and how many blocks and trips it has."""
+Side = TypedDict("Side", {"plan": str, "check": Yes | No, "blocks": int, "trips": int, "neighbours": int, "stated_neighbours": int,
+                          "kept_neighbours": int, "line_changes": int, "waiting": int})
+"""One of two plans: its name, what `check` says of it, and how many blocks and trips it has. The rest is as in the figures."""
 
 Pair = TypedDict("Pair", {"first": str, "second": str})
 """A block of the first plan, and the one that it is in the second."""
@@ -243,9 +244,11 @@ AtPlace = TypedDict("AtPlace", {"place": str, "minutes": int, "waits": int})
 
 Figures = TypedDict("Figures", {
     "vehicles": int, "empty": int, "trips": int, "platform": int, "layover": int, "waiting": int, "span": int, "empty_share": float,
-    "spans": Lengths | None, "lengths": Lengths | None, "lines": list[OfLine], "blocks": list[OfBlock],
+    "neighbours": int, "stated_neighbours": int, "kept_neighbours": int, "line_changes": int, "spans": Lengths | None,
+    "lengths": Lengths | None, "lines": list[OfLine], "blocks": list[OfBlock],
     "in_service": list[InService], "waits": list[Wait], "places": list[AtPlace]})
-"""The minutes of a plan in all, by lines, blocks and places. `empty_share` is of the minutes on trips and empty ones together."""
+"""The minutes of a plan in all, by lines, blocks and places. `empty_share` is of the minutes on trips and empty ones together. Of
+the `neighbours` in its blocks `kept_neighbours` are among the `stated_neighbours` of the feed; `line_changes` are of two lines."""
 
 FORMS: dict[str, Any] = {
     "deficits": Deficits, "fixed": Fixed, "blocks": Blocks, "check": Yes | No, "chains": Chains, "shifts": Shifts, "joined": Joined,

@@ -8,6 +8,7 @@ from collections.abc import Callable
 from pathlib import Path
 
 from desk import new_days, new_more, new_steps
+from desk.adopt import kept_before
 from desk.calendars import format_date, parse_date
 from desk.deadheads import Pace, find_depot
 from desk.errors import DeskError, UsageError
@@ -61,6 +62,8 @@ def run(arguments: argparse.Namespace) -> int:
         left = [*left_as_they_were(room, town), *carry_own(room, town)]
         if left:
             report.draft(", ".join(left), "left as they were")
+        if town.is_dir() and kept_before(Town(town)):
+            report.look("trips.txt", "it has the blocks of the agency again, and no more those of `./desk adopt`")
         settle(room, town)
     print(report.text(), end="")
     return 1 if report.problems or report.first else 0

@@ -77,7 +77,8 @@ def draft_shared(town: Town, days: NewDays, terminals: Sequence[Terminal], repor
     services = list(dict.fromkeys(trip.service_id for trip in town.selected.values()))
     route = next((trip.route_id for trip in town.selected.values() if trip.route_id), "")
     terminal = next((terminal.name for terminal in terminals if terminal.name not in layovers), "")
-    write_whole(town.path("desk.toml"), settings_text(None, services, terminal, route, layovers, has_days=True))
+    text = settings_text(None, services, terminal, route, layovers, has_days=True, has_blocks=_has_blocks(town))
+    write_whole(town.path("desk.toml"), text)
     report.draft("desk.toml", f"for all day types; a layover of {LAYOVER} minutes")
 
 

@@ -14,11 +14,16 @@ from desk.town import Town
 def layovers_of_today(town: Town, report: Report) -> dict[str, int]:
     """The layovers below that of all terminals with which the blocks of today can run; none where `audit` cannot be asked."""
     found = None
-    if any(trip.block_id for trip in town.day()) and len(town.day()) <= MOST_TRIPS:
+    if states_blocks(town) and len(town.day()) <= MOST_TRIPS:
         with suppress(DeskError):
             found = fitting(Town(town.folder, {**town.settings, "layover": LAYOVER}))
     tell_layovers(found, report)
     return dict(sorted(found.layovers.items())) if found else {}
+
+
+def states_blocks(town: Town) -> bool:
+    """Whether a trip of the day has a block of today."""
+    return any(trip.block_id for trip in town.selected.values())
 
 
 def tell_layovers(found: Fitting | None, report: Report) -> None:

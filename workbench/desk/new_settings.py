@@ -41,6 +41,11 @@ late = 0
 # Blocks are named by this and a number: B1, B2 and so on.
 block_prefix = "B"
 
+# Many plans have the fewest vehicles and empty minutes. Of these the one is taken that keeps the most neighbours of the blocks of
+# today, "stated". Of these it is the one that changes line least inside blocks, "line", and then that with the least waiting,
+# "waiting". The first matters most. What is not there does not matter.{without}
+{mark}prefer = ["stated", "line", "waiting"]
+
 # Lines without a table stand above. The tables begin here: a line below [layovers] is the layover of a terminal.
 
 # Layovers of single terminals, by the names of terminals.csv, in quotes where a name is more than one word.
@@ -59,22 +64,26 @@ date = "{date}"
 # What differs on these dates from desk.toml of the town stands here too, as another layover.
 """
 
+_UNSTATED = """ Without this line it is as it says here.
+# This feed states no blocks of today. `./desk adopt` makes those of a plan the stated ones."""
+
 _FITTING = """\
 # The greatest ones, up to the layover above, with which vehicles can make the blocks of today. `audit` says so.
 """
 
 
 def settings_text(date: datetime.date | None, services: Sequence[str], terminal: str, route: str,
-                  layovers: Mapping[str, int] | None = None, has_days: bool = False) -> str:
+                  layovers: Mapping[str, int] | None = None, has_days: bool = False, has_blocks: bool = False) -> str:
     """The text of `desk.toml` for a day, with services, a terminal and a route of the feed as examples, and with these layovers.
 
-    Where the town has days it is for all of them, and has no date.
+    Where the town has days it is for all of them, and has no date. Where the feed states no blocks, `prefer` is an example too.
     """
     no_date = _DAYS if has_days else _NO_DAY
     head = no_date if date is None else _DAY.format(name=f"a {date:%A}", date=f"{date:%Y%m%d}")
     shown = ", ".join(_quoted(name) for name in services[:NAMES_SHOWN]) or '"weekday", "school"'
     lines = "".join(f"{_quoted(name)} = {minutes}\n" for name, minutes in (layovers or {}).items())
-    return head + _REST.format(services=shown, layover=LAYOVER, terminal=_quoted(terminal or "Station"),
+    without, mark = ("", "") if has_blocks else (_UNSTATED, "# ")
+    return head + _REST.format(without=without, mark=mark, services=shown, layover=LAYOVER, terminal=_quoted(terminal or "Station"),
                                layovers=_FITTING + lines if lines else "", route=_quoted(route or "line_1"))
 
 

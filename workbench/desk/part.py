@@ -7,6 +7,7 @@ import sys
 from collections.abc import Collection
 from pathlib import Path
 
+from desk.adopt import kept_before
 from desk.errors import DeskError
 from desk.files import read_bytes
 from desk.hints_files import OWN
@@ -28,7 +29,7 @@ OF_TRIPS = ("stop_times.txt", "frequencies.txt", "tolerances.csv")
 """The files whose records name trips, beside `trips.txt`."""
 
 LEFT = (*SCRIPTS, *OWN, PLAN)
-"""The files that stay in the town alone: its scripts, and what the program has written."""
+"""Files that stay in the town alone: its scripts, and what the program has written."""
 
 
 def add_arguments(parser: argparse.ArgumentParser) -> None:
@@ -55,7 +56,7 @@ def run(arguments: argparse.Namespace) -> int:
         more = f", more than the {MOST_TRIPS:,} that the program plans" if part.trips > MOST_TRIPS else ""
         sys.stdout.write(f"{_shown(arguments.town, folder)}: {counted(part.trips, 'trip')} of the day on "
                          f"{counted(len(part.routes), 'route')}{more}\n")
-    left = [name for name in LEFT if town.has(name)] + ([f"{DAYS}/"] if has_days(town.folder) else [])
+    left = [name for name in left_alone(town) if town.has(name)] + ([f"{DAYS}/"] if has_days(town.folder) else [])
     if left:
         sys.stdout.write(f"left in {arguments.town} alone: {', '.join(left)}\n")
     for folder in folders:
@@ -74,20 +75,25 @@ def _shown(town: Path, folder: Path) -> Path:
 def make_part(town: Town, part: Part, folder: Path, prefix: str) -> None:
     """Makes the town of a part, whose blocks are named with this prefix."""
     with town_room(folder, False) as room:
-        copy_part(town.folder, room, part)
+        copy_part(town.folder, room, part, left_alone(town))
         if (town.folder / "agency").is_dir():
             (room / "agency").mkdir()
-            copy_part(town.folder / "agency", room / "agency", part)
+            copy_part(town.folder / "agency", room / "agency", part, LEFT)
         settings = read_bytes(town.path("desk.toml")) if town.has("desk.toml") else b""
         (room / "desk.toml").write_bytes(with_key(settings, "block_prefix", prefix))
         settle(room, folder)
 
 
-def copy_part(source: Path, target: Path, part: Part) -> None:
-    """Copies the files of a folder, those that name trips with the records of the part alone."""
+def left_alone(town: Town) -> tuple[str, ...]:
+    """The files that stay in a town alone."""
+    return *LEFT, *(path.name for path in kept_before(town).values())
+
+
+def copy_part(source: Path, target: Path, part: Part, left: Collection[str]) -> None:
+    """Copies the files of a folder but those that are left, those that name trips with the records of the part alone."""
     names = _names(source / "trips.txt", part)
     for path in sorted(source.iterdir()):
-        if not path.is_file() or path.name in LEFT or path.name.startswith("."):
+        if not path.is_file() or path.name in left or path.name.startswith("."):
             continue
         if path.name == "trips.txt":
             copy_records(path, target / path.name, "route_id", part.routes.__contains__)

@@ -21,6 +21,9 @@ FOUR_TRIPS = {
 }
 """Two vehicles between A and B, and between C and D."""
 
+COUNTS = ("neighbours", "stated_neighbours", "kept_neighbours", "line_changes", "waiting")
+"""What is counted in both plans, as in the figures."""
+
 
 @needs_program
 class Compared(FolderTest):
@@ -47,7 +50,7 @@ class Compared(FolderTest):
         self.assertEqual(found["same"], [{"first": "B1", "second": "B1"}, {"first": "B2", "second": "B2"}])
         self.assertEqual([found[name] for name in ("changed", "gone", "new")], [[], [], []])
         self.assertEqual(found["first"]["check"], {"refused": [], "verdict": "yes", "vehicles": 2, "minutes": 0})
-        self.assertEqual(len(compare_text(found).splitlines()), 4)
+        self.assertEqual(len(compare_text(found).splitlines()), 7)
 
     def test_a_block_that_is_gone_gives_the_other_its_name(self) -> None:
         found = self.found(self.town("town"), self.town("other", {"edits.csv": "cancel,U1\ncancel,U2\n"}))
@@ -74,6 +77,23 @@ class Compared(FolderTest):
         for line in (" B1 leaves the depot at 05:00, was 06:00\n", " B1 ends its last trip at 08:30, was 07:10\n", " B2 does not leave\n",
                      " +2 min: line 9 06:42 from B to A (U2), was 06:40\n", " new: 08:00 from A to B (E1)\n", "  at another time: U2\n"):
             self.assertIn(line, text)
+
+    def test_neighbours_and_waiting_of_both(self) -> None:
+        """U1 and U2 are of one line and of one stated block. U2 waits ten minutes, as U4 does, and twelve where it is shifted. Of a
+        plan to which `check` says no the neighbours are counted too, and a misfit is no wait."""
+        trips = "route_id,service_id,trip_id,block_id\nR,W,U1,x\nR,W,U2,x\nR,W,U3,y\nS,W,U4,y\n"
+        town = self.town("town", {"trips.txt": trips})
+        other = self.town("other", {"trips.txt": trips, "edits.csv": "cancel,U4\nshift,U2,+2\n"})
+        found = self.found(town, other)
+        counts = [[found[side][name] for name in COUNTS] for side in ("first", "second")]
+        self.assertEqual(counts, [[2, 2, 2, 1, 20], [1, 1, 1, 0, 12]])
+        for line in ("neighbours that the feed states: 2 of 2 were kept, 1 of 1 are\n", "changes of line: 1 were, 0 are\n",
+                     "waiting: 0:20 was, 0:12 is\n"):
+            self.assertIn(line, compare_text(found))
+        blocks = self.room / "mine.csv"
+        blocks.write_text("block_id,trip_id,deadhead\nX,U1,0\nX,U2,3\nX,U4,0\nY,U3,0\nY,U5,0\n")
+        found = self.found(town, blocks, 1)
+        self.assertEqual([found["second"][name] for name in COUNTS], [3, 2, 1, 2, 7])
 
     def test_a_trip_in_another_block(self) -> None:
         town = self.town("town")
@@ -133,6 +153,9 @@ class SmallTown(FolderTest):
             for row in rows(folder / "blocks.csv"):
                 order.setdefault(row["block_id"], []).append((row["trip_id"], row["deadhead"]))
         shifted = now["wd_3_i_0850"]
+        figures = [json.loads(self.desk("figures", folder, "--json")[1]) for folder in (town, other)]
+        for side, of_side in zip(("first", "second"), figures):
+            self.assertEqual([found[side][name] for name in COUNTS], [of_side[name] for name in COUNTS])
         self.assertEqual({(pair["first"], pair["second"]) for pair in found["same"]},
                          {(old, new) for old, trips in orders[0].items() for new, others in orders[1].items()
                           if trips == others and new != shifted})
@@ -142,9 +165,10 @@ class Words(unittest.TestCase):
     """The text of what no plan of the program shows here."""
 
     def test_a_block_with_other_empty_running(self) -> None:
-        check = {"verdict": "yes", "vehicles": 1, "minutes": 5}
+        side = {"check": {"verdict": "yes", "vehicles": 1, "minutes": 5}, "blocks": 1, "stated_neighbours": 0, "kept_neighbours": 0,
+                "line_changes": 0, "waiting": 0}
         text = compare_text({
-            "first": {"plan": "a", "check": check, "blocks": 1}, "second": {"plan": "b", "check": check, "blocks": 1},
+            "first": {"plan": "a", **side}, "second": {"plan": "b", **side},
             "trips": {"both": 1, "in_other_blocks": [], "moved": [], "cancelled": [], "new": []}, "same": [], "gone": [],
             "changed": [{"first": "B1", "second": "B2", "leaves": ["05:50", "05:55"], "ends": ["07:00", "07:00"],
                          "lost": [], "gained": [], "moved": []}],

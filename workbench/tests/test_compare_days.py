@@ -83,6 +83,10 @@ class DaysTest(FolderTest):
         self.desk("plan", town)
         found = self.found(town / "days" / "school-mon-thu", town / "days" / "holidays")
         self.assertEqual([trip["trip"][:6] for trip in found["trips"]["cancelled"]], ["school"] * 6)
+        for side, name in (("first", "school-mon-thu"), ("second", "holidays")):
+            figures = json.loads(self.desk("figures", town / "days" / name, "--json")[1])
+            counts = "neighbours", "stated_neighbours", "kept_neighbours", "line_changes", "waiting"
+            self.assertEqual([found[side][name] for name in counts], [figures[name] for name in counts])
         self.assertEqual((found["trips"]["new"], found["trips"]["both"]), ([], 52))
         self.assertTrue(found["trips"]["in_other_blocks"])
         write_feed(town, {"edits.csv": "cancel,sun_1_0_540\n", "blocks.csv": "of no day type\n"})
@@ -114,6 +118,11 @@ class DaysTest(FolderTest):
         found = json.loads(self.desk("compare", first, second, "--json")[1])
         self.assertTrue(is_answer("compare", found))
         self.assertEqual(len(found["pairs"]), 4)
+        friday = next(pair for pair in found["pairs"] if pair["name"] == "Friday")
+        kept = [f"{friday[side]['kept_neighbours']} of {friday[side]['stated_neighbours']}" for side in ("first", "second")]
+        told = [*kept, *(str(friday[side]["line_changes"]) for side in ("first", "second")),
+                *(f"{friday[side]['waiting'] // 60}:{friday[side]['waiting'] % 60:02}" for side in ("first", "second"))]
+        self.assertIn(["Friday", *" ".join(told).split()], lines)
 
 
 if __name__ == "__main__":

@@ -12,7 +12,7 @@ from pathlib import Path
 from typing import Any
 
 from desk import program
-from tests.feeds import FolderTest, needs_program
+from tests.feeds import FolderTest, needs_program, write_feed
 from tests.forms import is_answer
 from tests.small_town import plan, rows, small_town, two_trips
 
@@ -87,6 +87,28 @@ class Simulated:
         return found
 
 
+def counted_neighbours(feed: Path) -> dict[str, int]:
+    """The neighbours of a plan, pair by pair: a trip is next to another where none of its block, planned or stated, is between."""
+    legs = [row for row in rows(feed / "boards.csv") if row["kind"] == "trip"]
+    feed_rows = {row["trip_id"]: (place, row) for place, row in enumerate(rows(feed / "trips.txt"))}
+    at = {row["trip_id"]: (minute_of(row["leaves"]), feed_rows.get(row["trip_id"], (0, {}))[0]) for row in legs}
+    planned = {row["trip_id"]: row["block_id"] for row in legs}
+    stated = {trip: feed_rows[trip][1].get("block_id", "") for trip in planned if trip in feed_rows}
+    lines = {trip: feed_rows[trip][1].get("route_id", "") for trip in stated}
+
+    def are_next(blocks: dict[str, str], first: str, second: str) -> bool:
+        """Whether one trip is the next of its block after the other."""
+        return (bool(blocks.get(first)) and blocks.get(first) == blocks.get(second) and at[first] < at[second]
+                and not any(blocks.get(other) == blocks[first] and at[first] < at[other] < at[second] for other in at))
+
+    pairs = [(first, second, are_next(planned, first, second), are_next(stated, first, second)) for first in at for second in at]
+    return {"neighbours": sum(is_planned for _, _, is_planned, _ in pairs),
+            "stated_neighbours": sum(is_stated for *_, is_stated in pairs),
+            "kept_neighbours": sum(is_planned and is_stated for _, _, is_planned, is_stated in pairs),
+            "line_changes": sum(is_planned and not (lines.get(first) and lines[first] == lines.get(second))
+                                for first, second, is_planned, _ in pairs)}
+
+
 class OfAFeed(FolderTest):
     """A planned feed whose figures are compared with those of the simulation."""
 
@@ -112,6 +134,8 @@ class OfAFeed(FolderTest):
         self.assertEqual(found["span"], sum(map(len, other.minutes.values())))
         self.assertEqual(found["trips"], len(rows(feed / "blocks.csv")))
         self.assertAlmostEqual(found["empty_share"], other.count("e") / (other.count("e") + other.count("p")))
+        neighbours = counted_neighbours(feed)
+        self.assertEqual({name: found[name] for name in neighbours}, neighbours)
 
     def compare_lines(self, feed: Path, found: dict[str, Any], other: Simulated, route_lines: dict[str, str]) -> None:
         """The lines."""
@@ -186,6 +210,10 @@ class Figures(OfAFeed):
         self.assertEqual(text[0], "vehicles 10, empty minutes 216, as the program says")
         for line in ("platform 69:29", "layover 17:48", "empty 3:36, 4.9 % of platform and empty", "waiting 48:30", "in all 139:23"):
             self.assertIn(line, text)
+        self.assertIn(f"neighbours in blocks {found['neighbours']}, changes of line {found['line_changes']}", text)
+        self.assertIn(f"neighbours that the feed states {found['stated_neighbours']}, kept {found['kept_neighbours']}", text)
+        self.assertTrue(0 < found["kept_neighbours"] < found["stated_neighbours"])
+        self.assertTrue(0 < found["line_changes"] < found["neighbours"] == 178)
         longest = found["spans"]
         self.assertTrue(any(line.endswith(f"longest {longest['longest'] // 60}:{longest['longest'] % 60:02} ({longest['longest_block']})")
                             for line in text if line.startswith("span")))
@@ -199,6 +227,27 @@ class Figures(OfAFeed):
         feed = two_trips(self.room / "feed", {"desk.toml": "layover = 3\nlate = 2\n", "edits.csv": "shift,U1,+2\nextra,E1,A,B,08:00,08:20\n"})
         plan(feed)
         self.compare(feed, {"R": "9"})
+
+    def test_neighbours_by_the_script_and_of_no_line(self) -> None:
+        """Neighbours that the feed states follow on one another by departure, also where a cancelled trip was between. An extra one
+        has no line, nor has one whose route_id is empty. U5 and U6 depart together, so they come as in trips.txt."""
+        times = [("U1", "06:00", "A", "06:10", "B"), ("U2", "06:20", "B", "06:30", "A"), ("U3", "06:40", "A", "06:50", "B"),
+                 ("U4", "07:00", "B", "07:10", "A"), ("U6", "07:20", "A", "07:30", "B"), ("U5", "07:20", "C", "07:40", "D")]
+        feed = two_trips(self.room / "feed", {
+            "trips.txt": "trip_id,route_id,service_id,block_id\nU1,R,W,x\nU2,R,W,x\nU3,R,W,x\nU4,,W,y\nU6,,W,y\nU5,S,W,y\n",
+            "stop_times.txt": "trip_id,arrival_time,departure_time,stop_id,stop_sequence\n" + "".join(
+                f"{trip},{at}:00,{at}:00,{stop},{number}\n" for trip, leaves, start, arrives, end in times
+                for number, (at, stop) in enumerate(((leaves, start), (arrives, end)))),
+            "edits.csv": "cancel,U2\nextra,E1,B,A,06:15,06:25\n", "deadheads.csv": "from,to,minutes\n"})
+        plan(feed)
+        found = json.loads(self.desk("figures", feed, "--json")[1])
+        names = "neighbours", "stated_neighbours", "kept_neighbours", "line_changes"
+        self.assertEqual([found[name] for name in names], [4, 3, 1, 4])
+        self.assertEqual({name: found[name] for name in names}, counted_neighbours(feed))
+        write_feed(feed, {"edits.csv": ""})
+        plan(feed)
+        found = json.loads(self.desk("figures", feed, "--json")[1])
+        self.assertEqual([found[name] for name in names], [4, 4, 3, 2])
 
     def test_a_vehicle_that_leaves_the_day_before(self) -> None:
         feed = two_trips(self.room / "feed", {

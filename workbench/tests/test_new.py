@@ -488,8 +488,10 @@ class Settings(NewTest):
     def test_what_is_said_and_what_is_explained(self) -> None:
         self.new(agency())
         text = self.read("desk.toml")
-        self.assertEqual({"date": "20260902", "layover": 5, "early": 0, "late": 0, "block_prefix": "B", "layovers": {}}, tomllib.loads(text))
-        for key in ("date =", "services =", "layover =", "early =", "late =", "block_prefix =", "[layovers]", "[classes]"):
+        self.assertEqual({"date": "20260902", "layover": 5, "early": 0, "late": 0, "block_prefix": "B", "layovers": {},
+                          "prefer": ["stated", "line", "waiting"]}, tomllib.loads(text))
+        for key in ("date =", "services =", "layover =", "early =", "late =", "block_prefix =", "prefer =", "[layovers]",
+                    "[classes]"):
             at = next(number for number, line in enumerate(text.splitlines()) if line.removeprefix("# ").startswith(key))
             self.assertTrue(text.splitlines()[at - 1].startswith("# ") or key == "late =", key)
 
@@ -505,6 +507,18 @@ class Settings(NewTest):
         self.assertEqual((['a"b\\', "c?d = 1?", "caf?"], {'"]?': 8}, {"\\": "big"}),
                          tuple(tomllib.loads(self.examples_taken(hostile))[key] for key in ("services", "layovers", "classes")))
         tomllib.loads(settings_text(None, [], "", ""))
+
+    def test_a_feed_without_blocks_has_what_is_preferred_as_an_example(self) -> None:
+        feed = agency()
+        feed["trips.txt"] = re.sub(r"(?m),[^,\r\n]*(?=\r$)", "", feed["trips.txt"])
+        self.new(feed)
+        text = self.read("desk.toml")
+        self.assertNotIn("prefer", tomllib.loads(text))
+        self.assertEqual(["stated", "line", "waiting"], tomllib.loads(self.examples_taken(text))["prefer"])
+        self.assertIn("# This feed states no blocks of today. `./desk adopt` makes those of a plan the stated ones.\n", text)
+        with mock.patch("desk.new_days.today", return_value=FIRST_DAY), mock.patch("desk.new_days.fitting", side_effect=DeskError("none")):
+            self.new(agency(), "--days", "--replace")
+        self.assertEqual(["stated", "line", "waiting"], tomllib.loads(self.read("desk.toml"))["prefer"])
 
     @needs_program
     def test_the_program_reads_its_examples(self) -> None:

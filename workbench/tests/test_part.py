@@ -28,7 +28,8 @@ def feed() -> Feed:
         "routes.txt": "route_id,agency_id\nred,City Bus\nblue,City Bus\ngreen,Coach\ngrey,Coach\nnight,Coach\n",
         "calendar_dates.txt": "service_id,date,exception_type\nW,20260907,1\nS,20260912,1\n",
         "desk.toml": 'date = "20260907"\nblock_prefix = "V"\n', "tolerances.csv": "trip_id,early,late\nred0,1,1\ngreen0,1,1\n",
-        "depot.csv": "terminal,pull_out,pull_in\na,1,1\n", "edits.csv": "cancel,red0\n", "blocks.csv": "old\n"}
+        "depot.csv": "terminal,pull_out,pull_in\na,1,1\n", "edits.csv": "cancel,red0\n", "blocks.csv": "old\n",
+        "trips_before_1.txt": "old\n"}
 
 
 class PartsTest(FolderTest):
@@ -60,7 +61,8 @@ class PartsTest(FolderTest):
         status, text, errors = self.desk("part", self.town, "--by", "agency")
         self.assertEqual((status, errors), (0, ""))
         self.assertEqual(text, f"{self.town}-City_Bus: 7 trips of the day on 2 routes\n{self.town}-Coach: 4 trips of the day on 3 routes\n"
-                               f"left in {self.town} alone: edits.csv, blocks.csv\nNext: ./desk notes {self.town}-City_Bus\n")
+                               f"left in {self.town} alone: edits.csv, blocks.csv, trips_before_1.txt\n"
+                               f"Next: ./desk notes {self.town}-City_Bus\n")
         self.assertEqual(before, {path.name: path.read_bytes() for path in self.town.iterdir()})
         trips = []
         for number, name in ((1, "City_Bus"), (2, "Coach")):
@@ -68,6 +70,7 @@ class PartsTest(FolderTest):
             trips += self.column(part / "trips.txt", "trip_id")
             self.assertEqual(set(self.column(part / "trips.txt", "trip_id")), set(self.column(part / "stop_times.txt", "trip_id")))
             self.assertEqual(tomllib.loads((part / "desk.toml").read_text())["block_prefix"], f"V{number}-")
+            self.assertFalse((part / "trips_before_1.txt").exists())
             self.assertEqual(run(["blocks", part]).status, 0)
         self.assertEqual(sorted(trips), sorted(self.column(self.town / "trips.txt", "trip_id")))
         self.assertEqual(self.column(self.room / "town-Coach" / "tolerances.csv", "trip_id"), ["green0"])
@@ -75,7 +78,7 @@ class PartsTest(FolderTest):
     def test_what_the_program_has_beside_a_journal_stays(self) -> None:
         """So does a prefix of blocks with a quote and a mark, and the comment behind it."""
         write_feed(self.town, {"journal.db": "", "journal.db-wal": "lines", "desk.toml": "block_prefix = 'a\"#' # ours\n"})
-        self.assertIn(f"left in {self.town} alone: edits.csv, journal.db, journal.db-wal, blocks.csv\n",
+        self.assertIn(f"left in {self.town} alone: edits.csv, journal.db, journal.db-wal, blocks.csv, trips_before_1.txt\n",
                       self.desk("part", self.town, "--by", "agency")[1])
         part = self.room / "town-Coach"
         self.assertEqual([path.name for path in part.glob("journal*")], [])
