@@ -1,5 +1,5 @@
-// A feed of tools/make_feeds, for the programs in C++: `peaks`, `lines`, `rural`, `sample` or `walks`. They have two rows a trip,
-// whole minutes and no settings. It is no reader of other feeds.
+// A feed of tools/make_feeds, for the programs in C++: `peaks`, `lines`, `depot`, `rural`, `sample` or `walks`. They have two rows
+// a trip, whole minutes and no settings. It is no reader of other feeds.
 #pragma once
 
 #include <algorithm>

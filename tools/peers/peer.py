@@ -3,6 +3,11 @@
 It puts the seconds of the step alone, and then the answer as blockdesk puts it. Only the seconds of `deficits` have the reading
 of the feed in them.
 
+`choice` judges the plan in blocks.csv: whether it is least, and whether of the least plans none is liked more, by `prefer` of
+desk.toml. It plans anew by stages: the fewest vehicles and minutes, and then one preference after the other. Each stage has those
+pairs alone that best plans of the stage before may have. linear_sum_assignment plans in floating point. But what a stage takes from
+that is proved in whole numbers: prices, by which no plan is worth more, and the pairs that are worth just their prices.
+
 Example: python3 tools/peers/peer.py plan /tmp/peaks
 """
 import argparse
@@ -15,7 +20,7 @@ def read_words() -> argparse.Namespace:
     """The command and the folder of the feed."""
     parser = argparse.ArgumentParser(prog="tools/peers/peer.py", description=__doc__,
                                      formatter_class=argparse.RawDescriptionHelpFormatter)
-    parser.add_argument("command", choices=["deficits", "fixed", "walks", "plan", "check"], help="the question")
+    parser.add_argument("command", choices=["deficits", "fixed", "walks", "plan", "check", "choice"], help="the question")
     parser.add_argument("feed", metavar="FEED", type=pathlib.Path, help="the folder of the feed")
     told = parser.parse_args()
     if not told.feed.is_dir():
@@ -32,6 +37,8 @@ from scipy.optimize import linear_sum_assignment
 from scipy.sparse.csgraph import shortest_path
 
 VEHICLE, NONE = 67_108_864, 1 << 20
+FAR = 1 << 55
+PREFERRED = ["stated", "line", "waiting"]
 
 
 def table(folder, name, columns):
@@ -44,7 +51,7 @@ def seconds(times):
 
 def trips_of(folder):
     """The trips that run, in their order: the terminals between which they run, and the minutes at which they depart and end."""
-    desk = tomllib.loads((folder / "desk.toml").read_text()) if (folder / "desk.toml").exists() else {}
+    desk = settings(folder)
     trips = table(folder, "trips.txt", ["service_id", "trip_id"])
     if "services" in desk:
         trips = trips[trips.service_id.isin(desk["services"])]
@@ -131,6 +138,94 @@ def check(folder, weights):
     return f"{'yes' if holds and tight else 'no'}, {numbers(weights, before, after)}"
 
 
+def settings(folder):
+    """What desk.toml says."""
+    path = folder / "desk.toml"
+    return tomllib.loads(path.read_text()) if path.exists() else {}
+
+
+def prices_of(worth, allowed, matched):
+    """Whole prices of rows and of columns, of which each allowed pair is worth the sum at most, and each of these pairs just that.
+
+    They are the lengths of shortest paths. Where there are none, the pairs are worth less than others might be, and this ends.
+    """
+    rows = np.arange(len(worth))
+    lengths = np.where(allowed, worth[rows, matched][:, None] - worth, FAR)
+    columns = np.zeros(len(worth), dtype=np.int64)
+    for _ in range(len(worth) + 1):
+        nearer = columns.copy()
+        nearer[matched] = np.minimum(columns[matched], (lengths + columns[None, :]).min(axis=1))
+        if (nearer == columns).all():
+            enter = columns
+            leave = worth[rows, matched] - enter[matched]
+            assert (~allowed | (worth <= leave[:, None] + enter[None, :])).all(), "the prices are none"
+            return leave, enter
+        columns = nearer
+    raise SystemExit("linear_sum_assignment has found no best plan")
+
+
+def stage(worth, allowed):
+    """The most that allowed pairs are worth, one of each row and of each column, and the pairs that are in any such best plan."""
+    rows, matched = linear_sum_assignment(np.where(allowed, worth, -np.inf), maximize=True)
+    leave, enter = prices_of(worth, allowed, matched)
+    return worth[rows, matched].sum(), allowed & (worth == leave[:, None] + enter[None, :])
+
+
+def liked_pairs(folder, trips, waits):
+    """What each pair is liked, by each preference: 1 as neighbours of a stated block, 1 as of one line, and less what is waited."""
+    found = pd.read_csv(folder / "trips.txt", dtype=str, keep_default_na=False).set_index("trip_id").loc[trips.index]
+    order = np.argsort(trips.departs.to_numpy(), kind="stable")
+    stated = np.zeros((len(trips), len(trips)), dtype=np.int64)
+    if "block_id" in found:
+        for name, places in pd.Series(order).groupby(found.block_id.to_numpy()[order], sort=False):
+            if name:
+                stated[places.to_numpy()[:-1], places.to_numpy()[1:]] = 1
+    lines = found.route_id.to_numpy() if "route_id" in found else np.full(len(trips), "")
+    of_one = (lines[:, None] == lines[None, :]) & (lines != "")[:, None]
+    return {"stated": stated, "line": of_one.astype(np.int64), "waiting": -waits}
+
+
+def planned_pairs(folder, trips):
+    """The links of blocks.csv, each trip by its place."""
+    slot = dict(zip(trips.index, range(len(trips))))
+    blocks = table(folder, "blocks.csv", ["block_id", "trip_id"])
+    slots, same = blocks.trip_id.map(slot).to_numpy(), blocks.block_id.to_numpy()
+    follows = same[1:] == same[:-1]
+    return slots[:-1][follows], slots[1:][follows]
+
+
+def choice(folder, trips):
+    """How much the plan of blocks.csv is liked, a line for each preference, and last whether no least plan is liked more."""
+    number, walks, _ = walks_of(folder, trips)
+    start, end = trips.start.map(number).to_numpy(), trips.end.map(number).to_numpy()
+    minutes = walks[end[:, None], start[None, :]]
+    waits = trips.departs.to_numpy()[None, :] - trips.ends.to_numpy()[:, None] - minutes
+    pulls = np.zeros((2, len(number)), dtype=np.int64)
+    if (folder / "depot.csv").exists():
+        depot = table(folder, "depot.csv", ["terminal", "pull_out", "pull_in"])
+        depot = depot[depot.terminal.isin(number)]
+        pulls[:, depot.terminal.map(number)] = depot[["pull_out", "pull_in"]].astype(int).to_numpy().T
+    out, home = pulls[0][start], pulls[1][end]
+    fits = waits >= 0
+    saved = np.where(fits, VEHICLE + home[:, None] + out[None, :] - minutes, 0)
+    liked = liked_pairs(folder, trips, waits)
+    before, after = planned_pairs(folder, trips)
+    assert fits[before, after].all() and all(len(set(ends)) == len(ends) for ends in (before, after)), "blocks.csv is no blocking"
+    most, allowed = stage(saved, np.ones_like(fits))
+    vehicles, empty = divmod(int(len(trips) * VEHICLE + out.sum() + home.sum() - saved[before, after].sum()), VEHICLE)
+    said, lines = f"vehicles {vehicles}, minutes {empty}", []
+    if saved[before, after].sum() != most:
+        return [f"no, {said}: there is a better plan"]
+    for name in settings(folder).get("prefer", PREFERRED):
+        worth = np.where(fits, liked[name], 0)
+        own = worth[before, after].sum()
+        most, allowed = stage(worth, allowed)
+        if own != most:
+            return [*lines, f"no, {said}: {name} {abs(own)}, and {abs(most)} in another plan"]
+        lines.append(f"{name} {abs(own)}")
+    return [*lines, f"yes, {said}"]
+
+
 def main(command, folder):
     began = time.perf_counter()
     trips = trips_of(folder)
@@ -140,6 +235,10 @@ def main(command, folder):
     elif command == "fixed":
         began = time.perf_counter()
         answer = fixed(trips)
+        took = time.perf_counter() - began
+    elif command == "choice":
+        began = time.perf_counter()
+        answer = "\n".join(choice(folder, trips))
         took = time.perf_counter() - began
     else:
         weights, walking = weights_of(folder, trips)

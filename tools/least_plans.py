@@ -1,0 +1,144 @@
+"""The least plans of a small feed, found by trying every blocking, and how much each is liked. tools/hostile asks.
+
+It knows feeds without a script and without dates, whose trips have two rows each, the first before the last. A plan is liked by the
+key `prefer` of desk.toml, as docs/FORMATS.md says.
+"""
+import csv
+import pathlib
+import tomllib
+from collections.abc import Iterator
+from itertools import pairwise, product
+from typing import NamedTuple
+
+PREFERRED = ["stated", "line", "waiting"]
+"""What is preferred where desk.toml does not say it."""
+
+Blocking = list[list[int]]
+"""The trips of each block in their order, by their places in `trips.txt`."""
+
+
+class Trip(NamedTuple):
+    """A trip that runs: its line, its stated block and its class of vehicles, and where and in which minute it departs and ends."""
+
+    name: str
+    line: str
+    stated: str
+    vehicles: str
+    start: str
+    departs: int
+    end: str
+    ends: int
+
+
+def rows_of(path: pathlib.Path) -> list[dict[str, str]]:
+    """The records of a file by the names of its columns; none where it is not there."""
+    if not path.exists():
+        return []
+    with open(path, newline="", encoding="utf-8") as file:
+        return list(csv.DictReader(file))
+
+
+def seconds(time: str) -> int:
+    """The seconds of a time of the feed."""
+    hours, minutes, rest = map(int, time.split(":"))
+    return 3600 * hours + 60 * minutes + rest
+
+
+class Day:
+    """The trips of a feed, the minutes of its ways, and what of a plan is preferred."""
+
+    def __init__(self, folder: pathlib.Path) -> None:
+        path = folder / "desk.toml"
+        desk = tomllib.loads(path.read_text()) if path.exists() else {}
+        self.prefer: list[str] = desk.get("prefer", PREFERRED)
+        times: dict[str, list[dict[str, str]]] = {}
+        for row in rows_of(folder / "stop_times.txt"):
+            times.setdefault(row["trip_id"], []).append(row)
+        self.trips = []
+        for row in rows_of(folder / "trips.txt"):
+            if row["service_id"] in desk.get("services", [row["service_id"]]):
+                first, last = times[row["trip_id"]]
+                line, end = row.get("route_id", ""), last["stop_id"]
+                ends = -(-seconds(last["arrival_time"]) // 60) + desk.get("layovers", {}).get(end, desk.get("layover", 0))
+                self.trips.append(Trip(row["trip_id"], line, row.get("block_id", ""), desk.get("classes", {}).get(line, ""),
+                                       first["stop_id"], seconds(first["departure_time"]) // 60, end, ends))
+        places = {trip.start for trip in self.trips} | {trip.end for trip in self.trips}
+        self.walks = least_walks(rows_of(folder / "deadheads.csv"), places)
+        self.pulls = {row["terminal"]: (int(row["pull_out"]), int(row["pull_in"])) for row in rows_of(folder / "depot.csv")}
+        self.stated = self._stated()
+
+    def _stated(self) -> set[tuple[int, int]]:
+        """The neighbours of the stated blocks."""
+        order = sorted(range(len(self.trips)), key=lambda trip: (self.trips[trip].departs, trip))
+        names = {trip.stated for trip in self.trips} - {""}
+        return {pair for name in names for pair in pairwise(trip for trip in order if self.trips[trip].stated == name)}
+
+    def waits(self, first: int, second: int) -> int | None:
+        """The minutes that a vehicle waits between two trips; None where it cannot make the second after the first."""
+        one, other = self.trips[first], self.trips[second]
+        walk = self.walks.get((one.end, other.start))
+        if walk is None or one.vehicles != other.vehicles or one.ends + walk > other.departs:
+            return None
+        return other.departs - one.ends - walk
+
+    def blockings(self) -> Iterator[Blocking]:
+        """All blockings."""
+        order = sorted(range(len(self.trips)), key=lambda trip: self.trips[trip].departs)
+
+        def placed(blocks: Blocking, at: int) -> Iterator[Blocking]:
+            if at == len(order):
+                yield [block.copy() for block in blocks]
+                return
+            for block in blocks:
+                if self.waits(block[-1], order[at]) is not None:
+                    block.append(order[at])
+                    yield from placed(blocks, at + 1)
+                    block.pop()
+            yield from placed([*blocks, [order[at]]], at + 1)
+        return placed([], 0)
+
+    def cost(self, blocks: Blocking) -> tuple[int, int]:
+        """The vehicles and the empty minutes of a blocking."""
+        minutes = 0
+        for block in blocks:
+            minutes += self.pulls.get(self.trips[block[0]].start, (0, 0))[0] + self.pulls.get(self.trips[block[-1]].end, (0, 0))[1]
+            minutes += sum(self.walks[self.trips[first].end, self.trips[second].start] for first, second in pairwise(block))
+        return len(blocks), minutes
+
+    def liking(self, blocks: Blocking) -> list[int]:
+        """How much a blocking is liked, the greatest most, in the order of what is preferred."""
+        pairs = [pair for block in blocks for pair in pairwise(block)]
+        lines = [(self.trips[first].line, self.trips[second].line) for first, second in pairs]
+        liked = {"stated": len(self.stated.intersection(pairs)), "line": sum(one == other != "" for one, other in lines),
+                 "waiting": -sum(self.waits(*pair) or 0 for pair in pairs)}
+        return [liked[name] for name in self.prefer]
+
+
+def least_walks(ways: list[dict[str, str]], places: set[str]) -> dict[tuple[str, str], int]:
+    """The least minutes from each place to each to which a way leads."""
+    found = {(row["from"], row["to"]): int(row["minutes"]) for row in ways}
+    places = places.union(*found)
+    found |= {(place, place): 0 for place in places}
+    for between, start, end in product(sorted(places), repeat=3):
+        if (start, between) in found and (between, end) in found:
+            minutes = found[start, between] + found[between, end]
+            found[start, end] = min(minutes, found.get((start, end), minutes))
+    return found
+
+
+def wrong_choice(folder: pathlib.Path) -> list[str]:
+    """What is wrong with the plan in the `blocks.csv` of a folder, among all blockings."""
+    day = Day(folder)
+    number = {trip.name: at for at, trip in enumerate(day.trips)}
+    chosen: dict[str, list[int]] = {}
+    for row in rows_of(folder / "blocks.csv"):
+        chosen.setdefault(row["block_id"], []).append(number[row["trip_id"]])
+    blocks = list(chosen.values())
+    if sorted(trip for block in blocks for trip in block) != sorted(number.values()) or any(
+            day.waits(*pair) is None for block in blocks for pair in pairwise(block)):
+        return ["blocks.csv is no blocking"]
+    least, liked = min((day.cost(other), [-it for it in day.liking(other)]) for other in day.blockings())
+    if day.cost(blocks) != least:
+        return [f"blocks.csv has {day.cost(blocks)} vehicles and minutes, and {least} are enough"]
+    most, own = [-it for it in liked], day.liking(blocks)
+    return [] if own == most else [f"a least plan is liked {most} by {day.prefer}, and that of blocks.csv {own}"]
