@@ -70,13 +70,18 @@ def published(feed: Path) -> dict[str, list[dict[str, str]]]:
 
 @needs_program
 class SmallTown(FolderTest):
-    """The boards of the small town, whose trips have timing points, seconds, and nights past 24:00."""
+    """The boards of the small town, whose trips have timing points, seconds, and nights past 24:00.
+
+    Nothing is preferred there, so a vehicle has trips of two services.
+    """
 
     @classmethod
     def setUpClass(cls) -> None:
         cls.shared = Path(tempfile.mkdtemp(prefix="desk-"))
         cls.addClassCleanup(shutil.rmtree, cls.shared, ignore_errors=True)
         cls.feed = small_town(cls.shared / "town")
+        settings = cls.feed / "desk.toml"
+        settings.write_text("prefer = []\n" + settings.read_text("utf-8"), "utf-8")
         plan(cls.feed)
 
     def made(self, name: str, *words: str) -> str:

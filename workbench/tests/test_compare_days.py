@@ -77,7 +77,7 @@ class DaysTest(FolderTest):
         self.assertEqual([(trip["trip"], trip["minutes"]) for trip in found["trips"]["moved"]], [("M3", 2)])
 
     def test_school_days_and_holidays(self) -> None:
-        """The trips of school run on one of the days alone, and others are in other blocks."""
+        """The trips of school run on one of the days alone, and no other has to change its block."""
         town = self.room / "town"
         self.desk("new", write_feed(self.room / "agency", with_night_and_school()), town, "--days")
         self.desk("plan", town)
@@ -88,7 +88,7 @@ class DaysTest(FolderTest):
             counts = "neighbours", "stated_neighbours", "kept_neighbours", "line_changes", "waiting"
             self.assertEqual([found[side][name] for name in counts], [figures[name] for name in counts])
         self.assertEqual((found["trips"]["new"], found["trips"]["both"]), ([], 52))
-        self.assertTrue(found["trips"]["in_other_blocks"])
+        self.assertEqual(found["trips"]["in_other_blocks"], [])
         write_feed(town, {"edits.csv": "cancel,sun_1_0_540\n", "blocks.csv": "of no day type\n"})
         self.desk("save", town / "days" / "sun", "first")
         self.assertEqual(len(self.found(Path("first"), town / "days" / "sun")["same"]), 1)

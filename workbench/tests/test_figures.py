@@ -208,7 +208,7 @@ class Figures(OfAFeed):
             self.assertEqual(value["blocks", block["block"], "span"], str(block["span"]))
         text = self.desk("figures", feed)[1].splitlines()
         self.assertEqual(text[0], "vehicles 10, empty minutes 216, as the program says")
-        for line in ("platform 69:29", "layover 17:48", "empty 3:36, 4.9 % of platform and empty", "waiting 48:30", "in all 139:23"):
+        for line in ("platform 69:29", "layover 17:48", "empty 3:36, 4.9 % of platform and empty", "waiting 48:36", "in all 139:29"):
             self.assertIn(line, text)
         self.assertIn(f"neighbours in blocks {found['neighbours']}, changes of line {found['line_changes']}", text)
         self.assertIn(f"neighbours that the feed states {found['stated_neighbours']}, kept {found['kept_neighbours']}", text)
