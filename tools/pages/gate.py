@@ -6,14 +6,16 @@ from pages.page import begun, table
 
 TIMES = ROOT / "docs" / "gate.csv"
 STEPS = ("proof", "tests", "edits")
+FOLDERS = ("must-fail", "edits")
 INTRO = """It shows what each crate took of the processor, in seconds, when `tools/gate_times --from-nothing --to docs/gate.csv` was
-last run: the proof of the crate, that of its tests, and its must-fail edits. The number of edits is that of today.
+last run: the proof of the crate, that of its tests, and its must-fail edits. The last two columns are of today: how many edits
+the gate tries, and how many `tools/try_edits` tries beside it.
 """
 
 
-def edits_of(crate: str) -> int:
-    """How many must-fail edits a crate has."""
-    return len(list((ROOT / "crates" / crate / "must-fail").glob("*.edit")))
+def edits_in(folder: str, *names: str) -> str:
+    """How many edits crates with these names have in a folder, or nothing where they have none."""
+    return str(sum(len(list((ROOT / "crates" / name / folder).glob("*.edit"))) for name in names) or "")
 
 
 def gate() -> str:
@@ -24,11 +26,11 @@ def gate() -> str:
     rows = []
     for crate in crates():
         seconds = [f"{it:,}" for it in taken[crate]] if crate in taken else ["not measured", "", ""]
-        rows.append((f"`{crate}`", *seconds, str(edits_of(crate) or "")))
+        rows.append((f"`{crate}`", *seconds, *(edits_in(folder, crate) for folder in FOLDERS)))
     gone = sorted(set(taken) - set(crates()))
     sums = [sum(taken[crate][n] for crate in taken) for n in range(len(STEPS))]
-    rows.append(("all", *(f"{it:,}" for it in sums), str(sum(map(edits_of, crates())))))
+    rows.append(("all", *(f"{it:,}" for it in sums), *(edits_in(folder, *crates()) for folder in FOLDERS)))
     text = f"\nThat is {sum(sums) / 60:.0f} minutes of processor. {' '.join(when)}\n"
     if gone:
         text += f"\nNo longer there, and still in the sums: {', '.join(f'`{it}`' for it in gone)}.\n"
-    return begun("The gate", INTRO) + "\n" + table(("Crate", "Proof", "Tests", "Edits", "Number of edits"), rows) + text
+    return begun("The gate", INTRO) + "\n" + table(("Crate", "Proof", "Tests", "Edits", "In the gate", "Beside it"), rows) + text
