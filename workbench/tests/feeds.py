@@ -7,6 +7,7 @@ import io
 import os
 import shutil
 import tempfile
+import threading
 import unittest
 import zipfile
 from collections.abc import Iterable, Mapping
@@ -15,12 +16,17 @@ from pathlib import Path
 from desk import cli
 from desk.program import ROOT, program_path
 from desk.records import record_text
+from desk.session import Session
 from desk.times import format_time
+from desk.web import WebServer
 
 Feed = dict[str, str]
 
 BUILT = ROOT / "crates" / "blockdesk" / "out" / "blockdesk"
 """The program as it is built in this repository. Tests never build it."""
+
+TOKEN = "the-token-of-the-tests"
+"""The token of the page's server in the tests."""
 
 os.environ.setdefault("BLOCKDESK", str(BUILT))
 
@@ -43,6 +49,19 @@ class FolderTest(unittest.TestCase):
         self.assertNotIn("Traceback", errors.getvalue())
         self.assertNotIn("mistake of the workbench", errors.getvalue())
         return status, out.getvalue(), errors.getvalue()
+
+    def make_period(self, town: Path, feed: Feed) -> None:
+        """Makes a town with days of a feed."""
+        self.desk("new", write_feed(self.room / "agency", feed), town, "--days")
+
+    def serve_page(self, sessions: Session | list[Session]) -> WebServer:
+        """A server of the page with a session, or with one for each day type. It ends with the test."""
+        server = WebServer(sessions, TOKEN)
+        thread = threading.Thread(target=server.serve_forever, kwargs={"poll_interval": 0.02}, daemon=True)
+        thread.start()
+        for end in (thread.join, server.server_close, server.shutdown):
+            self.addCleanup(end)
+        return server
 
 
 def table(header: str, rows: Iterable[Iterable[object]]) -> str:

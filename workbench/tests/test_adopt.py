@@ -148,7 +148,7 @@ class AdoptTest(FolderTest):
         self.refused("trips.txt is not in")
 
     def test_days(self) -> None:
-        self.desk("new", write_feed(self.room / "agency", with_dates_alone()), self.town, "--days")
+        self.make_period(self.town, with_dates_alone())
         self.desk("plan", self.town)
         self.refused(f"{self.town} has days: on each of them a trip may be in another block")
         self.town, folder = self.town / "days" / "sat", self.town

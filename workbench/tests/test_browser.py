@@ -4,7 +4,6 @@ from __future__ import annotations
 import random
 import re
 import shutil
-import threading
 from pathlib import Path
 
 from desk.page import static_page
@@ -13,7 +12,6 @@ from desk.program import ROOT, run
 from desk.server import handed_over
 from desk.session import Session
 from desk.view import as_text, as_view
-from desk.web import WebServer
 from tests.browser import Browser, needs_browser
 from tests.feeds import FolderTest, needs_program, table, write_feed
 from tests.made_days import made_day, many_ties
@@ -434,12 +432,7 @@ class ServedTest(BrowserTest):
     def serve(self, town: Path) -> None:
         """Opens the page of a town."""
         self.town = town
-        self.server = WebServer(Session(self.town), "the-token-of-the-tests")
-        thread = threading.Thread(target=self.server.serve_forever, kwargs={"poll_interval": 0.02}, daemon=True)
-        thread.start()
-        self.addCleanup(thread.join)
-        self.addCleanup(self.server.server_close)
-        self.addCleanup(self.server.shutdown)
+        self.server = self.serve_page(Session(self.town))
         self.browser.open(self.server.address)
 
     def serve_example(self, name: str) -> None:

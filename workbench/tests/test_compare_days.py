@@ -79,7 +79,7 @@ class DaysTest(FolderTest):
     def test_school_days_and_holidays(self) -> None:
         """The trips of school run on one of the days alone, and no other has to change its block."""
         town = self.room / "town"
-        self.desk("new", write_feed(self.room / "agency", with_night_and_school()), town, "--days")
+        self.make_period(town, with_night_and_school())
         self.desk("plan", town)
         found = self.found(town / "days" / "school-mon-thu", town / "days" / "holidays")
         self.assertEqual([trip["trip"][:6] for trip in found["trips"]["cancelled"]], ["school"] * 6)
@@ -99,7 +99,7 @@ class DaysTest(FolderTest):
     def test_two_periods(self) -> None:
         """A row for each day type, and those that one period alone has."""
         first, second = self.room / "first", self.room / "second"
-        self.desk("new", write_feed(self.room / "agency", with_dates_alone()), first, "--days")
+        self.make_period(first, with_dates_alone())
         self.desk("plan", first)
         shutil.copytree(first, second)
         (second / "desk.toml").write_text((second / "desk.toml").read_text().replace("layover = 5", "layover = 12"))

@@ -3,16 +3,14 @@ from __future__ import annotations
 
 import json
 import re
-import threading
 import unittest
 import urllib.request
 from pathlib import Path
 
 from desk.period import TownPeriod
 from desk.server import sessions_of
-from desk.web import WebServer
 from tests.browser import Browser, needs_browser
-from tests.feeds import FolderTest, needs_program, write_feed
+from tests.feeds import TOKEN, FolderTest, needs_program, write_feed
 from tests.made_periods import with_dates_alone
 
 TABS = "return [...document.querySelectorAll('#days button')].map((one) => [one.textContent, one.getAttribute('aria-current')]);"
@@ -26,19 +24,8 @@ class PeriodPageTest(FolderTest):
     def setUp(self) -> None:
         super().setUp()
         self.town = self.room / "town"
-        self.desk("new", write_feed(self.room / "agency", with_dates_alone()), self.town, "--days")
+        self.make_period(self.town, with_dates_alone())
         self.page = self.room / "page.html"
-
-    def serve(self) -> WebServer:
-        """A server of the day types."""
-        sessions = sessions_of(self.town, None)
-        server = WebServer(sessions, "token")
-        thread = threading.Thread(target=server.serve_forever)
-        thread.start()
-        self.addCleanup(thread.join)
-        self.addCleanup(server.server_close)
-        self.addCleanup(server.shutdown)
-        return server
 
     def test_the_days_in_the_page(self) -> None:
         """All are in it, the busiest first, each with its vehicles as the program says them."""
@@ -59,8 +46,8 @@ class PeriodPageTest(FolderTest):
         """Each stands under its number. The vehicles of a day that was not shown are those of `plan`, and unknown without it."""
         self.desk("plan", self.town)
         (self.town / "days" / "sun" / "plan.json").unlink()
-        server = self.serve()
-        self.assertTrue(server.address.endswith("/token/0/"))
+        server = self.serve_page(sessions_of(self.town, None))
+        self.assertTrue(server.address.endswith(f"/{TOKEN}/0/"))
 
         def ask(name: str) -> dict[str, object]:
             with urllib.request.urlopen(server.address.removesuffix("0/") + name) as answer:
@@ -90,7 +77,7 @@ class PeriodPageTest(FolderTest):
         """A tab brings its day to the front, in the page that stands alone and in that of the server."""
         self.desk("plan", self.town)
         self.desk("page", self.town, "-o", self.page)
-        server = self.serve()
+        server = self.serve_page(sessions_of(self.town, None))
         browser = Browser()
         self.addCleanup(browser.close)
         for address in (self.page.as_uri(), server.address):

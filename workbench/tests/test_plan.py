@@ -31,7 +31,7 @@ class PlanTest(FolderTest):
     def setUp(self) -> None:
         super().setUp()
         self.town = self.room / "town"
-        self.desk("new", write_feed(self.room / "agency", with_dates_alone()), self.town, "--days")
+        self.make_period(self.town, with_dates_alone())
 
     def test_every_day_type_and_the_fleet(self) -> None:
         status, text, errors = self.desk("plan", self.town)

@@ -9,7 +9,8 @@ from unittest import mock
 
 from desk.program import run
 from desk.unpack import unpack
-from tests.feeds import FolderTest, demonstration, needs_program, write_feed, zip_feed
+from tests.feeds import demonstration, needs_program, write_feed, zip_feed
+from tests.publishing import PublishingTest
 from tests.small_town import small_town, two_trips
 
 EXTRAS = "name,route_id,headsign\nE1,line_1,Relief\n"
@@ -18,22 +19,8 @@ SCRIPT = "shift,wd_3_i_0850,+1\ncancel,sc_S_o_0825\nextra,E1,Station,Oakfield,10
 
 
 @needs_program
-class PublishTest(FolderTest):
+class PublishTest(PublishingTest):
     """The zip of a town."""
-
-    def setUp(self) -> None:
-        super().setUp()
-        self.town, self.out = self.room / "town", self.room / "out.zip"
-
-    def publish(self, *words: str) -> tuple[int, str, str]:
-        """Runs the command."""
-        return self.desk("publish", self.town, self.out, *words)
-
-    def refused(self, words: str) -> None:
-        """Nothing is written, for this reason."""
-        status, text, errors = self.publish()
-        self.assertEqual((status, text, self.out.exists()), (1, "", False), errors)
-        self.assertIn(words, errors)
 
     def rows(self, name: str) -> list[dict[str, str]]:
         """The records of a file of the zip."""

@@ -10,20 +10,20 @@ from pathlib import Path
 from unittest import mock
 
 from desk.program import ROOT
-from tests.feeds import Feed, FolderTest, demonstration, needs_program, write_feed, zip_feed
+from tests.feeds import Feed, demonstration, needs_program, write_feed, zip_feed
 from tests.gtfs import Gtfs, Run, moved
 from tests.made_periods import with_dates_alone, with_night_and_school
+from tests.publishing import PublishingTest
 
 DAY = datetime.timedelta(days=1)
 
 
 @needs_program
-class PeriodTest(FolderTest):
+class PeriodTest(PublishingTest):
     """From zip to one published feed."""
 
     def setUp(self) -> None:
         super().setUp()
-        self.town, self.out = self.room / "town", self.room / "out.zip"
         self.agency = self.room / "agency.zip"
 
     def make(self, feed: Feed) -> None:
@@ -31,16 +31,6 @@ class PeriodTest(FolderTest):
         zip_feed(self.agency, feed)
         self.desk("new", self.agency, self.town, "--days")
         self.desk("plan", self.town)
-
-    def publish(self, *words: str) -> tuple[int, str, str]:
-        """Runs the command."""
-        return self.desk("publish", self.town, self.out, *words)
-
-    def refused(self, words: str) -> None:
-        """Nothing is written, for this reason."""
-        status, text, errors = self.publish()
-        self.assertEqual((status, text, self.out.exists()), (1, "", False), errors)
-        self.assertIn(words, errors)
 
     def planned(self, folder: str) -> dict[str, list[str]]:
         """The blocks that the program has written of a day type, each with its trips."""

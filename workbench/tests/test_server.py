@@ -12,7 +12,6 @@ import signal
 import socket
 import stat
 import subprocess
-import threading
 import time
 import urllib.parse
 from pathlib import Path
@@ -29,10 +28,9 @@ from desk.session import CHANGED, Session
 from desk.suggestions import tried
 from desk.town import Town
 from desk.view import LISTS, parts_of
-from desk.web import HEADERS, MOST_BODY, MOST_LINES, STATIC, WebServer
-from tests.feeds import FolderTest, needs_program, table, write_feed
+from desk.web import HEADERS, MOST_BODY, MOST_LINES, STATIC
+from tests.feeds import TOKEN, FolderTest, needs_program, table, write_feed
 
-TOKEN = "the-token-of-the-tests"
 RUN = program.run
 
 
@@ -69,12 +67,7 @@ class WebTest(FolderTest):
     def setUp(self) -> None:
         super().setUp()
         self.session = StandIn()
-        self.server = WebServer(self.session, TOKEN)  # type: ignore[arg-type]
-        thread = threading.Thread(target=self.server.serve_forever, kwargs={"poll_interval": 0.02}, daemon=True)
-        thread.start()
-        self.addCleanup(thread.join)
-        self.addCleanup(self.server.server_close)
-        self.addCleanup(self.server.shutdown)
+        self.server = self.serve_page(self.session)  # type: ignore[arg-type]
         self.host = f"127.0.0.1:{self.server.server_port}"
 
     def ask(self, method: str, path: str, headers: dict[str, str] | None = None,
