@@ -17,8 +17,8 @@ from desk.hints_refusals import refusal_hints
 from desk.hints_scripts import script_hints
 from desk.keeping import compared
 from desk.limits import MOST_TRIPS
-from desk.notes_days import no_trips
-from desk.notes_note import View
+from desk.notes.days import no_trips
+from desk.notes.note import View
 from desk.period import day_folders
 from desk.program import DONE, FEED_REFUSED, KEEPER_FAULT, READ_FAULT, RECORDS_REFUSED, USAGE, WRITE_FAULT
 from desk.town import Town

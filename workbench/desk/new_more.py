@@ -16,7 +16,7 @@ from desk.limits import MOST_PLACES
 from desk.new_report import Report, counted, some
 from desk.new_settings import with_key
 from desk.new_steps import all_ends, draft_settings
-from desk.notes_deadheads import read_ways
+from desk.notes.deadheads import read_ways
 from desk.records import first_records, open_records, record_text
 from desk.stations import Terminal, distinct, draft_terminals
 from desk.town import Town

@@ -8,8 +8,8 @@ from desk.boards_page import day_text
 from desk.day import Day, Published
 from desk.figures import block_figures
 from desk.lines import LineNames
-from desk.notes_days import no_trips
-from desk.notes_note import View
+from desk.notes.days import no_trips
+from desk.notes.note import View
 from desk.plans import Block
 from desk.records import open_records
 from desk.scripts import Record, standing

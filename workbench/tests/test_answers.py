@@ -12,7 +12,7 @@ from desk import program, texts
 from desk.answers import FeedRefused, ask, read, status_of, tell
 from desk.errors import DeskError
 from desk.hints_names import shown
-from desk.notes_refusal import refusal_of
+from desk.notes.refusal import refusal_of
 from desk.program import NO
 from desk.records import record_text
 from desk.session import Session

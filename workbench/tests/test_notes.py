@@ -12,7 +12,7 @@ from unittest import mock
 from desk import program
 from desk.errors import DeskError
 from desk.notes import MOST_OF_A_KIND, notes_of
-from desk.notes_note import Note
+from desk.notes.note import Note
 from desk.town import Town
 from tests.feeds import Feed, FolderTest, demonstration, needs_program, table, write_feed, zip_feed
 from tests.forms import is_answer

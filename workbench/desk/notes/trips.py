@@ -5,7 +5,7 @@ import re
 from collections.abc import Iterator
 
 from desk.hints_names import Finding, shown
-from desk.notes_note import Note, View
+from desk.notes.note import Note, View
 from desk.records import open_records
 from desk.unblocked import unblocked
 

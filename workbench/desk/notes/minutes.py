@@ -6,7 +6,7 @@ from collections.abc import Iterator
 from pathlib import Path
 
 from desk.hints_names import shown
-from desk.notes_note import Note, View
+from desk.notes.note import Note, View
 from desk.times import arrival_minute, departure_minute, format_time
 from desk.town import DayTrip
 

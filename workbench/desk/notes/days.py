@@ -8,7 +8,7 @@ from desk.calendars import format_date
 from desk.dates import Days
 from desk.errors import DeskError
 from desk.hints_names import Finding, Known, advice, shown
-from desk.notes_note import Note, View, note_of
+from desk.notes.note import Note, View, note_of
 
 DAY = datetime.timedelta(days=1)
 LOOKED = 366

@@ -4,7 +4,7 @@ from __future__ import annotations
 from collections.abc import Iterator
 
 from desk.keeping import compared
-from desk.notes_note import Note, View
+from desk.notes.note import Note, View
 
 
 def journal(view: View) -> Iterator[Note]:

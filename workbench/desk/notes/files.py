@@ -4,7 +4,7 @@ from __future__ import annotations
 from collections.abc import Iterator
 
 from desk.hints_files import is_sheet, like_names
-from desk.notes_note import Note, View
+from desk.notes.note import Note, View
 
 
 def names(view: View) -> Iterator[Note]:

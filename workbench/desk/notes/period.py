@@ -6,7 +6,7 @@ from pathlib import Path
 from typing import Any
 
 from desk.errors import DeskError
-from desk.notes_note import Note
+from desk.notes.note import Note
 from desk.period import TownPeriod, day_folders
 from desk.records import open_records
 from desk.rooms import FEED_FILES

@@ -9,7 +9,7 @@ from desk.hints_machine import read_hints
 from desk.hints_names import shown
 from desk.hints_refusals import LINE, OF_A_TRIP, refusal_hints
 from desk.left_out import sort_trips
-from desk.notes_note import Note, View
+from desk.notes.note import Note, View
 from desk.town import Town
 
 

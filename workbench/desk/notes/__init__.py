@@ -10,14 +10,13 @@ from collections import Counter
 from collections.abc import Callable, Iterator, Sequence
 from pathlib import Path
 
-from desk import (notes_days, notes_depot, notes_files, notes_minutes, notes_places, notes_refusal, notes_scripts, notes_settings,
-                  notes_trips, notes_ways)
 from desk.errors import DeskError, one_line
 from desk.files import reason
 from desk.hints_machine import folder_hints
 from desk.hints_toml import toml_hints
-from desk.notes_note import Note, View
-from desk.notes_period import notes_of_period
+from desk.notes import days, depot, files, minutes, places, refusal, scripts, settings, trips, ways
+from desk.notes.note import Note, View
+from desk.notes.period import notes_of_period
 from desk.period import has_days
 from desk.town import Town
 
@@ -25,10 +24,9 @@ WORD = "notes"
 HELP = "what the program refuses in a town, and what looks wrong and it accepts in silence"
 
 CHECKS: tuple[Callable[[View], Iterator[Note]], ...] = (
-    notes_refusal.refusal, notes_files.names, notes_refusal.trips, notes_days.no_trips, notes_days.services, notes_days.all_days,
-    notes_depot.unlisted, notes_settings.layovers, notes_settings.classes, notes_trips.repeated, notes_trips.no_block_id,
-    notes_trips.other_days_blocks, notes_trips.tolerances, notes_places.terminals, notes_places.deadheads, notes_depot.names,
-    notes_depot.extras, notes_ways.unreached, notes_ways.slow, notes_ways.one_way, notes_minutes.misses, notes_scripts.journal)
+    refusal.refusal, files.names, refusal.trips, days.no_trips, days.services, days.all_days, depot.unlisted, settings.layovers,
+    settings.classes, trips.repeated, trips.no_block_id, trips.other_days_blocks, trips.tolerances, places.terminals,
+    places.deadheads, depot.names, depot.extras, ways.unreached, ways.slow, ways.one_way, minutes.misses, scripts.journal)
 """What is looked for, in the order of the notes."""
 
 WITHOUT_SETTINGS = CHECKS[:2]
@@ -49,7 +47,7 @@ def run(arguments: argparse.Namespace) -> int:
     """Prints the notes. The status is 1 where there are some."""
     town = Path(arguments.town)
     notes = notes_of_period(town, notes_of) if has_days(town) else notes_of(Town(town))
-    notes = notes if arguments.minutes else notes_minutes.in_one(notes, arguments.town)
+    notes = notes if arguments.minutes else minutes.in_one(notes, arguments.town)
     print(as_json(notes) if arguments.json else as_text(notes), end="")
     return 1 if notes else 0
 
@@ -58,15 +56,15 @@ def notes_of(town: Town) -> list[Note]:
     """All notes of a town, the program's refusal first. A file that cannot be read is a note too, and what needs it is left out."""
     if not town.folder.is_dir():
         raise DeskError(" ".join(folder_hints(town.folder)) or f"{town.folder} is no folder")
-    view, notes, unread = View(town, notes_refusal.refusal_of), [], not_toml(town)
+    view, notes, unread = View(town, refusal.refusal_of), [], not_toml(town)
     for check in WITHOUT_SETTINGS if unread else CHECKS:
         try:
             for note in check(view):
                 notes.append(note)
         except DeskError as error:
-            notes.append(notes_refusal.refusal_note("unreadable", town, str(error)))
+            notes.append(refusal.refusal_note("unreadable", town, str(error)))
         except OSError as error:
-            notes.append(notes_refusal.refusal_note("unreadable", town, f"{Path(error.filename or town.folder).name}: {reason(error)}"))
+            notes.append(refusal.refusal_note("unreadable", town, f"{Path(error.filename or town.folder).name}: {reason(error)}"))
     refused = [note for note in notes if note.kind in ("refused", "refused-trip")]
     return [note for note in dict.fromkeys(notes + unread) if not any(map(note.repeats, refused))]
 

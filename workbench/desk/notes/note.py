@@ -13,7 +13,7 @@ from desk.hints_places import Places
 from desk.hints_scripts import edit_of
 from desk.hints_trips import TripFile
 from desk.limits import MOST_TRIPS
-from desk.notes_deadheads import Way, read_ways
+from desk.notes.deadheads import Way, read_ways
 from desk.records import first_records
 from desk.rooms import SCRIPTS
 from desk.scripts import fields_of

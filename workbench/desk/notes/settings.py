@@ -5,8 +5,8 @@ from collections.abc import Iterator
 
 from desk.hints_forms import KEYS
 from desk.hints_names import Finding, Known, advice, shown
-from desk.notes_note import Note, View
-from desk.notes_places import no_place
+from desk.notes.note import Note, View
+from desk.notes.places import no_place
 
 
 def layovers(view: View) -> Iterator[Note]:

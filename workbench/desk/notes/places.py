@@ -5,8 +5,8 @@ from collections import Counter
 from collections.abc import Iterable, Iterator, Sequence
 
 from desk.hints_names import Finding, Known, advice, difference, folded, shown
-from desk.notes_deadheads import Way
-from desk.notes_note import Note, View, note_of
+from desk.notes.deadheads import Way
+from desk.notes.note import Note, View, note_of
 from desk.records import first_records
 
 SURE = 0.85

@@ -5,8 +5,8 @@ import heapq
 from collections.abc import Iterator
 
 from desk.hints_names import shown
-from desk.notes_deadheads import Way
-from desk.notes_note import Note, View
+from desk.notes.deadheads import Way
+from desk.notes.note import Note, View
 
 MUCH_LONGER = 1.5
 """By which factor a way takes much longer than another one."""
