@@ -48,14 +48,13 @@ class Period:
         return sorted([*self.without, *(date for found in self.types for date in found.dates)])
 
 
-def trips_of_services(path: Path, listed: set[str] | None = None) -> dict[str, frozenset[str]]:
-    """The trips of each service of a `trips.txt`, of all services or of those that are listed."""
+def trips_of_services(path: Path) -> dict[str, frozenset[str]]:
+    """The trips of each service of a `trips.txt`."""
     found: dict[str, list[str]] = {}
     with open_records(path) as records:
         service, trip = records.column("service_id"), records.column("trip_id")
         for _, fields in records:
-            if listed is None or fields[service] in listed:
-                found.setdefault(fields[service], []).append(fields[trip])
+            found.setdefault(fields[service], []).append(fields[trip])
     return {name: frozenset(trips) for name, trips in found.items()}
 
 

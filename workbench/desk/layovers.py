@@ -53,8 +53,8 @@ def audit(town: Town, settings: Mapping[str, Any]) -> Json:
 
 @contextmanager
 def room_with(town: Town, settings: Mapping[str, Any]) -> Iterator[Path]:
-    """A room with the feed and the scripts of a town, and with these settings."""
-    with room_of(town, scripts_of(town)) as room:
+    """A room with the feed and the scripts of a town, the blocks of today, and these settings."""
+    with room_of(town, scripts_of(town), of_today=True) as room:
         (room / "desk.toml").unlink(missing_ok=True)
         (room / "desk.toml").write_text(toml_text(settings), encoding="utf-8")
         yield room

@@ -9,7 +9,7 @@ from functools import cached_property
 from pathlib import Path
 
 from desk.day_names import MONTHS, WEEKDAYS
-from desk.day_types import DayType, Period, find_period, trips_of_services
+from desk.day_types import DayType, Period, ServiceTrips, find_period, trips_of_services
 from desk.errors import DeskError
 from desk.town import DAYS, Town
 
@@ -47,7 +47,19 @@ class TownPeriod:
     @cached_property
     def found(self) -> Period:
         """The day types of the calendars, of the services that the town lists, or of all."""
-        return period_of(self.town)
+        return period_of(self.town, self.trips)
+
+    @cached_property
+    def trips(self) -> dict[str, frozenset[str]]:
+        """The trips of each service."""
+        return trips_of_services(self.town.path("trips.txt"))
+
+    def trips_of(self, day: PlannedDay) -> frozenset[str]:
+        """The trips of a day type, before its script."""
+        listed, _ = day.town.selects()
+        running = self.town.calendars.services_on(day.town.date) if day.town.date else self.trips.keys()
+        return frozenset().union(*(trips for service, trips in self.trips.items()
+                                   if service in running and (listed is None or service in listed)))
 
     @cached_property
     def days(self) -> list[PlannedDay]:
@@ -88,11 +100,12 @@ class TownPeriod:
             yield f"{kind.label}: no folder of {DAYS}/ plans {'its date' if len(kind.dates) == 1 else f'its {len(kind.dates)} dates'}"
 
 
-def period_of(town: Town) -> Period:
-    """The day types of a town's calendars. A DeskError where there are none."""
+def period_of(town: Town, trips: ServiceTrips | None = None) -> Period:
+    """The day types of a town's calendars, with its trips where they are read already. A DeskError where there are none."""
     if not town.calendars.found:
         raise DeskError(f"{town.folder} has no calendar.txt and no calendar_dates.txt, so it has no dates")
-    found = find_period(town.calendars, trips_of_services(town.path("trips.txt"), town.selects()[0]))
+    trips, (listed, _) = trips_of_services(town.path("trips.txt")) if trips is None else trips, town.selects()
+    found = find_period(town.calendars, {name: of for name, of in trips.items() if listed is None or name in listed})
     if not found.types:
         raise DeskError("no trip runs on any date of calendar.txt and calendar_dates.txt")
     return found

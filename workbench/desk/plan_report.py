@@ -4,6 +4,7 @@ from __future__ import annotations
 import json
 from collections.abc import Iterator, Sequence
 from dataclasses import dataclass, field
+from pathlib import Path
 from typing import Any
 
 from desk.errors import one_line
@@ -11,11 +12,20 @@ from desk.figures import columns
 from desk.hints_names import shown
 from desk.new_report import counted
 from desk.period import PlannedDay
+from desk.plan_run import left_of
+from desk.shared_trips import SharedTrips
 from desk.town import DAYS, Town
 
 Json = dict[str, Any]
 
+NOT_NEAR = {"error": "day types before it have no plan, or another one, since it was planned: plan the town again", "hints": []}
+"""What is said of a day type whose plan stays near plans that do not stand."""
+
 HEAD = ["day type", "dates", "trips", "vehicles today", "minutes", "least vehicles", "minutes", "check"]
+
+
+SHARED = ["other neighbours", "other names"]
+"""The columns of what differs from the plans before, where day types share trips."""
 
 
 @dataclass
@@ -26,7 +36,22 @@ class PlannedTown:
     towns: list[Town]
     days: list[PlannedDay]
     troubles: list[str]
+    shared: SharedTrips | None = None
     said: list[Json] = field(default_factory=list)
+
+    def order(self) -> Iterator[tuple[Town, list[Path]]]:
+        """What is planned, the one with the most dates first, with the folders that are planned before it."""
+        if self.shared is None:
+            yield from ((town, []) for town in self.towns)
+        else:
+            yield from ((day.town, [other.town.folder for other in self.shared.needs(day)]) for day in self.shared.days)
+
+    def read(self) -> None:
+        """Takes what the runs have left. A plan that stays near other plans than those that stand has `error` too."""
+        self.said = [left_of(town) for town in self.towns]
+        for at, day in enumerate(self.days):
+            if self.shared and "error" not in self.said[at]:
+                self.said[at] = {**self.said[at], "shared": self.shared.differ(day)} if self.shared.stands(day) else NOT_NEAR
 
     @property
     def is_well(self) -> bool:
@@ -76,7 +101,10 @@ def _lines(town: PlannedTown) -> Iterator[str]:
     """The lines of a town."""
     count = f": {counted(len(town.days), 'day type')}" if town.days else ""
     yield f"{town.name}{count}"
-    yield from columns(HEAD, [_row(town, number) for number in range(len(town.said))]).splitlines()
+    head, rows = HEAD, [_row(town, number) for number in range(len(town.said))]
+    if any(said.get("shared") for said in town.said):
+        head, rows = [*HEAD, *SHARED], [row + _shared(said) for row, said in zip(rows, town.said)]
+    yield from columns(head, rows).splitlines()
     for place, said in zip(town.places, town.said):
         yield from (f"{place}: {text}" for text in _told(said))
     yield from town.troubles
@@ -98,6 +126,12 @@ def _row(town: PlannedTown, number: int) -> list[str]:
         return [town.labels[number], dates, *["-"] * 5, "no plan"]
     numbers = [str((said[key] or {}).get(name, "-")) for key in ("audit", "least") for name in ("vehicles", "minutes")]
     return [town.labels[number], dates, str(said["trips"]), *numbers, said["check"]["verdict"]]
+
+
+def _shared(said: Json) -> list[str]:
+    """What differs of the trips that a day type shares with those before it."""
+    found = said.get("shared")
+    return [f"{found[other]} of {found[all]}" for other, all in (("other_pairs", "pairs"), ("other_names", "trips"))] if found else ["-", "-"]
 
 
 def _told(said: Json) -> Iterator[str]:

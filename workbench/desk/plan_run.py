@@ -1,25 +1,26 @@
 """The run of `./desk plan` over one folder, a day type or a town of one day, and what it leaves there: its plan and `plan.json`.
 
-The runs share nothing, and each works on its own folder. So they may be made on one machine or on many, in any order.
+Each run writes into its own folder alone. What it needs of the plans of other day types it makes itself, unless it stands there. So
+the runs may be made on one machine or on many, in any order.
 """
 from __future__ import annotations
 
 import hashlib
 import json
-from collections.abc import Iterator
+from collections.abc import Callable, Iterator
 from functools import cache
 from pathlib import Path
 from typing import Any
 
 from desk.answers import ask, tell
 from desk.errors import DeskError
-from desk.files import read_bytes, write_whole
+from desk.files import read_bytes, read_text, write_whole
 from desk.hints_forms import WRITTEN
 from desk.hints_refusals import refusal_hints
 from desk.rooms import FEED_FILES
 from desk.texts_written import line_of_record
 from desk.toml import toml_text
-from desk.town import Town
+from desk.town import STATED, Town
 
 LEFT = "plan.json"
 """What a run leaves beside the plan: what the program has said, and of which files."""
@@ -33,16 +34,34 @@ SAID = ({"files", "error", "hints"}, {"files", "trips", "audit", "misfits", "mis
 Json = dict[str, Any]
 
 
-def plan_one(town: Town) -> Json:
-    """Plans a folder, has the plan judged, and leaves what the program has said. It has `error` where the program refuses the feed."""
+def plan_one(town: Town, stated: Callable[[], str] = str) -> Json:
+    """Plans a folder, has the plan judged, and leaves what the program has said. It has `error` where the program refuses the feed.
+
+    `stated` gives the `stated.csv` of a day type, or an empty text.
+    """
     town.path(LEFT).unlink(missing_ok=True)
     try:
+        _state(town, stated())
         said = _ask_all(town)
     except DeskError as error:
         said = {"error": str(error).replace(f"{town.folder}: ", ""), "hints": [*error.hints, *_hints(town, error)]}
     said["files"] = state(town)
     write_whole(town.path(LEFT), json.dumps(said, ensure_ascii=False, indent=2) + "\n", replace=True)
     return said
+
+
+def _state(town: Town, text: str) -> None:
+    """Writes the `stated.csv` of a day type, or takes it away where nothing is stated. A town of one day has none."""
+    if town.above and text != stated_of(town):
+        if text:
+            write_whole(town.path(STATED), text, replace=True)
+        else:
+            town.path(STATED).unlink()
+
+
+def stated_of(town: Town) -> str:
+    """The `stated.csv` that a day type has; empty where it has none."""
+    return read_text(town.path(STATED)) if town.has(STATED) else ""
 
 
 def _ask_all(town: Town) -> Json:
@@ -85,7 +104,7 @@ def left_of(town: Town) -> Json:
 def state(town: Town) -> str:
     """A word for the contents of the files of a folder, and of its plan. It is the same on each machine that has the same files."""
     found = hashlib.sha256()
-    for name in (*FEED_FILES, "edits.csv", *CLAIM):
+    for name in (*FEED_FILES, "edits.csv", STATED, *CLAIM):
         path = town.path(name)
         if path.is_file():
             found.update(f"{name} {_digest(path, path.stat().st_mtime_ns)}\n".encode())

@@ -19,8 +19,9 @@ from pathlib import Path
 
 from desk.files import read_bytes
 from desk.locks import is_taken
+from desk.stated import lay_stated
 from desk.toml import toml_text
-from desk.town import Town
+from desk.town import STATED, Town
 
 PREFIX = "blockdesk-room-"
 """How the names of rooms in the system's folder for such begin."""
@@ -88,13 +89,18 @@ def scripts_of(town: Town) -> Scripts:
 
 
 @contextmanager
-def room_of(town: Town, scripts: Mapping[str, bytes]) -> Iterator[Path]:
-    """A folder with the feed of the town and with these scripts alone, which is gone behind the block."""
+def room_of(town: Town, scripts: Mapping[str, bytes], of_today: bool = False) -> Iterator[Path]:
+    """A folder with the feed of the town and with these scripts alone, which is gone behind the block.
+
+    The blocks that it states are those of today, or where a day type states others these.
+    """
     with own_room() as room:
         for file in FEED_FILES:
             if town.path(file).exists():
                 (room / file).symlink_to(town.path(file).resolve())
         lay_settings(town, room)
+        if not of_today:
+            lay_stated(town, room)
         for file, content in scripts.items():
             (room / file).write_bytes(content)
         yield room
@@ -110,8 +116,8 @@ def lay_settings(town: Town, room: Path) -> None:
 def state_of(town: Town, names: tuple[str, ...] = FEED_FILES + SCRIPTS) -> str:
     """A word that is another one as soon as one of these files is written, comes or goes."""
     parts = []
-    shared = [town.above / "desk.toml"] if town.above else []
-    for name in (*names, *shared):
+    of_a_day = [town.above / "desk.toml", town.path(STATED)] if town.above else []
+    for name in (*names, *of_a_day):
         try:
             found = town.path(str(name)).stat()
             parts.append(f"{name} {found.st_ino} {found.st_size} {found.st_mtime_ns}")

@@ -23,7 +23,7 @@ def folder_of_run(command: str, town: Town, room: Path | None = None) -> Iterato
     reads = READ.get(command, ())
     scripts = {name: content for name, content in scripts_of(town).items() if name in reads}
     claim = [name for name in reads if name not in (*FEED_FILES, *SCRIPTS) and town.has(name)]
-    with room_of(town, scripts) as made:
+    with room_of(town, scripts, of_today=command == "audit") as made:
         for name in claim:
             (made / name).write_bytes(read_bytes(town.path(name)))
         if command in ("keep", "kept"):

@@ -102,7 +102,7 @@ class Session:
             raise UsageError("this is no suggestion")
         with self.guard:
             day = self._read()
-        with room_of(day.town, {"edits.csv": day.script}) as room:
+        with room_of(day.town, {"edits.csv": day.script}, of_today=word == "audit") as room:
             found = ask_in(room, day.town, word)
         return {"found": offers(day, word, found) if word in SUGGESTED else found}
 

@@ -28,8 +28,11 @@ DAYS = "days"
 AGENCY_FILES = ("trips.txt", "stop_times.txt", "calendar.txt", "calendar_dates.txt")
 """The agency's files that the program reads. A day type has none of its own."""
 
+STATED = "stated.csv"
+"""The blocks that the plan of a day type stays near, as `./desk plan` finds them in the plans of busier ones."""
+
 OF_A_DAY = ("desk.toml", "edits.csv", "planner_edits.csv", "blocks.csv", "prices.csv", "boards.csv", "trips_blocks.txt",
-            "stop_times_blocks.txt", "plan.json", "journal.db", "saved")
+            "stop_times_blocks.txt", "plan.json", STATED, "journal.db", "saved")
 """What each day type has for itself. Any other file is that of the town, where the day's folder has none of its own."""
 
 
