@@ -208,8 +208,12 @@ Proved = TypedDict("Proved", {"verdict": Literal["yes"], "vehicles": int, "minut
 NotProved = TypedDict("NotProved", {"verdict": Literal["no"], "reason": str})
 """It says no, for the first reason."""
 
+SharedTrips = TypedDict("SharedTrips", {"pairs": int, "other_pairs": int, "trips": int, "other_names": int})
+"""Trips that a day type shares with those before it: their pairs of neighbours, how many are none in its plan, the trips, and how many
+are in blocks of other names."""
+
 Planned = TypedDict("Planned", {"folder": str, "name": str, "dates": int, "trips": int, "audit": TodayNot | TodayLeast | TodayAbove,
-                                "misfits": int, "misfit": Misfit | None, "least": Plan, "check": Proved | NotProved, "refused": list[str]})
+                                "misfits": int, "misfit": Misfit | None, "least": Plan, "check": Proved | NotProved, "refused": list[str], "shared": SharedTrips | None})
 """A day type that is planned: today's blocks with the first misfit, the plan, and the lines of refused records."""
 
 NotPlanned = TypedDict("NotPlanned", {"folder": str, "name": str, "dates": int, "error": str, "hints": list[str]})

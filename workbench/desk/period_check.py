@@ -2,7 +2,6 @@
 from __future__ import annotations
 
 import datetime
-import hashlib
 from collections import Counter
 from collections.abc import Callable, Iterable, Mapping, Sequence
 from concurrent.futures import ThreadPoolExecutor
@@ -57,18 +56,19 @@ class Feed:
             for _, fields in records:
                 content = tuple((column, fields[at]) for at, column in others if fields[at])
                 self.trips.setdefault(fields[service], []).append(Trip(fields[name], content, "" if block is None else fields[block]))
-        self.rows: Counter[tuple[str, int]] = Counter()
+        self.rows: dict[tuple[str, int], int] = {}
         with open_records(folder / "stop_times.txt") as records:
             name = records.column("trip_id")
-            others = [(at, column) for at, column in enumerate(records.header) if column != "trip_id"]
+            others = sorted((column, at) for at, column in enumerate(records.header) if column != "trip_id")
             for _, fields in records:
-                row = [(column, fields[at]) for at, column in others if fields[at]]
-                for shift in (0, *shifts.get(fields[name], ())):
-                    self.rows[fields[name], shift] += sum_of(row, shift)
+                row = [(column, fields[at]) for column, at in others if fields[at]]
+                trip = fields[name]
+                for shift in (0, *shifts[trip]) if trip in shifts else (0,):
+                    self.rows[trip, shift] = self.rows.get((trip, shift), 0) + sum_of(row, shift)
 
     def content(self, trip: Trip, shift: int = 0) -> Content:
         """What runs as a trip."""
-        return trip.fields, self.rows[trip.name, shift]
+        return trip.fields, self.rows.get((trip.name, shift), 0)
 
     def services_on(self, date: datetime.date) -> frozenset[str]:
         """The services with trips that run on a date."""
@@ -82,10 +82,18 @@ class Feed:
 
 
 def sum_of(row: Iterable[tuple[str, str]], shift: int = 0) -> int:
-    """A number for the fields of a row, with its times in seconds, moved by some minutes. Those of all rows of a trip are added."""
-    plain = sorted((column, str((parse_time(text) or 0) + 60 * shift) if column in TIMES and text.strip(" ") else text)
-                   for column, text in row)
-    return int.from_bytes(hashlib.blake2b(repr(plain).encode("utf-8", "surrogateescape"), digest_size=12).digest(), "big")
+    """A number for the fields of a row by the order of their columns, with its times in seconds, moved by some minutes.
+
+    Those of all rows of a trip are added. It holds in this process alone.
+    """
+    return hash(tuple([(column, _seconds(text) + 60 * shift) if column in TIMES and text.strip(" ") else (column, text)
+                       for column, text in row]))
+
+
+@cache
+def _seconds(text: str) -> int:
+    """The seconds of a time; 0 where it is none."""
+    return parse_time(text) or 0
 
 
 def judge_period(period: TownPeriod, plans: Sequence[DayPlan], trips: PeriodTrips, packed: Path) -> None:
@@ -162,8 +170,8 @@ def _extras(plan: DayPlan) -> Runs:
                 extra = plan.extras[ride.name]
                 fields = tuple((column, text) for column, text in (("route_id", extra.route), ("trip_headsign", extra.headsign)) if text)
                 ends = (("1", extra.first_stop, ride.departs), ("2", extra.last_stop, ride.arrives))
-                rows = sum(sum_of([*((column, f"{minute // 60:02}:{minute % 60:02}:00") for column in TIMES), ("stop_id", stop),
-                                   ("stop_sequence", number)]) for number, stop, minute in ends)
+                rows = sum(sum_of(sorted([*((column, f"{minute // 60:02}:{minute % 60:02}:00") for column in TIMES), ("stop_id", stop),
+                                          ("stop_sequence", number)])) for number, stop, minute in ends)
                 runs[(fields, rows), block.name] += 1
     return runs
 

@@ -90,23 +90,18 @@ class PeriodTrips:
 
 
 def day_plan(planned: PlannedDay, day: Day) -> DayPlan:
-    """The plan of a day type, with the files that the program writes of it."""
+    """The plan of a day type, with the rows that the program writes of moved trips."""
     made = DayPlan(planned, day)
     made.extras, made.unlisted = listed_extras(day)
-    rides = {ride.name: ride for block in day.blocks for ride in block.rides}
-    selected = {trip.trip.record: name for name, trip in day.published.items() if trip.trip}
-    with room_of(day.town, scripts_of(day.town)) as room:
-        tell("write", day.town.folder, room)
-        with open_records(room / WRITTEN["trips.txt"]) as records:
-            block = records.column("block_id")
-            for number, fields in records:
-                name = selected.get(number)
-                if name in rides:
-                    made.blocks[name], made.shifts[name] = fields[block], rides[name].shift
-                elif name is not None:
-                    made.cancelled.add(name)
-        moved = {name for name, ride in rides.items() if ride.shift and ride.trip}
-        made.moved = _rows_of(room / WRITTEN["stop_times.txt"], moved) if moved else {}
+    rides = {ride.name: (block.name, ride.shift) for block in day.blocks for ride in block.rides if ride.trip}
+    made.blocks = {name: block for name, (block, _) in rides.items()}
+    made.shifts = {name: shift for name, (_, shift) in rides.items()}
+    made.cancelled = {name for name, trip in day.published.items() if trip.trip and name not in rides}
+    moved = [name for name, shift in made.shifts.items() if shift]
+    if moved:
+        with room_of(day.town, scripts_of(day.town)) as room:
+            tell("write", day.town.folder, room)
+            made.moved = _rows_of(room / WRITTEN["stop_times.txt"], moved)
     return made
 
 

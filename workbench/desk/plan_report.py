@@ -48,7 +48,7 @@ class PlannedTown:
 
     def read(self) -> None:
         """Takes what the runs have left. A plan that stays near other plans than those that stand has `error` too."""
-        self.said = [left_of(town) for town in self.towns]
+        self.said = [{"shared": None, **said} if "error" not in said else said for said in map(left_of, self.towns)]
         for at, day in enumerate(self.days):
             if self.shared and "error" not in self.said[at]:
                 self.said[at] = {**self.said[at], "shared": self.shared.differ(day)} if self.shared.stands(day) else NOT_NEAR

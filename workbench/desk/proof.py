@@ -26,6 +26,12 @@ def proved(day: Day) -> Day:
     return replace(day, proof=Proof(verdict, deficits, held))
 
 
+def verdict_of(day: Day) -> Json:
+    """What `check` says of the files that the program has written of a plan."""
+    with room_of(day.town, {"edits.csv": day.script, **day.claim}) as room:
+        return ask_in(room, day.town, "check")
+
+
 def read_day(town: Town) -> Day:
     """The day of a town as it stands, with its proof."""
     return proved(plan_day(town))

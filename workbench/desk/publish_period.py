@@ -5,9 +5,10 @@ import sys
 from collections import Counter
 from collections.abc import Iterator, Sequence
 from concurrent.futures import ThreadPoolExecutor
+from contextlib import suppress
 from pathlib import Path
 
-from desk.day import Day
+from desk.day import Day, plan_day
 from desk.errors import DeskError, complain
 from desk.new_report import counted
 from desk.period import TownPeriod
@@ -15,9 +16,9 @@ from desk.period_check import judge_period
 from desk.period_feed import make_period_feed
 from desk.period_trips import DayPlan, PeriodTrips, day_plan, period_trips
 from desk.processors import processors
-from desk.proof import read_day
+from desk.proof import verdict_of
 from desk.published_zip import write_judged
-from desk.town import DAYS, Town
+from desk.town import DAYS, Town, read_together
 
 
 def publish_period(folder: Path, out: Path, replace: bool) -> tuple[list[DayPlan], int]:
@@ -26,8 +27,11 @@ def publish_period(folder: Path, out: Path, replace: bool) -> tuple[list[DayPlan
     troubles = list(period.troubles())
     if troubles:
         raise DeskError(f"nothing is written: {troubles[0]}", [f"`./desk days {folder}` lists what is to be mended"])
+    towns = [day.town for day in period.days]
+    with suppress(DeskError):
+        read_together(towns)
     with ThreadPoolExecutor(processors()) as pool:
-        days = list(pool.map(_read, [day.town for day in period.days]))
+        days = list(pool.map(_read, towns))
     plans = [day_plan(planned, day) for planned, day in zip(period.days, days)]
     trips = period_trips(period.town, plans)
     dropped = write_judged(out, replace, lambda feed: make_period_feed(period.town, plans, trips, feed),
@@ -40,12 +44,12 @@ def _read(town: Town) -> Day:
     """The day of a day type. A DeskError where the program does not prove it, or where no trip runs after its script."""
     place = f"{DAYS}/{town.folder.name}"
     try:
-        day = read_day(town)
+        day = plan_day(town)
+        verdict = verdict_of(day)
     except DeskError as error:
         raise DeskError(f"nothing is written: {place}: {error}", error.hints) from error
-    verdict = day.proof.verdict if day.proof else {}
-    if verdict.get("verdict") != "yes" or not day.blocks:
-        raise DeskError(f"nothing is written: {place}: {verdict.get('reason', 'no proof') if day.blocks else 'no trip runs'}")
+    if verdict["verdict"] != "yes" or not day.blocks:
+        raise DeskError(f"nothing is written: {place}: {verdict['reason'] if day.blocks else 'no trip runs'}")
     return day
 
 

@@ -7,7 +7,7 @@ from __future__ import annotations
 
 import datetime
 import os
-from collections.abc import Callable
+from collections.abc import Callable, Mapping, Sequence
 from dataclasses import dataclass
 from functools import cached_property
 from pathlib import Path
@@ -56,6 +56,10 @@ class DayTrip:
     arrival: int | None = None
     first_sequence: int = 1 << 62
     last_sequence: int = -1
+
+
+ENDS = ("rows", "first_stop", "last_stop", "departure", "arrival", "first_sequence", "last_sequence")
+"""What the rows of `stop_times.txt` say of a trip, on all days."""
 
 
 def town_above(folder: Path) -> Path | None:
@@ -184,30 +188,22 @@ class Town:
 
     @cached_property
     def _day(self) -> list[DayTrip]:
-        trips = self.selected
         with open_records(self.path("stop_times.txt")) as records:
-            _read_ends(records, trips)
-        for trip in trips.values():
+            _read_ends(records, self.selected)
+        return self._with_places()
+
+    def _with_places(self) -> list[DayTrip]:
+        """The selected trips, whose ends are known, with the places of these."""
+        for trip in self.selected.values():
             post = "" if trip.vehicle_class is None else f"/{trip.vehicle_class}"
             trip.start = self.terminal(trip.first_stop) + post
             trip.end = self.terminal(trip.last_stop) + post
-        return list(trips.values())
+        return list(self.selected.values())
 
     @cached_property
     def selected(self) -> dict[str, DayTrip]:
         """The trips that `trips.txt` has of the selected services, by their names. `day` gives them their ends and times."""
-        is_selected, classes = self.selection(), self.table("classes")
-        trips: dict[str, DayTrip] = {}
-        with open_records(self.path("trips.txt")) as records:
-            service, name = records.column("service_id"), records.column("trip_id")
-            others = [records.find(column) for column in ("route_id", "trip_headsign", "block_id")]
-            for number, fields in records:
-                if not is_selected(fields[service]):
-                    continue
-                route, headsign, block = ("" if at is None else fields[at] for at in others)
-                vehicles = str(classes.get(route, "")) if classes else None
-                trips[fields[name]] = DayTrip(fields[name], number, fields[service], route, headsign, block, vehicles)
-        return trips
+        return _select([self])[0]
 
 
 def _settings_of(path: Path) -> dict[str, Any]:
@@ -226,7 +222,44 @@ def _laid_over(shared: dict[str, Any], own: dict[str, Any]) -> dict[str, Any]:
     return {**shared, **own, **tables}
 
 
-def _read_ends(records: Records, trips: dict[str, DayTrip]) -> None:
+def read_together(towns: Sequence[Town]) -> None:
+    """Reads the days of several day types of one town, and each file of the feed once for all of them."""
+    selected = _select(towns)
+    first: dict[str, DayTrip] = {}
+    for trips in selected:
+        for name, trip in trips.items():
+            first.setdefault(name, trip)
+    with open_records(towns[0].path("stop_times.txt")) as records:
+        _read_ends(records, first)
+    for town, trips in zip(towns, selected):
+        for name, trip in trips.items():
+            for end in ENDS:
+                setattr(trip, end, getattr(first[name], end))
+        town.selected = trips
+        town._day = town._with_places()
+
+
+def _select(towns: Sequence[Town]) -> list[dict[str, DayTrip]]:
+    """The selected trips of each of some towns with one feed, by their names."""
+    found: list[dict[str, DayTrip]] = [{} for _ in towns]
+    selections = [(town.selection(), town.table("classes"), trips) for town, trips in zip(towns, found)]
+    of_service: dict[str, list[tuple[dict[str, Any], dict[str, DayTrip]]]] = {}
+    with open_records(towns[0].path("trips.txt")) as records:
+        service, name = records.column("service_id"), records.column("trip_id")
+        others = [records.find(column) for column in ("route_id", "trip_headsign", "block_id")]
+        for number, fields in records:
+            selecting = of_service.get(fields[service])
+            if selecting is None:
+                selecting = [(classes, trips) for is_selected, classes, trips in selections if is_selected(fields[service])]
+                of_service[fields[service]] = selecting
+            for classes, trips in selecting:
+                route, headsign, block = ("" if at is None else fields[at] for at in others)
+                vehicles = str(classes.get(route, "")) if classes else None
+                trips[fields[name]] = DayTrip(fields[name], number, fields[service], route, headsign, block, vehicles)
+    return found
+
+
+def _read_ends(records: Records, trips: Mapping[str, DayTrip]) -> None:
     """Gives each trip its first and last stop with their times, from the rows of `stop_times.txt`."""
     name, arrives, departs, stop, place = (
         records.column(column) for column in ("trip_id", "arrival_time", "departure_time", "stop_id", "stop_sequence"))

@@ -61,6 +61,23 @@ def with_dates_alone() -> Feed:
                       ("eve", "20261224", 1), ("week", "20261225", 2), ("fri", "20261225", 2)])
 
 
+def with_a_night_line() -> Feed:
+    """Weekdays and Saturdays, and two night lines of Fridays and Saturdays whose vehicles may go on with either line.
+
+    Today they change line at each end. One Saturday has no trips, so there are fewer of them than Fridays.
+    """
+    made = Maker()
+    made.shuttle("week", "1", "AB", range(380, 1400, 40), 25)
+    made.shuttle("sat", "2", "AB", range(500, 1300, 45), 30)
+    for number, minute in enumerate(range(1450, 1650, 40)):
+        for vehicle in range(2):
+            made.trip("night", "MN"[vehicle], f"night_{'MN'[vehicle]}_{number}", "AB" if number % 2 else "BA", minute, 30)
+            made.trips[-1] = *made.trips[-1][:-1], f"night-{(number + vehicle) % 2}"
+    period = ("20260907", "20261120")
+    return made.feed([("week", 1, 1, 1, 1, 1, 0, 0, *period), ("night", 0, 0, 0, 0, 1, 1, 0, *period),
+                      ("sat", 0, 0, 0, 0, 0, 1, 0, *period)], [("sat", "20261003", 2), ("night", "20261003", 2)])
+
+
 def with_night_and_school() -> Feed:
     """Weekdays, Saturdays and Sundays, with a night line of Fridays and Saturdays and a line of school days that joins the others.
 

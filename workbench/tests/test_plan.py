@@ -12,7 +12,7 @@ from pathlib import Path
 from desk.program import ROOT
 from tests.feeds import FolderTest, needs_program, write_feed
 from tests.forms import is_answer
-from tests.made_periods import with_dates_alone, with_night_and_school
+from tests.made_periods import with_a_night_line, with_dates_alone, with_night_and_school
 from tests.small_town import two_trips
 
 DESK = ROOT / "desk"
@@ -38,10 +38,12 @@ class PlanTest(FolderTest):
         self.assertEqual((status, errors), (0, ""), text)
         lines = text.splitlines()
         self.assertEqual(lines[0], f"{self.town}: 5 day types")
-        self.assertEqual(lines[2].split(), ["Friday", "11", "68", "4", "0", "3", "0", "yes"])
+        self.assertEqual(lines[2].split(), ["Friday", "11", "68", "4", "0", "3", "0", "yes", "0", "of", "57", "0", "of", "60"])
         self.assertEqual(lines[-1], "fleet: 3 vehicles, on Friday; today 4, on Friday")
         for day in (self.town / "days").iterdir():
-            self.assertEqual(sorted(path.name for path in day.iterdir()), ["blocks.csv", "boards.csv", "desk.toml", "plan.json", "prices.csv"])
+            stated = ["stated.csv"] if day.name in ("fri", "24-dec") else []
+            self.assertEqual(sorted(path.name for path in day.iterdir()),
+                             ["blocks.csv", "boards.csv", "desk.toml", "plan.json", "prices.csv", *stated])
             verdict = self.desk("check", day)[1]
             said = json.loads((day / "plan.json").read_text())
             self.assertEqual(verdict, f"yes, vehicles {said['least']['vehicles']}, minutes {said['least']['minutes']}\n")
@@ -111,6 +113,106 @@ class PlanTest(FolderTest):
 
 
 @needs_program
+class SharedTripsTest(FolderTest):
+    """A night line over two days, Friday and Saturday. On Fridays the planner wishes that vehicles stay on their line."""
+
+    def setUp(self) -> None:
+        super().setUp()
+        self.town = self.room / "town"
+        self.fri, self.sat = (self.town / "days" / name for name in ("fri", "sat"))
+        self.desk("new", write_feed(self.room / "agency", with_a_night_line()), self.town, "--days")
+        self.wish(self.fri, '"line", "stated"')
+
+    def wish(self, day: Path, wishes: str) -> None:
+        """Writes what is preferred on a day."""
+        (day / "desk.toml").write_text((day / "desk.toml").read_text() + f"prefer = [{wishes}]\n")
+
+    def pairs(self, day: Path) -> set[tuple[str, str]]:
+        """The neighbours among the night trips in the blocks of a day."""
+        trips = [line.split(",")[:2] for line in (day / "blocks.csv").read_text().splitlines()[1:]]
+        return {(one, two) for (block, one), (same, two) in zip(trips, trips[1:]) if block == same and one[:5] == two[:5] == "night"}
+
+    def row(self, label: str, text: str) -> list[str]:
+        """The numbers of a day type in a report."""
+        return next(line for line in text.splitlines() if line.startswith(label)).split()[1:]
+
+    def test_the_neighbours_of_the_night_are_kept(self) -> None:
+        status, text, errors = self.desk("plan", self.town)
+        self.assertEqual((status, errors), (0, ""), text)
+        self.assertEqual(self.pairs(self.fri), {(f"night_{line}_{number}", f"night_{line}_{number + 1}") for line in "MN" for number in range(4)})
+        self.assertEqual(self.pairs(self.sat), self.pairs(self.fri))
+        self.assertEqual(self.row("Saturday", text)[7:10], ["0", "of", "8"])
+        # Without them a run stays near the blocks of today. These are what `audit` judges in any case.
+        audit = self.desk("audit", self.sat)
+        (self.sat / "stated.csv").unlink()
+        self.desk("blocks", self.sat)
+        self.assertEqual(self.pairs(self.sat) & self.pairs(self.fri), set())
+        self.assertEqual(self.desk("audit", self.sat), audit)
+
+    def test_the_files_of_a_day_make_its_plan(self) -> None:
+        """Each command on the folder plans as `plan` has."""
+        self.desk("plan", self.town)
+        before = {path.name: path.read_bytes() for path in self.sat.iterdir()}
+        for command in ("blocks", "joined"):
+            self.assertEqual(self.desk(command, self.sat)[0], 0)
+        self.assertEqual({path.name: path.read_bytes() for path in self.sat.iterdir()}, before)
+        self.assertEqual(self.desk("write", self.sat)[0], 0)
+        blocks = dict(line.split(",")[1::-1] for line in (self.sat / "blocks.csv").read_text().splitlines()[1:])
+        written = (row.rsplit(",", 1) for row in (self.sat / "trips_blocks.txt").read_text().splitlines()[1:])
+        self.assertEqual({fields.split(",")[2]: block for fields, block in written if fields.split(",")[2] in blocks}, blocks)
+        self.assertEqual(self.desk("compare", self.fri, self.sat)[0], 0)
+
+    def test_pairs_and_names_that_differ_are_counted(self) -> None:
+        """A day type that does not wish it is planned by itself."""
+        self.wish(self.sat, '"waiting"')
+        write_feed(self.sat, {"edits.csv": "cancel,night_M_1\n"})
+        text = self.desk("plan", self.town)[1]
+        self.assertFalse((self.sat / "stated.csv").exists())
+        pairs = self.pairs(self.fri) - {("night_M_0", "night_M_1"), ("night_M_1", "night_M_2")}
+        self.assertEqual(self.row("Saturday", text)[7:10], [str(len(pairs - self.pairs(self.sat))), "of", str(len(pairs))])
+        answer = json.loads(self.desk("plan", self.town, "--gather", "--json")[1])
+        self.assertTrue(is_answer("plan", answer))
+        shared = {day["folder"]: day["shared"] for day in answer["towns"][0]["days"]}
+        self.assertEqual((shared["days/mon-thu"], shared["days/sat"]["trips"]), (None, 9))
+
+    def test_a_plan_behind_another_one_is_not_reported(self) -> None:
+        """A run of one day type alone takes its neighbours of the files as they are, and `--gather` names a plan that stays near others."""
+        self.desk("plan", self.town)
+        stated = (self.sat / "stated.csv").read_text()
+        write_feed(self.fri, {"edits.csv": "cancel,night_M_1\ncancel,night_N_1\n"})
+        self.assertEqual(self.desk("plan", self.sat)[0], 0)
+        self.assertNotEqual((self.sat / "stated.csv").read_text(), stated)
+        (self.fri / "edits.csv").unlink()
+        self.desk("plan", self.fri)
+        status, text, _ = self.desk("plan", self.town, "--gather")
+        self.assertEqual(status, 1)
+        self.assertIn("days/sat: day types before it have no plan, or another one, since it was planned: plan the town again\n", text)
+        self.desk("plan", self.sat)
+        self.assertEqual(((self.sat / "stated.csv").read_text(), self.desk("plan", self.town, "--gather")[0]), (stated, 0))
+
+    def test_a_day_type_that_is_refused_gives_no_neighbours(self) -> None:
+        write_feed(self.fri, {"deadheads.csv": "from,to,minutes\nAbbey,Abbey,3\n"})
+        status, text, _ = self.desk("plan", self.town)
+        self.assertEqual(status, 1)
+        self.assertIn("days/fri: feed refused: deadheads.csv record 1: same terminal\n", text)
+        self.assertFalse((self.sat / "stated.csv").exists())
+        self.assertEqual(self.row("Saturday", text)[6], "yes")
+
+    def test_blocks_of_one_name_stay_apart(self) -> None:
+        """The agency has a block that is named as a stated one, and its file has no order, quotes and no end of line."""
+        trips = (self.town / "trips.txt").read_text()
+        self.desk("plan", self.town)
+        before = (self.sat / "blocks.csv").read_bytes()
+        named = (self.sat / "stated.csv").read_text().splitlines()[1].split(",")[1]
+        (self.town / "trips.txt").write_text(trips.replace("sat-2", f'"{named}"').removesuffix("\n"))
+        self.desk("plan", self.town)
+        self.assertEqual((self.sat / "blocks.csv").read_bytes(), before)
+        (self.town / "trips.txt").write_text("".join(line.rsplit(",", 1)[0] + "\n" for line in trips.splitlines()))
+        status, text, _ = self.desk("plan", self.town)
+        self.assertEqual((status, self.row("Saturday", text)[7:10]), (0, ["0", "of", "8"]), text)
+
+
+@needs_program
 class MachinesTest(FolderTest):
     """The single runs over two folders, as if each were on a machine of its own."""
 
@@ -128,15 +230,18 @@ class MachinesTest(FolderTest):
 
         lines = plan(here, "--commands").splitlines()
         self.assertEqual(len(lines), 6)
-        spread(lines[:3], here)
-        spread(lines[3:], there)
-        self.assertEqual([(folder / "town" / "days" / name / "plan.json").exists() for folder in (here, there) for name in ("school-fri", "sun")],
-                         [True, False, False, True])
+        # The runs of the first folder need plans of the second one, and the other way round.
+        spread(lines[::2], here)
+        spread(lines[1::2], there)
+        self.assertEqual([(folder / "town" / "days" / name / "plan.json").exists() for folder in (here, there)
+                          for name in ("school-mon-thu", "sat", "school-fri")], [True, False, False, False, True, True])
         for day in (there / "town" / "days").iterdir():
             if (day / "plan.json").exists():
                 shutil.copytree(day, here / "town" / "days" / day.name, dirs_exist_ok=True)
         self.assertEqual(plan(here, "--gather"), plan(alone))
         self.assertEqual(plan(here, "--gather", "--json"), plan(alone, "--gather", "--json"))
+        for path in (alone / "town" / "days").glob("*/*"):
+            self.assertEqual((here / path.relative_to(alone)).read_bytes(), path.read_bytes(), path)
 
 
 if __name__ == "__main__":
