@@ -9,6 +9,7 @@ import zipfile
 from pathlib import Path
 from unittest import mock
 
+from desk.period_trips import PeriodTrips
 from desk.program import ROOT
 from tests.feeds import Feed, demonstration, needs_program, write_feed, zip_feed
 from tests.gtfs import Gtfs, Run, moved
@@ -150,10 +151,10 @@ class PeriodTest(PublishingTest):
             self.refused("nothing is written: on 2026-")
         with mock.patch("desk.period_feed._versions_by_name", return_value=({}, {})):
             self.refused("nothing is written: on 2026-")
-        with mock.patch("desk.period_trips.WRITTEN", {"trips.txt": "trips.txt", "stop_times.txt": "stop_times_blocks.txt"}):
+        with mock.patch("desk.publish_period.period_trips", return_value=PeriodTrips()):
             self.refused("nothing is written: on 2026-")
         with mock.patch("desk.period_check._found", return_value=None), mock.patch("desk.period_check._wanted", return_value=None), \
-                mock.patch("desk.period_trips.WRITTEN", {"trips.txt": "trips.txt", "stop_times.txt": "stop_times_blocks.txt"}):
+                mock.patch("desk.publish_period.period_trips", return_value=PeriodTrips()):
             self.refused("nothing is written: `audit` of the feed does not say `least`: ")
 
     def test_what_keeps_it_from_being_written(self) -> None:
