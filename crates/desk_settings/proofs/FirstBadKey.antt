@@ -36,7 +36,8 @@ bad-anywhere desk other key value =
     (either-some (bytes_eq key (codes "early")) _ _ _ _ (map-some _ _ _)
     (either-some (bytes_eq key (codes "late")) _ _ _ _ (map-some _ _ _)
     (either-some (bytes_eq key (codes "block_prefix")) _ _ _ _ (map-some _ _ _)
-    (either-some (bytes_eq key (codes "prefer")) _ _ _ _ (map-some _ _ _) refl))))))))
+    (either-some (bytes_eq key (codes "block_names")) _ _ _ _ (map-some _ _ _)
+    (either-some (bytes_eq key (codes "prefer")) _ _ _ _ (map-some _ _ _) refl)))))))))
 
 lt_from : (o : Ordering) → is_lt o ≡ true → o ≡ Less
 lt_from Less h = refl

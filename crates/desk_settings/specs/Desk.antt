@@ -38,6 +38,15 @@ short_text text = if nat_le (length text) MOST_PREFIX then Some text else None
 abbrev pub prefix_in : Data → Option (List ℕ)
 prefix_in value = option_and_then short_text (as_str value)
 
+-- whether blocks keep the names that the feed states
+abbrev pub keeps_names_named : List ℕ → Option Bool
+keeps_names_named text =
+    if bytes_eq text (codes "numbered") then Some false else if bytes_eq text (codes "stated") then Some true else None
+
+-- a value that says so
+abbrev pub keeps_names_in : Data → Option Bool
+keeps_names_in value = option_and_then keeps_names_named (as_str value)
+
 -- the strings of a list, each where it first comes, after the names before them
 abbrev pub names_from : List Name → Items → Option (List Name)
 names_from before no_items = Some before
@@ -92,6 +101,7 @@ standard_desk = record {
   early = 0;
   late = 0;
   prefix = codes "B";
+  keeps_names = false;
   prefer = standard_preferences;
 }
 
@@ -111,6 +121,7 @@ with_key desk key value =
     else if bytes_eq key (codes "early") then option_map (λ minutes. record desk { early = minutes }) (minutes_in MOST_TOLERANCE value)
     else if bytes_eq key (codes "late") then option_map (λ minutes. record desk { late = minutes }) (minutes_in MOST_TOLERANCE value)
     else if bytes_eq key (codes "block_prefix") then option_map (λ prefix. record desk { prefix = prefix }) (prefix_in value)
+    else if bytes_eq key (codes "block_names") then option_map (λ keeps. record desk { keeps_names = keeps }) (keeps_names_in value)
     else if bytes_eq key (codes "prefer") then option_map (λ prefer. record desk { prefer = prefer }) (preferences_in value)
     else None
 

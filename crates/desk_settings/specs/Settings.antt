@@ -12,8 +12,9 @@ use Rattle.desk_settings.specs.declared.desk.DeskTable.{DeskTable}
 use Rattle.desk_settings.specs.declared.prefer.Preference.{Preference}
 
 -- the services that are selected, None where all are; the date whose services are selected, if there is one; the classes of
--- routes. Then the minutes of layover, and those of places; the minutes of tolerance; the prefix of block names; what is
--- preferred among plans that are equally good. Last the terminals of stops, and the tolerances of trips, early before late
+-- routes. Then the minutes of layover, and those of places; the minutes of tolerance; the prefix of block names, and whether
+-- blocks keep the names that the feed states. Then what is preferred among plans that are equally good, and last the terminals
+-- of stops, and the tolerances of trips, early before late
 pub record SettingsView : Type 0 where
   pub services : Option (List (List ℕ))
   pub date : Option ℕ
@@ -23,6 +24,7 @@ pub record SettingsView : Type 0 where
   pub early : ℕ
   pub late : ℕ
   pub prefix : List ℕ
+  pub keeps_names : Bool
   pub prefer : List Preference
   pub terminals : Entries Name
   pub tolerances : Entries (ℕ × ℕ)
@@ -38,6 +40,7 @@ settings_with desk terminals tolerances = record {
   early = desk.early;
   late = desk.late;
   prefix = desk.prefix;
+  keeps_names = desk.keeps_names;
   prefer = desk.prefer;
   terminals = terminals;
   tolerances = tolerances;

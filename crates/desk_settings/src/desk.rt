@@ -38,8 +38,10 @@ pub(crate) struct DeskTable {
     pub(crate) early: Tolerance,
     /// By how much a trip may be moved after its published times.
     pub(crate) late: Tolerance,
-    /// What the names of blocks begin with.
+    /// What the names of blocks by numbers begin with.
     pub(crate) prefix: Text,
+    /// Whether blocks keep the names that the feed states.
+    pub(crate) keeps_names: bool,
     /// What is preferred among plans that are equally good.
     pub(crate) prefer: Preferences,
 }
@@ -55,6 +57,7 @@ impl Drop for DeskTable {
             early: _,
             late: _,
             prefix: _,
+            keeps_names: _,
             prefer: _,
         } = self;
     }
@@ -79,6 +82,17 @@ fn prefix_in(alloc: Global, value: &Value) -> Result<Option<Text>, Memory>
     match value.as_str() {
         Some(text) if text.len() <= MOST_PREFIX => Ok(Some(Text::of(alloc, text)?)),
         _ => Ok(None),
+    }
+}
+
+// Whether blocks keep the names that the feed states.
+fn keeps_names_in(value: &Value) -> Option<bool>
+    ensures { result ≡ spec.keeps_names_in (view value.now) }
+{
+    match value.as_str()? {
+        "numbered" => Some(false),
+        "stated" => Some(true),
+        _ => None,
     }
 }
 
@@ -210,6 +224,7 @@ impl DeskTable {
             early: Tolerance::of(0),
             late: Tolerance::of(0),
             prefix,
+            keeps_names: false,
             prefer: Preferences::standard(alloc)?,
         })
     }
@@ -228,6 +243,7 @@ impl DeskTable {
             "early" => put(&mut self.early, minutes_in(value)),
             "late" => put(&mut self.late, minutes_in(value)),
             "block_prefix" => put(&mut self.prefix, prefix_in(alloc, value)?),
+            "block_names" => put(&mut self.keeps_names, keeps_names_in(value)),
             "prefer" => put(&mut self.prefer, preferences_in(alloc, value)?),
             _ => false,
         })

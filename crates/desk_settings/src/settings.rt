@@ -29,7 +29,7 @@ use std::marker::Model;
 /// - the classes of routes
 /// - the minutes of layover, with a list of places that have their own
 /// - the minutes of tolerance, early and late
-/// - the prefix of block names
+/// - the prefix of block names, and whether blocks keep the names that the feed states
 /// - what is preferred among plans that are equally good, in the order of importance
 /// - the list of stops with their terminals, and that of trips with their tolerances
 ///
@@ -200,7 +200,14 @@ impl Settings {
         self.desk.late.minutes() as u8
     }
 
-    /// What the names of blocks begin with.
+    /// Whether blocks keep the names that the feed states.
+    pub fn keeps_names(&self) -> bool
+        ensures { result ≡ self.now.keeps_names }
+    {
+        self.desk.keeps_names
+    }
+
+    /// What the names of blocks by numbers begin with.
     pub fn prefix(&self) -> &str
         ensures { result.now ≡ self.now.prefix }
     {
