@@ -14,6 +14,7 @@ use Rattle.deadhead_matrix.specs.Matrix.{MatrixView}
 use Rattle.trip_model.specs.Timetable.{TimetableView}
 use Rattle.block_build.specs.Files.{block_header, records_of_block, block_records, blocks_text, price_header, price_record, price_records}
 use Rattle.block_build.specs.Files.{prices_text}
+use Rattle.block_build.specs.Names.{block_name}
 use Rattle.block_build.proofs.LinesWritten.{flat_map-range_more}
 
 -- a record of three texts is text
@@ -55,16 +56,18 @@ records-more f before now next n so_far written =
     ∙ ap (λ xs. before ++ xs) (sym (ap records_text (flat_map-range_more f n)
     ∙ flat_map-append record_text (flat_map f (range_with_len 0 n)) (f n)))
 
--- the text of all blocks
-pub blocks-written : (t : TimetableView) (matrix : MatrixView) (prefix : List ℕ) (blocks : List (List ℕ)) (now : List ℕ) (n : ℕ)
+-- the records of the block of a number, and the text of all blocks
+abbrev pub records_numbered : TimetableView → MatrixView → List (List ℕ) → List (List ℕ) → ℕ → List (List (List ℕ))
+records_numbered t matrix names blocks n = records_of_block t matrix (block_name names n) (get_or blocks n [])
+
+pub blocks-written : (t : TimetableView) (matrix : MatrixView) (names blocks : List (List ℕ)) (now : List ℕ) (n : ℕ)
     → length blocks ≡ n
-    → now ≡ record_text block_header
-    ++ records_text (flat_map (λ n. records_of_block t matrix prefix n (get_or blocks n [])) (range_with_len 0 n))
-    → now ≡ blocks_text t matrix prefix blocks
+    → now ≡ record_text block_header ++ records_text (flat_map (records_numbered t matrix names blocks) (range_with_len 0 n))
+    → now ≡ blocks_text t matrix names blocks
 unfolding blocks_text block_records
-blocks-written t matrix prefix blocks now n all so_far =
+blocks-written t matrix names blocks now n all so_far =
     so_far ∙ ap (λ m. record_text block_header
-    ++ records_text (flat_map (λ n. records_of_block t matrix prefix n (get_or blocks n [])) (range_with_len 0 m))) (sym all)
+    ++ records_text (flat_map (records_numbered t matrix names blocks) (range_with_len 0 m))) (sym all)
 
 -- the text of all prices
 pub prices-written : (t : TimetableView) (leave enter now : List ℕ) (n : ℕ) → length t.slots ≡ n

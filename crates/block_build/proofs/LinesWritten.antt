@@ -10,6 +10,7 @@ use Rattle.trip_model.specs.Timetable.{TimetableView, slot_at}
 use Rattle.deadhead_matrix.specs.Matrix.{MatrixView, walk}
 use Rattle.block_build.specs.Lines.{walk_between, deadhead_text, joint, trip_text, trips_text, pull_out, pull_in, pull_out_text}
 use Rattle.block_build.specs.Lines.{pull_in_text, block_line, block_text, price_line, price_text}
+use Rattle.block_build.specs.Names.{block_name}
 
 -- what is made of the numbers below one more
 pub flat_map-range_more : {A : Type 0} (f : ℕ → List A) (n : ℕ)
@@ -51,34 +52,34 @@ trips-written t walk block before now n all so_far =
     (sym all)
 
 -- the line of a block, written piece by piece
-pub line-written : (t : TimetableView) (matrix : MatrixView) (prefix block before named out trips home next : List ℕ) (n : ℕ)
-    → named ≡ before ++ (prefix ++ (decimal (n + 1) ++ 58 ∷ 32 ∷ []))
+pub line-written : (t : TimetableView) (matrix : MatrixView) (margin name block before named out trips home next : List ℕ)
+    → named ≡ before ++ (margin ++ (name ++ 58 ∷ 32 ∷ []))
     → out ≡ named ++ pull_out_text (pull_out t matrix.pulls block)
     → trips ≡ out ++ trips_text t (walk matrix) block
     → home ≡ trips ++ pull_in_text (pull_in t matrix.pulls block)
     → next ≡ home ++ 10 ∷ []
-    → next ≡ before ++ block_line t matrix prefix n block
+    → next ≡ before ++ block_line t matrix margin name block
 unfolding block_line
-line-written t matrix prefix block before named out trips home next n name out_of all home_from line =
-    rw (line, home_from, all, out_of, name) (simp append_assoc)
+line-written t matrix margin name block before named out trips home next begun out_of all home_from line =
+    rw (line, home_from, all, out_of, begun) (simp append_assoc)
 
 -- the text after the line of one block more
-pub lines-more : (t : TimetableView) (matrix : MatrixView) (prefix : List ℕ) (blocks : List (List ℕ)) (block now next : List ℕ) (n : ℕ)
-    → block ≡ get_or blocks n []
-    → now ≡ flat_map (λ n. block_line t matrix prefix n (get_or blocks n [])) (range_with_len 0 n)
-    → next ≡ now ++ block_line t matrix prefix n block
-    → next ≡ flat_map (λ n. block_line t matrix prefix n (get_or blocks n [])) (range_with_len 0 (n + 1))
-lines-more t matrix prefix blocks block now next n is so_far line =
-    line
-    ∙ (λ i. so_far i ++ block_line t matrix prefix n (is i))
-    ∙ sym (flat_map-range_more (λ n. block_line t matrix prefix n (get_or blocks n [])) n)
+pub lines-more : (line_of : ℕ → List ℕ) (now next : List ℕ) (n : ℕ)
+    → now ≡ flat_map line_of (range_with_len 0 n)
+    → next ≡ now ++ line_of n
+    → next ≡ flat_map line_of (range_with_len 0 (n + 1))
+lines-more line_of now next n so_far line = line ∙ ap (λ xs. xs ++ line_of n) so_far ∙ sym (flat_map-range_more line_of n)
 
-pub lines-written : (t : TimetableView) (matrix : MatrixView) (prefix : List ℕ) (blocks : List (List ℕ)) (now : List ℕ) (n : ℕ)
+-- the line of the block of a number
+abbrev pub line_numbered : TimetableView → MatrixView → List ℕ → List (List ℕ) → List (List ℕ) → ℕ → List ℕ
+line_numbered t matrix margin names blocks n = block_line t matrix margin (block_name names n) (get_or blocks n [])
+
+pub lines-written : (t : TimetableView) (matrix : MatrixView) (margin : List ℕ) (names blocks : List (List ℕ)) (now : List ℕ) (n : ℕ)
     → length blocks ≡ n
-    → now ≡ flat_map (λ n. block_line t matrix prefix n (get_or blocks n [])) (range_with_len 0 n) → now ≡ block_text t matrix prefix blocks
+    → now ≡ flat_map (line_numbered t matrix margin names blocks) (range_with_len 0 n) → now ≡ block_text t matrix margin names blocks
 unfolding block_text
-lines-written t matrix prefix blocks now n all so_far =
-    so_far ∙ ap (λ m. flat_map (λ n. block_line t matrix prefix n (get_or blocks n [])) (range_with_len 0 m)) (sym all)
+lines-written t matrix margin names blocks now n all so_far =
+    so_far ∙ ap (λ m. flat_map (line_numbered t matrix margin names blocks) (range_with_len 0 m)) (sym all)
 
 pub prices-written : (t : TimetableView) (leave enter now : List ℕ) (n : ℕ) → length t.slots ≡ n
     → now ≡ flat_map (price_line t leave enter) (range_with_len 0 n) → now ≡ price_text t leave enter

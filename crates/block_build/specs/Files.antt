@@ -7,7 +7,8 @@ use Rattle.gtfs_tables.specs.Writing.{records_text}
 use Rattle.gtfs_tables.specs.declared.paper.Column.TheVariants as column
 use Rattle.deadhead_matrix.specs.Matrix.{MatrixView, walk}
 use Rattle.trip_model.specs.Timetable.{TimetableView, slot_at}
-use Rattle.block_build.specs.Lines.{block_name, walk_between, pull_out}
+use Rattle.block_build.specs.Lines.{walk_between, pull_out}
+use Rattle.block_build.specs.Names.{block_name}
 
 -- the header of `blocks.csv`, and that of `prices.csv`
 abbrev pub block_header : List (List ℕ)
@@ -23,25 +24,24 @@ minutes_before timetable matrix block (suc n) =
     unwrap_or (walk_between timetable (walk matrix) (slice_index block n) (slice_index block (suc n))) 0
 
 -- the record of the n-th trip of a block: the name of the block, that of the trip, and the empty minutes before it
-abbrev pub block_record : TimetableView → MatrixView → List ℕ → ℕ → List ℕ → ℕ → List (List ℕ)
-block_record timetable matrix prefix number block n =
-    block_name prefix number ∷ (slot_at timetable (slice_index block n)).name ∷ decimal (minutes_before timetable matrix block n) ∷ []
+abbrev pub block_record : TimetableView → MatrixView → List ℕ → List ℕ → ℕ → List (List ℕ)
+block_record timetable matrix name block n =
+    name ∷ (slot_at timetable (slice_index block n)).name ∷ decimal (minutes_before timetable matrix block n) ∷ []
 
--- the records of a block, trip by trip
-abbrev pub records_of_block : TimetableView → MatrixView → List ℕ → ℕ → List ℕ → List (List (List ℕ))
-records_of_block timetable matrix prefix number block =
-    map (block_record timetable matrix prefix number block) (range_with_len 0 (length block))
+-- the records of a block of that name, trip by trip
+abbrev pub records_of_block : TimetableView → MatrixView → List ℕ → List ℕ → List (List (List ℕ))
+records_of_block timetable matrix name block = map (block_record timetable matrix name block) (range_with_len 0 (length block))
 
 -- the records of blocks, block by block
-unfoldable pub block_records : TimetableView → MatrixView → List ℕ → List (List ℕ) → List (List (List ℕ))
-block_records timetable matrix prefix blocks =
-    flat_map (λ number. records_of_block timetable matrix prefix number (slice_index_or blocks number []))
+unfoldable pub block_records : TimetableView → MatrixView → List (List ℕ) → List (List ℕ) → List (List (List ℕ))
+block_records timetable matrix names blocks =
+    flat_map (λ number. records_of_block timetable matrix (block_name names number) (slice_index_or blocks number []))
     (range_with_len 0 (length blocks))
 
 -- rule: the text of `blocks.csv`
 -- the text of `blocks.csv`
-unfoldable pub blocks_text : TimetableView → MatrixView → List ℕ → List (List ℕ) → List ℕ
-blocks_text timetable matrix prefix blocks = records_text (block_header ∷ block_records timetable matrix prefix blocks)
+unfoldable pub blocks_text : TimetableView → MatrixView → List (List ℕ) → List (List ℕ) → List ℕ
+blocks_text timetable matrix names blocks = records_text (block_header ∷ block_records timetable matrix names blocks)
 
 -- the record of a slot: the name of its trip and its two prices; none where the trip does not run
 abbrev pub price_record : TimetableView → List ℕ → List ℕ → ℕ → List (List (List ℕ))

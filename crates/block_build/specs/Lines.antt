@@ -1,5 +1,5 @@
 -- The printed lines of blocks. `walk` says in how many minutes a vehicle runs empty from place to place.
-use Rattle.std.specs.Prelude.{ℕ, zero, suc, ◌+◌, ◌-◌, ◌==◌, List, [], ◌∷◌, ◌++◌, length, slice_index, slice_index_or, Option, None, Some}
+use Rattle.std.specs.Prelude.{ℕ, zero, suc, ◌-◌, ◌==◌, List, [], ◌∷◌, ◌++◌, length, slice_index, slice_index_or, Option, None, Some}
 use Rattle.std.specs.Prelude.{codes, if◌then◌else◌}
 use Rattle.std.specs.Fmt.{decimal}
 use Rattle.std.specs.List.{flat_map, range_with_len}
@@ -8,15 +8,7 @@ use Rattle.deadhead_matrix.specs.declared.pulls.Pull.{Pull}
 use Rattle.deadhead_matrix.specs.Matrix.{MatrixView, walk}
 use Rattle.deadhead_matrix.specs.Pulls.{pull_at}
 use Rattle.trip_model.specs.Timetable.{TimetableView, Slot, slot_at}
-
--- rule: the name of a block
--- the name of the block of that number, counted from 1: the prefix and the number
-abbrev pub name_numbered : List ℕ → ℕ → List ℕ
-name_numbered prefix number = prefix ++ decimal number
-
--- that of the block of that number, counted from 0
-abbrev pub block_name : List ℕ → ℕ → List ℕ
-block_name prefix number = name_numbered prefix (number + 1)
+use Rattle.block_build.specs.Names.{block_name}
 
 -- a trip: its name, its departure and its end
 unfoldable pub trip_text : Slot → List ℕ
@@ -58,18 +50,19 @@ pull_out_text minutes = if minutes == 0 then [] else codes "out " ++ decimal min
 unfoldable pub pull_in_text : ℕ → List ℕ
 pull_in_text minutes = if minutes == 0 then [] else codes "; in " ++ decimal minutes
 
--- the line of a block: its name, the way out of the depot, its trips and the way home
-unfoldable pub block_line : TimetableView → MatrixView → List ℕ → ℕ → List ℕ → List ℕ
-block_line timetable matrix prefix number block =
-    block_name prefix number ++ codes ": " ++ pull_out_text (pull_out timetable matrix.pulls block)
+-- the line of a block behind a margin: its name, the way out of the depot, its trips and the way home
+unfoldable pub block_line : TimetableView → MatrixView → List ℕ → List ℕ → List ℕ → List ℕ
+block_line timetable matrix margin name block =
+    margin ++ name ++ codes ": " ++ pull_out_text (pull_out timetable matrix.pulls block)
     ++ trips_text timetable (walk matrix) block
     ++ pull_in_text (pull_in timetable matrix.pulls block) ++ 10 ∷ []
 
 -- rule: the lines of blocks
--- the lines of blocks, in their order
-unfoldable pub block_text : TimetableView → MatrixView → List ℕ → List (List ℕ) → List ℕ
-block_text timetable matrix prefix blocks =
-    flat_map (λ number. block_line timetable matrix prefix number (slice_index_or blocks number [])) (range_with_len 0 (length blocks))
+-- the lines of blocks, in their order, each behind the same margin
+unfoldable pub block_text : TimetableView → MatrixView → List ℕ → List (List ℕ) → List (List ℕ) → List ℕ
+block_text timetable matrix margin names blocks =
+    flat_map (λ number. block_line timetable matrix margin (block_name names number) (slice_index_or blocks number []))
+    (range_with_len 0 (length blocks))
 
 -- the line of the prices of a slot, one space before it; none where its trip does not run
 unfoldable pub price_line : TimetableView → List ℕ → List ℕ → ℕ → List ℕ

@@ -1,6 +1,7 @@
 ghost use Rattle.std.specs.Prelude.{◌≡◌, ◌<◌, ◌++◌, [], ◌∷◌, length, slice_index_or, All, IfOk, IsUtf8, OnOk};
 ghost use Rattle.gtfs_tables.specs.Writing.{record_text, records_text};
 ghost use Rattle.block_build.specs.Files as spec;
+ghost use Rattle.block_build.specs.Names.{block_name};
 
 use crate::{NamedBlocks, SlotPrices};
 use deadhead_matrix::Matrix;
@@ -48,17 +49,17 @@ fn push_block(
 ) -> Result<(), Memory>
     requires { number < length named.now.blocks.now }
     ensures written { OnOk result (records.new ≡ records.old
-        ++ records_text (spec.records_of_block named.now.timetable.now named.now.matrix.now named.now.prefix.now number
+        ++ records_text (spec.records_of_block named.now.timetable.now named.now.matrix.now (block_name named.now.names.now number)
         (slice_index_or named.now.blocks.now number []))) }
     ensures text { OnOk result (IsUtf8 records.old → IsUtf8 records.new) }
 {
     let block = named.block(number);
-    let name = named.name(alloc, number)?;
+    let name = named.name(number);
     for n in 0..block.len() {
         let trip = named.timetable.name(block[n]);
         let minutes = minutes_before(named.timetable, named.matrix, block, n);
         let minutes = format!(in alloc; "{minutes}")?;
-        push_record(records, &name, trip, &minutes)?;
+        push_record(records, name, trip, &minutes)?;
     }
     Ok(())
 }
@@ -67,7 +68,7 @@ fn push_block(
 /// before it. For the first trip of a block these are the minutes out of the depot, for every other those from the trip before.
 /// Where there is no way from the trip before it has none.
 pub fn blocks_text(alloc: Global, named: &NamedBlocks<'_>) -> Result<Text, Memory>
-    ensures { IfOk result (λ text. text ≡ spec.blocks_text named.now.timetable.now named.now.matrix.now named.now.prefix.now
+    ensures { IfOk result (λ text. text ≡ spec.blocks_text named.now.timetable.now named.now.matrix.now named.now.names.now
         named.now.blocks.now) }
 {
     let mut records = RecordWriter::new(alloc);

@@ -2,6 +2,7 @@ ghost use Rattle.std.specs.Prelude.{◌≡◌, ◌<◌, ◌++◌, [], length, sl
 ghost use Rattle.deadhead_matrix.specs.Matrix.{walk};
 ghost use Rattle.trip_model.specs.Timetable.{slot_at};
 ghost use Rattle.block_build.specs.Lines as spec;
+ghost use Rattle.block_build.specs.Names.{block_name};
 
 use crate::{NamedBlocks, SlotPrices};
 use deadhead_matrix::Matrix;
@@ -117,20 +118,20 @@ fn push_block(
     alloc: Global,
     text: &mut String,
     named: &NamedBlocks<'_>,
+    margin: &str,
     number: usize,
 ) -> Result<(), Memory>
     requires { number < length named.now.blocks.now }
     ensures { OnOk result (string_bytes text.new ≡ string_bytes text.old
-        ++ spec.block_line named.now.timetable.now named.now.matrix.now named.now.prefix.now number
+        ++ spec.block_line named.now.timetable.now named.now.matrix.now margin.now (block_name named.now.names.now number)
         (slice_index_or named.now.blocks.now number [])) }
 {
     let timetable = named.timetable;
     let matrix = named.matrix;
-    let prefix = named.prefix;
     let block = named.block(number);
     let first = timetable.trip(block[0]);
     let last = timetable.trip(block[block.len() - 1]);
-    write!(text, "{prefix}{}: ", number + 1)?;
+    write!(text, "{margin}{}: ", named.name(number))?;
     push_pull_out(text, matrix.pull_out(first.from))?;
     push_trips(alloc, text, timetable, matrix, block)?;
     push_pull_in(text, matrix.pull_in(last.to))?;
@@ -138,16 +139,15 @@ fn push_block(
     Ok(())
 }
 
-/// The lines of blocks as they are printed. Each has the name of its block, which is the prefix and its number counted from 1,
-/// and its trips. Pull-out, deadheads and pull-in are printed where they take time. Between trips between which there is no way
-/// it prints none.
-pub fn block_lines(alloc: Global, named: &NamedBlocks<'_>) -> Result<Text, Memory>
-    ensures { IfOk result (λ text. text ≡ spec.block_text named.now.timetable.now named.now.matrix.now named.now.prefix.now
+/// The lines of blocks as they are printed, each behind a margin. A line has the name of its block and its trips. Pull-out,
+/// deadheads and pull-in are printed where they take time. Between trips between which there is no way it prints none.
+pub fn block_lines(alloc: Global, named: &NamedBlocks<'_>, margin: &str) -> Result<Text, Memory>
+    ensures { IfOk result (λ text. text ≡ spec.block_text named.now.timetable.now named.now.matrix.now margin.now named.now.names.now
         named.now.blocks.now) }
 {
     let mut text = String::new(alloc);
     for number in 0..named.blocks.len() {
-        push_block(alloc, &mut text, named, number)?;
+        push_block(alloc, &mut text, named, margin, number)?;
     }
     Ok(Text::wrap(text))
 }

@@ -74,6 +74,6 @@ found s i (block ∷ blocks) once = elim (cases_Bool (is_in s block)) [
     there out b alone (suc k) within stands = ap suc (alone k (omega arith) stands)
 
 pub block-named : spec.BlockIsNamed
-block-named blocks s prefix once =
-    let at = found s 1 blocks once in
-    (at.0, at.2, ap (name_of prefix) (at.1 ∙ ap Some (omega arith)))
+block-named blocks s names once =
+    let at = found s 0 blocks once in
+    (at.0, at.2, ap (name_of names) (at.1 ∙ ap Some (omega arith)))

@@ -69,18 +69,18 @@ some-header place header = elim (cases_lt place (length header)) [
 
 pub trips-back : spec.TripsReadBack
 unfolding with_blocks
-trips-back table timetable chosen blocks prefix is unmarked =
-    table-back (with_blocks table timetable chosen blocks prefix) (some-header (place_of column.BlockId table.header) table.header)
+trips-back table timetable chosen blocks names is unmarked =
+    table-back (with_blocks table timetable chosen blocks names) (some-header (place_of column.BlockId table.header) table.header)
     (All-from_get_or (λ (row : List (List ℕ)). length row ≡ length (header_written (place_of column.BlockId table.header) table.header))
-    (trips_rows table timetable chosen blocks prefix) [] each) unmarked
+    (trips_rows table timetable chosen blocks names) [] each) unmarked
   where
     f : ℕ → List (List ℕ)
-    f r = trip_written timetable (block_numbers (length timetable.slots) blocks) prefix (place_of column.TripId table.header)
+    f r = trip_written timetable (block_numbers (length timetable.slots) blocks) names (place_of column.TripId table.header)
         (place_of column.BlockId table.header)
         (get_or chosen r false) (get_or table.rows r [])
 
-    each : (i : ℕ) → i < length (trips_rows table timetable chosen blocks prefix)
-        → length (get_or (trips_rows table timetable chosen blocks prefix) i []) ≡ length
+    each : (i : ℕ) → i < length (trips_rows table timetable chosen blocks names)
+        → length (get_or (trips_rows table timetable chosen blocks names) i []) ≡ length
         (header_written (place_of column.BlockId table.header) table.header)
     each i within =
         let inside : i < length table.rows = omega (arith, length-map-range_with_len f 0 (length table.rows)) in

@@ -40,25 +40,25 @@ none-moved t base n all before (Some k) = elim (cases_lt k n) [
     by false = refl
 
 -- the text after one record more of the trips
-pub trip-more : (t : TimetableView) (numbers items : List (Option ℕ)) (prefix : List ℕ) (trip block : ℕ) (chosen : List Bool)
+pub trip-more : (t : TimetableView) (numbers items : List (Option ℕ)) (names : List (List ℕ)) (trip block : ℕ) (chosen : List Bool)
     (rows : List (List (List ℕ))) (before now next : List ℕ) (n : ℕ) (row : List (List ℕ))
     → numbers ≡ items
     → now ≡ before ++ records_text
-    (map (λ r. trip_written t items prefix trip block (get_or chosen r false) (get_or rows r [])) (range_with_len 0 n))
+    (map (λ r. trip_written t items names trip block (get_or chosen r false) (get_or rows r [])) (range_with_len 0 n))
     → row ≡ get_or rows (n + 1 - 1) []
-    → next ≡ now ++ record_text (trip_written t numbers prefix trip block (get_or chosen n false) row)
+    → next ≡ now ++ record_text (trip_written t numbers names trip block (get_or chosen n false) row)
     → next ≡ before ++ records_text
-    (map (λ r. trip_written t items prefix trip block (get_or chosen r false) (get_or rows r [])) (range_with_len 0 (n + 1)))
-trip-more t numbers items prefix trip block chosen rows before now next n row seen so_far is written =
+    (map (λ r. trip_written t items names trip block (get_or chosen r false) (get_or rows r [])) (range_with_len 0 (n + 1)))
+trip-more t numbers items names trip block chosen rows before now next n row seen so_far is written =
     let same : n + 1 - 1 ≡ n = omega arith in
-    record-more (λ r. trip_written t items prefix trip block (get_or chosen r false) (get_or rows r [])) before now next n so_far
+    record-more (λ r. trip_written t items names trip block (get_or chosen r false) (get_or rows r [])) before now next n so_far
     (written
-    ∙ ap (λ numbers. now ++ record_text (trip_written t numbers prefix trip block (get_or chosen n false) row)) seen
-    ∙ ap (λ row. now ++ record_text (trip_written t items prefix trip block (get_or chosen n false) row))
+    ∙ ap (λ numbers. now ++ record_text (trip_written t numbers names trip block (get_or chosen n false) row)) seen
+    ∙ ap (λ row. now ++ record_text (trip_written t items names trip block (get_or chosen n false) row))
     (is ∙ ap (λ n. get_or rows n []) same))
 
 -- the text of all trips
-pub trips-made : (table : TableView) (t : TimetableView) (chosen : List Bool) (blocks : List (List ℕ)) (prefix : List ℕ)
+pub trips-made : (table : TableView) (t : TimetableView) (chosen : List Bool) (blocks names : List (List ℕ))
     (items : List (Option ℕ)) (slots trip block n : ℕ) (now : List ℕ)
     → items ≡ block_numbers slots blocks
     → slots ≡ length t.slots
@@ -66,11 +66,11 @@ pub trips-made : (table : TableView) (t : TimetableView) (chosen : List Bool) (b
     → block ≡ place_of column.BlockId table.header
     → length table.rows ≡ n
     → now ≡ record_text (header_written block table.header)
-    ++ records_text (map (λ r. trip_written t items prefix trip block (get_or chosen r false) (get_or table.rows r []))
+    ++ records_text (map (λ r. trip_written t items names trip block (get_or chosen r false) (get_or table.rows r []))
     (range_with_len 0 n))
-    → now ≡ trips_written table t chosen blocks prefix
+    → now ≡ trips_written table t chosen blocks names
 unfolding with_blocks
-trips-made table t chosen blocks prefix items slots trip block n now made count at_trip at_block all so_far =
+trips-made table t chosen blocks names items slots trip block n now made count at_trip at_block all so_far =
     so_far
     ∙ ap (λ n. text items trip block n) (sym all)
     ∙ ap (λ items. text items trip block (length table.rows)) (made ∙ ap (λ slots. block_numbers slots blocks) count)
@@ -80,5 +80,5 @@ trips-made table t chosen blocks prefix items slots trip block n now made count 
     text : List (Option ℕ) → ℕ → ℕ → ℕ → List ℕ
     text items trip block n =
         record_text (header_written block table.header)
-        ++ records_text (map (λ r. trip_written t items prefix trip block (get_or chosen r false) (get_or table.rows r []))
+        ++ records_text (map (λ r. trip_written t items names trip block (get_or chosen r false) (get_or table.rows r []))
         (range_with_len 0 n))

@@ -4,17 +4,17 @@ use Rattle.csv.specs.Reading.{strip_bom}
 use Rattle.gtfs_tables.specs.Table.{TableView, IsTable, table_of}
 use Rattle.trip_model.specs.Blocking.{times, slots_in}
 use Rattle.trip_model.specs.Timetable.{TimetableView}
-use Rattle.block_build.specs.Lines.{block_name}
+use Rattle.block_build.specs.Names.{block_name}
 use Rattle.block_writer.specs.StopTimes.{with_times, stop_times_written}
 use Rattle.block_writer.specs.Trips.{is_in, name_of, number_in, with_blocks, trips_written}
 
 -- the text of the trips, unless it begins with a byte-order mark, reads back as the table with the blocks
 abbrev pub TripsReadBack : Type 0
 TripsReadBack =
-    (table : TableView) (timetable : TimetableView) (chosen : List Bool) (blocks : List (List ℕ)) (prefix : List ℕ)
+    (table : TableView) (timetable : TimetableView) (chosen : List Bool) (blocks names : List (List ℕ))
     → IsTable table
-    → strip_bom (trips_written table timetable chosen blocks prefix) ≡ trips_written table timetable chosen blocks prefix
-    → table_of (trips_written table timetable chosen blocks prefix) ≡ Ok (with_blocks table timetable chosen blocks prefix)
+    → strip_bom (trips_written table timetable chosen blocks names) ≡ trips_written table timetable chosen blocks names
+    → table_of (trips_written table timetable chosen blocks names) ≡ Ok (with_blocks table timetable chosen blocks names)
 
 -- the text of the stop times, unless it begins with a byte-order mark, reads back as the table with the times moved
 abbrev pub StopTimesReadBack : Type 0
@@ -34,6 +34,6 @@ pub record IsBlockOf (blocks : List (List ℕ)) (s b : ℕ) : Type 0 where
 -- where a slot is once in the blocks, one block has it, and it is named as that one is printed
 abbrev pub BlockIsNamed : Type 0
 BlockIsNamed =
-    (blocks : List (List ℕ)) (s : ℕ) (prefix : List ℕ)
+    (blocks : List (List ℕ)) (s : ℕ) (names : List (List ℕ))
     → times s (slots_in blocks) ≡ 1
-    → (b : ℕ) × IsBlockOf blocks s b × (name_of prefix (number_in blocks s) ≡ block_name prefix b)
+    → (b : ℕ) × IsBlockOf blocks s b × (name_of names (number_in blocks s) ≡ block_name names b)

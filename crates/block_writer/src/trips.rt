@@ -1,4 +1,5 @@
 ghost use Rattle.std.specs.Prelude.{◌≡◌, ℕ, ◌<◌, ◌++◌, length, All, IfOk, IsUtf8, OnOk, None, slice_index_or};
+ghost use Rattle.std.specs.Option.{IfSome};
 ghost use Rattle.gtfs_tables.specs.Writing.{record_text};
 ghost use Rattle.trip_model.specs.Timetable.{number_of, slot_names};
 ghost use Rattle.block_writer.specs.Fields.{with_field};
@@ -6,8 +7,8 @@ ghost use Rattle.block_writer.specs.Texts.{AreTexts};
 ghost use Rattle.block_writer.specs.Trips as spec;
 
 use crate::fields::text_of;
-use block_build::Blocks;
-use desk_io::{Bytes, Memory, Text};
+use block_build::{BlockNames, Blocks};
+use desk_io::{Bytes, Memory};
 use gtfs_tables::{Column, RecordWriter, Row, Table, place_of};
 use std::alloc::Global;
 use trip_model::Timetable;
@@ -28,39 +29,38 @@ fn number_block(numbers: &mut Vec<Option<usize>>, block: &[u16], number: usize)
     }
 }
 
-// For each slot the number of its block, counted from 1.
+// For each slot the number of its block, counted from 0.
 fn block_numbers(alloc: Global, slots: u16, blocks: &Blocks) -> Result<Vec<Option<usize>>, Memory>
     requires slots { All (All (λ s. s < slots)) blocks.now }
     ensures { IfOk result (λ numbers. numbers.items ≡ spec.block_numbers slots blocks.now) }
 {
     let mut numbers = vec![in alloc; None; usize::from(slots)]?;
     for before in 0..blocks.len() {
-        number_block(&mut numbers, blocks.block(before), before + 1);
+        number_block(&mut numbers, blocks.block(before), before);
     }
     Ok(numbers)
 }
 
 // The name of the block of a selected trip; empty where it does not run.
-fn block_of(
-    alloc: Global,
+fn block_of<'a>(
     timetable: &Timetable,
     numbers: &[Option<usize>],
-    prefix: &str,
+    names: &'a BlockNames,
     trip: &str,
-) -> Result<Text, Memory>
+) -> &'a str
     requires numbers { length numbers.now ≡ length timetable.now.slots }
-    ensures { IfOk result (λ block. block ≡ spec.block_of timetable.now numbers.now prefix.now
-        (number_of (slot_names timetable.now) trip.now)) }
+    requires named { All (λ number. IfSome number (λ number. number < length names.now)) numbers.now }
+    ensures { result.now ≡ spec.block_of timetable.now numbers.now names.now (number_of (slot_names timetable.now) trip.now) }
 {
     let Some(slot) = timetable.find(trip) else {
-        return Text::of(alloc, "");
+        return "";
     };
     if !timetable.trip(slot).live {
-        return Text::of(alloc, "");
+        return "";
     }
     match numbers[usize::from(slot)] {
-        Some(number) => Ok(Text::wrap(format!(in alloc; "{prefix}{number}")?)),
-        None => Text::of(alloc, ""),
+        Some(number) => names.name(number),
+        None => "",
     }
 }
 
@@ -104,20 +104,21 @@ fn push_trip(
     records: &mut RecordWriter,
     timetable: &Timetable,
     numbers: &[Option<usize>],
-    prefix: &str,
+    names: &BlockNames,
     row: &Row,
     trip: usize,
     block: usize,
     chosen: bool,
 ) -> Result<(), Memory>
     requires numbers { length numbers.now ≡ length timetable.now.slots }
+    requires named { All (λ number. IfSome number (λ number. number < length names.now)) numbers.now }
     requires text { All IsUtf8 row.now }
     ensures { OnOk result (records.new ≡ records.old
-        ++ record_text (spec.trip_written timetable.now numbers.now prefix.now trip block chosen row.now)) }
+        ++ record_text (spec.trip_written timetable.now numbers.now names.now trip block chosen row.now)) }
 {
     if chosen {
-        let name = block_of(alloc, timetable, numbers, prefix, text_of(row.field(trip)))?;
-        return push_with(alloc, records, row, block, name.as_str());
+        let name = block_of(timetable, numbers, names, text_of(row.field(trip)));
+        return push_with(alloc, records, row, block, name);
     }
     push_with(alloc, records, row, block, text_of(row.field(block)))
 }
@@ -132,12 +133,13 @@ pub fn trips_text(
     timetable: &Timetable,
     chosen: &[bool],
     blocks: &Blocks,
-    prefix: &str,
+    names: &BlockNames,
 ) -> Result<Bytes, Memory>
     requires texts { AreTexts trips.now }
     requires chosen { length chosen.now ≡ length trips.now.rows }
     requires slots { All (All (λ s. s < length timetable.now.slots)) blocks.now }
-    ensures { IfOk result (λ text. text ≡ spec.trips_written trips.now timetable.now chosen.now blocks.now prefix.now) }
+    requires named { length names.now ≡ length blocks.now }
+    ensures { IfOk result (λ text. text ≡ spec.trips_written trips.now timetable.now chosen.now blocks.now names.now) }
 {
     let header = trips.header();
     let trip = place_of(Column::TripId, header);
@@ -152,7 +154,7 @@ pub fn trips_text(
             &mut records,
             timetable,
             &numbers,
-            prefix,
+            names,
             row,
             trip,
             block,

@@ -1,7 +1,6 @@
 -- The marks of blocks: when a span of minutes meets a column, and the links of a block.
 use Rattle.std.proofs.Common.{◌≡◌, ℕ, ◌+◌, ◌-◌, ◌*◌, ◌<◌, ◌≤◌, min, max, Bool, true, false, ◌&&◌, ◌||◌, nat_le, nat_lt, List, [], ◌∷◌}
 use Rattle.std.proofs.Common.{◌++◌, map, Option, append_assoc, length, get_or, take, drop, sym, ap, ◌∙◌, ⊎_elim, arith}
-use Rattle.std.specs.Prelude.{decimal}
 use Rattle.std.specs.List.{range_with_len, list_any, flat_map, enumerate_from}
 use Rattle.std.proofs.lemmas.Bool.{cases_lt, le-leb, lt-leb, lt-ltb, le-ltb, and_left, and_right}
 use Rattle.std.proofs.lemmas.Grind.{get_or_after_one}
@@ -11,6 +10,7 @@ use Rattle.std.proofs.lemmas.List.FromFn.{length-range_with_len, get_or-range_wi
 use Rattle.std.proofs.lemmas.Slice.Zip.{length-zip, get_or-zip}
 use Rattle.trip_model.specs.Deficit.{live_moves}
 use Rattle.trip_model.specs.Timetable.{TimetableView}
+use Rattle.block_build.specs.Names.{block_name}
 use Rattle.chart_text.specs.Columns.{columns_of, minutes_of}
 use Rattle.chart_text.specs.Blocks.{has_minute, links, block_mark, block_line, block_chart_text}
 use Rattle.chart_text.proofs.ColumnsLemmas.{text-more}
@@ -82,35 +82,37 @@ pub links-fail : (p : ℕ × ℕ → Bool) (block : List ℕ) (k : ℕ) → leng
 links-fail p block k all before = sym (ap (list_any p) (take_all k (links block) (omega (arith, length-links block)))) ∙ before
 
 -- the text after the line of one block
-pub block-written : (timetable : TimetableView) (walk : ℕ → ℕ → Option ℕ) (columns prefix : List ℕ) (number : ℕ)
-    (block before marks next : List ℕ)
+pub block-written : (timetable : TimetableView) (walk : ℕ → ℕ → Option ℕ) (columns name block before marks next : List ℕ)
     → marks ≡ before ++ map (block_mark timetable walk block) columns
-    → next ≡ marks ++ 32 ∷ (prefix ++ (decimal (number + 1) ++ 10 ∷ []))
-    → next ≡ before ++ block_line timetable walk columns prefix number block
+    → next ≡ marks ++ 32 ∷ (name ++ 10 ∷ [])
+    → next ≡ before ++ block_line timetable walk columns name block
 unfolding block_line
-block-written timetable walk columns prefix number block before marks next drawn written =
-    written ∙ (λ i. drawn i ++ 32 ∷ (prefix ++ (decimal (number + 1) ++ 10 ∷ []))) ∙ simp append_assoc
+block-written timetable walk columns name block before marks next drawn written =
+    written ∙ (λ i. drawn i ++ 32 ∷ (name ++ 10 ∷ [])) ∙ simp append_assoc
+
+-- the line of a block with its number
+abbrev pub line_numbered : TimetableView → (ℕ → ℕ → Option ℕ) → List ℕ → List (List ℕ) → ℕ × List ℕ → List ℕ
+line_numbered timetable walk columns names block = block_line timetable walk columns (block_name names block.0) block.1
 
 -- the text after the line of one block more, where `read` are the columns and `block` the slots that are drawn
-pub block-more : (timetable : TimetableView) (walk : ℕ → ℕ → Option ℕ) (columns read prefix : List ℕ) (blocks : List (List ℕ)) (number : ℕ)
+pub block-more : (timetable : TimetableView) (walk : ℕ → ℕ → Option ℕ) (columns read : List ℕ) (names blocks : List (List ℕ)) (number : ℕ)
     (block start text next : List ℕ)
     → number < length blocks → read ≡ columns → block ≡ get_or blocks number []
-    → text ≡ start ++ flat_map (λ block. block_line timetable walk columns prefix block.0 block.1) (enumerate_from 0 (take number blocks))
-    → next ≡ text ++ block_line timetable walk read prefix number block
-    → next ≡ start ++ flat_map (λ block. block_line timetable walk columns prefix block.0 block.1)
-    (enumerate_from 0 (take (number + 1) blocks))
-block-more timetable walk columns read prefix blocks number block start text next there same is so_far drawn =
-    text-more (λ block. block_line timetable walk columns prefix block.0 block.1) 0 blocks number number [] start text next there
+    → text ≡ start ++ flat_map (line_numbered timetable walk columns names) (enumerate_from 0 (take number blocks))
+    → next ≡ text ++ block_line timetable walk read (block_name names number) block
+    → next ≡ start ++ flat_map (line_numbered timetable walk columns names) (enumerate_from 0 (take (number + 1) blocks))
+block-more timetable walk columns read names blocks number block start text next there same is so_far drawn =
+    text-more (line_numbered timetable walk columns names) 0 blocks number number [] start text next there
     (omega arith) so_far
-    (drawn ∙ (λ i. text ++ block_line timetable walk (same i) prefix number (is i)))
+    (drawn ∙ (λ i. text ++ block_line timetable walk (same i) (block_name names number) (is i)))
 
 -- the whole chart, once the lines of all blocks are written
-pub blocks-written : (timetable : TimetableView) (walk : ℕ → ℕ → Option ℕ) (columns prefix : List ℕ) (blocks : List (List ℕ)) (k : ℕ)
+pub blocks-written : (timetable : TimetableView) (walk : ℕ → ℕ → Option ℕ) (columns : List ℕ) (names blocks : List (List ℕ)) (k : ℕ)
     (start text : List ℕ) → columns ≡ columns_of (live_moves timetable.slots)
     → length blocks ≤ k → start ≡ []
-    → text ≡ start ++ flat_map (λ block. block_line timetable walk columns prefix block.0 block.1) (enumerate_from 0 (take k blocks))
-    → text ≡ block_chart_text timetable walk prefix blocks
+    → text ≡ start ++ flat_map (line_numbered timetable walk columns names) (enumerate_from 0 (take k blocks))
+    → text ≡ block_chart_text timetable walk names blocks
 unfolding block_chart_text
-blocks-written timetable walk columns prefix blocks k start text list all none so_far =
-    so_far ∙ (λ i. none i ++ flat_map (λ block. block_line timetable walk (list i) prefix block.0 block.1)
+blocks-written timetable walk columns names blocks k start text list all none so_far =
+    so_far ∙ (λ i. none i ++ flat_map (line_numbered timetable walk (list i) names)
     (enumerate_from 0 (take_all k blocks all i)))

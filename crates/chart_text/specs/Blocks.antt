@@ -4,7 +4,8 @@ use Rattle.std.specs.Prelude.{codes}
 use Rattle.std.specs.List.{flat_map, enumerate_from, list_any}
 use Rattle.trip_model.specs.Deficit.{live_moves}
 use Rattle.trip_model.specs.Timetable.{TimetableView, slot_at}
-use Rattle.block_build.specs.Lines.{block_name, walk_between}
+use Rattle.block_build.specs.Lines.{walk_between}
+use Rattle.block_build.specs.Names.{block_name}
 use Rattle.chart_text.specs.Columns.{columns_of, minutes_of}
 
 -- some minute of the column is at or after `from` and before `to`
@@ -32,12 +33,12 @@ block_mark timetable walk block column =
     if list_any (is_running timetable column) block then 35
     else (if list_any (is_walking timetable walk column) (links block) then 126 else 46)
 
--- the line of the block of a number, counted from 0: its mark in each column, a space and its name
-unfoldable pub block_line : TimetableView → (ℕ → ℕ → Option ℕ) → List ℕ → List ℕ → ℕ → List ℕ → List ℕ
-block_line timetable walk columns prefix number block =
-    map (block_mark timetable walk block) columns ++ codes " " ++ block_name prefix number ++ 10 ∷ []
+-- the line of a block of that name: its mark in each column, a space and its name
+unfoldable pub block_line : TimetableView → (ℕ → ℕ → Option ℕ) → List ℕ → List ℕ → List ℕ → List ℕ
+block_line timetable walk columns name block = map (block_mark timetable walk block) columns ++ codes " " ++ name ++ 10 ∷ []
 
 -- the lines of the blocks in their order, over the columns of the trips that run
-unfoldable pub block_chart_text : TimetableView → (ℕ → ℕ → Option ℕ) → List ℕ → List (List ℕ) → List ℕ
-block_chart_text timetable walk prefix blocks =
-    flat_map (λ block. block_line timetable walk (columns_of (live_moves timetable.slots)) prefix block.0 block.1) (enumerate_from 0 blocks)
+unfoldable pub block_chart_text : TimetableView → (ℕ → ℕ → Option ℕ) → List (List ℕ) → List (List ℕ) → List ℕ
+block_chart_text timetable walk names blocks =
+    flat_map (λ block. block_line timetable walk (columns_of (live_moves timetable.slots)) (block_name names block.0) block.1)
+    (enumerate_from 0 blocks)

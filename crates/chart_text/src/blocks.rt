@@ -1,6 +1,7 @@
 ghost use Rattle.std.specs.Prelude.{◌≡◌, ◌<◌, ◌++◌, [], All, map, length, slice_index_or, string_bytes, IfOk, OnOk};
 ghost use Rattle.std.specs.List.{list_any};
 ghost use Rattle.deadhead_matrix.specs.Matrix.{walk};
+ghost use Rattle.block_build.specs.Names.{block_name};
 ghost use Rattle.chart_text.specs.Blocks as spec;
 ghost use Rattle.chart_text.specs.Columns.{IsColumn};
 
@@ -115,24 +116,23 @@ pub fn push_block(
     requires columns { All IsColumn columns.now }
     requires number { number < length named.now.blocks.now }
     ensures { OnOk result (string_bytes text.new ≡ string_bytes text.old
-        ++ spec.block_line named.now.timetable.now (walk named.now.matrix.now) columns.now named.now.prefix.now number
+        ++ spec.block_line named.now.timetable.now (walk named.now.matrix.now) columns.now (block_name named.now.names.now number)
         (slice_index_or named.now.blocks.now number [])) }
 {
-    let prefix = named.prefix;
     let block = named.block(number);
     push_marks(text, named.timetable, named.matrix, block, columns)?;
-    writeln!(text, " {prefix}{}", number + 1)?;
+    writeln!(text, " {}", named.name(number))?;
     Ok(())
 }
 
 /// The chart of blocks. Each has a line: one character for each ten minutes, a space and its name. The minutes go from the
-/// first departure to the last end of the trips that run. The name is the prefix and its number counted from 1. The character
-/// is `#` where one of its trips runs in one of these minutes, from its departure until it ends. Else it is `~` where its
-/// vehicle runs empty: from the end of a trip for the minutes of the least walk to the next. Else it is `.`. Where no trip runs
-/// there are no characters. The form of the chart is this project's own.
+/// first departure to the last end of the trips that run. The character is `#` where one of its trips runs in one of these
+/// minutes, from its departure until it ends. Else it is `~` where its vehicle runs empty: from the end of a trip for the minutes
+/// of the least walk to the next. Else it is `.`. Where no trip runs there are no characters. The form of the chart is this
+/// project's own.
 pub fn block_chart(alloc: Global, named: &NamedBlocks<'_>) -> Result<Text, Memory>
     ensures { IfOk result (λ text. text ≡ spec.block_chart_text named.now.timetable.now (walk named.now.matrix.now)
-        named.now.prefix.now named.now.blocks.now) }
+        named.now.names.now named.now.blocks.now) }
 {
     let columns = column_list(alloc, named.timetable)?;
     let mut text = String::new(alloc);

@@ -1,5 +1,5 @@
 -- Blocks that are written read back.
-use Rattle.std.proofs.Common.{◌≡◌, ℕ, zero, suc, ◌+◌, ◌<◌, ◌≤◌, List, [], ◌∷◌, ◌++◌, length, get_or, map, Some, Ok, refl, sym, ap, ◌∙◌}
+use Rattle.std.proofs.Common.{◌≡◌, ℕ, zero, suc, ◌+◌, ◌<◌, ◌≤◌, List, [], ◌∷◌, ◌++◌, length, get_or, map, All, Some, Ok, refl, sym, ap, ◌∙◌}
 use Rattle.std.proofs.Common.{append_assoc, arith}
 use Rattle.std.specs.Fmt.{decimal}
 use Rattle.std.specs.List.{AllByRecursion, range_with_len}
@@ -11,22 +11,20 @@ use Rattle.gtfs_tables.proofs.ReadingLemmas.{text_in-utf8}
 use Rattle.desk_settings.specs.Names.{with_name}
 use Rattle.trip_model.specs.declared.limits.TheConstants.{MOST_SLOTS}
 use Rattle.trip_model.specs.Blocking.{slots_in}
-use Rattle.trip_model.specs.Timetable.{TimetableView, IsTimetable, slot_at}
+use Rattle.trip_model.specs.Timetable.{TimetableView, AreDistinct, IsTimetable, slot_at}
 use Rattle.block_build.specs.Files.{block_record, minutes_before, records_of_block}
-use Rattle.block_build.specs.Lines.{block_name}
+use Rattle.block_build.specs.Names.{IsName, block_name}
 use Rattle.deadhead_matrix.specs.Matrix.{MatrixView}
 use Rattle.price_check.specs.declared.claim.BlockRow.{BlockRow}
 use Rattle.price_check.specs.Claim.{Runs}
-use Rattle.std.specs.Str.{IsUtf8}
 use Rattle.std.proofs.lemmas.List.{append-nil, length-append}
 use Rattle.std.proofs.lemmas.List.FromFn.{length-range_with_len, length-map-range_with_len}
-use Rattle.std.proofs.lemmas.Str.{IsUtf8-append}
 use Rattle.std.proofs.lemmas.Bool.{lt-ltb}
 use Rattle.claim_files.specs.declared.blocks.Columns.{Columns}
 use Rattle.claim_files.specs.declared.blocks.TheConstants.{MOST_SHOWN}
 use Rattle.claim_files.specs.Blocks.{BlocksRead, block_number, trip_in, with_trip}
 use Rattle.claim_files.specs.Running.{running}
-use Rattle.claim_files.specs.Written.{IsName, written_trip, written_block}
+use Rattle.claim_files.specs.Written.{written_trip, written_block}
 use Rattle.claim_files.proofs.NamesWritten.{written_names, block-begins, names-more, block-goes_on, names-stay}
 use Rattle.claim_files.proofs.RunningBack.{running-back}
 use Rattle.claim_files.proofs.EachRecord.{each-adds, each-append}
@@ -91,85 +89,78 @@ pub record CanBlock (t : TimetableView) (m : MatrixView) (block : List ℕ) : Ty
   pub filled : 0 < length block
   pub trips : AllByRecursion (CanStand t m block) (range_with_len 0 (length block))
 
-module _ (t : TimetableView) (m : MatrixView) (prefix : List ℕ) (valid : IsTimetable t) (begun : IsUtf8 prefix) where
+module _ (t : TimetableView) (m : MatrixView) (names : List (List ℕ)) (valid : IsTimetable t) (each : All IsName names)
+    (apart : AreDistinct names) where
   -- what is read after so many blocks
   abbrev pub after_blocks : ℕ → List BlockRow → BlocksRead
-  after_blocks k rows = record { names = written_names prefix k; rows = rows }
-
-  name-of : (k : ℕ) → k ≤ 4096 → IsName (block_name prefix k)
-  name-of k few =
-      let number = decimal-name (k + 1) (omega (arith, few)) in
-      record {
-        text = IsUtf8-append prefix (decimal (k + 1)) begun number.text;
-        filled = omega (arith, length-append prefix (decimal (k + 1)), number.filled);
-      }
+  after_blocks k rows = record { names = written_names names k; rows = rows }
 
   -- the first trip of a block
-  begins : (n k : ℕ) (block : List ℕ) (rows : List BlockRow) → k ≤ 4095 → CanStand t m block 0 → length rows < MOST_SLOTS
+  begins : (n k : ℕ) (block : List ℕ) (rows : List BlockRow) → k < length names → CanStand t m block 0 → length rows < MOST_SLOTS
       → with_trip t written_columns n (after_blocks k rows)
-      (block_record t m prefix k block 0) ≡ Ok (after_blocks (k + 1) (rows ++ written_trip t m k block 0 ∷ []))
-  begins n k block rows few can room =
-      trip-back t n (after_blocks k rows) (block_name prefix k) (slot_at t (get_or block 0 0)).name (minutes_before t m block 0) k
+      (block_record t m (block_name names k) block 0) ≡ Ok (after_blocks (k + 1) (rows ++ written_trip t m k block 0 ∷ []))
+  begins n k block rows lt can room =
+      trip-back t n (after_blocks k rows) (block_name names k) (slot_at t (get_or block 0 0)).name (minutes_before t m block 0) k
       (get_or block 0 0)
-      (name-of k (omega (arith, few))) can.name can.shown room (block-begins prefix n k (omega (arith, few)))
+      (each k [] lt) can.name can.shown room (block-begins names n k apart lt)
       (running-back t (get_or block 0 0) valid can.runs)
       ∙ ap (λ names. Ok (record { names = names; rows = rows ++ written_trip t m k block 0 ∷ [] }))
-      (names-more prefix k (omega (arith, few)))
+      (names-more names k apart lt)
 
   -- one that follows
-  follows : (n k : ℕ) (block : List ℕ) (rows : List BlockRow) (j : ℕ) → k ≤ 4095 → CanStand t m block j → length rows < MOST_SLOTS
+  follows : (n k : ℕ) (block : List ℕ) (rows : List BlockRow) (j : ℕ) → k < length names → CanStand t m block j → length rows < MOST_SLOTS
       → with_trip t written_columns n (after_blocks (k + 1) rows)
-      (block_record t m prefix k block j) ≡ Ok (after_blocks (k + 1) (rows ++ written_trip t m k block j ∷ []))
-  follows n k block rows j few can room =
-      trip-back t n (after_blocks (k + 1) rows) (block_name prefix k) (slot_at t (get_or block j 0)).name (minutes_before t m block j) k
+      (block_record t m (block_name names k) block j) ≡ Ok (after_blocks (k + 1) (rows ++ written_trip t m k block j ∷ []))
+  follows n k block rows j lt can room =
+      trip-back t n (after_blocks (k + 1) rows) (block_name names k) (slot_at t (get_or block j 0)).name (minutes_before t m block j) k
       (get_or block j 0)
-      (name-of k (omega (arith, few))) can.name can.shown room (block-goes_on prefix n k few)
+      (each k [] lt) can.name can.shown room (block-goes_on names n k apart lt)
       (running-back t (get_or block j 0) valid can.runs)
-      ∙ ap (λ names. Ok (record { names = names; rows = rows ++ written_trip t m k block j ∷ [] })) (names-stay prefix k)
+      ∙ ap (λ names. Ok (record { names = names; rows = rows ++ written_trip t m k block j ∷ [] })) (names-stay names k)
 
   -- the trips of a block after the first
-  follow : (n k : ℕ) (block : List ℕ) (rows : List BlockRow) (js : List ℕ) → k ≤ 4095 → AllByRecursion (CanStand t m block) js
+  follow : (n k : ℕ) (block : List ℕ) (rows : List BlockRow) (js : List ℕ) → k < length names → AllByRecursion (CanStand t m block) js
       → length rows + length js ≤ MOST_SLOTS
       → each_record (with_trip t written_columns) n (after_blocks (k + 1) rows)
-      (map (block_record t m prefix k block) js) ≡ Ok (after_blocks (k + 1) (rows ++ map (written_trip t m k block) js))
-  follow n k block rows js few can room =
-      each-adds (with_trip t written_columns) (after_blocks (k + 1)) (block_record t m prefix k block) (written_trip t m k block)
+      (map (block_record t m (block_name names k) block) js) ≡ Ok (after_blocks (k + 1) (rows ++ map (written_trip t m k block) js))
+  follow n k block rows js lt can room =
+      each-adds (with_trip t written_columns) (after_blocks (k + 1)) (block_record t m (block_name names k) block) (written_trip t m k block)
       MOST_SLOTS (CanStand t m block)
-      (λ n rows j good less. follows n k block rows j few good less) n rows js can room
+      (λ n rows j good less. follows n k block rows j lt good less) n rows js can room
 
   -- all of a block of so many
-  whole : (n k : ℕ) (block : List ℕ) (rows : List BlockRow) (size : ℕ) → k ≤ 4095 → 0 < size
+  whole : (n k : ℕ) (block : List ℕ) (rows : List BlockRow) (size : ℕ) → k < length names → 0 < size
       → AllByRecursion (CanStand t m block) (range_with_len 0 size) → length rows + size ≤ MOST_SLOTS
       → each_record (with_trip t written_columns) n (after_blocks k rows)
-      (map (block_record t m prefix k block) (range_with_len 0 size)) ≡ Ok (after_blocks (k + 1)
+      (map (block_record t m (block_name names k) block) (range_with_len 0 size)) ≡ Ok (after_blocks (k + 1)
       (rows ++ map (written_trip t m k block) (range_with_len 0 size)))
-  whole n k block rows zero few some can room = absurd (omega arith)
-  whole n k block rows (suc size) few some can room =
+  whole n k block rows zero lt some can room = absurd (omega arith)
+  whole n k block rows (suc size) lt some can room =
       ap (λ here. here >>= λ more. each_record (with_trip t written_columns) (n + 1) more
-      (map (block_record t m prefix k block) (range_with_len (0 + 1) size))) (begins n k block rows few can.0 (omega arith))
-      ∙ follow (n + 1) k block (rows ++ written_trip t m k block 0 ∷ []) (range_with_len (0 + 1) size) few can.1
+      (map (block_record t m (block_name names k) block) (range_with_len (0 + 1) size))) (begins n k block rows lt can.0 (omega arith))
+      ∙ follow (n + 1) k block (rows ++ written_trip t m k block 0 ∷ []) (range_with_len (0 + 1) size) lt can.1
       (omega (arith, room, length-append rows (written_trip t m k block 0 ∷ []), length-range_with_len (0 + 1) size))
       ∙ ap (λ rows. Ok (after_blocks (k + 1) rows))
       (append_assoc rows (written_trip t m k block 0 ∷ []) (map (written_trip t m k block) (range_with_len (0 + 1) size)))
 
   -- blocks, the first of this number
   pub all-blocks : (n k : ℕ) (blocks : List (List ℕ)) (rows : List BlockRow) → AllByRecursion (CanBlock t m) blocks
-      → k + length (slots_in blocks) ≤ MOST_SLOTS → length rows + length (slots_in blocks) ≤ MOST_SLOTS
+      → k + length blocks ≤ length names → length rows + length (slots_in blocks) ≤ MOST_SLOTS
       → each_record (with_trip t written_columns) n (after_blocks k rows)
-      (on (records_of_block t m prefix) k blocks) ≡ Ok (after_blocks (k + length blocks) (rows ++ on (written_block t m) k blocks))
-  all-blocks n k [] rows can few room =
+      (on (λ k. records_of_block t m (block_name names k)) k blocks) ≡ Ok (after_blocks (k + length blocks) (rows ++ on (written_block t m) k blocks))
+  all-blocks n k [] rows can counted room =
       let same : k ≡ k + 0 = omega arith in
       (λ i. Ok (after_blocks (same i) (sym (append-nil rows) i)))
-  all-blocks n k (block ∷ blocks) rows can few room =
-      let records = records_of_block t m prefix k block in
+  all-blocks n k (block ∷ blocks) rows can counted room =
+      let records = records_of_block t m (block_name names k) block in
       let here = written_block t m k block in
       let size = length-append block (slots_in blocks) in
       let long = length-map-range_with_len (written_trip t m k block) 0 (length block) in
       let next : k + 1 + length blocks ≡ k + suc (length blocks) = omega arith in
-      each-append (with_trip t written_columns) n (after_blocks k rows) records (on (records_of_block t m prefix) (k + 1) blocks)
+      each-append (with_trip t written_columns) n (after_blocks k rows) records (on (λ k. records_of_block t m (block_name names k)) (k + 1) blocks)
       ∙ ap (λ first. first >>= λ b. each_record (with_trip t written_columns) (n + length records) b
-      (on (records_of_block t m prefix) (k + 1) blocks))
-      (whole n k block rows (length block) (omega (arith, few, size, can.0.filled)) can.0.filled can.0.trips (omega (arith, room, size)))
-      ∙ all-blocks (n + length records) (k + 1) blocks (rows ++ here) can.1 (omega (arith, few, size, can.0.filled))
+      (on (λ k. records_of_block t m (block_name names k)) (k + 1) blocks))
+      (whole n k block rows (length block) (omega (arith, counted)) can.0.filled can.0.trips (omega (arith, room, size)))
+      ∙ all-blocks (n + length records) (k + 1) blocks (rows ++ here) can.1 (omega (arith, counted))
       (omega (arith, room, size, long, length-append rows here))
       ∙ (λ i. Ok (after_blocks (next i) (append_assoc rows here (on (written_block t m) (k + 1) blocks) i)))

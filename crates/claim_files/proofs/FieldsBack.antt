@@ -9,7 +9,7 @@ use Rattle.gtfs_tables.specs.declared.fault.FeedFault.TheVariants as fault
 use Rattle.gtfs_tables.specs.declared.paper.Column.{Column}
 use Rattle.gtfs_tables.specs.declared.paper.Paper.{Paper}
 use Rattle.gtfs_tables.specs.Reading.{◌>>=◌, at_most, filled_in, number_in}
-use Rattle.claim_files.specs.Written.{IsName}
+use Rattle.block_build.specs.Names.{IsName}
 use Rattle.claim_files.proofs.Digits.{number-back, decimal-text}
 
 -- what is read in two parts

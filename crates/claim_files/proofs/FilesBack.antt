@@ -10,6 +10,7 @@ use Rattle.gtfs_tables.specs.Reading.{◌>>=◌, each_record}
 use Rattle.gtfs_tables.specs.Writing.{records_text}
 use Rattle.block_build.specs.Files.{block_header, block_record, block_records, blocks_text, minutes_before, price_header, prices_text}
 use Rattle.block_build.specs.Files.{records_of_block}
+use Rattle.block_build.specs.Names.{IsName, block_name}
 use Rattle.deadhead_matrix.specs.Matrix.{MatrixView}
 use Rattle.price_check.specs.Claim.{Runs}
 use Rattle.trip_model.specs.Plain.{live_slots, trip_moves}
@@ -20,7 +21,7 @@ use Rattle.claim_files.specs.Blocks.{no_blocks, rows_of, with_trip}
 use Rattle.claim_files.specs.Claims.{claimed_by, claimed_of}
 use Rattle.claim_files.specs.Prices as prices_file
 use Rattle.claim_files.specs.Prices.{prices_of, with_prices}
-use Rattle.claim_files.specs.Written.{CanBeWritten, IsName, written_block, written_blocks, written_claim, written_prices}
+use Rattle.claim_files.specs.Written.{CanBeWritten, written_block, written_blocks, written_claim, written_prices}
 use Rattle.claim_files.proofs.BlocksBack as blocks_back
 use Rattle.claim_files.proofs.BlocksBack.{CanBlock, CanStand, after_blocks, all-blocks}
 use Rattle.claim_files.proofs.EvenTables.{file-back}
@@ -70,21 +71,21 @@ can-blocks t m (block ∷ blocks) names filled run shown = (
       (All-tail (λ block. (n : ℕ) → n < length block → minutes_before t m block n ≤ MOST_SHOWN) block blocks shown),
 )
 
-module _ (t : TimetableView) (m : MatrixView) (prefix : List ℕ) (blocks : List (List ℕ)) (leave enter : List ℕ) (valid : IsTimetable t)
-    (can : CanBeWritten t m prefix blocks leave enter) where
-  blocks-back : rows_of t (File (blocks_text t m prefix blocks)) ≡ Ok (written_blocks t m blocks)
+module _ (t : TimetableView) (m : MatrixView) (names blocks : List (List ℕ)) (leave enter : List ℕ) (valid : IsTimetable t)
+    (can : CanBeWritten t m names blocks leave enter) where
+  blocks-back : rows_of t (File (blocks_text t m names blocks)) ≡ Ok (written_blocks t m blocks)
   unfolding blocks_text block_records
   blocks-back =
-      let rows = flat_map (λ n. records_of_block t m prefix n (get_or blocks n [])) (range_with_len 0 (length blocks)) in
+      let rows = flat_map (λ n. records_of_block t m (block_name names n) (get_or blocks n [])) (range_with_len 0 (length blocks)) in
       ap (λ read. read >>= λ read. Ok read.rows)
       (file-back paper.Blocks blocks_file.columns_in (with_trip t) no_blocks block_header rows blocks_back.written_columns (omega arith)
-      (each-flat (λ fields. length fields ≡ 3) (λ n. records_of_block t m prefix n (get_or blocks n [])) (range_with_len 0 (length blocks))
-      (λ n. each-map (λ fields. length fields ≡ 3) (block_record t m prefix n (get_or blocks n []))
+      (each-flat (λ fields. length fields ≡ 3) (λ n. records_of_block t m (block_name names n) (get_or blocks n [])) (range_with_len 0 (length blocks))
+      (λ n. each-map (λ fields. length fields ≡ 3) (block_record t m (block_name names n) (get_or blocks n []))
       (range_with_len 0 (length (get_or blocks n []))) (λ k. refl)))
       (unmarked-blocks rows) columns-blocks
-      ∙ ap (each_record (with_trip t blocks_back.written_columns) 1 no_blocks) (flat-numbered (records_of_block t m prefix) blocks)
-      ∙ all-blocks t m prefix valid can.begun 1 0 blocks [] (can-blocks t m blocks can.names can.filled can.run can.shown)
-      (omega (arith, can.few)) (omega (arith, can.few)))
+      ∙ ap (each_record (with_trip t blocks_back.written_columns) 1 no_blocks) (flat-numbered (λ n. records_of_block t m (block_name names n)) blocks)
+      ∙ all-blocks t m names valid can.named.each can.named.apart 1 0 blocks []
+      (can-blocks t m blocks can.names can.filled can.run can.shown) (omega (arith, can.named.counted)) (omega (arith, can.few)))
       ∙ ap Ok (sym (flat-numbered (written_block t m) blocks))
 
   prices-back : prices_of t (File (prices_text t leave enter)) ≡ Ok (written_prices t leave enter)
@@ -98,6 +99,6 @@ module _ (t : TimetableView) (m : MatrixView) (prefix : List ℕ) (blocks : List
       ∙ all-prices t leave enter valid can.names can.left can.entered (slot-within t)
 
   -- the files of blocks and prices that can be written make their claim
-  pub written-back : claimed_of t (File (blocks_text t m prefix blocks))
+  pub written-back : claimed_of t (File (blocks_text t m names blocks))
       (File (prices_text t leave enter)) ≡ Ok (written_claim t m blocks leave enter)
   written-back = λ i. claimed_by (blocks-back i) (prices-back i)

@@ -71,8 +71,8 @@ row-among t leave enter s (x ∷ xs) = by (row-among t leave enter s xs) (x == s
         ap (λ b. cond b (written_price t leave enter x) rest) e ∙ later
         ∙ sym (ap (λ b. cond (b || among s xs) (written_price t leave enter s) (row_of [] s)) e)
 
-module _ (t : TimetableView) (m : MatrixView) (prefix : List ℕ) (plan : Plan) (blocks : List (List ℕ))
-    (of : AreOfPlan t m prefix plan blocks) where
+module _ (t : TimetableView) (m : MatrixView) (names : List (List ℕ)) (plan : Plan) (blocks : List (List ℕ))
+    (of : AreOfPlan t m names plan blocks) where
   claim : ClaimedView
   claim = written_claim t m blocks plan.leave plan.enter
 
@@ -80,13 +80,13 @@ module _ (t : TimetableView) (m : MatrixView) (prefix : List ℕ) (plan : Plan) 
   rows-are = flat-numbered (written_block t m) blocks ∙ on-rows t m 0 blocks
 
   claimed-blocks : blocks_in (written_blocks t m blocks) ≡ blocks
-  claimed-blocks = ap blocks_in rows-are ∙ blocks-claimed t m plan.next 0 blocks (plan-chains t m prefix plan blocks of)
+  claimed-blocks = ap blocks_in rows-are ∙ blocks-claimed t m plan.next 0 blocks (plan-chains t m names plan blocks of)
 
   names-blocks : NameOnce (network_of t m).live (block_slots (written_blocks t m blocks))
   names-blocks = record {
     known = subst (λ rows. AreKnown (block_slots rows)) (sym rows-are) (known-claimed t m 0 blocks);
     once = subst (StandsOnce (network_of t m).live) (sym (ap slots_in claimed-blocks) ∙ slots_in-blocks (written_blocks t m blocks))
-        (plan-blocking t m prefix plan blocks of).stands;
+        (plan-blocking t m names plan blocks of).stands;
   }
 
   names-prices : NameOnce (network_of t m).live (price_slots (written_prices t plan.leave plan.enter))
@@ -102,8 +102,8 @@ module _ (t : TimetableView) (m : MatrixView) (prefix : List ℕ) (plan : Plan) 
   -- the links that are claimed are those of the plan
   claimed-next : (s : ℕ) → next_of plan.next s ≡ next_in (written_blocks t m blocks) s
   claimed-next s =
-      let stands = (plan-blocking t m prefix plan blocks of).stands in
-      sym (ap (λ rows. next_in rows s) rows-are ∙ next-claimed t m plan.next 0 s blocks (plan-chains t m prefix plan blocks of)
+      let stands = (plan-blocking t m names plan blocks of).stands in
+      sym (ap (λ rows. next_in rows s) rows-are ∙ next-claimed t m plan.next 0 s blocks (plan-chains t m names plan blocks of)
       ∙ by (among s (slots_in blocks)) (dead-among (network_of t m).live (slots_in blocks) s stands))
     where
       by : (b : Bool) → (b ≡ false → (network_of t m).live s ≡ false) → cond b (next_of plan.next s) None ≡ next_of plan.next s
@@ -151,18 +151,18 @@ module _ (t : TimetableView) (m : MatrixView) (prefix : List ℕ) (plan : Plan) 
   certificate = record {
     blocks = names-blocks;
     prices = names-prices;
-    blocking = subst (IsBlocking (network_of t m)) (sym claimed-blocks) (plan-blocking t m prefix plan blocks of);
+    blocking = subst (IsBlocking (network_of t m)) (sym claimed-blocks) (plan-blocking t m names plan blocks of);
     shown = subst (AreShown (network_of t m)) (sym rows-are)
-        (shown-claimed t m of.valid plan.next blocks (plan-chains t m prefix plan blocks of) (plan-begins t m prefix plan blocks of));
+        (shown-claimed t m of.valid plan.next blocks (plan-chains t m names plan blocks of) (plan-begins t m names plan blocks of));
     certified = subst (IsCertified (network_of t m)) plan-claimed of.certified.certified;
   }
 
   -- the checker says yes, with the vehicles and the empty minutes of the blocks
-  pub accepted : IsAccepted t m prefix blocks plan.leave plan.enter
+  pub accepted : IsAccepted t m names blocks plan.leave plan.enter
   accepted =
       let claimed = written_claim t m blocks plan.leave plan.enter in (
         claimed,
-        written-back t m prefix blocks plan.leave plan.enter of.valid (plan-written t m prefix plan blocks of),
+        written-back t m names blocks plan.leave plan.enter of.valid (plan-written t m names plan blocks of),
         ap (verdict_by (network_of t m) claimed.blocks) (reason-none t m claimed of.valid certificate)
             ∙ ap (λ blocks. Yes (length blocks) (empty_minutes (network_of t m) blocks)) claimed-blocks,
       )

@@ -68,8 +68,8 @@ chains-along links chains [] = tt
 chains-along links chains (i ∷ firsts) =
     (subst (IsChain links) (sym (block_from-is links i)) (chains.goes_on i), chains-along links chains firsts)
 
-module _ (t : TimetableView) (m : MatrixView) (prefix : List ℕ) (plan : Plan) (blocks : List (List ℕ))
-    (of : AreOfPlan t m prefix plan blocks) where
+module _ (t : TimetableView) (m : MatrixView) (names : List (List ℕ)) (plan : Plan) (blocks : List (List ℕ))
+    (of : AreOfPlan t m names plan blocks) where
   moves-day : IsDay (network_of t m) (length t.slots)
   moves-day =
       subst (IsDay (network_of t m)) (length-map t.slots move_of_slot)
@@ -125,12 +125,12 @@ module _ (t : TimetableView) (m : MatrixView) (prefix : List ℕ) (plan : Plan) 
       omega (arith, same, length-ones (slots_in blocks), length-ones (live_slots (trip_moves t.slots)), live-few t, of.valid.slots)
 
   -- the blocks and the prices of a plan can be written
-  pub plan-written : CanBeWritten t m prefix blocks plan.leave plan.enter
+  pub plan-written : CanBeWritten t m names blocks plan.leave plan.enter
   plan-written =
       let most = certified-most (network_of t m) (length t.slots) plan _ moves-day of.certified.slots of.certified.certified
       (network-departures t m of.valid) in
       record {
-        begun = of.begun;
+        named = of.named;
         names = of.names;
         filled = all-of (λ block. 0 < length block) blocks
             (each-to (Begins t m of.valid) (λ block. 0 < length block) filled blocks plan-begins);

@@ -24,7 +24,8 @@ use Rattle.trip_model.proofs.OrderLemmas.{slot-live}
 use Rattle.claim_files.specs.declared.prices.Columns.{Columns}
 use Rattle.claim_files.specs.Prices.{prices_in, with_prices}
 use Rattle.claim_files.specs.Running.{running}
-use Rattle.claim_files.specs.Written.{IsName, written_price, written_prices}
+use Rattle.block_build.specs.Names.{IsName}
+use Rattle.claim_files.specs.Written.{written_price, written_prices}
 use Rattle.claim_files.proofs.EachRecord.{each-adds}
 use Rattle.claim_files.proofs.FieldsBack.{then, filled-back, number_in-back, decimal-name}
 use Rattle.claim_files.proofs.RunningBack.{running-back}

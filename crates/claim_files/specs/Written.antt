@@ -1,8 +1,9 @@
 -- The claim that written blocks and prices make.
-use Rattle.std.specs.Prelude.{◌≡◌, ℕ, ◌<◌, ◌≤◌, List, [], length, map, slice_index, slice_index_or, All, IsUtf8, Some, Result, Ok}
+use Rattle.std.specs.Prelude.{◌≡◌, ℕ, ◌<◌, ◌≤◌, List, [], length, map, slice_index, slice_index_or, All, Some, Result, Ok}
 use Rattle.std.specs.List.{flat_map, range_with_len}
 use Rattle.desk_io.specs.declared.shelf.Found.TheVariants.{File}
 use Rattle.block_build.specs.Files.{blocks_text, minutes_before, prices_text}
+use Rattle.block_build.specs.Names.{AreBlockNames, IsName}
 use Rattle.deadhead_matrix.specs.Matrix.{MatrixView}
 use Rattle.assignment_model.specs.Prices.{Plan, price}
 use Rattle.deadhead_matrix.specs.Plans.{IsPlanFor}
@@ -57,20 +58,15 @@ written_claim timetable matrix blocks leave enter =
     record { blocks = written_blocks timetable matrix blocks; prices = written_prices timetable leave enter }
 
 -- what is claimed by the two files as they are written
-abbrev pub written : TimetableView → MatrixView → List ℕ → List (List ℕ) → List ℕ → List ℕ → Result ClaimedView ClaimFault
-written timetable matrix prefix blocks leave enter =
-    claimed_of timetable (File (blocks_text timetable matrix prefix blocks)) (File (prices_text timetable leave enter))
+abbrev pub written : TimetableView → MatrixView → List (List ℕ) → List (List ℕ) → List ℕ → List ℕ → Result ClaimedView ClaimFault
+written timetable matrix names blocks leave enter =
+    claimed_of timetable (File (blocks_text timetable matrix names blocks)) (File (prices_text timetable leave enter))
 
--- a text that has a byte
-pub record IsName (name : List ℕ) : Type 0 where
-  pub text : IsUtf8 name
-  pub filled : 0 < length name
-
--- Blocks and prices that can be written. Names and prefix are text. No block is empty, and its trips run; they are at most
--- 4,096 in all. Empty minutes have at most six digits, and prices at most twelve.
-pub record CanBeWritten (timetable : TimetableView) (matrix : MatrixView) (prefix : List ℕ) (blocks : List (List ℕ))
+-- Blocks and prices that can be written. Names are text that is not empty, and no two blocks have the same. No block is empty,
+-- and its trips run; they are at most 4,096 in all. Empty minutes have at most six digits, and prices at most twelve.
+pub record CanBeWritten (timetable : TimetableView) (matrix : MatrixView) (block_names blocks : List (List ℕ))
     (leave enter : List ℕ) : Type 0 where
-  pub begun : IsUtf8 prefix
+  pub named : AreBlockNames (length blocks) block_names
   pub names : All (λ slot. IsName slot.name) timetable.slots
   pub filled : All (λ block. 0 < length block) blocks
   pub run : All (All (Runs timetable)) blocks
@@ -80,18 +76,18 @@ pub record CanBeWritten (timetable : TimetableView) (matrix : MatrixView) (prefi
   pub entered : All (λ price. price ≤ MOST_PRICE) enter
 
 -- The blocks of a certified plan are those along its links, by the departures of their first trips. Its timetable and its
--- matrix are valid, and names and prefix are text.
-pub record AreOfPlan (timetable : TimetableView) (matrix : MatrixView) (prefix : List ℕ) (plan : Plan)
+-- matrix are valid, names are text that is not empty, and no two blocks have the same.
+pub record AreOfPlan (timetable : TimetableView) (matrix : MatrixView) (block_names : List (List ℕ)) (plan : Plan)
     (blocks : List (List ℕ)) : Type 0 where
   pub valid : IsTimetable timetable
   pub pulls : All IsPull matrix.pulls
   pub certified : IsPlanFor timetable matrix plan
   pub along : blocks ≡ blocks_along plan.next (by_departure (trip_moves timetable.slots))
-  pub begun : IsUtf8 prefix
+  pub named : AreBlockNames (length blocks) block_names
   pub names : All (λ slot. IsName slot.name) timetable.slots
 
 -- What is written is read as a claim on which the verdict is yes, with as many vehicles and empty minutes as the blocks have.
-abbrev pub IsAccepted : TimetableView → MatrixView → List ℕ → List (List ℕ) → List ℕ → List ℕ → Type 0
-IsAccepted timetable matrix prefix blocks leave enter =
-    (claimed : ClaimedView) × (written timetable matrix prefix blocks leave enter ≡ Ok claimed)
+abbrev pub IsAccepted : TimetableView → MatrixView → List (List ℕ) → List (List ℕ) → List ℕ → List ℕ → Type 0
+IsAccepted timetable matrix names blocks leave enter =
+    (claimed : ClaimedView) × (written timetable matrix names blocks leave enter ≡ Ok claimed)
     × (verdict_of timetable matrix claimed ≡ Yes (length blocks) (empty_minutes (network_of timetable matrix) blocks))

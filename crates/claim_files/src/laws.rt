@@ -30,20 +30,20 @@ pub fn told_law()
 {}
 
 /// Blocks and prices that are written read back. Each trip has a row with its name, its slot, and the empty minutes before it
-/// or its prices. Names and prefix may have any bytes of text, commas, quotes and line ends too.
+/// or its prices. The names of trips and of blocks may have any bytes of text, commas, quotes and line ends too.
 pub fn read_back_law()
-    ensures { (timetable : TimetableView) (matrix : MatrixView) (prefix : List ℕ) (blocks : List (List ℕ)) (leave enter : List ℕ)
-        → IsTimetable timetable → CanBeWritten timetable matrix prefix blocks leave enter
-        → written timetable matrix prefix blocks leave enter ≡ Ok (written_claim timetable matrix blocks leave enter) }
+    ensures { (timetable : TimetableView) (matrix : MatrixView) (names blocks : List (List ℕ)) (leave enter : List ℕ)
+        → IsTimetable timetable → CanBeWritten timetable matrix names blocks leave enter
+        → written timetable matrix names blocks leave enter ≡ Ok (written_claim timetable matrix blocks leave enter) }
 {}
 
 /// Of a certified plan what is written is a certificate, and is accepted. It reads back, and the verdict on it is yes, with the
 /// vehicles and the empty minutes of its blocks.
 pub fn accepted_law()
-    ensures certificate { (timetable : TimetableView) (matrix : MatrixView) (prefix : List ℕ) (plan : Plan) (blocks : List (List ℕ))
-        → AreOfPlan timetable matrix prefix plan blocks
+    ensures certificate { (timetable : TimetableView) (matrix : MatrixView) (names : List (List ℕ)) (plan : Plan) (blocks : List (List ℕ))
+        → AreOfPlan timetable matrix names plan blocks
         → IsCertificate (network_of timetable matrix) (length timetable.slots)
         (written_claim timetable matrix blocks plan.leave plan.enter) }
-    ensures accepted { (timetable : TimetableView) (matrix : MatrixView) (prefix : List ℕ) (plan : Plan) (blocks : List (List ℕ))
-        → AreOfPlan timetable matrix prefix plan blocks → IsAccepted timetable matrix prefix blocks plan.leave plan.enter }
+    ensures accepted { (timetable : TimetableView) (matrix : MatrixView) (names : List (List ℕ)) (plan : Plan) (blocks : List (List ℕ))
+        → AreOfPlan timetable matrix names plan blocks → IsAccepted timetable matrix names blocks plan.leave plan.enter }
 {}

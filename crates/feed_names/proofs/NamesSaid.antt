@@ -37,7 +37,7 @@ use Rattle.deadhead_matrix.specs.Deadheads as deadheads
 use Rattle.deadhead_matrix.specs.Deadheads.{ReadingView, begun, deadhead_in, deadheads_of, or_new_place, with_deadhead, with_entries}
 use Rattle.deadhead_matrix.specs.Deadheads.{with_place, with_places, with_unplaced}
 use Rattle.deadhead_matrix.specs.Posts.{Class, classes_of, place_for}
-use Rattle.claim_files.specs.Written.{IsName}
+use Rattle.block_build.specs.Names.{IsName}
 use Rattle.claim_files.proofs.EachRecord.{each-keeps, provided-parts, read-parts, same_Ok}
 use Rattle.desk_feed.specs.Feed.{FeedView, deadheads_in, lines_in, pulls_in, said_by, said_with, settings_in, standing, timetable_in}
 use Rattle.feed_names.proofs.NamesStanding.{lines-named, standing-named}

@@ -39,7 +39,7 @@ use Rattle.edit_script.specs.Forms.{shift_in, text_in, trip_edit}
 use Rattle.edit_script.specs.Machine.{Numbered, State, after_line, after_record, begun, if_accepted, or_same, or_stays, state_by}
 use Rattle.edit_script.specs.Machine.{timetable_at, with_record, with_redo, with_undo}
 use Rattle.edit_script.specs.Script.{last_alone}
-use Rattle.claim_files.specs.Written.{IsName}
+use Rattle.block_build.specs.Names.{IsName}
 use Rattle.claim_files.proofs.EachRecord.{provided-parts, same_Ok}
 use Rattle.desk_feed.specs.Feed.{lines_by}
 use Rattle.desk_feed.specs.Script.{first_records, line_at, record_at, standing_at, state_at}

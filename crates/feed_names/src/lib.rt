@@ -3,7 +3,7 @@
 //! The contract that the crates above use: each name of a trip that stands after the script is a text that has a byte
 //! ([`laws::names_law`]). A law is the contract of a function that does nothing.
 //!
-//! The contracts cite `Laws`; of `desk_feed` `Feed`, and of `claim_files` `Written`.
+//! The contracts cite `Laws`; of `desk_feed` `Feed`, and of `block_build` `Names`.
 #![tactic(auto)]
 
 pub mod laws;

@@ -8,6 +8,7 @@ use Rattle.gtfs_tables.specs.Laws.{StaysText}
 use Rattle.gtfs_tables.specs.Writing.{record_text, records_text}
 use Rattle.trip_model.specs.Timetable.{TimetableView}
 use Rattle.deadhead_matrix.specs.Matrix.{MatrixView}
+use Rattle.block_build.specs.Names.{block_name}
 use Rattle.joined_deficits.specs.Boards.{board_header, board_of_block, board_records, boards_text}
 
 -- what is text stays so with a record of texts
@@ -30,13 +31,15 @@ seven-texts a b c d e f g at bt ct dt et ft gt =
     (All-cons IsUtf8 f (g ∷ []) ft
     (All-cons IsUtf8 g [] gt (All-nil IsUtf8)))))))
 
--- the text of all blocks
-pub boards-written : (t : TimetableView) (matrix : MatrixView) (prefix : List ℕ) (blocks : List (List ℕ)) (now : List ℕ) (n : ℕ)
+-- the records of the block of a number, and the text of all blocks
+abbrev pub board_numbered : TimetableView → MatrixView → List (List ℕ) → List (List ℕ) → ℕ → List (List (List ℕ))
+board_numbered t matrix names blocks n = board_of_block t matrix (block_name names n) (get_or blocks n [])
+
+pub boards-written : (t : TimetableView) (matrix : MatrixView) (names blocks : List (List ℕ)) (now : List ℕ) (n : ℕ)
     → length blocks ≡ n
-    → now ≡ record_text board_header
-    ++ records_text (flat_map (λ n. board_of_block t matrix prefix n (get_or blocks n [])) (range_with_len 0 n))
-    → now ≡ boards_text t matrix prefix blocks
+    → now ≡ record_text board_header ++ records_text (flat_map (board_numbered t matrix names blocks) (range_with_len 0 n))
+    → now ≡ boards_text t matrix names blocks
 unfolding boards_text board_records
-boards-written t matrix prefix blocks now n all so_far =
+boards-written t matrix names blocks now n all so_far =
     so_far ∙ ap (λ m. record_text board_header
-    ++ records_text (flat_map (λ n. board_of_block t matrix prefix n (get_or blocks n [])) (range_with_len 0 m))) (sym all)
+    ++ records_text (flat_map (board_numbered t matrix names blocks) (range_with_len 0 m))) (sym all)

@@ -5,7 +5,7 @@ use Rattle.gtfs_tables.specs.Times.{minute_digits}
 use Rattle.gtfs_tables.specs.Writing.{records_text}
 use Rattle.trip_model.specs.Timetable.{TimetableView, place_at, slot_at}
 use Rattle.deadhead_matrix.specs.Matrix.{MatrixView}
-use Rattle.block_build.specs.Lines.{block_name}
+use Rattle.block_build.specs.Names.{block_name}
 use Rattle.joined_deficits.specs.declared.legs.Leg.{Leg}
 use Rattle.joined_deficits.specs.Joined.{legs_of}
 
@@ -29,18 +29,18 @@ board_record timetable name leg =
     name ∷ kind_of leg.slot ∷ trip_of timetable leg.slot ∷ (place_at timetable leg.way.from).name ∷ minute_digits leg.way.leaves
     ∷ (place_at timetable leg.way.to).name ∷ minute_digits leg.way.arrives ∷ []
 
--- the records of a block, leg by leg
-abbrev pub board_of_block : TimetableView → MatrixView → List ℕ → ℕ → List ℕ → List (List (List ℕ))
-board_of_block timetable matrix prefix number block =
-    map (board_record timetable (block_name prefix number)) (legs_of timetable matrix block)
+-- the records of a block of that name, leg by leg
+abbrev pub board_of_block : TimetableView → MatrixView → List ℕ → List ℕ → List (List (List ℕ))
+board_of_block timetable matrix name block = map (board_record timetable name) (legs_of timetable matrix block)
 
 -- the records of blocks, block by block
-unfoldable pub board_records : TimetableView → MatrixView → List ℕ → List (List ℕ) → List (List (List ℕ))
-board_records timetable matrix prefix blocks =
-    flat_map (λ number. board_of_block timetable matrix prefix number (slice_index_or blocks number [])) (range_with_len 0 (length blocks))
+unfoldable pub board_records : TimetableView → MatrixView → List (List ℕ) → List (List ℕ) → List (List (List ℕ))
+board_records timetable matrix names blocks =
+    flat_map (λ number. board_of_block timetable matrix (block_name names number) (slice_index_or blocks number []))
+    (range_with_len 0 (length blocks))
 
 -- rule: the text of `boards.csv`
 -- word: board = running board, paddle
 -- the text of `boards.csv`
-unfoldable pub boards_text : TimetableView → MatrixView → List ℕ → List (List ℕ) → List ℕ
-boards_text timetable matrix prefix blocks = records_text (board_header ∷ board_records timetable matrix prefix blocks)
+unfoldable pub boards_text : TimetableView → MatrixView → List (List ℕ) → List (List ℕ) → List ℕ
+boards_text timetable matrix names blocks = records_text (board_header ∷ board_records timetable matrix names blocks)

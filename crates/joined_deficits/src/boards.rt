@@ -3,6 +3,7 @@ ghost use Rattle.gtfs_tables.specs.Writing.{record_text, records_text};
 ghost use Rattle.trip_model.specs.Blocking.{IsBlocking};
 ghost use Rattle.trip_model.specs.Plain.{IsMove};
 ghost use Rattle.deadhead_matrix.specs.Fitting.{network_of};
+ghost use Rattle.block_build.specs.Names.{block_name};
 ghost use Rattle.joined_deficits.specs.Boards as spec;
 
 use crate::legs::{Leg, legs_of};
@@ -99,25 +100,25 @@ fn push_board(
     requires blocking { IsBlocking (network_of named.now.timetable.now named.now.matrix.now) named.now.blocks.now }
     requires number { number < length named.now.blocks.now }
     ensures written { OnOk result (records.new ≡ records.old
-        ++ records_text (spec.board_of_block named.now.timetable.now named.now.matrix.now named.now.prefix.now number
+        ++ records_text (spec.board_of_block named.now.timetable.now named.now.matrix.now (block_name named.now.names.now number)
         (slice_index_or named.now.blocks.now number []))) }
     ensures text { OnOk result (IsUtf8 records.old → IsUtf8 records.new) }
 {
     let block = named.block(number);
-    let name = named.name(alloc, number)?;
+    let name = named.name(number);
     let legs = legs_of(alloc, named.timetable, named.matrix, block)?;
     for leg in &legs {
-        push_leg(alloc, records, named.timetable, &name, leg)?;
+        push_leg(alloc, records, named.timetable, name, leg)?;
     }
     Ok(())
 }
 
 /// The text of `boards.csv`, a record for each joined move, block by block. It has the name of its block, `trip` or `dh`, and
 /// the name of the trip, which is empty for a deadhead. Then come the place and the minute at which the vehicle leaves and
-/// arrives. A block is named by the prefix and its number counted from 1.
+/// arrives.
 pub fn boards_text(alloc: Global, named: &NamedBlocks<'_>) -> Result<Text, Memory>
     requires { IsBlocking (network_of named.now.timetable.now named.now.matrix.now) named.now.blocks.now }
-    ensures { IfOk result (λ text. text ≡ spec.boards_text named.now.timetable.now named.now.matrix.now named.now.prefix.now
+    ensures { IfOk result (λ text. text ≡ spec.boards_text named.now.timetable.now named.now.matrix.now named.now.names.now
         named.now.blocks.now) }
 {
     let mut records = RecordWriter::new(alloc);

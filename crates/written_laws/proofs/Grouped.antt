@@ -1,15 +1,11 @@
 -- Blocks along links, grouped by the names that they are given, are the blocks along the links.
-use Rattle.std.proofs.Common.{◌≡◌, ℕ, zero, suc, ◌+◌, ◌<◌, ◌≤◌, ◌==◌, ◌||◌, ⊎_elim, Bool, true, false, cond, List, [], ◌∷◌, length}
-use Rattle.std.proofs.Common.{length-append, filter, get_or, map, Option, if◌then◌else◌, refl, sym, ap, ◌∙◌, arith}
+use Rattle.std.proofs.Common.{◌≡◌, ℕ, zero, suc, ◌<◌, ◌≤◌, ◌==◌, ◌||◌, ⊎_elim, Bool, true, false, cond, List, [], ◌∷◌, length}
+use Rattle.std.proofs.Common.{filter, get_or, map, Option, if◌then◌else◌, refl, sym, ap, ◌∙◌, arith}
 use Rattle.std.specs.Prelude.{All}
-use Rattle.std.specs.Fmt.{decimal}
-use Rattle.std.specs.List.{range_with_len}
-use Rattle.std.proofs.lemmas.Bool.{cases_Bool, eq-eqb, eqb-true, false≢true, ne_eqb}
-use Rattle.std.proofs.lemmas.Fmt.{decimal_injective, decimal_nonempty}
-use Rattle.std.proofs.lemmas.List.{append_cancel_left, ext_get_or, get_or-map, length-map}
+use Rattle.std.proofs.lemmas.Bool.{cases_Bool, cases_lt, eq-eqb, eqb-true, false≢true, ne_eqb}
+use Rattle.std.proofs.lemmas.List.{ext_get_or, get_or-map, length-map}
 use Rattle.std.proofs.lemmas.List.Elements.{All-filter, All-from_get_or, All-from_recursion, All-head, All-tail, filter_passes}
-use Rattle.std.proofs.lemmas.List.FromFn.{get_or-map-range_with_len, length-map-range_with_len}
-use Rattle.std.proofs.lemmas.List.Sums.{count_by-le-length, length-filter, sum_by-append}
+use Rattle.std.proofs.lemmas.List.Sums.{sum_by-append}
 use Rattle.std.proofs.lemmas.Slice.Eq.{bytes_eq-Decides}
 use Rattle.trip_model.specs.Blocking.{times, StandsOnce, IsBlock, IsBlocking, slots_in}
 use Rattle.trip_model.specs.Links.{next_of, along, blocks_along}
@@ -18,7 +14,8 @@ use Rattle.trip_model.specs.Network.{Network, AreDepartures}
 use Rattle.trip_model.specs.Order.{RiseBy}
 use Rattle.trip_model.proofs.Chains.{block_from-is}
 use Rattle.trip_model.proofs.Counting.{times-cons}
-use Rattle.block_build.specs.Lines.{block_name}
+use Rattle.trip_model.specs.Timetable.{AreDistinct}
+use Rattle.block_build.specs.Names.{AreBlockNames, block_name}
 use Rattle.block_writer.specs.Laws.{IsBlockOf}
 use Rattle.block_writer.specs.Trips.{is_in, name_of, number_in}
 use Rattle.block_writer.proofs.BlockNamed.{block-named}
@@ -27,11 +24,15 @@ use Rattle.block_audit.proofs.Grouping.{times-filter}
 use Rattle.block_audit.proofs.Sorted.{climb-block, rise-filter, same-order}
 
 -- blocks of other numbers have other names
-name-injective : (prefix : List ℕ) (i j : ℕ) → i < 4096 → j < 4096 → block_name prefix i ≡ block_name prefix j → i ≡ j
-name-injective prefix i j low high e =
-    let same : i + 1 ≡ j + 1 = decimal_injective (i + 1) (j + 1) (omega (arith, low)) (omega (arith, high))
-    (append_cancel_left prefix _ _ e) in
-    omega (arith, same)
+name-injective : (names : List (List ℕ)) (i j : ℕ) → AreDistinct names → i < length names → j < length names
+    → block_name names i ≡ block_name names j → i ≡ j
+name-injective names i j apart low high e = ⊎_elim
+    (λ (less : i < j). absurd (apart i j [] less high e))
+    (λ (no_less : j ≤ i). ⊎_elim
+    (λ (more : j < i). absurd (apart j i [] more low (sym e)))
+    (λ (no_more : i ≤ j). let same : i ≡ j = omega (arith, no_less, no_more) in same)
+    (cases_lt j i))
+    (cases_lt i j)
 
 -- a slot is counted in a block in which it stands, and not in another
 counted : (s : ℕ) (block : List ℕ) → is_in s block ≡ true → 1 ≤ times s block
@@ -101,18 +102,18 @@ first-starts names name (x ∷ order) s = by (is_of names name x) (first-starts 
     by false rest = rest
 
 -- slots in order of their keys, in which each that is live stands once, and blocks along links which are a blocking; each live
--- slot has the name of its block
-pub record AreNamed (network : Network) (key : ℕ → ℕ) (next : List (Option ℕ)) (order : List ℕ) (names : List (List ℕ))
-    (prefix : List ℕ) : Type 0 where
+-- slot has the name of its block, of which no two have the same
+pub record AreNamed (network : Network) (key : ℕ → ℕ) (next : List (Option ℕ)) (order : List ℕ) (names block_names : List (List ℕ))
+    : Type 0 where
   pub clock : AreDepartures network key
   pub blocking : IsBlocking network (blocks_along next order)
   pub stands : StandsOnce network.live order
   pub rises : RiseBy key order
-  pub few : length order ≤ 4096
-  pub named : (s : ℕ) → network.live s ≡ true → name_at names s ≡ name_of prefix (number_in (blocks_along next order) s)
+  pub given : AreBlockNames (length (blocks_along next order)) block_names
+  pub named : (s : ℕ) → network.live s ≡ true → name_at names s ≡ name_of block_names (number_in (blocks_along next order) s)
 
-module _ (network : Network) (key : ℕ → ℕ) (next : List (Option ℕ)) (order : List ℕ) (names : List (List ℕ)) (prefix : List ℕ)
-    (are : AreNamed network key next order names prefix) where
+module _ (network : Network) (key : ℕ → ℕ) (next : List (Option ℕ)) (order : List ℕ) (names block_names : List (List ℕ))
+    (are : AreNamed network key next order names block_names) where
   abbrev blocks : List (List ℕ)
   blocks = blocks_along next order
 
@@ -120,21 +121,15 @@ module _ (network : Network) (key : ℕ → ℕ) (next : List (Option ℕ)) (ord
   abbrev firsts : List ℕ
   firsts = filter (links.is_first next) order
 
-  pub few-blocks : length (blocks_along next order) ≤ 4096
-  few-blocks = omega (
-    arith,
-    length-map (filter (links.is_first next) order) (links.block_from next),
-    length-filter (links.is_first next)
-        order,
-    count_by-le-length (links.is_first next) order,
-    are.few,
-  )
+  -- a block has a name
+  has-name : (b : ℕ) → b < length (blocks_along next order) → b < length block_names
+  has-name b within = omega (arith, within, are.given.counted)
 
   -- a live slot stands in the block of whose name it is
   pub in-block : (s : ℕ) → network.live s ≡ true
-      → (b : ℕ) × IsBlockOf (blocks_along next order) s b × (name_at names s ≡ block_name prefix b)
+      → (b : ℕ) × IsBlockOf (blocks_along next order) s b × (name_at names s ≡ block_name block_names b)
   in-block s live =
-      let at = block-named (blocks_along next order) s prefix (are.blocking.stands.once s ∙ ap (λ b. cond b 1 0) live) in
+      let at = block-named (blocks_along next order) s block_names (are.blocking.stands.once s ∙ ap (λ b. cond b 1 0) live) in
       (at.0, at.1, are.named s live ∙ at.2)
 
   -- so it has a name
@@ -142,14 +137,8 @@ module _ (network : Network) (key : ℕ → ℕ) (next : List (Option ℕ)) (ord
   not-alone s live =
       let at = in-block s live in
       ap (λ (name : List ℕ). length name == 0) at.2
-      ∙ ne_eqb (length (block_name prefix at.0)) 0 (λ none.
-      absurd (omega (
-        arith,
-        none,
-        length-append prefix (decimal (at.0 + 1)),
-        decimal_nonempty (at.0 + 1)
-            (omega (arith, at.1.within, few-blocks)),
-      )))
+      ∙ ne_eqb (length (block_name block_names at.0)) 0 (λ none.
+      absurd (omega (arith, none, (are.given.each at.0 [] (has-name at.0 at.1.within)).filled)))
 
   -- the slots of its name are those of its block
   same-block : (x s : ℕ) (live : network.live s ≡ true) → network.live x ≡ true
@@ -159,13 +148,13 @@ module _ (network : Network) (key : ℕ → ℕ) (next : List (Option ℕ)) (ord
       let same : (in-block s live).0 ≡ (in-block x runs).0 =
       (in-block x runs).1.alone (in-block s live).0 (in-block s live).1.within stands in
       (bytes_eq-Decides (name_at names x) (name_at names s)).1
-      ((in-block x runs).2 ∙ ap (block_name prefix) (sym same) ∙ sym (in-block s live).2) ∙ sym stands)
+      ((in-block x runs).2 ∙ ap (block_name block_names) (sym same) ∙ sym (in-block s live).2) ∙ sym stands)
       (λ (out : is_in x (get_or (blocks_along next order) (in-block s live).0 []) ≡ false).
       ⊎_elim
       (λ (e : is_of names (name_at names s) x ≡ true).
       let name : name_at names x ≡ name_at names s = (bytes_eq-Decides (name_at names x) (name_at names s)).0 e in
-      let same : (in-block x runs).0 ≡ (in-block s live).0 = name-injective prefix (in-block x runs).0 (in-block s live).0
-      (omega (arith, (in-block x runs).1.within, few-blocks)) (omega (arith, (in-block s live).1.within, few-blocks))
+      let same : (in-block x runs).0 ≡ (in-block s live).0 = name-injective block_names (in-block x runs).0 (in-block s live).0 are.given.apart
+      (has-name (in-block x runs).0 (in-block x runs).1.within) (has-name (in-block s live).0 (in-block s live).1.within)
       (sym (in-block x runs).2 ∙ name ∙ (in-block s live).2) in
       absurd (false≢true (sym out ∙ ap (λ b. is_in x (get_or (blocks_along next order) b [])) (sym same) ∙ (in-block x runs).1.stands)))
       (λ (e : is_of names (name_at names s) x ≡ false). e ∙ sym out)
@@ -319,12 +308,11 @@ module _ (network : Network) (key : ℕ → ℕ) (next : List (Option ℕ)) (ord
           ∙ ap (λ b. get_or (blocks_along next order) b []) (sym (first-alone s live k within refl))
 
   -- and under the names of these
-  pub names-back : map (λ (b : NamedBlock). b.name) (blocks_by names order) ≡ map (block_name prefix)
-      (range_with_len 0 (length (blocks_along next order)))
+  pub names-back : map (λ (b : NamedBlock). b.name) (blocks_by names order) ≡ block_names
   names-back =
       ap (λ xs. map (λ (b : NamedBlock). b.name) (map (block_from names order) xs)) begin-alike
       ∙ ext_get_or [] (map (λ (b : NamedBlock). b.name) (map (block_from names order) (filter (links.is_first next) order)))
-      (map (block_name prefix) (range_with_len 0 (length (blocks_along next order)))) count each
+      block_names count each
     where
       short : length (map (λ (b : NamedBlock). b.name) (map (block_from names order) (filter (links.is_first next) order))) ≡ length
           (blocks_along next order)
@@ -334,15 +322,15 @@ module _ (network : Network) (key : ℕ → ℕ) (next : List (Option ℕ)) (ord
           ∙ sym count-firsts
 
       count : length (map (λ (b : NamedBlock). b.name) (map (block_from names order) (filter (links.is_first next) order))) ≡ length
-          (map (block_name prefix) (range_with_len 0 (length (blocks_along next order))))
-      count = short ∙ sym (length-map-range_with_len (block_name prefix) 0 (length (blocks_along next order)))
+          block_names
+      count = short ∙ sym are.given.counted
 
       none : NamedBlock
       none = record { name = []; slots = [] }
 
       each : (k : ℕ) → k < length (map (λ (b : NamedBlock). b.name) (map (block_from names order) (filter (links.is_first next) order)))
           → get_or (map (λ (b : NamedBlock). b.name) (map (block_from names order) (filter (links.is_first next) order))) k [] ≡ get_or
-          (map (block_name prefix) (range_with_len 0 (length (blocks_along next order)))) k []
+          block_names k []
       each k lt =
           let within : k < length (blocks_along next order) = omega (arith, lt, short) in
           let inside : k < length (filter (links.is_first next) order) = omega (arith, within, count-firsts) in
@@ -353,5 +341,4 @@ module _ (network : Network) (key : ℕ → ℕ) (next : List (Option ℕ)) (ord
           get_or-map (λ (b : NamedBlock). b.name) (map (block_from names order) (filter (links.is_first next) order)) k none [] made
           ∙ ap (λ (b : NamedBlock). b.name) (get_or-map (block_from names order) (filter (links.is_first next) order) k 0 none inside)
           ∙ (in-block s live).2
-          ∙ ap (block_name prefix) (sym (first-alone s live k within refl))
-          ∙ sym (get_or-map-range_with_len (block_name prefix) 0 (length (blocks_along next order)) k k [] within (omega arith))
+          ∙ ap (block_name block_names) (sym (first-alone s live k within refl))

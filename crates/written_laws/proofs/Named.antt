@@ -79,41 +79,41 @@ field-written row place field within = ⊎_elim
     ∙ ap (λ n. get_or (field ∷ []) n []) none)
     (cases_lt place (length row))
 
-module _ (trips : TableView) (standing : TimetableView) (chosen : List Bool) (blocks : List (List ℕ)) (prefix : List ℕ) where
+module _ (trips : TableView) (standing : TimetableView) (chosen : List Bool) (blocks names : List (List ℕ)) where
   abbrev pub row_written : ℕ → List (List ℕ)
   row_written r =
-      trip_written standing (block_numbers (length standing.slots) blocks) prefix (place_of column.TripId trips.header)
+      trip_written standing (block_numbers (length standing.slots) blocks) names (place_of column.TripId trips.header)
       (place_of column.BlockId trips.header) (get_or chosen r false) (get_or trips.rows r [])
 
   -- there are as many records
-  pub count-rows : length (with_blocks trips standing chosen blocks prefix).rows ≡ length trips.rows
+  pub count-rows : length (with_blocks trips standing chosen blocks names).rows ≡ length trips.rows
   unfolding with_blocks
   count-rows = length-map-range_with_len row_written 0 (length trips.rows)
 
   -- the selected records are those of before
-  pub selected-same : selected (with_blocks trips standing chosen blocks prefix) chosen ≡ selected trips chosen
+  pub selected-same : selected (with_blocks trips standing chosen blocks names) chosen ≡ selected trips chosen
   selected-same = ap (λ n. filter (λ r. get_or chosen r false) (range_with_len 0 n)) count-rows
 
   -- a selected record has the block of the slot that it names
   pub written-field : IsTable trips → (r : ℕ) → r < length trips.rows → get_or chosen r false ≡ true
-      → block_field (with_blocks trips standing chosen blocks prefix) r ≡ block_of standing (block_numbers (length standing.slots) blocks)
-      prefix (number_of (slot_names standing) (trip_field trips r))
+      → block_field (with_blocks trips standing chosen blocks names) r ≡ block_of standing (block_numbers (length standing.slots) blocks)
+      names (number_of (slot_names standing) (trip_field trips r))
   unfolding with_blocks
   written-field is r within chosen_is =
       let block = place_of column.BlockId trips.header in
-      ap (field_at (get_or (trips_rows trips standing chosen blocks prefix) r [])) (place-kept trips.header)
+      ap (field_at (get_or (trips_rows trips standing chosen blocks names) r [])) (place-kept trips.header)
       ∙ ap (λ row. field_at row block) (get_or-map-range_with_len row_written 0 (length trips.rows) r r [] within (omega arith))
       ∙ field-written (get_or trips.rows r []) block _ (omega (arith, place-within trips.header, is.width r within))
-      ∙ ap (λ b. cond b (block_of standing (block_numbers (length standing.slots) blocks) prefix
+      ∙ ap (λ b. cond b (block_of standing (block_numbers (length standing.slots) blocks) names
       (slot_in standing (place_of column.TripId trips.header) (get_or trips.rows r []))) (field_at (get_or trips.rows r []) block))
       chosen_is
 
   -- the block of a slot whose trip runs
   pub slot-block : AllRun standing → (s : ℕ) → s < length standing.slots
-      → block_of standing (block_numbers (length standing.slots) blocks) prefix (Some s) ≡ name_of prefix (number_in blocks s)
+      → block_of standing (block_numbers (length standing.slots) blocks) names (Some s) ≡ name_of names (number_in blocks s)
   slot-block runs s within =
-      ap (λ b. cond b (name_of prefix (get_or (block_numbers (length standing.slots) blocks) s None)) []) (runs s _ within)
-      ∙ ap (name_of prefix) (get_or-map-range_with_len (number_in blocks) 0 (length standing.slots) s s None within (omega arith))
+      ap (λ b. cond b (name_of names (get_or (block_numbers (length standing.slots) blocks) s None)) []) (runs s _ within)
+      ∙ ap (name_of names) (get_or-map-range_with_len (number_in blocks) 0 (length standing.slots) s s None within (omega arith))
 
 -- the selected records are records, and selected
 selected-within : (trips : TableView) (chosen : List Bool) → All (λ r. r < length trips.rows) (selected trips chosen)
@@ -128,39 +128,39 @@ selected-within trips chosen =
         omega (arith, inside, get_or-range_with_len 0 (length trips.rows) i 0 inside)
 
 pub names-are-stated : spec.NamesAreStated
-names-are-stated trips standing chosen blocks prefix is distinct runs name =
-    ext_get_or [] (stated_names (with_blocks trips standing chosen blocks prefix) chosen)
-    (names_by_slot prefix blocks (length standing.slots)) count each
+names-are-stated trips standing chosen blocks names is distinct runs name =
+    ext_get_or [] (stated_names (with_blocks trips standing chosen blocks names) chosen)
+    (names_by_slot names blocks (length standing.slots)) count each
   where
     slots : length (selected trips chosen) ≡ length standing.slots
     slots = sym (length-map (selected trips chosen) (trip_field trips)) ∙ ap length name ∙ length-map standing.slots (λ (s : Slot). s.name)
 
-    short : length (stated_names (with_blocks trips standing chosen blocks prefix) chosen) ≡ length standing.slots
-    short = length-map (selected (with_blocks trips standing chosen blocks prefix) chosen)
-        (block_field (with_blocks trips standing chosen blocks prefix)) ∙ ap length (selected-same trips standing chosen blocks prefix)
+    short : length (stated_names (with_blocks trips standing chosen blocks names) chosen) ≡ length standing.slots
+    short = length-map (selected (with_blocks trips standing chosen blocks names) chosen)
+        (block_field (with_blocks trips standing chosen blocks names)) ∙ ap length (selected-same trips standing chosen blocks names)
         ∙ slots
 
-    count : length (stated_names (with_blocks trips standing chosen blocks prefix) chosen) ≡ length
-        (names_by_slot prefix blocks (length standing.slots))
-    count = short ∙ sym (length-map-range_with_len (λ s. name_of prefix (number_in blocks s)) 0 (length standing.slots))
+    count : length (stated_names (with_blocks trips standing chosen blocks names) chosen) ≡ length
+        (names_by_slot names blocks (length standing.slots))
+    count = short ∙ sym (length-map-range_with_len (λ s. name_of names (number_in blocks s)) 0 (length standing.slots))
 
-    each : (s : ℕ) → s < length (stated_names (with_blocks trips standing chosen blocks prefix) chosen)
-        → get_or (stated_names (with_blocks trips standing chosen blocks prefix) chosen) s [] ≡ get_or
-        (names_by_slot prefix blocks (length standing.slots)) s []
+    each : (s : ℕ) → s < length (stated_names (with_blocks trips standing chosen blocks names) chosen)
+        → get_or (stated_names (with_blocks trips standing chosen blocks names) chosen) s [] ≡ get_or
+        (names_by_slot names blocks (length standing.slots)) s []
     each s lt =
         let within : s < length standing.slots = omega (arith, lt, short) in
         let inside : s < length (selected trips chosen) = omega (arith, within, slots) in
         let r = get_or (selected trips chosen) s 0 in
         let named : trip_field trips r ≡ get_or (slot_names standing) s [] =
-        sym (get_or-map (trip_field trips) (selected trips chosen) s 0 [] inside) ∙ ap (λ names. get_or names s []) name in
+        sym (get_or-map (trip_field trips) (selected trips chosen) s 0 [] inside) ∙ ap (λ found. get_or found s []) name in
         let some : s < length (slot_names standing) = omega (arith, within, length-map standing.slots (λ (s : Slot). s.name)) in
-        ap (λ rs. get_or (map (block_field (with_blocks trips standing chosen blocks prefix)) rs) s [])
-        (selected-same trips standing chosen blocks prefix)
-        ∙ get_or-map (block_field (with_blocks trips standing chosen blocks prefix)) (selected trips chosen) s 0 [] inside
-        ∙ written-field trips standing chosen blocks prefix is r (selected-within trips chosen s 0 inside)
+        ap (λ rs. get_or (map (block_field (with_blocks trips standing chosen blocks names)) rs) s [])
+        (selected-same trips standing chosen blocks names)
+        ∙ get_or-map (block_field (with_blocks trips standing chosen blocks names)) (selected trips chosen) s 0 [] inside
+        ∙ written-field trips standing chosen blocks names is r (selected-within trips chosen s 0 inside)
         (filter_passes (λ r. get_or chosen r false) (range_with_len 0 (length trips.rows)) s 0 inside)
-        ∙ ap (λ name. block_of standing (block_numbers (length standing.slots) blocks) prefix (number_of (slot_names standing) name)) named
-        ∙ ap (block_of standing (block_numbers (length standing.slots) blocks) prefix)
+        ∙ ap (λ name. block_of standing (block_numbers (length standing.slots) blocks) names (number_of (slot_names standing) name)) named
+        ∙ ap (block_of standing (block_numbers (length standing.slots) blocks) names)
         (number-distinct (slot_names standing) s distinct some)
-        ∙ slot-block trips standing chosen blocks prefix runs s within
-        ∙ sym (get_or-map-range_with_len (λ s. name_of prefix (number_in blocks s)) 0 (length standing.slots) s s [] within (omega arith))
+        ∙ slot-block trips standing chosen blocks names runs s within
+        ∙ sym (get_or-map-range_with_len (λ s. name_of names (number_in blocks s)) 0 (length standing.slots) s s [] within (omega arith))

@@ -139,42 +139,42 @@ module _ (header row : List (List ℕ)) (block : List ℕ) (wide : length row �
           (class_of settings route)
 
 -- the selected trips of a table with blocks
-module _ (settings : SettingsView) (table : TableView) (standing : TimetableView) (chosen : List Bool) (blocks : List (List ℕ))
-    (prefix : List ℕ) (is : IsTable table) where
+module _ (settings : SettingsView) (table : TableView) (standing : TimetableView) (chosen : List Bool)
+    (blocks names : List (List ℕ)) (is : IsTable table) where
   abbrev block : ℕ
   block = place_of column.BlockId table.header
 
   abbrev row_written : ℕ → List (List ℕ)
   row_written r =
-      trip_written standing (block_numbers (length standing.slots) blocks) prefix (place_of column.TripId table.header) block
+      trip_written standing (block_numbers (length standing.slots) blocks) names (place_of column.TripId table.header) block
       (get_or chosen r false) (get_or table.rows r [])
 
   -- any reading of records that looks at no block
   rows-same : {A : Type 0} (read : Step A) (start : A)
       → ((row : List (List ℕ)) (field : List ℕ) (m : ℕ) (b : A) → length row ≡ length table.header
       → read m b (with_field row block field) ≡ read m b row)
-      → each_record read 1 start (trips_rows table standing chosen blocks prefix) ≡ each_record read 1 start table.rows
+      → each_record read 1 start (trips_rows table standing chosen blocks names) ≡ each_record read 1 start table.rows
   rows-same read start same =
-      each-same read 1 start table.rows (trips_rows table standing chosen blocks prefix)
+      each-same read 1 start table.rows (trips_rows table standing chosen blocks names)
       (length-map-range_with_len row_written 0 (length table.rows))
       (λ i within m b. ap (read m b) (get_or-map-range_with_len row_written 0 (length table.rows) i i [] within (omega arith))
       ∙ same (get_or table.rows i []) _ m b (is.width i within))
 
   plain-back : (bytes written : List ℕ) (selected : Selected) → table_of bytes ≡ Ok table
-      → table_of written ≡ Ok (with_blocks table standing chosen blocks prefix)
+      → table_of written ≡ Ok (with_blocks table standing chosen blocks names)
       → paper_read paper.Trips columns_in (with_trip settings) nothing_selected (File bytes) ≡ Ok selected
       → paper_read paper.Trips columns_in (with_trip settings) nothing_selected (File written) ≡ Ok selected
   unfolding with_blocks
   plain-back bytes written selected from to e =
       let read = sym (of-table paper.Trips columns_in (with_trip settings) nothing_selected bytes table from) ∙ e in
       let columns = read-parts (columns_in table.header) _ selected read in
-      of-table paper.Trips columns_in (with_trip settings) nothing_selected written (with_blocks table standing chosen blocks prefix) to
+      of-table paper.Trips columns_in (with_trip settings) nothing_selected written (with_blocks table standing chosen blocks names) to
       ∙ then (columns_in (header_written block table.header)) columns.0 _ _ (columns-kept block table.header columns.0 columns.1)
       (rows-same (with_trip settings columns.0) nothing_selected
       (λ row field m b wide. trip-same table.header row field wide settings columns.0 m b columns.1) ∙ columns.2)
 
   classed-back : (bytes written : List ℕ) (selected : Selected) → table_of bytes ≡ Ok table
-      → table_of written ≡ Ok (with_blocks table standing chosen blocks prefix)
+      → table_of written ≡ Ok (with_blocks table standing chosen blocks names)
       → paper_read paper.Trips classed_columns_in (with_classed_trip settings) nothing_selected (File bytes) ≡ Ok selected
       → paper_read paper.Trips classed_columns_in (with_classed_trip settings) nothing_selected (File written) ≡ Ok selected
   unfolding with_blocks
@@ -182,13 +182,13 @@ module _ (settings : SettingsView) (table : TableView) (standing : TimetableView
       let read = sym (of-table paper.Trips classed_columns_in (with_classed_trip settings) nothing_selected bytes table from) ∙ e in
       let columns = read-parts (classed_columns_in table.header) _ selected read in
       of-table paper.Trips classed_columns_in (with_classed_trip settings) nothing_selected written
-      (with_blocks table standing chosen blocks prefix) to
+      (with_blocks table standing chosen blocks names) to
       ∙ then (classed_columns_in (header_written block table.header)) columns.0 _ _ (classed-kept block table.header columns.0 columns.1)
       (rows-same (with_classed_trip settings columns.0) nothing_selected
       (λ row field m b wide. classed-same table.header row field wide settings columns.0 m b columns.1) ∙ columns.2)
 
   pub trips-back : (bytes written : List ℕ) (selected : Selected) → table_of bytes ≡ Ok table
-      → table_of written ≡ Ok (with_blocks table standing chosen blocks prefix)
+      → table_of written ≡ Ok (with_blocks table standing chosen blocks names)
       → trips_in settings (File bytes) ≡ Ok selected → trips_in settings (File written) ≡ Ok selected
   trips-back bytes written selected from to e = by (is_classed settings) e
     where

@@ -18,7 +18,7 @@ use Rattle.written_laws.specs.Written.{AreEarly, AreWritable, as_written}
 abbrev pub WrittenFeedReadsBack : Type 0
 WrittenFeedReadsBack =
     (settings : SettingsView) (trips_bytes stop_times_bytes : List ℕ) (trips stop_times : TableView) (base standing : TimetableView)
-    (chosen : List Bool) (blocks : List (List ℕ)) (prefix : List ℕ)
+    (chosen : List Bool) (blocks names : List (List ℕ))
     → table_of trips_bytes ≡ Ok trips
     → table_of stop_times_bytes ≡ Ok stop_times
     → IsTable trips
@@ -26,9 +26,9 @@ WrittenFeedReadsBack =
     → base_of settings (File trips_bytes) (File stop_times_bytes) ≡ Ok base
     → IsEditedFrom base standing
     → AreWritable stop_times standing (length base.slots)
-    → strip_bom (trips_written trips standing chosen blocks prefix) ≡ trips_written trips standing chosen blocks prefix
+    → strip_bom (trips_written trips standing chosen blocks names) ≡ trips_written trips standing chosen blocks names
     → strip_bom (stop_times_written stop_times standing (length base.slots)) ≡ stop_times_written stop_times standing (length base.slots)
-    → base_of settings (File (trips_written trips standing chosen blocks prefix))
+    → base_of settings (File (trips_written trips standing chosen blocks names))
     (File (stop_times_written stop_times standing (length base.slots))) ≡ Ok (as_written base standing)
 
 -- what stands after a script over a timetable whose trips end after they depart follows it

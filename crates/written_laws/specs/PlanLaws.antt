@@ -14,6 +14,7 @@ use Rattle.edit_script.specs.Machine.{Numbered, machine, timetable_at}
 use Rattle.feed_read.specs.Base.{base_of}
 use Rattle.deadhead_matrix.specs.Matrix.{MatrixView}
 use Rattle.deadhead_matrix.specs.Fitting.{network_of}
+use Rattle.block_build.specs.Names.{AreBlockNames}
 use Rattle.block_writer.specs.StopTimes.{stop_times_written}
 use Rattle.block_writer.specs.Trips.{trips_written, with_blocks}
 use Rattle.block_audit.specs.Stated.{slots_by, stated_in, stated_names}
@@ -38,19 +39,19 @@ LeastAgain =
 -- where all trips run, the `block_id` of the n-th selected record that is written is the name of the block of slot n
 abbrev pub NamesAreStated : Type 0
 NamesAreStated =
-    (trips : TableView) (timetable : TimetableView) (chosen : List Bool) (blocks : List (List ℕ)) (prefix : List ℕ)
+    (trips : TableView) (timetable : TimetableView) (chosen : List Bool) (blocks names : List (List ℕ))
     → IsTable trips
     → AreDistinct (slot_names timetable)
     → AllRun timetable
     → NameSlots trips chosen timetable
-    → stated_names (with_blocks trips timetable chosen blocks prefix) chosen ≡ names_by_slot prefix blocks (length timetable.slots)
+    → stated_names (with_blocks trips timetable chosen blocks names) chosen ≡ names_by_slot names blocks (length timetable.slots)
 
--- Let the plan's blocks be a blocking of the timetable that stands, along links from slot to slot. Then the written table
--- states these blocks, in their order and each with its trips in their order.
+-- Let the plan's blocks be a blocking of the timetable that stands, along links from slot to slot. Let none of their names be
+-- empty, and no two the same. Then the written table states these blocks, in their order and each with its trips in their order.
 abbrev pub BlocksAreStated : Type 0
 BlocksAreStated =
     (trips : TableView) (base standing : TimetableView) (chosen : List Bool) (matrix : MatrixView) (next : List (Option ℕ))
-    (prefix : List ℕ)
+    (names : List (List ℕ))
     → IsTable trips
     → IsTimetable standing
     → AllRun base
@@ -58,13 +59,14 @@ BlocksAreStated =
     → NameSlots trips chosen standing
     → let blocks = blocks_along next (by_departure (trip_moves standing.slots)) in
     IsBlocking (network_of standing matrix) blocks
-    → slots_by (stated_in (with_blocks trips standing chosen blocks prefix) (as_written base standing) chosen) ≡ blocks
+    → AreBlockNames (length blocks) names
+    → slots_by (stated_in (with_blocks trips standing chosen blocks names) (as_written base standing) chosen) ≡ blocks
 
 -- so where the plan's blocks are least, the written table states the plan
 abbrev pub LeastAreStated : Type 0
 LeastAreStated =
     (trips : TableView) (base standing : TimetableView) (chosen : List Bool) (matrix : MatrixView) (next : List (Option ℕ))
-    (prefix : List ℕ)
+    (names : List (List ℕ))
     → IsTable trips
     → IsTimetable standing
     → AllRun base
@@ -72,7 +74,8 @@ LeastAreStated =
     → NameSlots trips chosen standing
     → let blocks = blocks_along next (by_departure (trip_moves standing.slots)) in
     IsLeast (network_of standing matrix) blocks
-    → StatesPlan (with_blocks trips standing chosen blocks prefix) (as_written base standing) chosen matrix prefix blocks
+    → AreBlockNames (length blocks) names
+    → StatesPlan (with_blocks trips standing chosen blocks names) (as_written base standing) chosen matrix names blocks
 
 -- the selected records of a feed name the trips of its slots, each in its turn
 abbrev pub FeedNamesSlots : Type 0
@@ -82,25 +85,26 @@ FeedNamesSlots =
     → base_of settings (File trips_bytes) stop_times ≡ Ok base
     → NameSlots trips (chosen_in settings trips) base
 
--- Let no trip of a feed be cancelled and none added, and let the blocks of a plan be least. The two texts that are written of
--- it, read again with the same settings, state this plan.
+-- Let no trip of a feed be cancelled and none added, and let the blocks of a plan be least. Let none of their names be empty,
+-- and no two the same. The two texts that are written of it, read again with the same settings, state this plan.
 abbrev pub WrittenFeedStatesPlan : Type 0
 WrittenFeedStatesPlan =
     (settings : SettingsView) (trips_bytes stop_times_bytes : List ℕ) (trips stop_times : TableView) (base standing : TimetableView)
-    (matrix : MatrixView) (next : List (Option ℕ)) (prefix : List ℕ)
+    (matrix : MatrixView) (next : List (Option ℕ)) (names : List (List ℕ))
     → IsFeed settings trips_bytes stop_times_bytes trips stop_times base
     → IsTimetable standing
     → IsWhole base standing
     → let blocks = blocks_along next (by_departure (trip_moves standing.slots)) in
     let chosen = chosen_in settings trips in
-    let trips_text = trips_written trips standing chosen blocks prefix in
+    let trips_text = trips_written trips standing chosen blocks names in
     let stop_times_text = stop_times_written stop_times standing (length base.slots) in
-    AreReadable trips stop_times standing (length base.slots) chosen blocks prefix
+    AreReadable trips stop_times standing (length base.slots) chosen blocks names
     → IsLeast (network_of standing matrix) blocks
+    → AreBlockNames (length blocks) names
     → (trips_again : TableView) (base_again : TimetableView)
     → table_of trips_text ≡ Ok trips_again
     → base_of settings (File trips_text) (File stop_times_text) ≡ Ok base_again
-    → StatesPlan trips_again base_again (chosen_in settings trips_again) matrix prefix blocks
+    → StatesPlan trips_again base_again (chosen_in settings trips_again) matrix names blocks
 
 -- what stands after a script over a feed is whole where the script leaves as many trips, and all of them run
 abbrev pub ScriptLeavesWhole : Type 0

@@ -34,8 +34,8 @@ abbrev pub NameSlots : TableView → List Bool → TimetableView → Type 0
 NameSlots trips chosen timetable = map (trip_field trips) (selected trips chosen) ≡ slot_names timetable
 
 -- for each of so many slots the name of its block
-abbrev pub names_by_slot : List ℕ → List (List ℕ) → ℕ → List (List ℕ)
-names_by_slot prefix blocks slots = map (λ s. name_of prefix (number_in blocks s)) (range_with_len 0 slots)
+abbrev pub names_by_slot : List (List ℕ) → List (List ℕ) → ℕ → List (List ℕ)
+names_by_slot names blocks slots = map (λ s. name_of names (number_in blocks s)) (range_with_len 0 slots)
 
 -- two files are tables, and with these settings they are read as the timetable of a feed
 pub record IsFeed (settings : SettingsView) (trips_bytes stop_times_bytes : List ℕ) (trips stop_times : TableView)
@@ -47,8 +47,8 @@ pub record IsFeed (settings : SettingsView) (trips_bytes stop_times_bytes : List
   pub read : base_of settings (File trips_bytes) (File stop_times_bytes) ≡ Ok base
 
 -- the files of blocks can be read again: no time is moved to 100:00:00 or later, and none begins with a byte-order mark
-pub record AreReadable (trips stop_times : TableView) (standing : TimetableView) (base : ℕ) (chosen : List Bool) (blocks : List (List ℕ))
-    (prefix : List ℕ) : Type 0 where
+pub record AreReadable (trips stop_times : TableView) (standing : TimetableView) (base : ℕ) (chosen : List Bool)
+    (blocks names : List (List ℕ)) : Type 0 where
   pub times : AreWritable stop_times standing base
-  pub trips_unmarked : strip_bom (trips_written trips standing chosen blocks prefix) ≡ trips_written trips standing chosen blocks prefix
+  pub trips_unmarked : strip_bom (trips_written trips standing chosen blocks names) ≡ trips_written trips standing chosen blocks names
   pub stop_times_unmarked : strip_bom (stop_times_written stop_times standing base) ≡ stop_times_written stop_times standing base

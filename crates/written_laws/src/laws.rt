@@ -33,8 +33,8 @@ pub fn names_law()
     ensures { plan.NamesAreStated }
 {}
 
-/// So the blocks that it states are those of the plan, in their order and each with its trips in theirs. Where those are least,
-/// it states the plan.
+/// So the blocks that it states are those of the plan, in their order and each with its trips in theirs. For that no name of a
+/// block may be empty, and no two the same. Where the blocks are least, it states the plan.
 pub fn blocks_law()
     ensures blocks { plan.BlocksAreStated }
     ensures least { plan.LeastAreStated }

@@ -1,14 +1,15 @@
-use Rattle.std.proofs.Common.{◌≡◌, ◌++◌, [], get_or}
+use Rattle.std.proofs.Common.{◌≡◌, ◌++◌}
 use Rattle.std.specs.Prelude.{IsUtf8}
 use Rattle.std.specs.List.{flat_map, range_with_len}
 use Rattle.gtfs_tables.specs.Writing.{record_text, records_text}
-use Rattle.block_build.specs.Files.{block_header, records_of_block}
+use Rattle.block_build.specs.Files.{block_header}
+use Rattle.block_build.proofs.FilesWritten.{records_numbered}
 use Rattle.block_build.proofs.files.blocks_text.Given as goal
 
 abbrev pub invariant-loop-number : goal.invariant-loop-number
 invariant-loop-number l = record {
   written : l.records ≡ record_text block_header
-      ++ records_text (flat_map (λ n. records_of_block l.named.timetable.now l.named.matrix.now l.named.prefix.now n
-      (get_or l.named.blocks.now n [])) (range_with_len 0 l.number));
+      ++ records_text (flat_map (records_numbered l.named.timetable.now l.named.matrix.now l.named.names.now l.named.blocks.now)
+      (range_with_len 0 l.number));
   text : IsUtf8 l.records;
 }

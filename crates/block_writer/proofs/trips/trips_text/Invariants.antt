@@ -8,5 +8,5 @@ abbrev pub invariant-loop-before : goal.invariant-loop-before
 invariant-loop-before l =
     l.records
     ≡ record_text (header_written l.block l.trips.header)
-    ++ records_text (map (λ r. trip_written l.timetable l.numbers.items l.prefix l.trip l.block (get_or l.chosen r false)
+    ++ records_text (map (λ r. trip_written l.timetable l.numbers.items l.names l.trip l.block (get_or l.chosen r false)
     (get_or l.trips.rows r [])) (range_with_len 0 l.before))
