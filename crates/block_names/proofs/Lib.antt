@@ -1,0 +1,8 @@
+pub mod FilledLemmas
+pub mod FreeLemmas
+pub mod TakenLemmas
+pub mod NamingLemmas
+pub mod NumberedLemmas
+pub mod MostLemmas
+pub mod StepLemmas
+pub mod StatedLemmas
