@@ -8,6 +8,7 @@ use Rattle.edit_script.specs.declared.edit.Line.TheVariants as line
 use Rattle.deadhead_matrix.specs.Matrix.{MatrixView}
 use Rattle.assignment_model.specs.Prices.{Plan}
 use Rattle.block_build.specs.Lines.{block_text, price_text}
+use Rattle.block_names.specs.Names.{NamingView, names_of}
 use Rattle.desk_core.specs.Counts.{blocks_in, minutes_in}
 use Rattle.desk_feed.specs.Numbers.{numbers_line}
 use Rattle.desk_feed.specs.Script.{refusal_line}
@@ -19,11 +20,12 @@ abbrev pub numbers_text : TimetableView → MatrixView → Plan → List ℕ
 numbers_text timetable matrix plan =
     numbers_line (fixed_number timetable) (length (blocks_in timetable plan)) (minutes_in timetable matrix plan)
 
-module _ (matrix : MatrixView) (prefix : List ℕ) where
+module _ (matrix : MatrixView) (naming : NamingView) where
   -- rule: what a `show` prints
   -- a plan as it is shown: the lines of its blocks, one space before each, and those of its prices
   abbrev pub show_text : TimetableView → Plan → List ℕ
-  show_text timetable plan = block_text timetable matrix (codes " " ++ prefix) (blocks_in timetable plan)
+  show_text timetable plan =
+      block_text timetable matrix (codes " ") (names_of naming (blocks_in timetable plan)) (blocks_in timetable plan)
       ++ price_text timetable plan.leave plan.enter
 
   -- what is shown after a record: of a show the plan, and of any other nothing

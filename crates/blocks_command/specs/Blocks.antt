@@ -1,5 +1,5 @@
 -- What `blocks` asks, and what it writes and puts of a feed.
-use Rattle.std.specs.Prelude.{◌≡◌, ℕ, ◌∷◌, [], List, ◌++◌, length, All, IsUtf8, None}
+use Rattle.std.specs.Prelude.{◌≡◌, ℕ, ◌∷◌, [], List, ◌++◌, length, All, None}
 use Rattle.gtfs_tables.specs.Papers.{file_name_of}
 use Rattle.gtfs_tables.specs.declared.paper.Paper.TheVariants as paper
 use Rattle.trip_model.specs.Timetable.{TimetableView}
@@ -9,6 +9,8 @@ use Rattle.assignment_model.specs.Prices.{Plan}
 use Rattle.plan_choice.specs.Likings.{LikingsView}
 use Rattle.deadhead_matrix.specs.Pulls.{IsPull}
 use Rattle.block_build.specs.Files.{blocks_text, prices_text}
+use Rattle.block_build.specs.Names.{AreBlockNames}
+use Rattle.block_names.specs.Names.{NamingView, names_of}
 use Rattle.claim_files.specs.Written.{IsAccepted}
 use Rattle.desk_core.specs.Counts.{blocks_in}
 use Rattle.desk_run.specs.Commands.{Asked}
@@ -16,55 +18,72 @@ use Rattle.desk_run.specs.Outcome.{OutcomeView}
 use Rattle.desk_run.specs.declared.outcome.Writing.{Writing}
 use Rattle.desk_feed.specs.Edited.{ending_after, standing_after}
 use Rattle.desk_feed.specs.Feed.{FeedView, standing}
-use Rattle.desk_feed.specs.Judging.{FeedAsked, doing_by, of_feed}
+use Rattle.desk_feed.specs.Judging.{FeedAsked, of_feed}
 use Rattle.desk_feed.specs.Schedule.{IsMatrixFor}
 use Rattle.feed_likings.specs.Likings.{likings_in}
+use Rattle.feed_naming.specs.Commands.{NamingAsked, doing_named, of_naming}
 use Rattle.feed_desk.specs.Answers.{answers_by}
 use Rattle.feed_desk.specs.Plans.{ArePlanned, most_steps_of, plan_at}
 use Rattle.blocks_command.specs.Answers.{answer_text, numbers_text}
 
+-- the names of the blocks of a plan
+abbrev pub plan_names : NamingView → TimetableView → Plan → List (List ℕ)
+plan_names naming timetable plan = names_of naming (blocks_in timetable plan)
+
 -- the two files of a plan, in the order in which they are written
-abbrev pub plan_files : TimetableView → MatrixView → List ℕ → Plan → List Writing
-plan_files timetable matrix prefix plan =
-    record { name = file_name_of paper.Blocks; bytes = blocks_text timetable matrix prefix (blocks_in timetable plan) }
+abbrev pub plan_files : TimetableView → MatrixView → NamingView → Plan → List Writing
+plan_files timetable matrix naming plan =
+    record {
+      name = file_name_of paper.Blocks;
+      bytes = blocks_text timetable matrix (plan_names naming timetable plan) (blocks_in timetable plan);
+    }
     ∷ record { name = file_name_of paper.Prices; bytes = prices_text timetable plan.leave plan.enter }
     ∷ []
 
 -- What is written and put of a feed's plans. The files are those of the last one. Of each record it is put what the plan after it
 -- says, and last come the numbers after all records.
-abbrev pub plans_outcome : TimetableView → List Line → MatrixView → LikingsView → List ℕ → OutcomeView
-plans_outcome base lines matrix likings prefix =
+abbrev pub plans_outcome : TimetableView → List Line → MatrixView → LikingsView → NamingView → OutcomeView
+plans_outcome base lines matrix likings naming =
     let last = plan_at base lines matrix likings (length lines) in
     record {
-      writes = plan_files (standing_after base lines) matrix prefix last;
+      writes = plan_files (standing_after base lines) matrix naming last;
       lines = None;
-      text = answers_by (answer_text matrix prefix) base lines (plan_at base lines matrix likings) (length lines)
+      text = answers_by (answer_text matrix naming) base lines (plan_at base lines matrix likings) (length lines)
           ++ numbers_text (standing_after base lines) matrix last;
       ending = ending_after base lines;
     }
 
--- It is done of the plan at each moment. Pulls and prefix are valid.
-pub record IsPlanned (base : TimetableView) (lines : List Line) (matrix : MatrixView) (likings : LikingsView) (prefix : List ℕ)
+-- the blocks of a plan have names by which they can be told apart
+abbrev pub IsNamedBy : NamingView → TimetableView → Plan → Type 0
+IsNamedBy naming timetable plan = AreBlockNames (length (blocks_in timetable plan)) (plan_names naming timetable plan)
+
+-- It is done of the plan at each moment. Pulls are valid, and the blocks of the last plan can be told apart by their names.
+pub record IsPlanned (base : TimetableView) (lines : List Line) (matrix : MatrixView) (likings : LikingsView) (naming : NamingView)
     (outcome : OutcomeView) : Type 0 where
   pub are : ArePlanned base lines matrix likings
   pub pulls : All IsPull matrix.pulls
-  pub begun : IsUtf8 prefix
-  pub done : outcome ≡ plans_outcome base lines matrix likings prefix
+  pub named : IsNamedBy naming (standing_after base lines) (plan_at base lines matrix likings (length lines))
+  pub done : outcome ≡ plans_outcome base lines matrix likings naming
 
 -- what is written of the last plan is a claim on which the verdict is yes, with the vehicles and the minutes of its blocks
-abbrev pub IsLastAccepted : TimetableView → MatrixView → List ℕ → Plan → Type 0
-IsLastAccepted timetable matrix prefix plan = IsAccepted timetable matrix prefix (blocks_in timetable plan) plan.leave plan.enter
+abbrev pub IsLastAccepted : TimetableView → MatrixView → NamingView → Plan → Type 0
+IsLastAccepted timetable matrix naming plan =
+    IsAccepted timetable matrix (plan_names naming timetable plan) (blocks_in timetable plan) plan.leave plan.enter
 
 -- and of a feed: its prices prove it to `check`
-pub record IsPlan (likings : LikingsView) (said : FeedView) (outcome : OutcomeView) : Type 0 where
+pub record IsPlan (likings : LikingsView) (naming : NamingView) (said : FeedView) (outcome : OutcomeView) : Type 0 where
   pub matrix : MatrixView
   pub matrix_is : IsMatrixFor said matrix
-  pub planned : IsPlanned said.base said.lines matrix likings said.settings.prefix outcome
-  pub accepted : IsLastAccepted (standing said) matrix said.settings.prefix (plan_at said.base said.lines matrix likings (length said.lines))
+  pub planned : IsPlanned said.base said.lines matrix likings naming outcome
+  pub accepted : IsLastAccepted (standing said) matrix naming (plan_at said.base said.lines matrix likings (length said.lines))
 
--- what `blocks` asks of a feed
+-- what `blocks` asks of a feed whose blocks are named
+abbrev pub blocks_named : NamingAsked
+blocks_named = doing_named (λ read naming said. IsPlan (likings_in read said.settings said.base) naming said) most_steps_of
+
+-- and of any feed
 abbrev pub blocks_does : FeedAsked
-blocks_does = doing_by (λ read said. IsPlan (likings_in read said.settings said.base) said) most_steps_of
+blocks_does = of_naming blocks_named
 
 -- what `blocks` asks of a run
 unfoldable pub blocks_asked : Asked

@@ -2,6 +2,7 @@ ghost use Rattle.std.specs.Prelude.{◌≡◌, ◌++◌, OnOk, string_bytes};
 ghost use Rattle.blocks_command.specs.Answers as spec;
 
 use block_build::{NamedBlocks, SlotPrices, block_lines, price_lines};
+use block_names::Naming;
 use deficit_steps::Deficits;
 use desk_core::Desk;
 use desk_feed::{push_numbers_line, push_refusal};
@@ -22,21 +23,21 @@ pub(crate) fn push_numbers(text: &mut String, desk: &Desk) -> Result<(), Memory>
 }
 
 // Appends the plan of a desk: the lines of its blocks and of its prices.
-fn push_show(alloc: Global, text: &mut String, desk: &Desk, prefix: &str) -> Result<(), Memory>
+fn push_show(alloc: Global, text: &mut String, desk: &Desk, naming: &Naming) -> Result<(), Memory>
     ensures { OnOk result (string_bytes text.new ≡ string_bytes text.old
-        ++ spec.show_text desk.now.matrix prefix.now desk.now.script.timetable desk.now.plan) }
+        ++ spec.show_text desk.now.matrix naming.now desk.now.script.timetable desk.now.plan) }
 {
     let timetable = desk.timetable();
     let plan = desk.plan();
     let blocks = blocks_now(alloc, desk)?;
-    let indented = format!(in alloc; " {prefix}")?;
+    let names = naming.names(alloc, &blocks)?;
     let named = NamedBlocks {
         timetable,
         matrix: desk.matrix(),
         blocks: &blocks,
-        prefix: &indented,
+        names: &names,
     };
-    let lines = block_lines(alloc, &named)?;
+    let lines = block_lines(alloc, &named, " ")?;
     let prices = SlotPrices {
         timetable,
         leave: plan.leave(),
@@ -54,28 +55,28 @@ fn push_shown(
     text: &mut String,
     desk: &Desk,
     line: &Line,
-    prefix: &str,
+    naming: &Naming,
 ) -> Result<(), Memory>
     ensures { OnOk result (string_bytes text.new ≡ string_bytes text.old
-        ++ spec.shown_text desk.now.matrix prefix.now line.now desk.now.script.timetable desk.now.plan) }
+        ++ spec.shown_text desk.now.matrix naming.now line.now desk.now.script.timetable desk.now.plan) }
 {
     match line {
-        Line::Edit(Edit::Show) => push_show(alloc, text, desk, prefix),
+        Line::Edit(Edit::Show) => push_show(alloc, text, desk, naming),
         _ => Ok(()),
     }
 }
 
-/// Of each record the numbers after it, and of a show the plan with blocks of this prefix; or why the record is refused.
+/// Of each record the numbers after it, and of a show the plan with its blocks named so; or why the record is refused.
 #[derive(Drop)]
 pub(crate) struct Numbers<'a> {
     pub(crate) alloc: Global,
-    pub(crate) prefix: &'a str,
+    pub(crate) naming: &'a Naming,
 }
 
 impl<'a> Answers<Deficits> for Numbers<'a> {
     ghost use Rattle.blocks_command.specs.Answers.{answer_text};
 
-    ghost answer = { λ numbers matrix. answer_text matrix numbers.prefix.now };
+    ghost answer = { λ numbers matrix. answer_text matrix numbers.naming.now };
 
     #[tactic(auto, unfolding(crate::specs::Answers::answer_text))]
     fn push_answer(
@@ -90,7 +91,7 @@ impl<'a> Answers<Deficits> for Numbers<'a> {
             None => {
                 write!(text, "record {number}: ok, ")?;
                 push_numbers(text, desk)?;
-                push_shown(self.alloc, text, desk, record.line, self.prefix)
+                push_shown(self.alloc, text, desk, record.line, self.naming)
             }
         }
     }

@@ -1,18 +1,19 @@
-ghost use Rattle.std.specs.Prelude.{◌≡◌, ◌+◌, ◌≤◌, ◌++◌, length, None, IfOk, string_bytes};
+ghost use Rattle.std.specs.Prelude.{◌≡◌, ◌+◌, ◌≤◌, ◌++◌, length, None, IfOk, OnOk, string_bytes};
 ghost use Rattle.blocks_command.specs.Answers.{numbers_text};
 ghost use Rattle.desk_run.specs.Outside.{outside};
 ghost use Rattle.desk_run.specs.Performs.{Performs};
-ghost use Rattle.blocks_command.specs.Blocks.{IsPlanned, blocks_asked, plan_files};
+ghost use Rattle.blocks_command.specs.Blocks.{IsNamedBy, IsPlanned, blocks_asked, plan_files};
 ghost use Rattle.desk_feed.specs.Schedule.{most_steps};
 ghost use Rattle.desk_feed.specs.Script.{IsScript};
 ghost use Rattle.feed_desk.specs.Plans.{most_to};
 
 use crate::answers::{Numbers, push_numbers};
 use block_build::{NamedBlocks, SlotPrices, blocks_text, prices_text};
+use block_names::Naming;
 use claim_files::laws::accepted_law;
 use deadhead_matrix::Matrix;
 use desk_core::Desk;
-use desk_feed::{FeedCommand, OnFeed, Said, matrix_of};
+use desk_feed::{OnFeed, Said, matrix_of};
 use desk_io::{Memory, Shelf, Sink, Steps, Text};
 use desk_keeper::Keeper;
 use desk_run::{Outcome, Writing, perform};
@@ -20,6 +21,7 @@ use edit_script::Line;
 use feed_desk::{Followed, blocks_now, follow_script};
 use feed_likings::read_likings;
 use feed_names::laws::names_law;
+use feed_naming::{NamingCommand, OnNames};
 use gtfs_tables::Paper;
 use plan_choice::Likings;
 use std::alloc::Global;
@@ -27,17 +29,20 @@ use std::sync::ledger::Ledger;
 use trip_model::Timetable;
 
 // The two files of the plan of a desk.
-fn files_of(alloc: Global, desk: &Desk, prefix: &str) -> Result<Vec<Writing<'static>>, Memory>
-    ensures { IfOk result (λ writes. writes.items ≡ plan_files desk.now.script.timetable desk.now.matrix prefix.now desk.now.plan) }
+fn files_of(alloc: Global, desk: &Desk, naming: &Naming) -> Result<Vec<Writing<'static>>, Memory>
+    ensures files { IfOk result (λ writes. writes.items
+        ≡ plan_files desk.now.script.timetable desk.now.matrix naming.now desk.now.plan) }
+    ensures named { OnOk result (IsNamedBy naming.now desk.now.script.timetable desk.now.plan) }
 {
     let timetable = desk.timetable();
     let plan = desk.plan();
     let blocks = blocks_now(alloc, desk)?;
+    let names = naming.names(alloc, &blocks)?;
     let named = NamedBlocks {
         timetable,
         matrix: desk.matrix(),
         blocks: &blocks,
-        prefix,
+        names: &names,
     };
     let blocks = blocks_text(alloc, &named)?;
     let prices = SlotPrices {
@@ -52,20 +57,21 @@ fn files_of(alloc: Global, desk: &Desk, prefix: &str) -> Result<Vec<Writing<'sta
 }
 
 // The files of the last plan, and behind what was put of the records the numbers after them all.
-fn finished(alloc: Global, followed: Followed, prefix: &str) -> Result<Outcome<'static>, Memory>
-    ensures { IfOk result (λ outcome. outcome ≡ record {
-      writes = plan_files followed.desk.script.timetable followed.desk.matrix prefix.now followed.desk.plan;
+fn finished(alloc: Global, followed: Followed, naming: &Naming) -> Result<Outcome<'static>, Memory>
+    ensures done { IfOk result (λ outcome. outcome ≡ record {
+      writes = plan_files followed.desk.script.timetable followed.desk.matrix naming.now followed.desk.plan;
       lines = None;
       text = string_bytes followed.text ++ numbers_text followed.desk.script.timetable followed.desk.matrix followed.desk.plan;
       ending = followed.ending;
     }) }
+    ensures named { OnOk result (IsNamedBy naming.now followed.desk.script.timetable followed.desk.plan) }
 {
     let Followed {
         desk,
         mut text,
         ending,
     } = followed;
-    let writes = files_of(alloc, &desk, prefix)?;
+    let writes = files_of(alloc, &desk, naming)?;
     push_numbers(&mut text, &desk)?;
     Ok(Outcome::of(writes, None, Text::wrap(text), ending))
 }
@@ -77,36 +83,36 @@ fn planned<L: Ledger>(
     lines: &[Line],
     matrix: Matrix,
     likings: &Likings,
-    prefix: &str,
+    naming: &Naming,
     steps: &mut Steps<L>,
 ) -> Result<Outcome<'static>, Memory>
     requires script { IsScript lines.now }
     requires places { length timetable.places ≡ length matrix.walks }
-    ensures planned { IfOk result (IsPlanned timetable lines.now matrix likings.now prefix.now) }
+    ensures planned { IfOk result (IsPlanned timetable lines.now matrix likings.now naming.now) }
     ensures counted { steps.new ≤ steps.old + (most_steps (length timetable.slots) + most_to timetable lines.now (length lines.now)) }
 {
-    let answers = Numbers { alloc, prefix };
+    let answers = Numbers { alloc, naming };
     let followed = follow_script(alloc, timetable, lines, matrix, likings, answers, steps)?;
-    finished(alloc, followed, prefix)
+    finished(alloc, followed, naming)
 }
 
 #[derive(Drop)]
 struct WriteBlocks;
 
-impl FeedCommand for WriteBlocks {
-    ghost use Rattle.blocks_command.specs.Blocks.{blocks_does};
+impl NamingCommand for WriteBlocks {
+    ghost use Rattle.blocks_command.specs.Blocks.{blocks_named};
 
-    ghost asks = { λ _. blocks_does };
+    ghost asks = { λ _. blocks_named };
 
     fn outcome<'a, L: Ledger>(
         &self,
         said: Said<'a, '_>,
+        naming: &Naming,
         steps: &mut Steps<L>,
     ) -> Result<Outcome<'a>, Memory> {
         accepted_law();
         names_law();
         let alloc = said.alloc;
-        let prefix = said.settings.prefix();
         let pulls = said.pulls;
         let matrix = matrix_of(alloc, &said.timetable, said.deadheads, pulls)?;
         let likings = read_likings(alloc, said.settings, said.read, &said.timetable)?;
@@ -116,7 +122,7 @@ impl FeedCommand for WriteBlocks {
             said.lines,
             matrix,
             &likings,
-            prefix,
+            naming,
             steps,
         )
     }
@@ -136,5 +142,12 @@ pub fn run_blocks<S: Shelf, O: Sink, K: Keeper, L: Ledger>(
     ensures { let at = outside S.state S.history O.state O.history K.state K.history in
         Performs blocks_asked (at shelf.old out.old keeper.old) (at shelf.new out.new keeper.new) result steps.old steps.new }
 {
-    perform(&OnFeed::of(WriteBlocks), alloc, shelf, out, keeper, steps)
+    perform(
+        &OnFeed::of(OnNames(WriteBlocks)),
+        alloc,
+        shelf,
+        out,
+        keeper,
+        steps,
+    )
 }

@@ -10,4 +10,4 @@ said_to said = said_with said.settings.now said.timetable said.deadheads.now sai
 
 -- what stands after its script
 abbrev pub stands_for : Stands → EditedView
-stands_for stands = stands_with stands.settings.now stands.timetable.now stands.deadheads.now stands.pulls
+stands_for stands = stands_with stands.timetable.now stands.deadheads.now stands.pulls

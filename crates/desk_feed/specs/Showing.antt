@@ -1,6 +1,5 @@
 -- What a command asks that puts a text of the timetable after the script.
 use Rattle.std.specs.Prelude.{◌≡◌, ℕ, List}
-use Rattle.desk_settings.specs.Settings.{SettingsView}
 use Rattle.trip_model.specs.Timetable.{TimetableView}
 use Rattle.deadhead_matrix.specs.declared.entry.Entry.{Entry}
 use Rattle.deadhead_matrix.specs.declared.pulls.Pull.{Pull}
@@ -12,16 +11,15 @@ use Rattle.desk_feed.specs.Judging.{FeedAsked, doing, ending_of, refused_of}
 
 -- what stands after the script of a feed
 pub record EditedView : Type 0 where
-  pub settings : SettingsView
   pub timetable : TimetableView
   pub entries : List Entry
   pub pulls : List Pull
 
-abbrev pub stands_with : SettingsView → TimetableView → List Entry → List Pull → EditedView
-stands_with settings timetable entries pulls = record { settings = settings; timetable = timetable; entries = entries; pulls = pulls }
+abbrev pub stands_with : TimetableView → List Entry → List Pull → EditedView
+stands_with timetable entries pulls = record { timetable = timetable; entries = entries; pulls = pulls }
 
 abbrev pub stands_after : FeedView → EditedView
-stands_after said = stands_with said.settings (standing said) said.entries said.pulls
+stands_after said = stands_with (standing said) said.entries said.pulls
 
 -- which texts a command may put of that, and how many steps it may count
 pub record TextAsked : Type 1 where

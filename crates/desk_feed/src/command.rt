@@ -191,7 +191,6 @@ impl<'a, C: FeedCommand> Command for OnFeed<'a, C> {
 #[derive(Drop)]
 pub struct Stands<'a> {
     pub alloc: Global,
-    pub settings: &'a Settings,
     /// The timetable after the script.
     pub timetable: &'a Timetable,
     pub deadheads: &'a Deadheads,
@@ -249,7 +248,6 @@ impl<C: TextCommand> FeedCommand for AfterScript<C> {
         let timetable = edited.script.timetable();
         let stands = Stands {
             alloc: said.alloc,
-            settings: said.settings,
             timetable,
             deadheads: said.deadheads,
             pulls: said.pulls,

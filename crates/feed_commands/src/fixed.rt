@@ -10,11 +10,13 @@ ghost use Rattle.desk_run.specs.Performs.{Performs};
 ghost use Rattle.feed_commands.specs.Fixed.{IsFixedText, fixed_asked};
 
 use block_build::{Blocks, NamedBlocks, block_lines, blocks_of};
-use deadhead_matrix::{Deadheads, Matrix};
-use desk_feed::{OnFeed, Stands, TextCommand};
+use block_names::Naming;
+use deadhead_matrix::{Deadheads, Matrix, Pulls};
+use desk_feed::{OnFeed, Said, after_script, putting_after};
 use desk_io::{Memory, Shelf, Sink, Steps, Text};
 use desk_keeper::Keeper;
-use desk_run::perform;
+use desk_run::{Outcome, perform};
+use feed_naming::{NamingCommand, OnNames};
 use fixed_fleet::fixed_links;
 use std::alloc::Global;
 use std::sync::ledger::Ledger;
@@ -38,22 +40,26 @@ fn fixed_blocks(alloc: Global, timetable: &Timetable) -> Result<Blocks, Memory>
 
 // The lines of the blocks without deadheads, and their number. No least walk is asked for: no vehicle runs empty but out of
 // the depot and home.
-fn fixed_text(stands: Stands) -> Result<Text, Memory>
-    requires { length stands.pulls ≡ length stands.timetable.now.places }
-    ensures { IfOk result (IsFixedText stands.entry.timetable.now stands.entry.pulls stands.entry.settings.now.prefix) }
+fn fixed_text(
+    alloc: Global,
+    timetable: &Timetable,
+    pulls: Pulls,
+    naming: &Naming,
+) -> Result<Text, Memory>
+    requires { length pulls ≡ length timetable.now.places }
+    ensures { IfOk result (IsFixedText timetable.now pulls naming.now) }
 {
-    let alloc = stands.alloc;
-    let timetable = stands.timetable;
     let blocks = fixed_blocks(alloc, timetable)?;
     let mut matrix = Matrix::of(alloc, &Deadheads::none(alloc)?, timetable.places())?;
-    matrix.set_pulls(stands.pulls);
+    matrix.set_pulls(pulls);
+    let names = naming.names(alloc, &blocks)?;
     let named = NamedBlocks {
         timetable,
         matrix: &matrix,
         blocks: &blocks,
-        prefix: stands.settings.prefix(),
+        names: &names,
     };
-    let lines = block_lines(alloc, &named)?;
+    let lines = block_lines(alloc, &named, "")?;
     let lines = lines.as_str();
     Ok(Text::wrap(format!(in alloc; "{lines}fixed {}\n", blocks.len())?))
 }
@@ -61,13 +67,22 @@ fn fixed_text(stands: Stands) -> Result<Text, Memory>
 #[derive(Drop)]
 struct ShowFixed;
 
-impl TextCommand for ShowFixed {
-    ghost use Rattle.feed_commands.specs.Fixed.{fixed_shown};
+impl NamingCommand for ShowFixed {
+    ghost use Rattle.feed_commands.specs.Fixed.{fixed_named};
 
-    ghost asks = { λ _. fixed_shown };
+    ghost asks = { λ _. fixed_named };
 
-    fn text<L: Ledger>(&self, stands: Stands, _steps: &mut Steps<L>) -> Result<Text, Memory> {
-        fixed_text(stands)
+    fn outcome<'a, L: Ledger>(
+        &self,
+        said: Said<'a, '_>,
+        naming: &Naming,
+        _steps: &mut Steps<L>,
+    ) -> Result<Outcome<'a>, Memory> {
+        let alloc = said.alloc;
+        let pulls = said.pulls;
+        let edited = after_script(alloc, said.timetable, said.lines)?;
+        let text = fixed_text(alloc, edited.script.timetable(), pulls, naming)?;
+        putting_after(alloc, &edited.refused, &text, edited.ending)
     }
 }
 
@@ -83,5 +98,12 @@ pub fn run_fixed<S: Shelf, O: Sink, K: Keeper, L: Ledger>(
     ensures { let at = outside S.state S.history O.state O.history K.state K.history in
         Performs fixed_asked (at shelf.old out.old keeper.old) (at shelf.new out.new keeper.new) result steps.old steps.new }
 {
-    perform(&OnFeed::text(ShowFixed), alloc, shelf, out, keeper, steps)
+    perform(
+        &OnFeed::of(OnNames(ShowFixed)),
+        alloc,
+        shelf,
+        out,
+        keeper,
+        steps,
+    )
 }

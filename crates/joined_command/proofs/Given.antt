@@ -21,14 +21,16 @@ use Rattle.desk_run.specs.Reading.{ReadView, found_of}
 use Rattle.edit_script.specs.declared.edit.Line.{Line}
 use Rattle.desk_feed.specs.Edited.{standing_after}
 use Rattle.desk_feed.specs.Feed.{FeedView, deadheads_in, lines_in, pulls_in, said_by, said_with, settings_in, standing, timetable_in}
-use Rattle.desk_feed.specs.Judging.{IsGivenOf, ending_of, refused_of, said_in}
+use Rattle.desk_feed.specs.Judging.{ending_of, refused_of, said_in}
 use Rattle.desk_feed.specs.Schedule.{IsMatrixFor}
 use Rattle.desk_feed.proofs.ScriptLemmas.{standing-places}
 use Rattle.feed_likings.specs.Likings.{likings_in}
+use Rattle.block_names.specs.Names.{NamingView, names_of}
+use Rattle.feed_naming.specs.Commands.{IsGivenNamed}
 use Rattle.feed_desk.specs.Drawn.{HasDrawn, IsDrawn}
 use Rattle.feed_desk.specs.declared.draw.Drawn.{Drawn}
 use Rattle.feed_desk.proofs.DrawnLemmas.{drawn-scheduled, drawn-valid}
-use Rattle.joined_command.specs.Joined.{boards_outcome, joined_does}
+use Rattle.joined_command.specs.Joined.{boards_outcome, joined_named}
 
 read-parts : {A B : Type 0} (read : Result A FeedFault) (next : A → Result B FeedFault) (x : B) → (read >>= next) ≡ Ok x
     → (y : A) × (read ≡ Ok y) × (next y ≡ Ok x)
@@ -82,19 +84,19 @@ drawn-blocking base lines matrix likings drawn has =
     (subst (λ matrix. IsBlocking (network_of (standing_after base lines) matrix) drawn.blocks) (sym has.matrix_is)
     (drawn-scheduled base lines matrix likings drawn.desk.plan drawn.blocks has.plan).least.fewest.blocking)
 
-pub joined-given : {D E : Type 0} (read : ReadView) (said : FeedView) (matrix : MatrixView) (likings : LikingsView) (drawn : Drawn D)
+pub joined-given : {D E : Type 0} (read : ReadView) (naming : NamingView) (said : FeedView) (matrix : MatrixView) (likings : LikingsView) (drawn : Drawn D)
     → JoinedIsLeast → EntriesTakeTime → said_in read ≡ Ok said → IsMatrixFor said matrix → HasDrawn said.base said.lines matrix likings drawn
     → likings ≡ likings_in read said.settings said.base
     → (result : Result OutcomeView E)
-    → IfOk result (λ outcome. outcome ≡ boards_outcome drawn.refused drawn.ending said.settings.prefix drawn.desk.script.timetable
-    drawn.desk.matrix drawn.blocks)
-    → IfOk result (IsGivenOf joined_does read said)
-joined-given read said matrix likings drawn least law says is has liked (Err e) done = tt
-joined-given read said matrix likings drawn least law says is has liked (Ok outcome) done =
+    → IfOk result (λ outcome. outcome ≡ boards_outcome drawn.refused drawn.ending (names_of naming drawn.blocks)
+    drawn.desk.script.timetable drawn.desk.matrix drawn.blocks)
+    → IfOk result (IsGivenNamed joined_named read naming said)
+joined-given read naming said matrix likings drawn least law says is has liked (Err e) done = tt
+joined-given read naming said matrix likings drawn least law says is has liked (Ok outcome) done =
     let scheduled = drawn-scheduled said.base said.lines matrix likings drawn.desk.plan drawn.blocks has.plan in
     let valid = drawn-valid said.base said.lines matrix likings drawn.desk.plan drawn.blocks has.plan in
-    let here : outcome ≡ boards_outcome (refused_of said) (ending_of said) said.settings.prefix (standing said) matrix drawn.blocks =
-    done ∙ (λ i. boards_outcome (has.refused i) (has.ending i) said.settings.prefix (has.timetable i) (has.matrix_is i) drawn.blocks) in
+    let here : outcome ≡ boards_outcome (refused_of said) (ending_of said) (names_of naming drawn.blocks) (standing said) matrix drawn.blocks =
+    done ∙ (λ i. boards_outcome (has.refused i) (has.ending i) (names_of naming drawn.blocks) (has.timetable i) (has.matrix_is i) drawn.blocks) in
     let count : length matrix.walks ≡ length (standing said).places = is.count
     ∙ sym (ap length (standing-places said.base said.lines (length said.lines))) in
     record {
@@ -109,5 +111,5 @@ joined-given read said matrix likings drawn least law says is has liked (Ok outc
             (subst TakeTime (sym is.entries_are) (entries-said law (found_of read.pages) said says)) scheduled.least;
       };
       ends = ap (λ (o : OutcomeView). o.ending) here;
-      unkept = λ _. ap (λ (o : OutcomeView). o.lines) here;
+      unkept = ap (λ (o : OutcomeView). o.lines) here;
     }

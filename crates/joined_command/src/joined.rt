@@ -1,4 +1,5 @@
 ghost use Rattle.std.specs.Prelude.{◌≡◌, ◌+◌, ◌*◌, ◌<◌, ◌≤◌, length, All, IfOk};
+ghost use Rattle.block_names.specs.Names.{names_of};
 ghost use Rattle.joined_command.specs.Joined.{boards_outcome, joined_asked, joined_of};
 ghost use Rattle.deadhead_matrix.specs.Fitting.{network_of};
 ghost use Rattle.deficit_steps.specs.Holds.{Holds};
@@ -9,14 +10,15 @@ ghost use Rattle.trip_model.specs.Blocking.{IsBlocking};
 ghost use Rattle.trip_model.specs.Deficit.{live_moves};
 
 use block_build::NamedBlocks;
+use block_names::Naming;
 use deficit_steps::Deficits;
-use desk_feed::{FeedCommand, OnFeed, Said, matrix_of};
+use desk_feed::{OnFeed, Said, matrix_of};
 use desk_io::{Memory, Shelf, Sink, Steps, Text};
 use desk_keeper::Keeper;
 use desk_run::{Outcome, Writing, perform};
-use desk_settings::Settings;
 use feed_desk::{Drawn, draw_after};
 use feed_likings::read_likings;
+use feed_naming::{NamingCommand, OnNames};
 use joined_deficits::laws::{entries_law, joined_law};
 use joined_deficits::{boards_text, joined_deficits, joined_lines, joined_moves};
 use std::alloc::Global;
@@ -44,22 +46,24 @@ fn joined_text<L: Ledger>(
 // What is written and put of the plan after a script.
 fn boarded<L: Ledger>(
     alloc: Global,
-    settings: &Settings,
+    naming: &Naming,
     drawn: &Drawn,
     steps: &mut Steps<L>,
 ) -> Result<Outcome<'static>, Memory>
     requires slots { All (All (λ s. s < length drawn.now.desk.script.timetable.slots)) drawn.now.blocks }
     requires blocking { IsBlocking (network_of drawn.now.desk.script.timetable drawn.now.desk.matrix) drawn.now.blocks }
     ensures boarded { IfOk result (λ outcome.
-        outcome ≡ boards_outcome drawn.now.refused drawn.now.ending settings.now.prefix drawn.now.desk.script.timetable
+        outcome ≡ boards_outcome drawn.now.refused drawn.now.ending (names_of naming.now drawn.now.blocks)
+        drawn.now.desk.script.timetable
         drawn.now.desk.matrix drawn.now.blocks) }
     ensures counted { steps.new ≤ steps.old + 28 * MOST_MOVES }
 {
+    let names = naming.names(alloc, &drawn.blocks)?;
     let named = NamedBlocks {
         timetable: drawn.desk.timetable(),
         matrix: drawn.desk.matrix(),
         blocks: &drawn.blocks,
-        prefix: settings.prefix(),
+        names: &names,
     };
     let boards = boards_text(alloc, &named)?;
     let writing = Writing::of(alloc, "boards.csv", boards)?;
@@ -72,14 +76,15 @@ fn boarded<L: Ledger>(
 #[derive(Drop)]
 struct WriteBoards;
 
-impl FeedCommand for WriteBoards {
-    ghost use Rattle.joined_command.specs.Joined.{joined_does};
+impl NamingCommand for WriteBoards {
+    ghost use Rattle.joined_command.specs.Joined.{joined_named};
 
-    ghost asks = { λ _. joined_does };
+    ghost asks = { λ _. joined_named };
 
     fn outcome<'a, L: Ledger>(
         &self,
         said: Said<'a, '_>,
+        naming: &Naming,
         steps: &mut Steps<L>,
     ) -> Result<Outcome<'a>, Memory> {
         entries_law();
@@ -95,7 +100,7 @@ impl FeedCommand for WriteBoards {
             &likings,
             steps,
         )?;
-        boarded(said.alloc, said.settings, &drawn, steps)
+        boarded(said.alloc, naming, &drawn, steps)
     }
 }
 
@@ -112,5 +117,12 @@ pub fn run_joined<S: Shelf, O: Sink, K: Keeper, L: Ledger>(
     ensures { let at = outside S.state S.history O.state O.history K.state K.history in
         Performs joined_asked (at shelf.old out.old keeper.old) (at shelf.new out.new keeper.new) result steps.old steps.new }
 {
-    perform(&OnFeed::of(WriteBoards), alloc, shelf, out, keeper, steps)
+    perform(
+        &OnFeed::of(OnNames(WriteBoards)),
+        alloc,
+        shelf,
+        out,
+        keeper,
+        steps,
+    )
 }

@@ -1,6 +1,6 @@
 //! The command that shows the deficits with the deadheads of blocks put in, and writes the running boards: `joined`.
 //!
-//! [`run_joined`] is a whole run over any shelf, sink and keeper, of a `FeedCommand` of `desk_feed`. It takes the plan after
+//! [`run_joined`] is a whole run over any shelf, sink and keeper, of a `NamingCommand` of `feed_naming`. It takes the plan after
 //! the script. It puts the deficits of trips and deadheads together beside those of the trips alone.
 //!
 //! The contract that the crates above use: a run performs what `joined` asks (`joined_asked`). The maxima of the joined deficits add
@@ -13,6 +13,7 @@
 //! - `Joined`: what the command asks and does
 //! - of `joined_deficits` `Joined`, `Boards` and `Lines`
 //! - of `feed_desk` `Drawn` and `Plans`
+//! - of `feed_naming` `Commands`, and of `block_names` `Names`
 //! - of `desk_run` `Performs`; of `desk_feed` `Feed`, `Judging` and `Schedule`
 #![tactic(auto)]
 

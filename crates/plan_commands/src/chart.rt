@@ -1,31 +1,36 @@
 ghost use Rattle.std.specs.Prelude.{◌≡◌, ◌+◌, ◌<◌, ◌≤◌, length, All, IfOk};
+ghost use Rattle.block_names.specs.Names.{names_of};
 ghost use Rattle.desk_run.specs.Outside.{outside};
 ghost use Rattle.desk_run.specs.Performs.{Performs};
 ghost use Rattle.plan_commands.specs.Chart.{chart_asked, chart_text};
 
 use block_build::NamedBlocks;
+use block_names::Naming;
 use chart_text::{block_chart, deficit_chart};
-use desk_feed::{FeedCommand, OnFeed, Said, matrix_of, putting_after};
+use desk_feed::{OnFeed, Said, matrix_of, putting_after};
 use desk_io::{Memory, Shelf, Sink, Steps, Text};
 use desk_keeper::Keeper;
 use desk_run::{Outcome, perform};
 use feed_desk::{Drawn, draw_after};
 use feed_likings::read_likings;
+use feed_naming::{NamingCommand, OnNames};
 use std::alloc::Global;
 use std::sync::ledger::Ledger;
 
 // The charts of the deficits and of the blocks after a script.
-fn charts(alloc: Global, drawn: &Drawn, prefix: &str) -> Result<Text, Memory>
+fn charts(alloc: Global, drawn: &Drawn, naming: &Naming) -> Result<Text, Memory>
     requires slots { All (All (λ s. s < length drawn.now.desk.script.timetable.slots)) drawn.now.blocks }
-    ensures { IfOk result (λ text. text ≡ chart_text drawn.now.desk.script.timetable drawn.now.desk.matrix prefix.now drawn.now.blocks) }
+    ensures { IfOk result (λ text. text ≡ chart_text drawn.now.desk.script.timetable drawn.now.desk.matrix
+        (names_of naming.now drawn.now.blocks) drawn.now.blocks) }
 {
     let timetable = drawn.desk.timetable();
     let above = deficit_chart(alloc, timetable, drawn.desk.deficits())?;
+    let names = naming.names(alloc, &drawn.blocks)?;
     let named = NamedBlocks {
         timetable,
         matrix: drawn.desk.matrix(),
         blocks: &drawn.blocks,
-        prefix,
+        names: &names,
     };
     let below = block_chart(alloc, &named)?;
     Ok(Text::wrap(format!(in alloc; "{}{}", above.as_str(), below.as_str())?))
@@ -34,14 +39,15 @@ fn charts(alloc: Global, drawn: &Drawn, prefix: &str) -> Result<Text, Memory>
 #[derive(Drop)]
 struct ShowChart;
 
-impl FeedCommand for ShowChart {
-    ghost use Rattle.plan_commands.specs.Chart.{chart_does};
+impl NamingCommand for ShowChart {
+    ghost use Rattle.plan_commands.specs.Chart.{chart_named};
 
-    ghost asks = { λ _. chart_does };
+    ghost asks = { λ _. chart_named };
 
     fn outcome<'a, L: Ledger>(
         &self,
         said: Said<'a, '_>,
+        naming: &Naming,
         steps: &mut Steps<L>,
     ) -> Result<Outcome<'a>, Memory> {
         let pulls = said.pulls;
@@ -55,7 +61,7 @@ impl FeedCommand for ShowChart {
             &likings,
             steps,
         )?;
-        let text = charts(said.alloc, &drawn, said.settings.prefix())?;
+        let text = charts(said.alloc, &drawn, naming)?;
         putting_after(said.alloc, &drawn.refused, &text, drawn.ending)
     }
 }
@@ -73,5 +79,12 @@ pub fn run_chart<S: Shelf, O: Sink, K: Keeper, L: Ledger>(
     ensures { let at = outside S.state S.history O.state O.history K.state K.history in
         Performs chart_asked (at shelf.old out.old keeper.old) (at shelf.new out.new keeper.new) result steps.old steps.new }
 {
-    perform(&OnFeed::of(ShowChart), alloc, shelf, out, keeper, steps)
+    perform(
+        &OnFeed::of(OnNames(ShowChart)),
+        alloc,
+        shelf,
+        out,
+        keeper,
+        steps,
+    )
 }

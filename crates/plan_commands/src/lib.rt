@@ -2,7 +2,8 @@
 //! are least.
 //!
 //! [`run_chart`] draws the deficits and the blocks of the plan after the script, and [`run_check`] judges the two files of a
-//! claim. Each is a whole run over any shelf, sink and keeper, of a `FeedCommand` of `desk_feed`.
+//! claim. Each is a whole run over any shelf, sink and keeper, of a `NamingCommand` of `feed_naming` and of a `FeedCommand` of
+//! `desk_feed`.
 //!
 //! The contract that the crates above use: a run performs what its command asks (`chart_asked`, `check_asked`).
 //!
@@ -12,6 +13,7 @@
 //!
 //! - `Chart`, `Check`: what each command asks and does
 //! - of `feed_desk` `Drawn` and `Plans`
+//! - of `feed_naming` `Commands`, and of `block_names` `Names`
 //! - of `desk_run` `Performs`; of `desk_feed` `Feed`, `Judging`, `Edited` and `Schedule`
 #![tactic(auto)]
 

@@ -17,11 +17,11 @@ or_given claimed (Ok read) = read
 or_given claimed (Err fault) = claimed
 
 -- what was read is what is accepted, so the verdict on it is yes
-pub verdict-yes : (timetable : TimetableView) (matrix : MatrixView) (prefix : List ℕ) (blocks : List (List ℕ)) (leave enter : List ℕ)
+pub verdict-yes : (timetable : TimetableView) (matrix : MatrixView) (names blocks : List (List ℕ)) (leave enter : List ℕ)
     (claimed : ClaimedView)
-    → IsAccepted timetable matrix prefix blocks leave enter → written timetable matrix prefix blocks leave enter ≡ Ok claimed
+    → IsAccepted timetable matrix names blocks leave enter → written timetable matrix names blocks leave enter ≡ Ok claimed
     → verdict_of timetable matrix claimed ≡ Yes (length blocks) (empty_minutes (network_of timetable matrix) blocks)
-verdict-yes timetable matrix prefix blocks leave enter claimed accepted read =
+verdict-yes timetable matrix names blocks leave enter claimed accepted read =
     ap (verdict_of timetable matrix) (ap (or_given claimed) (sym read ∙ accepted.1)) ∙ accepted.2
 
 abbrev vehicles_of : Verdict → ℕ

@@ -11,16 +11,17 @@ use Rattle.desk_feed.specs.Edited.{IsEdited, refusing_first}
 use Rattle.desk_feed.specs.Feed.{FeedView}
 use Rattle.desk_feed.specs.Judging.{Does, IsGivenOf, ending_of, of_feed, refused_of, said_in}
 use Rattle.gtfs_tables.specs.declared.fault.FeedFault.{FeedFault}
+use Rattle.block_names.specs.Names.{NamingView}
 use Rattle.desk_feed.specs.Schedule.{IsMatrixFor}
-use Rattle.sample_command.specs.Sample.{HasSummary, IsSummed, sample_asked, sample_read, summary_does, summary_line}
+use Rattle.sample_command.specs.Sample.{HasSummary, IsSummed, numbered_by, sample_asked, sample_read, summary_does, summary_line}
 use Rattle.sample_command.specs.Summed.{IsSummedOf}
 
 pub summary-given : {E : Type 0} (trips : ℕ) (read : ReadView) (said : FeedView) (edited : Edited) (matrix : MatrixView)
     → IsEdited said.base said.lines edited → IsMatrixFor said matrix
-    → (result : Result OutcomeView E) (prefix : List ℕ) → prefix ≡ said.settings.prefix
-    → IfOk result (IsSummedOf trips edited matrix prefix) → IfOk result (IsGivenOf (summary_does trips) read said)
-summary-given trips read said edited matrix is matrix_is (Err e) prefix prefix_is summed = tt
-summary-given trips read said edited matrix is matrix_is (Ok outcome) prefix prefix_is summed =
+    → (result : Result OutcomeView E) (naming : NamingView) → naming ≡ numbered_by said.settings
+    → IfOk result (IsSummedOf trips edited matrix naming) → IfOk result (IsGivenOf (summary_does trips) read said)
+summary-given trips read said edited matrix is matrix_is (Err e) naming naming_is summed = tt
+summary-given trips read said edited matrix is matrix_is (Ok outcome) naming naming_is summed =
     let here : outcome ≡ refusing_first (refused_of said) (summary_line trips summed.fixed summed.vehicles summed.minutes)
     (ending_of said) =
     summed.done ∙ (λ i. refusing_first (is.refused i) (summary_line trips summed.fixed summed.vehicles summed.minutes) (is.ending i)) in
@@ -31,9 +32,9 @@ summary-given trips read said edited matrix is matrix_is (Ok outcome) prefix pre
         fixed = summed.fixed;
         vehicles = summed.vehicles;
         minutes = summed.minutes;
-        summary = subst (λ (t : TimetableView). HasSummary t matrix said.settings.prefix summed.fixed summed.vehicles summed.minutes)
+        summary = subst (λ (t : TimetableView). HasSummary t matrix (numbered_by said.settings) summed.fixed summed.vehicles summed.minutes)
             is.timetable
-            (subst (λ p. HasSummary edited.script.timetable matrix p summed.fixed summed.vehicles summed.minutes) prefix_is summed.summary);
+            (subst (λ p. HasSummary edited.script.timetable matrix p summed.fixed summed.vehicles summed.minutes) naming_is summed.summary);
         done = here;
       };
       ends = ap (λ (o : OutcomeView). o.ending) here;

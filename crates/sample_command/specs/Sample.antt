@@ -1,12 +1,14 @@
 -- What `sample` asks, and the line that it puts.
 use Rattle.std.specs.Prelude.{◌≡◌, ℕ, false, List, [], ◌∷◌, ◌++◌, length, pos, codes}
 use Rattle.std.specs.Fmt.{decimal}
+use Rattle.desk_settings.specs.Settings.{SettingsView}
 use Rattle.trip_model.specs.Blocking.{empty_minutes}
 use Rattle.trip_model.specs.Fleet.{deficit_sum}
 use Rattle.trip_model.specs.Timetable.{TimetableView}
 use Rattle.deadhead_matrix.specs.Matrix.{MatrixView}
 use Rattle.assignment_model.specs.Prices.{Plan}
 use Rattle.deadhead_matrix.specs.Fitting.{network_of}
+use Rattle.block_names.specs.Names.{NamingView, names_of}
 use Rattle.claim_files.specs.Written.{IsAccepted}
 use Rattle.desk_run.specs.Commands.{Asked}
 use Rattle.desk_run.specs.Outcome.{OutcomeView}
@@ -27,13 +29,17 @@ summary_line trips fixed vehicles minutes =
     ++ (codes ": fixed " ++ (decimal fixed
     ++ (codes ", vehicles " ++ (decimal vehicles ++ (codes ", minutes " ++ (decimal minutes ++ (codes ", check yes" ++ 10 ∷ []))))))))
 
+-- the blocks of a sample are named by numbers, since its trips state none
+abbrev pub numbered_by : SettingsView → NamingView
+numbered_by settings = record { prefix = settings.prefix; stated = [] }
+
 -- The three numbers of a timetable: the sum of the maxima of its deficits, and the vehicles and the empty minutes of a plan.
 -- The plan is certified, so its blocks are least over all blockings. `check` says yes to its two files.
-pub record HasSummary (timetable : TimetableView) (matrix : MatrixView) (prefix : List ℕ) (fixed vehicles minutes : ℕ) : Type 0 where
+pub record HasSummary (timetable : TimetableView) (matrix : MatrixView) (naming : NamingView) (fixed vehicles minutes : ℕ) : Type 0 where
   pub plan : Plan
   pub blocks : List (List ℕ)
   pub scheduled : IsScheduled timetable matrix plan blocks
-  pub accepted : IsAccepted timetable matrix prefix blocks plan.leave plan.enter
+  pub accepted : IsAccepted timetable matrix (names_of naming blocks) blocks plan.leave plan.enter
   pub fixed_is : pos fixed ≡ deficit_sum timetable
   pub vehicles_is : vehicles ≡ length blocks
   pub minutes_is : minutes ≡ empty_minutes (network_of timetable matrix) blocks
@@ -45,7 +51,7 @@ pub record IsSummed (trips : ℕ) (said : FeedView) (outcome : OutcomeView) : Ty
   pub fixed : ℕ
   pub vehicles : ℕ
   pub minutes : ℕ
-  pub summary : HasSummary (standing said) matrix said.settings.prefix fixed vehicles minutes
+  pub summary : HasSummary (standing said) matrix (numbered_by said.settings) fixed vehicles minutes
   pub done : outcome ≡ refusing_first (refused_of said) (summary_line trips fixed vehicles minutes) (ending_of said)
 
 -- the most steps: those of a plan from scratch

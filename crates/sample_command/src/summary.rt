@@ -1,5 +1,6 @@
 ghost use Rattle.std.specs.Prelude.{◌≡◌, ◌+◌, ◌≤◌, length, All, IfOk, Ok, ◌*◌, pos};
-ghost use Rattle.claim_files.specs.Written.{IsAccepted, IsName, written};
+ghost use Rattle.block_build.specs.Names.{IsName};
+ghost use Rattle.claim_files.specs.Written.{IsAccepted, written};
 ghost use Rattle.desk_feed.specs.Schedule.{most_steps};
 ghost use Rattle.desk_io.specs.declared.shelf.Found.TheVariants.{File};
 ghost use Rattle.gtfs_tables.specs.Papers.{IsWithinLimit};
@@ -8,6 +9,7 @@ ghost use Rattle.sample_command.specs.Sample.{HasSummary};
 ghost use Rattle.sample_command.specs.Summed.{IsSummedOf};
 
 use block_build::{NamedBlocks, SlotPrices, blocks_text, prices_text};
+use block_names::Naming;
 use claim_files::laws::accepted_law;
 use claim_files::{ClaimFault, read_claimed};
 use deadhead_matrix::Matrix;
@@ -46,9 +48,9 @@ fn file_of(alloc: Global, text: &Text) -> Result<Found, Memory>
 // The claim of a plan and its blocks, as its two files are read, which are in form.
 fn claim_of(alloc: Global, named: &NamedBlocks<'_>, plan: &Plan) -> Result<Claimed, Memory>
     requires prices { length plan.now.next ≡ length named.now.timetable.now.slots }
-    requires accepted { IsAccepted named.now.timetable.now named.now.matrix.now named.now.prefix.now named.now.blocks.now plan.now.leave
+    requires accepted { IsAccepted named.now.timetable.now named.now.matrix.now named.now.names.now named.now.blocks.now plan.now.leave
         plan.now.enter }
-    ensures claim { IfOk result (λ claimed. written named.now.timetable.now named.now.matrix.now named.now.prefix.now
+    ensures claim { IfOk result (λ claimed. written named.now.timetable.now named.now.matrix.now named.now.names.now
         named.now.blocks.now plan.now.leave plan.now.enter ≡ Ok claimed) }
     ensures blocks { IfOk result (λ claimed. AreBlockRows named.now.timetable.now claimed.blocks) }
     ensures prices { IfOk result (λ claimed. ArePriceRows named.now.timetable.now claimed.prices) }
@@ -73,12 +75,12 @@ fn numbers_of<L: Ledger>(
     alloc: Global,
     timetable: &Timetable,
     matrix: &Matrix,
-    prefix: &str,
+    naming: &Naming,
     steps: &mut Steps<L>,
 ) -> Result<Numbers, Memory>
     requires places { length timetable.now.places ≡ length matrix.now.walks }
     requires names { All (λ slot. IsName slot.name) timetable.now.slots }
-    ensures summary { IfOk result (λ n. HasSummary timetable.now matrix.now prefix.now n.fixed n.vehicles n.minutes) }
+    ensures summary { IfOk result (λ n. HasSummary timetable.now matrix.now naming.now n.fixed n.vehicles n.minutes) }
     ensures counted { steps.new ≤ steps.old + most_steps (length timetable.now.slots) }
 {
     accepted_law();
@@ -88,11 +90,12 @@ fn numbers_of<L: Ledger>(
     let fixed = fixed_of(alloc, timetable, steps)?;
     let schedule = schedule_of(alloc, timetable, matrix, steps)?;
     let plan = schedule.solver.plan();
+    let names = naming.names(alloc, &schedule.blocks)?;
     let named = NamedBlocks {
         timetable,
         matrix,
         blocks: &schedule.blocks,
-        prefix,
+        names: &names,
     };
     let claimed = claim_of(alloc, &named, plan)?;
     match check(timetable, matrix, &claimed) {
@@ -110,18 +113,18 @@ fn numbers_of<L: Ledger>(
 fn summed<L: Ledger>(
     alloc: Global,
     trips: u32,
-    prefix: &str,
+    naming: &Naming,
     edited: &Edited,
     matrix: &Matrix,
     steps: &mut Steps<L>,
 ) -> Result<Outcome<'static>, Memory>
     requires places { length edited.now.script.timetable.places ≡ length matrix.now.walks }
     requires names { All (λ slot. IsName slot.name) edited.now.script.timetable.slots }
-    ensures summed { IfOk result (IsSummedOf trips edited.now matrix.now prefix.now) }
+    ensures summed { IfOk result (IsSummedOf trips edited.now matrix.now naming.now) }
     ensures counted { steps.new ≤ steps.old + most_steps (length edited.now.script.timetable.slots) }
 {
     let timetable = edited.script.timetable();
-    let numbers = numbers_of(alloc, timetable, matrix, prefix, steps)?;
+    let numbers = numbers_of(alloc, timetable, matrix, naming, steps)?;
     let Numbers {
         fixed,
         vehicles,
@@ -151,10 +154,11 @@ impl FeedCommand for Summarize {
     ) -> Result<Outcome<'a>, Memory> {
         names_law();
         let alloc = said.alloc;
-        let prefix = said.settings.prefix();
+        let prefix = Text::of(alloc, said.settings.prefix())?;
+        let naming = Naming::of(prefix, Vec::new(alloc));
         let pulls = said.pulls;
         let matrix = matrix_of(alloc, &said.timetable, said.deadheads, pulls)?;
         let edited = after_script(alloc, said.timetable, said.lines)?;
-        summed(alloc, self.trips, prefix, &edited, &matrix, steps)
+        summed(alloc, self.trips, &naming, &edited, &matrix, steps)
     }
 }

@@ -14,17 +14,19 @@ use Rattle.plan_choice.specs.Likings.{LikingsView}
 use Rattle.desk_run.specs.Outcome.{OutcomeView}
 use Rattle.desk_run.specs.Reading.{ReadView}
 use Rattle.desk_feed.specs.Feed.{FeedView}
-use Rattle.desk_feed.specs.Judging.{IsGivenOf, refusing}
+use Rattle.desk_feed.specs.Judging.{refusing}
 use Rattle.trip_model.specs.Timetable.{TimetableView}
 use Rattle.deadhead_matrix.specs.Matrix.{MatrixView}
 use Rattle.desk_feed.specs.Schedule.{IsMatrixFor}
+use Rattle.block_names.specs.Names.{NamingView, names_of}
 use Rattle.feed_likings.specs.Likings.{likings_in}
+use Rattle.feed_naming.specs.Commands.{IsGivenNamed}
 use Rattle.feed_desk.specs.Drawn.{HasDrawn, IsDrawn}
 use Rattle.feed_desk.specs.declared.draw.Drawn.{Drawn}
 use Rattle.write_command.specs.declared.write.Writable.TheVariants.{Texts, Refused}
 use Rattle.write_command.specs.Writable.{IsWritable, IsWrittenOf}
 use Rattle.write_command.proofs.ReadAgain.{read-again}
-use Rattle.write_command.specs.Write.{EndsBy, IsRefusal, IsWritten, Writes, WritesBy, files_of, stop_times_in, trips_in, write_does}
+use Rattle.write_command.specs.Write.{EndsBy, IsRefusal, IsWritten, Writes, WritesBy, files_of, stop_times_in, trips_in, write_named}
 use Rattle.write_command.specs.Write.{written_line}
 
 -- a table with a field that is not UTF-8 is not one of texts
@@ -41,29 +43,29 @@ refused-ends : (paper : Paper) (columns : List Column) (table : TableView) (outc
 refused-ends paper columns table outcome is = bad-table table is.for.number is.for.place is.for.first
 
 -- how a run ends that does this
-ends-by : (likings : LikingsView) (said : FeedView) (trips stop_times : Result TableView FeedFault) (outcome : OutcomeView)
-    → WritesBy likings said trips stop_times outcome → EndsBy said trips stop_times outcome.ending
-ends-by likings said (Err due) stop_times outcome (inl bad) = ap (λ (o : OutcomeView). o.ending) bad.done
-ends-by likings said (Err due) stop_times outcome (inr (inl none)) = absurd none
-ends-by likings said (Err due) stop_times outcome (inr (inr none)) = absurd none
-ends-by likings said (Ok trips) (Err due) outcome (inl bad) = ap (λ (o : OutcomeView). o.ending) bad.done
-ends-by likings said (Ok trips) (Err due) outcome (inr (inl bad)) = ap (λ (o : OutcomeView). o.ending) bad.1.done
-ends-by likings said (Ok trips) (Err due) outcome (inr (inr (texts, none))) = absurd none
-ends-by likings said (Ok trips) (Ok stop_times) outcome (inl bad) =
+ends-by : (likings : LikingsView) (naming : NamingView) (said : FeedView) (trips stop_times : Result TableView FeedFault) (outcome : OutcomeView)
+    → WritesBy likings naming said trips stop_times outcome → EndsBy said trips stop_times outcome.ending
+ends-by likings naming said (Err due) stop_times outcome (inl bad) = ap (λ (o : OutcomeView). o.ending) bad.done
+ends-by likings naming said (Err due) stop_times outcome (inr (inl none)) = absurd none
+ends-by likings naming said (Err due) stop_times outcome (inr (inr none)) = absurd none
+ends-by likings naming said (Ok trips) (Err due) outcome (inl bad) = ap (λ (o : OutcomeView). o.ending) bad.done
+ends-by likings naming said (Ok trips) (Err due) outcome (inr (inl bad)) = ap (λ (o : OutcomeView). o.ending) bad.1.done
+ends-by likings naming said (Ok trips) (Err due) outcome (inr (inr (texts, none))) = absurd none
+ends-by likings naming said (Ok trips) (Ok stop_times) outcome (inl bad) =
     let end = ap (λ (o : OutcomeView). o.ending) bad.done in
     record {
       texts = λ one other. absurd (refused-ends _ _ trips outcome bad one);
       trips_refused = λ no. end;
       stop_times_refused = λ no. end;
     }
-ends-by likings said (Ok trips) (Ok stop_times) outcome (inr (inl bad)) =
+ends-by likings naming said (Ok trips) (Ok stop_times) outcome (inr (inl bad)) =
     let end = ap (λ (o : OutcomeView). o.ending) bad.1.done in
     record {
       texts = λ one other. absurd (refused-ends _ _ stop_times outcome bad.1 other);
       trips_refused = λ no. end;
       stop_times_refused = λ no. end;
     }
-ends-by likings said (Ok trips) (Ok stop_times) outcome (inr (inr does)) =
+ends-by likings naming said (Ok trips) (Ok stop_times) outcome (inr (inr does)) =
     record {
       texts = λ one other. ap (λ (o : OutcomeView). o.ending) does.1.1.done;
       trips_refused = λ no. absurd (no does.0);
@@ -71,22 +73,22 @@ ends-by likings said (Ok trips) (Ok stop_times) outcome (inr (inr does)) =
     }
 
 -- and no line is kept
-unkept-by : (likings : LikingsView) (said : FeedView) (trips stop_times : Result TableView FeedFault) (outcome : OutcomeView)
-    → WritesBy likings said trips stop_times outcome → outcome.lines ≡ None
-unkept-by likings said trips stop_times outcome (inl bad) = ap (λ (o : OutcomeView). o.lines) bad.done
-unkept-by likings said (Err due) stop_times outcome (inr (inl none)) = absurd none
-unkept-by likings said (Err due) stop_times outcome (inr (inr none)) = absurd none
-unkept-by likings said (Ok trips) stop_times outcome (inr (inl bad)) = ap (λ (o : OutcomeView). o.lines) bad.1.done
-unkept-by likings said (Ok trips) (Err due) outcome (inr (inr (texts, none))) = absurd none
-unkept-by likings said (Ok trips) (Ok stop_times) outcome (inr (inr does)) = ap (λ (o : OutcomeView). o.lines) does.1.1.done
+unkept-by : (likings : LikingsView) (naming : NamingView) (said : FeedView) (trips stop_times : Result TableView FeedFault) (outcome : OutcomeView)
+    → WritesBy likings naming said trips stop_times outcome → outcome.lines ≡ None
+unkept-by likings naming said trips stop_times outcome (inl bad) = ap (λ (o : OutcomeView). o.lines) bad.done
+unkept-by likings naming said (Err due) stop_times outcome (inr (inl none)) = absurd none
+unkept-by likings naming said (Err due) stop_times outcome (inr (inr none)) = absurd none
+unkept-by likings naming said (Ok trips) stop_times outcome (inr (inl bad)) = ap (λ (o : OutcomeView). o.lines) bad.1.done
+unkept-by likings naming said (Ok trips) (Err due) outcome (inr (inr (texts, none))) = absurd none
+unkept-by likings naming said (Ok trips) (Ok stop_times) outcome (inr (inr does)) = ap (λ (o : OutcomeView). o.lines) does.1.1.done
 
-pub write-given : {E : Type 0} (read : ReadView) (said : FeedView) (result : Result OutcomeView E) → IfOk result (Writes read said)
-    → IfOk result (IsGivenOf write_does read said)
-write-given read said (Err e) does = tt
-write-given read said (Ok outcome) does = record {
+pub write-given : {E : Type 0} (read : ReadView) (naming : NamingView) (said : FeedView) (result : Result OutcomeView E)
+    → IfOk result (Writes read naming said) → IfOk result (IsGivenNamed write_named read naming said)
+write-given read naming said (Err e) does = tt
+write-given read naming said (Ok outcome) does = record {
   gives = does;
-  ends = ends-by (likings_in read said.settings said.base) said (trips_in read) (stop_times_in read) outcome does;
-  unkept = λ _. unkept-by (likings_in read said.settings said.base) said (trips_in read) (stop_times_in read) outcome does;
+  ends = ends-by (likings_in read said.settings said.base) naming said (trips_in read) (stop_times_in read) outcome does;
+  unkept = unkept-by (likings_in read said.settings said.base) naming said (trips_in read) (stop_times_in read) outcome does;
 }
 
 -- a refusal of what was found of a paper is told
@@ -119,43 +121,44 @@ texts-of (Ok read) table is = subst AreTexts is.1 is.0
 texts-of (Err due) table is = absurd is
 
 -- the refusal of one of two papers is what is done
-pub refused-by : (likings : LikingsView) (said : FeedView) (timetable : TimetableView) (base : ℕ) (trips stop_times : Result TableView FeedFault)
+pub refused-by : (likings : LikingsView) (naming : NamingView) (said : FeedView) (timetable : TimetableView) (base : ℕ) (trips stop_times : Result TableView FeedFault)
     (outcome : OutcomeView)
-    → IsWritable said.settings timetable base trips stop_times (Refused outcome) → WritesBy likings said trips stop_times outcome
-refused-by likings said timetable base trips stop_times outcome (inl bad) = inl bad
-refused-by likings said timetable base trips stop_times outcome (inr bad) = inr (inl bad)
+    → IsWritable said.settings timetable base trips stop_times (Refused outcome) → WritesBy likings naming said trips stop_times outcome
+refused-by likings naming said timetable base trips stop_times outcome (inl bad) = inl bad
+refused-by likings naming said timetable base trips stop_times outcome (inr bad) = inr (inl bad)
 
 -- else both files are written
-both-by : (likings : LikingsView) (said : FeedView) (timetable : TimetableView) (base : ℕ) (trips stop_times : Result TableView FeedFault) (table : TableView)
+both-by : (likings : LikingsView) (naming : NamingView) (said : FeedView) (timetable : TimetableView) (base : ℕ) (trips stop_times : Result TableView FeedFault) (table : TableView)
     (text : List ℕ) (outcome : OutcomeView)
     → IsTextPaper (λ first. first ≡ table) trips → IsTextPaper (λ second. text ≡ stop_times_written second timetable base) stop_times
-    → ((second : TableView) → text ≡ stop_times_written second timetable base → IsWritten likings said table second outcome)
-    → WritesBy likings said trips stop_times outcome
-both-by likings said timetable base (Ok first) (Ok second) table text outcome one other does =
-    inr (inr (one.0, (other.0, subst (λ first. IsWritten likings said first second outcome) (sym one.1) (does second other.1))))
-both-by likings said timetable base (Ok first) (Err due) table text outcome one other does = absurd other
-both-by likings said timetable base (Err due) stop_times table text outcome one other does = absurd one
+    → ((second : TableView) → text ≡ stop_times_written second timetable base → IsWritten likings naming said table second outcome)
+    → WritesBy likings naming said trips stop_times outcome
+both-by likings naming said timetable base (Ok first) (Ok second) table text outcome one other does =
+    inr (inr (one.0, (other.0, subst (λ first. IsWritten likings naming said first second outcome) (sym one.1) (does second other.1))))
+both-by likings naming said timetable base (Ok first) (Err due) table text outcome one other does = absurd other
+both-by likings naming said timetable base (Err due) stop_times table text outcome one other does = absurd one
 
 -- of the plan after the script
-pub written-given : {D E : Type 0} (read : ReadView) (said : FeedView) (matrix : MatrixView) (likings : LikingsView) (drawn : Drawn D)
+pub written-given : {D E : Type 0} (read : ReadView) (naming : NamingView) (said : FeedView) (matrix : MatrixView) (likings : LikingsView) (drawn : Drawn D)
     (timetable : TimetableView) (base : ℕ) (table : TableView) (text : List ℕ)
     → IsMatrixFor said matrix → HasDrawn said.base said.lines matrix likings drawn → likings ≡ likings_in read said.settings said.base → timetable ≡ drawn.desk.script.timetable
     → base ≡ length said.base.slots
     → IsWritable said.settings timetable base (trips_in read) (stop_times_in read) (Texts table text)
-    → (result : Result OutcomeView E) → IfOk result (IsWrittenOf said.settings drawn table text) → IfOk result (Writes read said)
-written-given read said matrix likings drawn timetable base table text is has liked same count writable (Err e) written = tt
-written-given read said matrix likings drawn timetable base table text is has liked same count writable (Ok outcome) written =
-    both-by (likings_in read said.settings said.base) said timetable base (trips_in read) (stop_times_in read) table text outcome writable.0 writable.1
+    → (result : Result OutcomeView E) → IfOk result (IsWrittenOf said.settings naming drawn table text)
+    → IfOk result (Writes read naming said)
+written-given read naming said matrix likings drawn timetable base table text is has liked same count writable (Err e) written = tt
+written-given read naming said matrix likings drawn timetable base table text is has liked same count writable (Ok outcome) written =
+    both-by (likings_in read said.settings said.base) naming said timetable base (trips_in read) (stop_times_in read) table text outcome writable.0 writable.1
     (λ second made. record {
       matrix = matrix;
       matrix_is = is;
       plan = drawn.desk.plan;
       blocks = drawn.blocks;
       drawn = subst (λ l. IsDrawn said.base said.lines matrix l drawn.desk.plan drawn.blocks) liked has.plan;
-      text = written.text;
-      again = read-again said table second drawn.blocks;
+      named = written.named;
+      again = read-again naming said table second drawn.blocks;
       done = written.done ∙ (λ i. record {
-        writes = files_of said.settings (has.timetable i) drawn.blocks table
+        writes = files_of said.settings (has.timetable i) drawn.blocks (names_of naming drawn.blocks) table
             ((made ∙ (λ j. stop_times_written second ((same ∙ has.timetable) j) (count j))) i);
         lines = None;
         text = has.refused i ++ written_line;

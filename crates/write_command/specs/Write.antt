@@ -1,6 +1,5 @@
 -- What `write` asks, and what it writes of a feed.
-use Rattle.std.specs.Prelude.{◌≡◌, ◌⊎◌, ℕ, false, List, [], ◌∷◌, ◌++◌, length, None, Result, Ok, Err, codes, if◌then◌else◌}
-use Rattle.std.specs.Str.{IsUtf8}
+use Rattle.std.specs.Prelude.{◌≡◌, ◌⊎◌, ℕ, List, [], ◌∷◌, ◌++◌, length, None, Result, Ok, Err, codes, if◌then◌else◌}
 use Rattle.csv.specs.Reading.{strip_bom}
 use Rattle.desk_io.specs.declared.shelf.Found.TheVariants.{File}
 use Rattle.gtfs_tables.specs.Reading.{table_in}
@@ -17,6 +16,8 @@ use Rattle.feed_read.specs.Base.{base_of}
 use Rattle.deadhead_matrix.specs.Matrix.{MatrixView}
 use Rattle.assignment_model.specs.Prices.{Plan}
 use Rattle.plan_choice.specs.Likings.{LikingsView}
+use Rattle.block_build.specs.Names.{AreBlockNames}
+use Rattle.block_names.specs.Names.{NamingView, names_of}
 use Rattle.block_writer.specs.StopTimes.{stop_time_columns, stop_times_written}
 use Rattle.block_writer.specs.Texts.{AreTexts, IsRefusedPaper, IsTextPaper}
 use Rattle.block_writer.specs.Trips.{trips_written}
@@ -31,6 +32,7 @@ use Rattle.desk_feed.specs.Feed.{FeedView, standing}
 use Rattle.desk_feed.specs.Judging.{FeedAsked, ending_of, of_feed, refused_of, refusing}
 use Rattle.desk_feed.specs.Schedule.{IsMatrixFor}
 use Rattle.feed_likings.specs.Likings.{likings_in}
+use Rattle.feed_naming.specs.Commands.{NamingAsked, of_naming}
 use Rattle.feed_desk.specs.Drawn.{IsDrawn}
 use Rattle.feed_desk.specs.Plans.{most_steps_of}
 
@@ -58,20 +60,22 @@ abbrev pub written_line : List ℕ
 written_line = codes "wrote trips_blocks.txt, stop_times_blocks.txt" ++ 10 ∷ []
 
 -- the two files of blocks for a timetable, in the order in which they are written, with the text of the stop times
-unfoldable pub files_of : SettingsView → TimetableView → List (List ℕ) → TableView → List ℕ → List Writing
-files_of settings timetable blocks trips stop_times =
-    record { name = trips_name; bytes = trips_written trips timetable (chosen_in settings trips) blocks settings.prefix }
+unfoldable pub files_of : SettingsView → TimetableView → List (List ℕ) → List (List ℕ) → TableView → List ℕ → List Writing
+files_of settings timetable blocks names trips stop_times =
+    record { name = trips_name; bytes = trips_written trips timetable (chosen_in settings trips) blocks names }
     ∷ record { name = stop_times_name; bytes = stop_times }
     ∷ []
 
 -- those of a feed and of blocks for its timetable after the script, of whose slots those before the script have records
-abbrev pub feed_files : FeedView → TableView → TableView → List (List ℕ) → List Writing
-feed_files said trips stop_times blocks =
-    files_of said.settings (standing said) blocks trips (stop_times_written stop_times (standing said) (length said.base.slots))
+abbrev pub feed_files : NamingView → FeedView → TableView → TableView → List (List ℕ) → List Writing
+feed_files naming said trips stop_times blocks =
+    files_of said.settings (standing said) blocks (names_of naming blocks) trips
+    (stop_times_written stop_times (standing said) (length said.base.slots))
 
 -- the texts of the two files of a feed and of blocks
-abbrev pub trips_of : FeedView → TableView → List (List ℕ) → List ℕ
-trips_of said trips blocks = trips_written trips (standing said) (chosen_in said.settings trips) blocks said.settings.prefix
+abbrev pub trips_of : NamingView → FeedView → TableView → List (List ℕ) → List ℕ
+trips_of naming said trips blocks =
+    trips_written trips (standing said) (chosen_in said.settings trips) blocks (names_of naming blocks)
 
 abbrev pub stop_times_of : FeedView → TableView → List ℕ
 stop_times_of said stop_times = stop_times_written stop_times (standing said) (length said.base.slots)
@@ -88,27 +92,27 @@ pub record AreReadAs (said : FeedView) (trips_bytes stop_times_bytes : List ℕ)
 
 -- The two written files, read again in the place of these, have the same timetable. Each trip that runs is at its minutes after
 -- the script. Neither file may begin with a byte-order mark, and no time may be moved to 100:00:00 or later.
-abbrev pub AreReadAgain : FeedView → TableView → TableView → List (List ℕ) → Type 0
-AreReadAgain said trips stop_times blocks =
+abbrev pub AreReadAgain : NamingView → FeedView → TableView → TableView → List (List ℕ) → Type 0
+AreReadAgain naming said trips stop_times blocks =
     (trips_bytes stop_times_bytes : List ℕ) (base : TimetableView) → AreReadAs said trips_bytes stop_times_bytes trips stop_times base
     → AreWritable stop_times (standing said) (length said.base.slots)
-    → strip_bom (trips_of said trips blocks) ≡ trips_of said trips blocks
+    → strip_bom (trips_of naming said trips blocks) ≡ trips_of naming said trips blocks
     → strip_bom (stop_times_of said stop_times) ≡ stop_times_of said stop_times
-    → base_of said.settings (File (trips_of said trips blocks))
+    → base_of said.settings (File (trips_of naming said trips blocks))
     (File (stop_times_of said stop_times)) ≡ Ok (as_written base (standing said))
 
--- The files are those of the blocks of the plan after the script, and their names begin with a text. They are read again as the
--- feed. The lines of refused records are put, and then that the files were written.
-pub record IsWritten (likings : LikingsView) (said : FeedView) (trips stop_times : TableView) (outcome : OutcomeView) : Type 0 where
+-- The files are those of the blocks of the plan after the script, which can be told apart by their names. They are read again as
+-- the feed. The lines of refused records are put, and then that the files were written.
+pub record IsWritten (likings : LikingsView) (naming : NamingView) (said : FeedView) (trips stop_times : TableView) (outcome : OutcomeView) : Type 0 where
   pub matrix : MatrixView
   pub matrix_is : IsMatrixFor said matrix
   pub plan : Plan
   pub blocks : List (List ℕ)
   pub drawn : IsDrawn said.base said.lines matrix likings plan blocks
-  pub text : IsUtf8 said.settings.prefix
-  pub again : AreReadAgain said trips stop_times blocks
+  pub named : AreBlockNames (length blocks) (names_of naming blocks)
+  pub again : AreReadAgain naming said trips stop_times blocks
   pub done : outcome ≡ record {
-    writes = feed_files said trips stop_times blocks;
+    writes = feed_files naming said trips stop_times blocks;
     lines = None;
     text = refused_of said ++ written_line;
     ending = ending_of said;
@@ -122,14 +126,15 @@ pub record IsRefusal (paper : Paper) (columns : List Column) (read : Result Tabl
 
 -- what is done of two papers: the feed is written where both are tables of texts. Else the first refusal is put, that of the
 -- trips before that of the stop times
-abbrev pub WritesBy : LikingsView → FeedView → Result TableView FeedFault → Result TableView FeedFault → OutcomeView → Type 0
-WritesBy likings said trips stop_times outcome =
+abbrev pub WritesBy : LikingsView → NamingView → FeedView → Result TableView FeedFault → Result TableView FeedFault → OutcomeView → Type 0
+WritesBy likings naming said trips stop_times outcome =
     IsRefusal paper.Trips (trip_columns said.settings) trips outcome
     ⊎ (IsTextPaper (λ first. IsRefusal paper.StopTimes stop_time_columns stop_times outcome) trips
-    ⊎ IsTextPaper (λ first. IsTextPaper (λ second. IsWritten likings said first second outcome) stop_times) trips)
+    ⊎ IsTextPaper (λ first. IsTextPaper (λ second. IsWritten likings naming said first second outcome) stop_times) trips)
 
-abbrev pub Writes : ReadView → FeedView → OutcomeView → Type 0
-Writes read said outcome = WritesBy (likings_in read said.settings said.base) said (trips_in read) (stop_times_in read) outcome
+abbrev pub Writes : ReadView → NamingView → FeedView → OutcomeView → Type 0
+Writes read naming said outcome =
+    WritesBy (likings_in read said.settings said.base) naming said (trips_in read) (stop_times_in read) outcome
 
 -- how the run ends: as the script does where all fields of both are texts, and else as refused
 pub record EndsOf (said : FeedView) (trips stop_times : TableView) (end : Ending) : Type 0 where
@@ -146,14 +151,12 @@ abbrev pub Ends : ReadView → FeedView → Ending → Type 0
 Ends read said end = EndsBy said (trips_in read) (stop_times_in read) end
 
 -- with the most steps of the plans of its script
+abbrev pub write_named : NamingAsked
+write_named = record { further = []; Ends = λ read naming. Ends read; Gives = Writes; most = λ read. most_steps_of }
+
+-- and of any feed
 abbrev pub write_does : FeedAsked
-write_does = record {
-  further = [];
-  keeps = false;
-  Ends = Ends;
-  Gives = Writes;
-  most = λ read. most_steps_of;
-}
+write_does = of_naming write_named
 
 -- what `write` asks of a run
 unfoldable pub write_asked : Asked

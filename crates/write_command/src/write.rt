@@ -10,16 +10,18 @@ ghost use Rattle.write_command.specs.Write.{Writes, files_of, stop_times_in, tri
 ghost use Rattle.write_command.specs.Writable.{IsWritable, IsWrittenOf};
 
 use crate::judging::trip_columns;
-use block_build::Blocks;
+use block_build::{BlockNames, Blocks};
+use block_names::Naming;
 use block_writer::{read_texts, stop_times_text, trips_text};
 use desk_core::NoDeficits;
-use desk_feed::{FeedCommand, OnFeed, Said, matrix_of, refuse};
+use desk_feed::{OnFeed, Said, matrix_of, refuse};
 use desk_io::{Memory, Shelf, Sink, Steps, Text};
 use desk_keeper::Keeper;
 use desk_run::{Content, Outcome, Read, Writing, perform};
 use desk_settings::{Settings, chosen_in};
 use feed_desk::{Drawn, draw_after};
 use feed_likings::read_likings;
+use feed_naming::{NamingCommand, OnNames};
 use gtfs_tables::{FeedFault, Paper, Table};
 use std::alloc::Global;
 use std::borrow::Cow;
@@ -66,16 +68,18 @@ fn files<'a>(
     settings: &Settings,
     timetable: &Timetable,
     blocks: &Blocks,
+    names: &BlockNames,
     trips: &Table,
     stop_times: Content<'a>,
 ) -> Result<Vec<Writing<'a>>, Memory>
     requires slots { All (All (λ s. s < length timetable.now.slots)) blocks.now }
+    requires named { length names.now ≡ length blocks.now }
     requires trips { AreTexts trips.now }
-    ensures { IfOk result (λ writes. writes.items ≡ files_of settings.now timetable.now blocks.now trips.now stop_times.entry) }
+    ensures { IfOk result (λ writes. writes.items
+        ≡ files_of settings.now timetable.now blocks.now names.now trips.now stop_times.entry) }
 {
     let chosen = chosen_in(alloc, settings, trips)?;
-    let prefix = settings.prefix();
-    let first = trips_text(alloc, trips, timetable, &chosen, blocks, prefix)?;
+    let first = trips_text(alloc, trips, timetable, &chosen, blocks, names)?;
     let first = Content::of(Cow::Owned(first));
     let first = Writing::holding(alloc, "trips_blocks.txt", first)?;
     let second = Writing::holding(alloc, "stop_times_blocks.txt", stop_times)?;
@@ -86,18 +90,21 @@ fn files<'a>(
 fn written<'a>(
     alloc: Global,
     settings: &Settings,
+    naming: &Naming,
     drawn: &Drawn<NoDeficits>,
     trips: &Table,
     stop_times: Content<'a>,
 ) -> Result<Outcome<'a>, Memory>
     requires slots { All (All (λ s. s < length drawn.now.desk.script.timetable.slots)) drawn.now.blocks }
     requires trips { AreTexts trips.now }
-    ensures { IfOk result (IsWrittenOf settings.now drawn.now trips.now stop_times.entry) }
+    ensures { IfOk result (IsWrittenOf settings.now naming.now drawn.now trips.now stop_times.entry) }
 {
     let timetable = drawn.desk.timetable();
-    // Its clause says that the prefix is text.
-    let _prefix = settings.prefix().as_bytes();
-    let writes = files(alloc, settings, timetable, &drawn.blocks, trips, stop_times)?;
+    let blocks = &drawn.blocks;
+    let names = naming.names(alloc, blocks)?;
+    let writes = files(
+        alloc, settings, timetable, blocks, &names, trips, stop_times,
+    )?;
     let refused = drawn.refused.as_str();
     let text = format!(in alloc; "{refused}wrote trips_blocks.txt, stop_times_blocks.txt\n")?;
     Ok(Outcome::of(writes, None, Text::wrap(text), drawn.ending))
@@ -106,12 +113,13 @@ fn written<'a>(
 // What is written and put of what a feed says.
 fn written_of<'a, L: Ledger>(
     said: Said<'a, '_>,
+    naming: &Naming,
     steps: &mut Steps<L>,
 ) -> Result<Outcome<'a>, Memory>
     requires papers { HasPapers said.read.now.pages }
     requires pulls { length said.pulls ≡ length said.timetable.places }
     requires script { IsScript said.lines.now }
-    ensures writes { IfOk result (Writes said.entry.read.now (said_to said.entry)) }
+    ensures writes { IfOk result (Writes said.entry.read.now naming.now (said_to said.entry)) }
     ensures counted { steps.new ≤ steps.old + most_steps_of (said_to said.entry) }
 {
     let slots = said.timetable.slots();
@@ -124,7 +132,7 @@ fn written_of<'a, L: Ledger>(
     match writable_of(alloc, said.settings, said.read, stands, slots)? {
         Writable::Refused(outcome) => Ok(outcome),
         Writable::Texts(trips, stop_times) => {
-            written(alloc, said.settings, &drawn, &trips, stop_times)
+            written(alloc, said.settings, naming, &drawn, &trips, stop_times)
         }
     }
 }
@@ -132,17 +140,18 @@ fn written_of<'a, L: Ledger>(
 #[derive(Drop)]
 struct WriteFeed;
 
-impl FeedCommand for WriteFeed {
-    ghost use Rattle.write_command.specs.Write.{write_does};
+impl NamingCommand for WriteFeed {
+    ghost use Rattle.write_command.specs.Write.{write_named};
 
-    ghost asks = { λ _. write_does };
+    ghost asks = { λ _. write_named };
 
     fn outcome<'a, L: Ledger>(
         &self,
         said: Said<'a, '_>,
+        naming: &Naming,
         steps: &mut Steps<L>,
     ) -> Result<Outcome<'a>, Memory> {
-        written_of(said, steps)
+        written_of(said, naming, steps)
     }
 }
 
@@ -159,5 +168,12 @@ pub fn run_write<S: Shelf, O: Sink, K: Keeper, L: Ledger>(
     ensures { let at = outside S.state S.history O.state O.history K.state K.history in
         Performs write_asked (at shelf.old out.old keeper.old) (at shelf.new out.new keeper.new) result steps.old steps.new }
 {
-    perform(&OnFeed::of(WriteFeed), alloc, shelf, out, keeper, steps)
+    perform(
+        &OnFeed::of(OnNames(WriteFeed)),
+        alloc,
+        shelf,
+        out,
+        keeper,
+        steps,
+    )
 }

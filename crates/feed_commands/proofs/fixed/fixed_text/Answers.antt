@@ -6,12 +6,12 @@ use Rattle.feed_commands.proofs.fixed.fixed_text.Goals as goal
 
 pub returns : goal.returns
 returns c =
-    let timetable = c.args.stands.timetable.now in
+    let timetable = c.args.timetable.now in
     let matrix = c.set_pulls.ensures
-    ∙ ap (λ (m : MatrixView). record m { pulls = c.args.stands.pulls })
+    ∙ ap (λ (m : MatrixView). record m { pulls = c.args.pulls })
     (c.in_ok-matrix.ensures.standing c.in_ok-none.ensures ∙ ap empty_matrix c.places.ensures.count) in
     let lines = c.as_str-lines.ensures ∙ c.in_ok-lines.ensures
-    ∙ (λ i. block_text timetable (matrix i) (c.prefix.ensures i) c.in_ok-blocks.blocks) in
+    ∙ (λ i. block_text timetable (matrix i) [] (c.in_ok-names.ensures.names i) c.in_ok-blocks.blocks) in
     let number = c.len.ensures.count in
     record {
       blocks = c.in_ok-blocks.blocks;

@@ -11,15 +11,15 @@ claim_of-requires-clause-prices g c = ap (λ (plan : Plan). length plan.next) c.
 pub claim_of-requires-clause-accepted : goal.claim_of-requires-clause-accepted
 claim_of-requires-clause-accepted g c =
     let scheduled = c.in_ok-schedule.ensures.scheduled in
-    subst (λ (plan : Plan). IsAccepted c.args.timetable.now c.args.matrix.now c.args.prefix.now c.in_ok-schedule.schedule.blocks plan.leave
+    subst (λ (plan : Plan). IsAccepted c.args.timetable.now c.args.matrix.now c.in_ok-names.names c.in_ok-schedule.schedule.blocks plan.leave
     plan.enter) (sym c.plan-plan.ensures)
-    (c.accepted_law.ensures.accepted c.args.timetable.now c.args.matrix.now c.args.prefix.now c.in_ok-schedule.schedule.solver
+    (c.accepted_law.ensures.accepted c.args.timetable.now c.args.matrix.now c.in_ok-names.names c.in_ok-schedule.schedule.solver
     c.in_ok-schedule.schedule.blocks (record {
       valid = c.slots-slots.ensures.valid;
       pulls = c.places-places.ensures.valid;
       certified = scheduled.certified;
       along = scheduled.along;
-      begun = c.utf8.prefix;
+      named = c.in_ok-names.ensures.valid;
       names = c.requires.names;
     }))
 
@@ -29,18 +29,18 @@ unreachable-requires g c =
     let matrix = c.args.matrix.now in
     let blocks = c.in_ok-schedule.schedule.blocks in
     let plan = c.in_ok-schedule.schedule.solver in
-    let accepted = c.accepted_law.ensures.accepted timetable matrix c.args.prefix.now plan blocks (record {
+    let accepted = c.accepted_law.ensures.accepted timetable matrix c.in_ok-names.names plan blocks (record {
       valid = c.slots-slots.ensures.valid;
       pulls = c.places-places.ensures.valid;
       certified = c.in_ok-schedule.ensures.scheduled.certified;
       along = c.in_ok-schedule.ensures.scheduled.along;
-      begun = c.utf8.prefix;
+      named = c.in_ok-names.ensures.valid;
       names = c.requires.names;
     }) in
-    let read = subst (λ (p : Plan). written timetable matrix c.args.prefix.now blocks p.leave p.enter ≡ Ok c.in_ok-claimed.claimed)
+    let read = subst (λ (p : Plan). written timetable matrix c.in_ok-names.names blocks p.leave p.enter ≡ Ok c.in_ok-claimed.claimed)
     c.plan-plan.ensures c.in_ok-claimed.ensures.claim in
     not-no c.in-No.field-0 _ _ (sym c.in-No.is ∙ c.check.ensures.verdict
-    ∙ verdict-yes timetable matrix c.args.prefix.now blocks plan.leave plan.enter c.in_ok-claimed.claimed accepted read)
+    ∙ verdict-yes timetable matrix c.in_ok-names.names blocks plan.leave plan.enter c.in_ok-claimed.claimed accepted read)
 
 pub returns-clause-summary : goal.returns-clause-summary
 returns-clause-summary g c =
@@ -48,23 +48,23 @@ returns-clause-summary g c =
     let matrix = c.args.matrix.now in
     let blocks = c.in_ok-schedule.schedule.blocks in
     let plan = c.in_ok-schedule.schedule.solver in
-    let accepted = c.accepted_law.ensures.accepted timetable matrix c.args.prefix.now plan blocks (record {
+    let accepted = c.accepted_law.ensures.accepted timetable matrix c.in_ok-names.names plan blocks (record {
       valid = c.slots-slots.ensures.valid;
       pulls = c.places-places.ensures.valid;
       certified = c.in_ok-schedule.ensures.scheduled.certified;
       along = c.in_ok-schedule.ensures.scheduled.along;
-      begun = c.utf8.prefix;
+      named = c.in_ok-names.ensures.valid;
       names = c.requires.names;
     }) in
-    let read = subst (λ (p : Plan). written timetable matrix c.args.prefix.now blocks p.leave p.enter ≡ Ok c.in_ok-claimed.claimed)
+    let read = subst (λ (p : Plan). written timetable matrix c.in_ok-names.names blocks p.leave p.enter ≡ Ok c.in_ok-claimed.claimed)
     c.plan-plan.ensures c.in_ok-claimed.ensures.claim in
     let yes = sym c.in-Yes.is ∙ c.check.ensures.verdict
-    ∙ verdict-yes timetable matrix c.args.prefix.now blocks plan.leave plan.enter c.in_ok-claimed.claimed accepted read in
+    ∙ verdict-yes timetable matrix c.in_ok-names.names blocks plan.leave plan.enter c.in_ok-claimed.claimed accepted read in
     record {
       plan = plan;
       blocks = blocks;
       scheduled = c.in_ok-schedule.ensures.scheduled;
-      accepted = accepted;
+      accepted = subst (λ names. IsAccepted timetable matrix names blocks plan.leave plan.enter) c.in_ok-names.ensures.names accepted;
       fixed_is = c.in_ok-fixed.ensures.sum;
       vehicles_is = same-vehicles _ _ _ _ yes;
       minutes_is = same-minutes _ _ _ _ yes;

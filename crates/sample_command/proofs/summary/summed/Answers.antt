@@ -1,7 +1,7 @@
 use Rattle.std.proofs.Common.{sym, subst}
 use Rattle.std.specs.Prelude.{All}
 use Rattle.trip_model.specs.Timetable.{TimetableView}
-use Rattle.claim_files.specs.Written.{IsName}
+use Rattle.block_build.specs.Names.{IsName}
 use Rattle.sample_command.proofs.summary.summed.Goals as goal
 
 pub numbers_of-requires-clause-names : goal.numbers_of-requires-clause-names

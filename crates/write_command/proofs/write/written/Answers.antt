@@ -1,5 +1,5 @@
-use Rattle.std.proofs.Common.{◌++◌, None, ap, subst, ◌∙◌}
-use Rattle.std.specs.Str.{IsUtf8}
+use Rattle.std.proofs.Common.{◌++◌, length, None, ap, subst, ◌∙◌}
+use Rattle.block_build.specs.Names.{AreBlockNames}
 use Rattle.write_command.specs.Write.{files_of, written_line}
 use Rattle.write_command.proofs.write.written.Goals as goal
 
@@ -7,9 +7,10 @@ pub returns : goal.returns
 returns c =
     let drawn = c.args.drawn.now in
     let writes = c.in_ok-writes.ensures
-    ∙ (λ i. files_of c.args.settings.now (c.timetable-timetable.ensures.timetable i) drawn.blocks c.args.trips.now c.args.stop_times) in
+    ∙ (λ i. files_of c.args.settings.now (c.timetable-timetable.ensures.timetable i) drawn.blocks (c.in_ok-names.ensures.names i)
+    c.args.trips.now c.args.stop_times) in
     let text = c.wrap.ensures ∙ c.in_ok-text.ensures.ok ∙ ap (λ r. r ++ written_line) c.as_str-refused.ensures in
     record {
-      text = subst IsUtf8 (c.as_bytes-prefix.ensures.value ∙ c.prefix.ensures) c.as_bytes-prefix.ensures.utf8;
+      named = subst (AreBlockNames (length drawn.blocks)) c.in_ok-names.ensures.names c.in_ok-names.ensures.valid;
       done = c.of.ensures ∙ (λ i. record { writes = writes i; lines = None; text = text i; ending = drawn.ending });
     }

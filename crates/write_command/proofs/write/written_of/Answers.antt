@@ -10,7 +10,7 @@ pub returns-in-Refused-clause-writes : goal.returns-in-Refused-clause-writes
 returns-in-Refused-clause-writes g c =
     let read = c.args.said.read.now in
     let said = said_to c.args.said in
-    refused-by (likings_in read said.settings said.base) said c.timetable-stands.result.now c.slots-slots.result (trips_in read) (stop_times_in read) c.in-Refused.outcome
+    refused-by (likings_in read said.settings said.base) c.args.naming.now said c.timetable-stands.result.now c.slots-slots.result (trips_in read) (stop_times_in read) c.in-Refused.outcome
     (subst (IsWritable said.settings c.timetable-stands.result.now c.slots-slots.result (trips_in read) (stop_times_in read))
     c.in-Refused.is c.in_ok-outcome.ensures)
 
@@ -25,7 +25,7 @@ pub returns-clause-writes : goal.returns-clause-writes
 returns-clause-writes g c =
     let read = c.args.said.read.now in
     let said = said_to c.args.said in
-    written-given read said c.in_ok-matrix.matrix c.in_ok-likings.likings c.in_ok-drawn.drawn c.timetable-stands.result.now c.slots-slots.result c.in-Texts.trips
+    written-given read c.args.naming.now said c.in_ok-matrix.matrix c.in_ok-likings.likings c.in_ok-drawn.drawn c.timetable-stands.result.now c.slots-slots.result c.in-Texts.trips
     c.in-Texts.stop_times
     c.in_ok-matrix.ensures c.in_ok-drawn.ensures.drawn c.in_ok-likings.ensures c.timetable-stands.ensures.timetable c.slots-slots.ensures.count
     (subst (IsWritable said.settings c.timetable-stands.result.now c.slots-slots.result (trips_in read) (stop_times_in read)) c.in-Texts.is

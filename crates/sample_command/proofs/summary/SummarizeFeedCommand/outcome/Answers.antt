@@ -1,9 +1,10 @@
-use Rattle.std.proofs.Common.{sym, subst}
+use Rattle.std.proofs.Common.{◌≡◌, sym, subst, ◌∙◌}
 use Rattle.std.specs.Prelude.{All}
 use Rattle.trip_model.specs.Timetable.{TimetableView}
-use Rattle.claim_files.specs.Written.{IsName}
+use Rattle.block_build.specs.Names.{IsName}
 use Rattle.desk_run.specs.Reading.{found_of}
 use Rattle.desk_feed.specs.Commands.{said_to}
+use Rattle.sample_command.specs.Sample.{numbered_by}
 use Rattle.sample_command.proofs.Given.{summary-given}
 use Rattle.sample_command.proofs.summary.SummarizeFeedCommand.outcome.Goals as goal
 
@@ -15,6 +16,9 @@ summed-requires-clause-names g c =
 
 pub returns-clause-given : goal.returns-clause-given
 returns-clause-given g c =
+    let prefix = c.of-naming.ensures.prefix ∙ c.in_ok-prefix.ensures ∙ c.prefix.ensures in
+    let stated = c.of-naming.ensures.stated ∙ c.new.ensures.items in
+    let named : c.of-naming.result ≡ numbered_by c.args.said.settings.now = λ i. record { prefix = prefix i; stated = stated i } in
     summary-given c.args.self.now.trips c.args.said.read.now (said_to c.args.said) c.in_ok-edited.edited c.in_ok-matrix.matrix
-    c.in_ok-edited.ensures.edited c.in_ok-matrix.ensures c.summed.result c.prefix-prefix.result.now c.prefix-prefix.ensures
+    c.in_ok-edited.ensures.edited c.in_ok-matrix.ensures c.summed.result c.of-naming.result named
     c.summed.ensures.summed
