@@ -13,10 +13,11 @@ use Rattle.trip_model.specs.Deficit.{live_moves}
 use Rattle.trip_model.specs.Timetable.{TimetableView}
 use Rattle.deadhead_matrix.specs.Fitting.{network_of}
 use Rattle.deadhead_matrix.specs.Matrix.{MatrixView}
+use Rattle.block_names.specs.Names.{NamingView, names_of}
 use Rattle.block_writer.specs.StopTimes.{stop_time_columns}
 use Rattle.plan_choice.specs.Likings.{LikingsView}
 use Rattle.feed_likings.specs.Likings.{likings_in}
-use Rattle.blocks_command.specs.Blocks.{blocks_asked, blocks_does, plans_outcome}
+use Rattle.blocks_command.specs.Blocks.{blocks_asked, blocks_named, plans_outcome}
 use Rattle.block_audit.specs.declared.misfit.Misfit.{Misfit}
 use Rattle.block_audit.specs.Misfits.{misfits_in}
 use Rattle.block_audit.specs.Stated.{NamedBlock, slots_by}
@@ -33,13 +34,13 @@ use Rattle.desk_run.specs.Outcome.{OutcomeView}
 use Rattle.desk_run.specs.declared.status.Ending.{Ending}
 use Rattle.desk_settings.specs.Selected.{chosen_in}
 use Rattle.feed_commands.specs.Deficits.{deficits_asked, deficits_shown}
-use Rattle.feed_commands.specs.Fixed.{fixed_asked, fixed_shown, fixed_text}
+use Rattle.feed_commands.specs.Fixed.{fixed_asked, fixed_named, fixed_shown, fixed_text}
 use Rattle.journal_commands.specs.Keep.{keep_asked, keep_does}
 use Rattle.journal_commands.specs.Kept.{kept_asked}
 use Rattle.lowering_commands.specs.Chains.{AreChains, chains_asked, chains_shown}
 use Rattle.lowering_commands.specs.Shifts.{shifts_asked, shifts_shown, shifts_text}
-use Rattle.joined_command.specs.Joined.{boards_outcome, joined_asked, joined_does}
-use Rattle.plan_commands.specs.Chart.{chart_asked, chart_does, chart_text}
+use Rattle.joined_command.specs.Joined.{boards_outcome, joined_asked, joined_named}
+use Rattle.plan_commands.specs.Chart.{chart_asked, chart_named, chart_text}
 use Rattle.plan_commands.specs.Check.{check_asked, check_does, checked}
 use Rattle.planner_desk.specs.declared.edit.PlannerLine.{PlannerLine}
 use Rattle.planners_command.specs.Moments.{timetable_after}
@@ -48,12 +49,12 @@ use Rattle.planners_command.specs.Planners.{GivesBy, ending_after, planners_aske
 use Rattle.planners_command.specs.Reading.{lines_in}
 use Rattle.audit_command.specs.Audit.{AuditsBy, IsFirstBad, IsJudged, audit_asked, audit_does, stated_of, trips_in}
 use Rattle.audit_command.specs.Lines.{costs_text}
-use Rattle.sample_command.specs.Sample.{HasSummary, sample_asked, sample_read, summary_does, summary_line}
+use Rattle.sample_command.specs.Sample.{HasSummary, numbered_by, sample_asked, sample_read, summary_does, summary_line}
 use Rattle.write_command.specs.Write.{IsWritten, WritesBy, feed_files, stop_times_in, trip_columns, trips_in as write_trips_in}
-use Rattle.write_command.specs.Write.{write_asked, write_does, written_line}
+use Rattle.write_command.specs.Write.{write_asked, write_named, written_line}
 use Rattle.same_runs.specs.Same.{IsDetermined}
 use Rattle.same_runs.proofs.ChainLemmas.{one-text}
-use Rattle.same_runs.proofs.FeedLemmas.{determined-feed, determined-text, one-given}
+use Rattle.same_runs.proofs.FeedLemmas.{determined-feed, determined-named, determined-text, one-given, one-put}
 use Rattle.same_runs.proofs.LeastLemmas.{one-number, one-sum}
 use Rattle.same_runs.proofs.PlanLemmas.{one-list, one-matrix}
 use Rattle.same_runs.proofs.ShiftLemmas.{one-shifts}
@@ -66,8 +67,9 @@ deficits-determined = determined-text deficits_shown (λ stands one other is is'
 fixed-determined : IsDetermined fixed_asked
 unfolding fixed_asked
 fixed-determined =
-    determined-text fixed_shown (λ stands one other is is'.
-    is.printed ∙ ap (fixed_text stands.timetable stands.pulls stands.settings.prefix) (is.by_rule ∙ sym is'.by_rule) ∙ sym is'.printed)
+    determined-named fixed_named (λ read naming. one-put (fixed_shown naming) (λ stands one other is is'.
+    is.printed ∙ ap (λ blocks. fixed_text stands.timetable stands.pulls (names_of naming blocks) blocks) (is.by_rule ∙ sym is'.by_rule)
+    ∙ sym is'.printed))
 
 chains-determined : IsDetermined chains_asked
 unfolding chains_asked
@@ -169,7 +171,7 @@ sample-determined : (trips : ℕ) → IsDetermined (sample_asked trips)
 sample-determined trips = λ read one other given given'.
     one-given (summary_does trips) (λ read said one other is is'.
     let same = matrix-same said.entries said.pulls (length said.base.places) is.matrix is'.matrix is.matrix_is is'.matrix_is in
-    let summary = subst (λ matrix. HasSummary (standing said) matrix said.settings.prefix is'.fixed is'.vehicles is'.minutes) (sym same)
+    let summary = subst (λ matrix. HasSummary (standing said) matrix (numbered_by said.settings) is'.fixed is'.vehicles is'.minutes) (sym same)
     is'.summary in
     let network = network_of (standing said) is.matrix in
     let fixed : is.fixed ≡ is'.fixed = omega (arith, ints, is.summary.fixed_is, summary.fixed_is) in
@@ -185,36 +187,37 @@ sample-determined trips = λ read one other given given'.
 blocks-determined : IsDetermined blocks_asked
 unfolding blocks_asked
 blocks-determined =
-    determined-feed blocks_does (λ read said one other is is'.
-    is.planned.done ∙ ap (λ matrix. plans_outcome said.base said.lines matrix (likings_in read said.settings said.base) said.settings.prefix)
+    determined-named blocks_named (λ read naming said one other is is'.
+    is.planned.done ∙ ap (λ matrix. plans_outcome said.base said.lines matrix (likings_in read said.settings said.base) naming)
     (one-matrix said is.matrix is'.matrix is.matrix_is is'.matrix_is) ∙ sym is'.planned.done)
 
 chart-determined : IsDetermined chart_asked
 unfolding chart_asked
 chart-determined =
-    determined-feed chart_does (λ read said one other is is'.
+    determined-named chart_named (λ read naming said one other is is'.
     let matrix = one-matrix said is.matrix is'.matrix is.matrix_is is'.matrix_is in
     let blocks = one-list (likings_in read said.settings said.base) said is.matrix is'.matrix is.plan is'.plan is.blocks is'.blocks is.matrix_is is'.matrix_is is.drawn is'.drawn in
-    is.done ∙ (λ i. refusing_first (refused_of said) (chart_text (standing said) (matrix i) said.settings.prefix (blocks i))
+    is.done ∙ (λ i. refusing_first (refused_of said) (chart_text (standing said) (matrix i) (names_of naming (blocks i)) (blocks i))
     (ending_of said)) ∙ sym is'.done)
 
 joined-determined : IsDetermined joined_asked
 unfolding joined_asked
 joined-determined =
-    determined-feed joined_does (λ read said one other is is'.
+    determined-named joined_named (λ read naming said one other is is'.
     let matrix = one-matrix said is.matrix is'.matrix is.matrix_is is'.matrix_is in
     let blocks = one-list (likings_in read said.settings said.base) said is.matrix is'.matrix is.plan is'.plan is.blocks is'.blocks is.matrix_is is'.matrix_is is.drawn is'.drawn in
-    is.done ∙ (λ i. boards_outcome (refused_of said) (ending_of said) said.settings.prefix (standing said) (matrix i) (blocks i))
+    is.done ∙ (λ i. boards_outcome (refused_of said) (ending_of said) (names_of naming (blocks i)) (standing said) (matrix i)
+    (blocks i))
     ∙ sym is'.done)
 
 -- what is written of two papers that are tables of texts
-one-written : (likings : LikingsView) (said : FeedView) (trips stop_times : TableView) (one other : OutcomeView) → IsWritten likings said trips stop_times one
-    → IsWritten likings said trips stop_times other → one ≡ other
-one-written likings said trips stop_times one other is is' =
+one-written : (likings : LikingsView) (naming : NamingView) (said : FeedView) (trips stop_times : TableView) (one other : OutcomeView) → IsWritten likings naming said trips stop_times one
+    → IsWritten likings naming said trips stop_times other → one ≡ other
+one-written likings naming said trips stop_times one other is is' =
     let blocks = one-list likings said is.matrix is'.matrix is.plan is'.plan is.blocks is'.blocks is.matrix_is is'.matrix_is is.drawn is'.drawn in
     is.done
     ∙ (λ i. record {
-      writes = feed_files said trips stop_times (blocks i);
+      writes = feed_files naming said trips stop_times (blocks i);
       lines = None;
       text = refused_of said ++ written_line;
       ending = ending_of said;
@@ -222,34 +225,36 @@ one-written likings said trips stop_times one other is is' =
     ∙ sym is'.done
 
 -- and where one of them is refused
-one-write : (likings : LikingsView) (said : FeedView) (trips stop_times : Result TableView FeedFault) (one other : OutcomeView)
-    → WritesBy likings said trips stop_times one → WritesBy likings said trips stop_times other → one ≡ other
-one-write likings said trips stop_times one other (inl is) (inl is') =
+one-write : (likings : LikingsView) (naming : NamingView) (said : FeedView) (trips stop_times : Result TableView FeedFault) (one other : OutcomeView)
+    → WritesBy likings naming said trips stop_times one → WritesBy likings naming said trips stop_times other → one ≡ other
+one-write likings naming said trips stop_times one other (inl is) (inl is') =
     is.done ∙ ap refusing (one-paper paper.Trips (trip_columns said.settings) trips is.refused is'.refused is.for is'.for) ∙ sym is'.done
-one-write likings said trips stop_times one other (inl is) (inr (inl is')) =
+one-write likings naming said trips stop_times one other (inl is) (inr (inl is')) =
     absurd (no-refusal paper.Trips (trip_columns said.settings) trips is.refused _ is.for is')
-one-write likings said trips stop_times one other (inl is) (inr (inr is')) =
+one-write likings naming said trips stop_times one other (inl is) (inr (inr is')) =
     absurd (no-refusal paper.Trips (trip_columns said.settings) trips is.refused _ is.for is')
-one-write likings said trips stop_times one other (inr (inl is)) (inl is') =
+one-write likings naming said trips stop_times one other (inr (inl is)) (inl is') =
     absurd (no-refusal paper.Trips (trip_columns said.settings) trips is'.refused _ is'.for is)
-one-write likings said trips stop_times one other (inr (inr is)) (inl is') =
+one-write likings naming said trips stop_times one other (inr (inr is)) (inl is') =
     absurd (no-refusal paper.Trips (trip_columns said.settings) trips is'.refused _ is'.for is)
-one-write likings said (Err refused) stop_times one other (inr (inl is)) (inr is') = absurd is
-one-write likings said (Err refused) stop_times one other (inr (inr is)) (inr is') = absurd is
-one-write likings said (Ok trips) stop_times one other (inr (inl is)) (inr (inl is')) =
+one-write likings naming said (Err refused) stop_times one other (inr (inl is)) (inr is') = absurd is
+one-write likings naming said (Err refused) stop_times one other (inr (inr is)) (inr is') = absurd is
+one-write likings naming said (Ok trips) stop_times one other (inr (inl is)) (inr (inl is')) =
     is.1.done ∙ ap refusing (one-paper paper.StopTimes stop_time_columns stop_times is.1.refused is'.1.refused is.1.for is'.1.for)
     ∙ sym is'.1.done
-one-write likings said (Ok trips) stop_times one other (inr (inl is)) (inr (inr is')) =
+one-write likings naming said (Ok trips) stop_times one other (inr (inl is)) (inr (inr is')) =
     absurd (no-refusal paper.StopTimes stop_time_columns stop_times is.1.refused _ is.1.for is'.1)
-one-write likings said (Ok trips) stop_times one other (inr (inr is)) (inr (inl is')) =
+one-write likings naming said (Ok trips) stop_times one other (inr (inr is)) (inr (inl is')) =
     absurd (no-refusal paper.StopTimes stop_time_columns stop_times is'.1.refused _ is'.1.for is.1)
-one-write likings said (Ok trips) (Err refused) one other (inr (inr is)) (inr (inr is')) = absurd is.1
-one-write likings said (Ok trips) (Ok stop_times) one other (inr (inr is)) (inr (inr is')) =
-    one-written likings said trips stop_times one other is.1.1 is'.1.1
+one-write likings naming said (Ok trips) (Err refused) one other (inr (inr is)) (inr (inr is')) = absurd is.1
+one-write likings naming said (Ok trips) (Ok stop_times) one other (inr (inr is)) (inr (inr is')) =
+    one-written likings naming said trips stop_times one other is.1.1 is'.1.1
 
 write-determined : IsDetermined write_asked
 unfolding write_asked
-write-determined = determined-feed write_does (λ read said one other. one-write (likings_in read said.settings said.base) said (write_trips_in read) (stop_times_in read) one other)
+write-determined =
+    determined-named write_named (λ read naming said one other.
+    one-write (likings_in read said.settings said.base) naming said (write_trips_in read) (stop_times_in read) one other)
 
 -- so each command's outcome is determined
 pub determined : (command : CommandName) → IsDetermined (asked_by command)

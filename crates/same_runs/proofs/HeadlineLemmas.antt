@@ -13,17 +13,20 @@ use Rattle.edit_script.specs.declared.edit.Line.{Line}
 use Rattle.edit_script.specs.declared.fault.EditFault.{EditFault}
 use Rattle.trip_model.specs.Timetable.{TimetableView}
 use Rattle.desk_feed.specs.Feed.{FeedView, said_by}
-use Rattle.desk_feed.specs.Judging.{Does, said_in}
+use Rattle.desk_feed.specs.Judging.{Does, refusing, said_in}
 use Rattle.desk_feed.specs.Script.{first_records, record_at, refusal_in, standing_at, state_at, step_at}
 use Rattle.desk_run.specs.Commands.{IsGiven}
 use Rattle.desk_run.specs.Outcome.{OutcomeView, status_of}
 use Rattle.desk_run.specs.Reading.{ReadView, found_of}
 use Rattle.desk_run.specs.declared.status.TheConstants.{EDITS_REFUSED}
-use Rattle.feed_likings.specs.Likings.{likings_by, likings_in}
+use Rattle.feed_likings.specs.Likings.{likings_by}
+use Rattle.block_names.specs.Names.{NamingView}
+use Rattle.feed_naming.specs.Commands.{DoesNamed}
+use Rattle.feed_naming.specs.Naming.{naming_by, naming_in}
 use Rattle.feed_desk.specs.Answers.{answers_by}
 use Rattle.feed_desk.specs.Plans.{plan_at}
 use Rattle.blocks_command.specs.Answers.{answer_text, numbers_text}
-use Rattle.blocks_command.specs.Blocks.{IsPlan, blocks_asked}
+use Rattle.blocks_command.specs.Blocks.{IsPlan, blocks_asked, blocks_does, blocks_named}
 use Rattle.same_runs.specs.Headline.{Headline, IsPartOf, line_after}
 use Rattle.same_runs.proofs.PutLemmas.{accepted_line, answers-part, part-before}
 
@@ -39,30 +42,32 @@ state-stays base lines n some =
     by (Err refused) some = refl
 
 -- what `blocks` gives of an accepted feed
-pub headline : (found : Paper → Found) (said : FeedView) (outcome : OutcomeView) → said_by found ≡ Ok said
-    → IsPlan (likings_by said.settings said.base (table_in paper.Trips (found paper.Trips))) said outcome → Headline found outcome
-headline found said outcome accepted p =
+pub headline : (found : Paper → Found) (said : FeedView) (naming : NamingView) (outcome : OutcomeView) → said_by found ≡ Ok said
+    → naming_by said.settings (table_in paper.Trips (found paper.Trips)) ≡ Ok naming
+    → IsPlan (likings_by said.settings said.base (table_in paper.Trips (found paper.Trips))) naming said outcome → Headline found outcome
+headline found said naming outcome accepted named p =
     let base = said.base in
     let lines = said.lines in
     let are = p.planned.are in
     let likings = likings_by said.settings said.base (table_in paper.Trips (found paper.Trips)) in
     let plan = plan_at base lines p.matrix likings in
-    let prefix = said.settings.prefix in
     record {
       said = said;
       accepted = accepted;
+      naming = naming;
+      named = named;
       matrix = p.matrix;
       walks = p.matrix_is;
       plan = plan;
       put = λ n low none. (
           let line = line_after said p.matrix plan (suc n) in
-          let before = answers_by (answer_text p.matrix prefix) base lines plan (length lines) in
+          let before = answers_by (answer_text p.matrix naming) base lines plan (length lines) in
           let last = numbers_text (standing_at base lines (length lines)) p.matrix (plan (length lines)) in
           let numbers = numbers_text (standing_at base lines (suc n)) p.matrix (plan (suc n)) in
           let part : IsPartOf line before = subst (λ number. IsPartOf (accepted_line number numbers) before) (next n)
-          (answers-part p.matrix prefix base lines plan (length lines) n low none) in
+          (answers-part p.matrix naming base lines plan (length lines) n low none) in
           subst (λ (o : OutcomeView). IsPartOf line o.text) (sym p.planned.done) (part-before line before last part));
-      last = (answers_by (answer_text p.matrix prefix) base lines plan (length lines), ap (λ (o : OutcomeView). o.text) p.planned.done);
+      last = (answers_by (answer_text p.matrix naming) base lines plan (length lines), ap (λ (o : OutcomeView). o.text) p.planned.done);
       without = λ m low. (let w = (are.planned m low).without in (w.blocks, w.fewest, w.count));
       least = λ m low. (are.planned m low).scheduled.least;
       chosen = are.chosen;
@@ -81,7 +86,15 @@ pub headline-of : (read : ReadView) (outcome : OutcomeView) → IsGiven blocks_a
 unfolding blocks_asked
 headline-of read outcome given low = by (said_in read) refl given.gives
   where
-    by : (result : Result FeedView FeedFault) → said_in read ≡ result → Does (λ said. IsPlan (likings_in read said.settings said.base) said) result outcome
+    high : (refused : FeedFault) → outcome ≡ refusing refused → Headline (found_of read.pages) outcome
+    high refused does = absurd (omega (arith, low, ap (λ (o : OutcomeView). status_of o.ending) does))
+
+    by : (result : Result FeedView FeedFault) → said_in read ≡ result → Does (blocks_does.Gives read) result outcome
         → Headline (found_of read.pages) outcome
-    by (Ok said) is does = headline (found_of read.pages) said outcome is does
-    by (Err refused) is does = absurd (omega (arith, low, ap (λ (o : OutcomeView). status_of o.ending) does))
+    by (Ok said) is does = named (naming_in read said.settings) refl does
+      where
+        named : (result : Result NamingView FeedFault) → naming_in read said.settings ≡ result
+            → DoesNamed (λ naming. blocks_named.Gives read naming said) result outcome → Headline (found_of read.pages) outcome
+        named (Ok naming) named_is does = headline (found_of read.pages) said naming outcome is named_is does
+        named (Err refused) named_is does = high refused does
+    by (Err refused) is does = high refused does

@@ -10,6 +10,7 @@ use Rattle.edit_script.specs.declared.edit.Line.{Line}
 use Rattle.edit_script.specs.declared.fault.EditFault.{EditFault}
 use Rattle.desk_feed.specs.Script.{line_at, refusal_in, standing_at, step_at}
 use Rattle.feed_desk.specs.Answers.{answers_by}
+use Rattle.block_names.specs.Names.{NamingView}
 use Rattle.blocks_command.specs.Answers.{answer_text, numbers_text, shown_text}
 use Rattle.same_runs.specs.Headline.{IsPartOf}
 
@@ -33,16 +34,16 @@ part-after part text more p = record {
 }
 
 -- the answer to an accepted record begins with its line
-module _ (matrix : MatrixView) (prefix : List ℕ) where
+module _ (matrix : MatrixView) (naming : NamingView) where
   answer-part : (number : ℕ) (line : Line) (timetable : TimetableView) (plan : Plan) (refused : Option EditFault) → refused ≡ None
-      → IsPartOf (accepted_line number (numbers_text timetable matrix plan)) (answer_text matrix prefix number line timetable plan refused)
+      → IsPartOf (accepted_line number (numbers_text timetable matrix plan)) (answer_text matrix naming number line timetable plan refused)
   unfolding answer_text
   answer-part number line timetable plan refused none =
       let numbers = numbers_text timetable matrix plan in
-      let shown = shown_text matrix prefix line timetable plan in record {
+      let shown = shown_text matrix naming line timetable plan in record {
         front = [];
         back = shown;
-        is = ap (answer_text matrix prefix number line timetable plan) none
+        is = ap (answer_text matrix naming number line timetable plan) none
             ∙ sym (append_assoc (codes "record ") (decimal number ++ (codes ": ok, " ++ numbers)) shown
             ∙ ap (λ t. codes "record " ++ t) (append_assoc (decimal number) (codes ": ok, " ++ numbers) shown
             ∙ ap (λ t. decimal number ++ t) (append_assoc (codes ": ok, ") numbers shown)));
@@ -51,13 +52,13 @@ module _ (matrix : MatrixView) (prefix : List ℕ) where
   module _ (base : TimetableView) (lines : List Line) (plans : ℕ → Plan) where
     pub answers-part : (m n : ℕ) → n < m → refusal_in (step_at base lines n) ≡ None
         → IsPartOf (accepted_line (n + 1) (numbers_text (standing_at base lines (suc n)) matrix (plans (suc n))))
-        (answers_by (answer_text matrix prefix) base lines plans m)
+        (answers_by (answer_text matrix naming) base lines plans m)
     unfolding answers_by
     answers-part zero n low none = absurd (omega (arith, low))
     answers-part (suc m) n low none =
         let part = λ (k : ℕ). accepted_line (k + 1) (numbers_text (standing_at base lines (suc k)) matrix (plans (suc k))) in
-        let before = answers_by (answer_text matrix prefix) base lines plans m in
-        let last = λ (k : ℕ). answer_text matrix prefix (k + 1) (line_at lines k) (standing_at base lines (suc k)) (plans (suc k))
+        let before = answers_by (answer_text matrix naming) base lines plans m in
+        let last = λ (k : ℕ). answer_text matrix naming (k + 1) (line_at lines k) (standing_at base lines (suc k)) (plans (suc k))
         (refusal_in (step_at base lines k)) in ⊎_elim
         (λ (earlier : n < m). part-before (part n) before (last m) (answers-part m n earlier none))
         (λ (here : m ≤ n). (let e : n ≡ m = omega (arith, here, low) in

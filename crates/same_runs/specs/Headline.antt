@@ -22,6 +22,8 @@ use Rattle.desk_feed.specs.Schedule.{IsMatrixFor}
 use Rattle.desk_feed.specs.Script.{refusal_in, standing_at, state_at, step_at}
 use Rattle.desk_run.specs.Outcome.{OutcomeView}
 use Rattle.feed_likings.specs.Likings.{likings_by}
+use Rattle.block_names.specs.Names.{NamingView, names_of}
+use Rattle.feed_naming.specs.Naming.{naming_by}
 use Rattle.feed_desk.specs.Plans.{fixed_number}
 use Rattle.blocks_command.specs.Blocks.{plan_files}
 
@@ -57,11 +59,13 @@ abbrev pub likes_by : (Paper → Found) → FeedView → MatrixView → ℕ → 
 likes_by found said matrix =
     likes said.base matrix (likings_by said.settings said.base (table_in paper.Trips (found paper.Trips)))
 
--- What was found of each paper, and what is done. The feed is accepted. A moment m is after so many records of its script, and has
+-- What was found of each paper, and what is done. The feed is accepted, and its blocks are named in one way. A moment m is after so many records of its script, and has
 -- one plan.
 pub record Headline (found : Paper → Found) (outcome : OutcomeView) : Type 0 where
   pub said : FeedView
   pub accepted : said_by found ≡ Ok said
+  pub naming : NamingView
+  pub named : naming_by said.settings (table_in paper.Trips (found paper.Trips)) ≡ Ok naming
   pub matrix : MatrixView
   pub walks : IsMatrixFor said matrix
   pub plan : ℕ → Plan
@@ -80,8 +84,8 @@ pub record Headline (found : Paper → Found) (outcome : OutcomeView) : Type 0 w
   pub chosen : IsChosen (network_of said.base matrix) (likes_by found said matrix) (blocks_in said.base (plan 0))
   -- the files are those of the last plan, and say what the verdict of `check` is yes on
   pub written : let m = length said.lines in
-      outcome.writes ≡ plan_files (timetable_after said m) matrix said.settings.prefix (plan m)
-  pub claimed : let m = length said.lines in IsAccepted (timetable_after said m) matrix said.settings.prefix
+      outcome.writes ≡ plan_files (timetable_after said m) matrix naming (plan m)
+  pub claimed : let m = length said.lines in IsAccepted (timetable_after said m) matrix (names_of naming (blocks_after said plan m))
       (blocks_after said plan m) (plan m).leave (plan m).enter
   -- where the same edits stand, timetable and plan are equal
   pub undone : (m k : ℕ) → m ≤ length said.lines → k ≤ length said.lines

@@ -1,5 +1,6 @@
 //! Laws of runs. Each is the contract of a function that does nothing.
 ghost use Rattle.std.specs.Prelude.{◌≡◌, ℕ, ◌≤◌, length};
+ghost use Rattle.block_names.specs.Names.{NamingView};
 ghost use Rattle.blocks_command.specs.Blocks.{IsPlan, blocks_asked, plan_files};
 ghost use Rattle.desk_feed.specs.Feed.{FeedView, standing};
 ghost use Rattle.desk_program.specs.Commands.{asked_by};
@@ -36,16 +37,20 @@ pub fn same_run_law()
 /// The blocks that `blocks` lists in `blocks.csv` are those of the boards of `joined`, of the rows of `chart` and of the feed that
 /// `write` writes, where these commands read the same feed.
 pub fn same_blocks_law()
-    ensures listed { (likings : LikingsView) (said : FeedView) (outcome : OutcomeView) (plan : IsPlan likings said outcome)
-        → outcome.writes ≡ plan_files (standing said) plan.matrix said.settings.prefix
+    ensures listed { (likings : LikingsView) (naming : NamingView) (said : FeedView) (outcome : OutcomeView)
+        (plan : IsPlan likings naming said outcome)
+        → outcome.writes ≡ plan_files (standing said) plan.matrix naming
         (plan_at said.base said.lines plan.matrix likings (length said.lines)) }
-    ensures joined { (likings : LikingsView) (said : FeedView) (outcome other : OutcomeView) (plan : IsPlan likings said outcome)
-        (joined : IsJoined likings said other) → joined.blocks ≡ listed likings said outcome plan }
-    ensures drawn { (likings : LikingsView) (said : FeedView) (outcome other : OutcomeView) (plan : IsPlan likings said outcome)
-        (chart : IsChart likings said other) → chart.blocks ≡ listed likings said outcome plan }
-    ensures written { (likings : LikingsView) (said : FeedView) (outcome other : OutcomeView) (trips stop_times : TableView)
-        (plan : IsPlan likings said outcome) (written : IsWritten likings said trips stop_times other)
-        → written.blocks ≡ listed likings said outcome plan }
+    ensures joined { (likings : LikingsView) (naming : NamingView) (said : FeedView) (outcome other : OutcomeView)
+        (plan : IsPlan likings naming said outcome)
+        (joined : IsJoined likings naming said other) → joined.blocks ≡ listed likings naming said outcome plan }
+    ensures drawn { (likings : LikingsView) (naming : NamingView) (said : FeedView) (outcome other : OutcomeView)
+        (plan : IsPlan likings naming said outcome)
+        (chart : IsChart likings naming said other) → chart.blocks ≡ listed likings naming said outcome plan }
+    ensures written { (likings : LikingsView) (naming : NamingView) (said : FeedView) (outcome other : OutcomeView)
+        (trips stop_times : TableView)
+        (plan : IsPlan likings naming said outcome) (written : IsWritten likings naming said trips stop_times other)
+        → written.blocks ≡ listed likings naming said outcome plan }
 {}
 
 /// A run of `blocks` that comes to its end with an accepted feed, perhaps with refused edits, does what the record `Headline` says. This

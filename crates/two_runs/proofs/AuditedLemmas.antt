@@ -22,6 +22,8 @@ use Rattle.deadhead_matrix.specs.declared.entry.Entry.{Entry}
 use Rattle.deadhead_matrix.specs.declared.pulls.Pull.{Pull}
 use Rattle.deadhead_matrix.specs.Matrix.{MatrixView}
 use Rattle.deadhead_matrix.specs.Fitting.{network_of}
+use Rattle.block_build.specs.Names.{AreBlockNames}
+use Rattle.block_names.specs.Names.{NamingView, names_of}
 use Rattle.block_writer.specs.StopTimes.{stop_times_written}
 use Rattle.block_writer.specs.Trips.{trips_written, with_blocks}
 use Rattle.block_writer.proofs.ReadAgain as writer
@@ -72,37 +74,39 @@ pub record TellsLeast (outcome : OutcomeView) : Type 0 where
 -- the plan is stated, whichever blocks it is said to have
 stated-plan : WrittenFeedStatesPlan
     → (settings : SettingsView) (trips_bytes stop_times_bytes : List ℕ) (trips stop_times : TableView) (read now : TimetableView)
-    (matrix : MatrixView) (next : List (Option ℕ)) (blocks : List (List ℕ))
+    (matrix : MatrixView) (next : List (Option ℕ)) (names blocks : List (List ℕ))
     → blocks ≡ blocks_along next (by_departure (trip_moves now.slots))
     → IsFeed settings trips_bytes stop_times_bytes trips stop_times read
     → IsTimetable now
     → IsWhole read now
-    → AreReadable trips stop_times now (length read.slots) (chosen_in settings trips) blocks settings.prefix
+    → AreReadable trips stop_times now (length read.slots) (chosen_in settings trips) blocks names
     → IsLeast (network_of now matrix) blocks
+    → AreBlockNames (length blocks) names
     → (table : TableView) (again : TimetableView)
-    → table_of (trips_written trips now (chosen_in settings trips) blocks settings.prefix) ≡ Ok table
-    → base_of settings (File (trips_written trips now (chosen_in settings trips) blocks settings.prefix))
+    → table_of (trips_written trips now (chosen_in settings trips) blocks names) ≡ Ok table
+    → base_of settings (File (trips_written trips now (chosen_in settings trips) blocks names))
     (File (stop_times_written stop_times now (length read.slots))) ≡ Ok again
-    → StatesPlan table again (chosen_in settings table) matrix settings.prefix blocks
-stated-plan states settings trips_bytes stop_times_bytes trips stop_times read now matrix next blocks along feed valid whole =
+    → StatesPlan table again (chosen_in settings table) matrix names blocks
+stated-plan states settings trips_bytes stop_times_bytes trips stop_times read now matrix next names blocks along feed valid whole =
     subst
-    (λ blocks. AreReadable trips stop_times now (length read.slots) (chosen_in settings trips) blocks settings.prefix
+    (λ blocks. AreReadable trips stop_times now (length read.slots) (chosen_in settings trips) blocks names
     → IsLeast (network_of now matrix) blocks
+    → AreBlockNames (length blocks) names
     → (table : TableView) (again : TimetableView)
-    → table_of (trips_written trips now (chosen_in settings trips) blocks settings.prefix) ≡ Ok table
-    → base_of settings (File (trips_written trips now (chosen_in settings trips) blocks settings.prefix))
+    → table_of (trips_written trips now (chosen_in settings trips) blocks names) ≡ Ok table
+    → base_of settings (File (trips_written trips now (chosen_in settings trips) blocks names))
     (File (stop_times_written stop_times now (length read.slots))) ≡ Ok again
-    → StatesPlan table again (chosen_in settings table) matrix settings.prefix blocks)
+    → StatesPlan table again (chosen_in settings table) matrix names blocks)
     (sym along)
-    (λ readable least table again table_read base_read.
-    states settings trips_bytes stop_times_bytes trips stop_times read now matrix next settings.prefix feed valid whole readable least
+    (λ readable least named table again table_read base_read.
+    states settings trips_bytes stop_times_bytes trips stop_times read now matrix next names feed valid whole readable least named
     table again table_read base_read)
 
 -- A feed whose timetable was read, between the places of another that knows more, and what was written of it after its script.
 module _ (states : WrittenFeedStatesPlan) (settings : SettingsView) (read more : TimetableView) (entries : List Entry) (pulls : List Pull)
     (lines : List Line) (trips_bytes stop_times_bytes : List ℕ) (trips stop_times : TableView) (outcome : OutcomeView)
-    (feed : IsFeed settings trips_bytes stop_times_bytes trips stop_times read) (likings : LikingsView)
-    (written : IsWritten likings (said_with settings (with_slots read.slots more) entries pulls lines) trips stop_times outcome)
+    (feed : IsFeed settings trips_bytes stop_times_bytes trips stop_times read) (likings : LikingsView) (naming : NamingView)
+    (written : IsWritten likings naming (said_with settings (with_slots read.slots more) entries pulls lines) trips stop_times outcome)
     (whole : IsWholeAfter (said_with settings (with_slots read.slots more) entries pulls lines) stop_times) where
   abbrev said : FeedView
   said = said_with settings (with_slots read.slots more) entries pulls lines
@@ -110,15 +114,19 @@ module _ (states : WrittenFeedStatesPlan) (settings : SettingsView) (read more :
   abbrev now : TimetableView
   now = standing said
 
+  -- the names of the blocks
+  abbrev names : List (List ℕ)
+  names = names_of naming written.blocks
+
   abbrev trips_text : List ℕ
-  trips_text = trips_written trips now (chosen_in settings trips) written.blocks settings.prefix
+  trips_text = trips_written trips now (chosen_in settings trips) written.blocks names
 
   abbrev stop_times_text : List ℕ
   stop_times_text = stop_times_written stop_times now (length read.slots)
 
   -- the table and the timetable that are read again, and what the feed then says
   abbrev table : TableView
-  table = with_blocks trips now (chosen_in settings trips) written.blocks settings.prefix
+  table = with_blocks trips now (chosen_in settings trips) written.blocks names
 
   abbrev again : TimetableView
   again = as_written read now
@@ -174,20 +182,20 @@ module _ (states : WrittenFeedStatesPlan) (settings : SettingsView) (read more :
 
   module _ (trips_unmarked : strip_bom trips_text ≡ trips_text) (stop_times_unmarked : strip_bom stop_times_text ≡ stop_times_text) where
     pub table_again : table_of trips_text ≡ Ok table
-    table_again = writer.trips-back trips now (chosen_in settings trips) written.blocks settings.prefix feed.trips_table trips_unmarked
+    table_again = writer.trips-back trips now (chosen_in settings trips) written.blocks names feed.trips_table trips_unmarked
 
     pub read_again : base_of settings (File trips_text) (File stop_times_text) ≡ Ok again
     read_again =
         written-back settings trips_bytes stop_times_bytes trips stop_times read now (chosen_in settings trips) written.blocks
-        settings.prefix feed.trips_are feed.stop_times_are feed.trips_table feed.stop_times_table feed.read
+        names feed.trips_are feed.stop_times_are feed.trips_table feed.stop_times_table feed.read
         follows whole.times trips_unmarked stop_times_unmarked
 
-    plan : StatesPlan table again (chosen_in settings table) written.matrix settings.prefix written.blocks
+    plan : StatesPlan table again (chosen_in settings table) written.matrix names written.blocks
     plan =
-        stated-plan states settings trips_bytes stop_times_bytes trips stop_times read now written.matrix written.plan.next written.blocks
+        stated-plan states settings trips_bytes stop_times_bytes trips stop_times read now written.matrix written.plan.next names written.blocks
         scheduled.along feed valid is_whole
         (record { times = whole.times; trips_unmarked = trips_unmarked; stop_times_unmarked = stop_times_unmarked })
-        scheduled.least table again table_again read_again
+        scheduled.least written.named table again table_again read_again
 
     audited-least : (audit : OutcomeView) → IsAudited said_again table audit → TellsLeast audit
     audited-least audit audited =
@@ -211,7 +219,7 @@ module _ (states : WrittenFeedStatesPlan) (settings : SettingsView) (read more :
 
     pub tells-least : (audit : OutcomeView) → AuditsOf said_again table audit → TellsLeast audit
     tells-least audit (inl refused) =
-        absurd (refused.first.bad (plan.text written.text refused.record_before refused.first.within refused.first.selected))
+        absurd (refused.first.bad (plan.text refused.record_before refused.first.within refused.first.selected))
     tells-least audit (inr audits) = audited-least audit audits.1
 
     -- so it is over papers that say this

@@ -32,12 +32,15 @@ use Rattle.desk_run.proofs.EachStatus.{pages_told}
 use Rattle.desk_core.specs.Counts.{blocks_in, minutes_in}
 use Rattle.plan_choice.specs.Likings.{LikingsView}
 use Rattle.feed_likings.specs.Likings.{likings_in}
+use Rattle.block_names.specs.Names.{NamingView, names_of}
+use Rattle.feed_naming.specs.Commands.{DoesNamed}
+use Rattle.feed_naming.specs.Naming.{naming_in}
 use Rattle.feed_desk.specs.Answers.{answers_by}
 use Rattle.feed_desk.specs.Plans.{fixed_number, IsPlannedAt, plan_at}
 use Rattle.blocks_command.specs.Answers.{answer_text}
-use Rattle.blocks_command.specs.Blocks.{IsPlan, blocks_asked}
+use Rattle.blocks_command.specs.Blocks.{IsPlan, blocks_asked, blocks_does, blocks_named}
 use Rattle.desk_feed.specs.Feed.{FeedView, feed_papers, kept_on, lines_by, said_by, said_with, standing}
-use Rattle.desk_feed.specs.Judging.{Does, refused_of, said_in}
+use Rattle.desk_feed.specs.Judging.{Does, refused_of, refusing, said_in}
 use Rattle.plan_commands.specs.Check.{IsChecked, check_asked, checked, claim_in, claim_outcome, claim_papers, verdict_outcome, yes_line}
 use Rattle.desk_feed.proofs.OneMatrix.{matrix-same}
 use Rattle.two_runs.specs.Confirmed.{IsConfirmed, IsShort, StandAgain}
@@ -94,16 +97,30 @@ module _ (files : Files) (blocks prices : List ℕ) where
   prices_read short = ap (found_as MOST_BYTES) prices_found
       ∙ found-short prices (λ long. short (ap (found_as MOST_BYTES) prices_found ∙ long))
 
--- a run of `blocks` that has done all has done so with an accepted feed
+-- what a run of `blocks` says that has done all: it has done so with an accepted feed, whose blocks are named
+pub record HasPlanned (read : ReadView) (outcome : OutcomeView) : Type 0 where
+  pub said : FeedView
+  pub says : said_in read ≡ Ok said
+  pub naming : NamingView
+  pub plan : IsPlan (likings_in read said.settings said.base) naming said outcome
+
 planned_said : (read : ReadView) (outcome : OutcomeView) → IsGiven blocks_asked read outcome → status_of outcome.ending ≤ EDITS_REFUSED
-    → (said : FeedView) × (said_in read ≡ Ok said) × IsPlan (likings_in read said.settings said.base) said outcome
+    → HasPlanned read outcome
 unfolding blocks_asked
 planned_said read outcome given low = by (said_in read) refl given.gives
   where
-    by : (result : Result FeedView FeedFault) → said_in read ≡ result → Does (λ said. IsPlan (likings_in read said.settings said.base) said) result outcome
-        → (said : FeedView) × (said_in read ≡ Ok said) × IsPlan (likings_in read said.settings said.base) said outcome
-    by (Ok said) is does = (said, is, does)
-    by (Err refused) is does = absurd (omega (arith, low, ap (λ (o : OutcomeView). status_of o.ending) does))
+    high : (refused : FeedFault) → outcome ≡ refusing refused → HasPlanned read outcome
+    high refused does = absurd (omega (arith, low, ap (λ (o : OutcomeView). status_of o.ending) does))
+
+    named : (said : FeedView) → said_in read ≡ Ok said → (result : Result NamingView FeedFault)
+        → DoesNamed (λ naming. blocks_named.Gives read naming said) result outcome → HasPlanned read outcome
+    named said is (Ok naming) does = record { said = said; says = is; naming = naming; plan = does }
+    named said is (Err refused) does = high refused does
+
+    by : (result : Result FeedView FeedFault) → said_in read ≡ result → Does (blocks_does.Gives read) result outcome
+        → HasPlanned read outcome
+    by (Ok said) is does = named said is (naming_in read said.settings) does
+    by (Err refused) is does = high refused does
 
 -- the files of a shelf with two more, where it tells them
 abbrev with_texts : List ℕ → List ℕ → Option Files → Option Files
@@ -112,19 +129,22 @@ with_texts blocks prices = with_two_told (file_name_of paper.Blocks) blocks (fil
 module _ (seen again : Option ReadView) (before left later after : World) (first second : ℕ)
     (one : HasEnded blocks_asked seen before left first) (two : HasEnded check_asked again later after second)
     (all : first ≤ EDITS_REFUSED) where
-  abbrev planned : (said : FeedView) × (said_in one.chosen.read ≡ Ok said)
-      × IsPlan (likings_in one.chosen.read said.settings said.base) said one.chosen.outcome
+  abbrev planned : HasPlanned one.chosen.read one.chosen.outcome
   planned = planned_said one.chosen.read one.chosen.outcome one.chosen.given (omega (arith, all, one.answered))
 
   abbrev said : FeedView
-  said = planned.0
+  said = planned.said
+
+  -- how its blocks are named
+  abbrev naming : NamingView
+  naming = planned.naming
 
   -- how links are liked
   abbrev likings : LikingsView
   likings = likings_in one.chosen.read said.settings said.base
 
-  abbrev plan : IsPlan likings said one.chosen.outcome
-  plan = planned.2
+  abbrev plan : IsPlan likings naming said one.chosen.outcome
+  plan = planned.plan
 
   -- the plan at the last moment, and its blocks
   abbrev last_plan : Plan
@@ -137,7 +157,7 @@ module _ (seen again : Option ReadView) (before left later after : World) (first
   blocks = blocks_in (standing said) last_plan
 
   abbrev text_of_blocks : List ℕ
-  text_of_blocks = blocks_text (standing said) plan.matrix said.settings.prefix blocks
+  text_of_blocks = blocks_text (standing said) plan.matrix (names_of naming blocks) blocks
 
   abbrev text_of_prices : List ℕ
   text_of_prices = prices_text (standing said) last_plan.leave last_plan.enter
@@ -148,7 +168,7 @@ module _ (seen again : Option ReadView) (before left later after : World) (first
       ∙ ap (λ (o : OutcomeView). (with_writings o.writes before.shelf).files) plan.planned.done
 
   -- the blocks and the prices are accepted
-  accepted : IsAccepted (standing said) plan.matrix said.settings.prefix blocks last_plan.leave last_plan.enter
+  accepted : IsAccepted (standing said) plan.matrix (names_of naming blocks) blocks last_plan.leave last_plan.enter
   accepted = plan.accepted
 
   module _ (files : Files) (told : before.shelf.files ≡ Some files) (found : Files) (told_later : later.shelf.files ≡ Some found)
@@ -167,7 +187,7 @@ module _ (seen again : Option ReadView) (before left later after : World) (first
 
     says : said_in two.chosen.read ≡ Ok said
     says = ap (λ pages. said_by (found_of pages)) read_second ∙ said_kept files text_of_blocks text_of_prices
-        ∙ sym (ap (λ pages. said_by (found_of pages)) read_first) ∙ planned.1
+        ∙ sym (ap (λ pages. said_by (found_of pages)) read_first) ∙ planned.says
 
     claim : claim_in two.chosen.read said ≡ Ok accepted.0
     claim =
@@ -196,7 +216,7 @@ module _ (seen again : Option ReadView) (before left later after : World) (first
 
     confirmed : IsConfirmed before left later after second
     confirmed = record {
-      answers = answers_by (answer_text plan.matrix said.settings.prefix) said.base said.lines
+      answers = answers_by (answer_text plan.matrix naming) said.base said.lines
           (plan_at said.base said.lines plan.matrix likings)
           (length said.lines);
       refused = refused_of said;

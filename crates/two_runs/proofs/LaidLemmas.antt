@@ -36,9 +36,12 @@ use Rattle.desk_run.specs.declared.status.TheConstants.{EDITS_REFUSED}
 use Rattle.desk_feed.specs.Feed.{FeedView, deadheads_in, feed_papers, kept_on, lines_by, lines_in, pulls_in, said_by, said_with}
 use Rattle.desk_feed.specs.Feed.{settings_in, timetable_in}
 use Rattle.desk_feed.specs.Judging.{Does, refusing, said_in}
+use Rattle.block_names.specs.Names.{NamingView}
 use Rattle.feed_likings.specs.Likings.{likings_in}
+use Rattle.feed_naming.specs.Commands.{DoesNamed}
+use Rattle.feed_naming.specs.Naming.{naming_in}
 use Rattle.write_command.specs.Write.{IsWritten, Writes, WritesBy, feed_files, files_of, stop_times_in, stop_times_name, stop_times_of}
-use Rattle.write_command.specs.Write.{trips_in, trips_name, trips_of, write_asked}
+use Rattle.write_command.specs.Write.{trips_in, trips_name, trips_of, write_asked, write_does}
 use Rattle.two_runs.specs.Audited.{IsLaid}
 use Rattle.two_runs.proofs.DeadheadsOver.{deadheads-over, slots-kept, with_slots}
 use Rattle.two_runs.proofs.TwoFiles.{first-stands, is_name, others-stand, second-stands, with_two, with_two_told}
@@ -151,37 +154,46 @@ says-again one other said alike parts again read is no_script =
     (ap (λ depot. pulls_of depot parts.more) alike.depot ∙ parts.pulls_are)
     (and_then (lines_in one) [] _ _ (ap lines_by no_script) refl))))
 
--- what a run of `write` has written that has done all, and how it likes links
+-- what a run of `write` has written that has done all, how it likes links, and how blocks are named
 pub record HasWritten (said : FeedView) (trips stop_times : Result TableView FeedFault) (outcome : OutcomeView) : Type 0 where
   pub first : TableView
   pub second : TableView
   pub first_is : trips ≡ Ok first
   pub second_is : stop_times ≡ Ok second
   pub likings : LikingsView
-  pub written : IsWritten likings said first second outcome
+  pub naming : NamingView
+  pub written : IsWritten likings naming said first second outcome
 
 refused-high : (outcome : OutcomeView) (refused : FeedFault) → status_of outcome.ending ≤ EDITS_REFUSED → outcome ≡ refusing refused → ⊥
 refused-high outcome refused low done = omega (arith, low, ap (λ (o : OutcomeView). status_of o.ending) done)
 
-has-written : (likings : LikingsView) (said : FeedView) (trips stop_times : Result TableView FeedFault) (outcome : OutcomeView)
-    → status_of outcome.ending ≤ EDITS_REFUSED → WritesBy likings said trips stop_times outcome
+has-written : (likings : LikingsView) (naming : NamingView) (said : FeedView) (trips stop_times : Result TableView FeedFault) (outcome : OutcomeView)
+    → status_of outcome.ending ≤ EDITS_REFUSED → WritesBy likings naming said trips stop_times outcome
     → HasWritten said trips stop_times outcome
-has-written likings said trips stop_times outcome low (inl bad) = absurd (refused-high outcome bad.refused low bad.done)
-has-written likings said (Err due) stop_times outcome low (inr (inl none)) = absurd none
-has-written likings said (Err due) stop_times outcome low (inr (inr none)) = absurd none
-has-written likings said (Ok first) stop_times outcome low (inr (inl bad)) = absurd (refused-high outcome bad.1.refused low bad.1.done)
-has-written likings said (Ok first) (Err due) outcome low (inr (inr does)) = absurd does.1
-has-written likings said (Ok first) (Ok second) outcome low (inr (inr does)) =
-    record { first = first; second = second; first_is = refl; second_is = refl; likings = likings; written = does.1.1 }
+has-written likings naming said trips stop_times outcome low (inl bad) = absurd (refused-high outcome bad.refused low bad.done)
+has-written likings naming said (Err due) stop_times outcome low (inr (inl none)) = absurd none
+has-written likings naming said (Err due) stop_times outcome low (inr (inr none)) = absurd none
+has-written likings naming said (Ok first) stop_times outcome low (inr (inl bad)) = absurd (refused-high outcome bad.1.refused low bad.1.done)
+has-written likings naming said (Ok first) (Err due) outcome low (inr (inr does)) = absurd does.1
+has-written likings naming said (Ok first) (Ok second) outcome low (inr (inr does)) =
+    record { first = first; second = second; first_is = refl; second_is = refl; likings = likings; naming = naming; written = does.1.1 }
 
 pub written-said : (read : ReadView) (outcome : OutcomeView) → IsGiven write_asked read outcome → status_of outcome.ending ≤ EDITS_REFUSED
     → (said : FeedView) × (said_in read ≡ Ok said) × HasWritten said (trips_in read) (stop_times_in read) outcome
 unfolding write_asked
 written-said read outcome given low = by (said_in read) refl given.gives
   where
-    by : (result : Result FeedView FeedFault) → said_in read ≡ result → Does (Writes read) result outcome
-        → (said : FeedView) × (said_in read ≡ Ok said) × HasWritten said (trips_in read) (stop_times_in read) outcome
-    by (Ok said) is does = (said, is, has-written (likings_in read said.settings said.base) said (trips_in read) (stop_times_in read) outcome low does)
+    Found : Type 0
+    Found = (said : FeedView) × (said_in read ≡ Ok said) × HasWritten said (trips_in read) (stop_times_in read) outcome
+
+    named : (said : FeedView) → said_in read ≡ Ok said → (result : Result NamingView FeedFault)
+        → DoesNamed (λ naming. Writes read naming said) result outcome → Found
+    named said is (Ok naming) does =
+        (said, is, has-written (likings_in read said.settings said.base) naming said (trips_in read) (stop_times_in read) outcome low does)
+    named said is (Err refused) does = absurd (refused-high outcome refused low does)
+
+    by : (result : Result FeedView FeedFault) → said_in read ≡ result → Does (write_does.Gives read) result outcome → Found
+    by (Ok said) is does = named said is (naming_in read said.settings) does
     by (Err refused) is does = absurd (refused-high outcome refused low does)
 
 -- the files of a shelf with the two, and where the shelf tells them
@@ -191,11 +203,11 @@ with_both files trips stop_times = with_two trips_name trips stop_times_name sto
 abbrev pub with_texts : List ℕ → List ℕ → Option Files → Option Files
 with_texts trips stop_times = with_two_told trips_name trips stop_times_name stop_times
 
-pub written-files : (said : FeedView) (first second : TableView) (blocks : List (List ℕ)) (shelf : ShelfState)
-    → (with_writings (feed_files said first second blocks) shelf).files ≡ with_texts (trips_of said first blocks)
+pub written-files : (naming : NamingView) (said : FeedView) (first second : TableView) (blocks : List (List ℕ)) (shelf : ShelfState)
+    → (with_writings (feed_files naming said first second blocks) shelf).files ≡ with_texts (trips_of naming said first blocks)
     (stop_times_of said second) shelf.files
 unfolding files_of
-written-files said first second blocks shelf = refl
+written-files naming said first second blocks shelf = refl
 
 module _ (files : Files) (trips stop_times : List ℕ) where
   kept : (name : List ℕ) → is_name name stop_times_name ≡ false → is_name name trips_name ≡ false

@@ -15,6 +15,7 @@ use Rattle.gtfs_tables.specs.declared.paper.Paper.{Paper}
 use Rattle.gtfs_tables.specs.declared.paper.Paper.TheVariants as paper
 use Rattle.gtfs_tables.specs.declared.paper.TheConstants.{MOST_BYTES}
 use Rattle.feed_read.specs.Base.{base_of}
+use Rattle.block_names.specs.Names.{NamingView}
 use Rattle.written_laws.specs.PlanLaws.{WrittenFeedStatesPlan}
 use Rattle.written_laws.specs.Planned.{IsFeed}
 use Rattle.plan_choice.specs.Likings.{LikingsView}
@@ -54,10 +55,11 @@ module _ (states : WrittenFeedStatesPlan) (files laid : Files) (first second : T
   -- what is to be shown of what a feed says
   abbrev TellsOf : FeedView → Type 0
   TellsOf said =
-      (likings : LikingsView) (written : IsWritten likings said first second outcome) → IsWholeAfter said second
-      → IsLaid (with_both files (trips_of said first written.blocks) (stop_times_of said second)) laid
-      → IsReadable (with_both files (trips_of said first written.blocks) (stop_times_of said second)) trips_name
-      → IsReadable (with_both files (trips_of said first written.blocks) (stop_times_of said second)) stop_times_name
+      (likings : LikingsView) (naming : NamingView) (written : IsWritten likings naming said first second outcome)
+      → IsWholeAfter said second
+      → IsLaid (with_both files (trips_of naming said first written.blocks) (stop_times_of said second)) laid
+      → IsReadable (with_both files (trips_of naming said first written.blocks) (stop_times_of said second)) trips_name
+      → IsReadable (with_both files (trips_of naming said first written.blocks) (stop_times_of said second)) stop_times_name
       → Does (λ said. AuditsBy said (table_in paper.Trips (after paper.Trips))) (said_by after) audit
       → TellsLeast audit
 
@@ -65,7 +67,7 @@ module _ (states : WrittenFeedStatesPlan) (files laid : Files) (first second : T
   tells-parts : (said : FeedView) → (parts : HasParts before said) → table_in paper.Trips (before paper.Trips) ≡ Ok first
       → table_in paper.StopTimes (before paper.StopTimes) ≡ Ok second
       → TellsOf (said_with parts.settings (record parts.more { slots = parts.read.slots }) parts.entries parts.pulls parts.lines)
-  tells-parts said parts first_is second_is likings written whole is trips_readable stop_times_readable does =
+  tells-parts said parts first_is second_is likings naming written whole is trips_readable stop_times_readable does =
       let trips = file-of paper.Trips (before paper.Trips) first first_is in
       let stop_times = file-of paper.StopTimes (before paper.StopTimes) second second_is in
       let feed : IsFeed parts.settings trips.bytes stop_times.bytes first second parts.read = record {
@@ -77,7 +79,7 @@ module _ (states : WrittenFeedStatesPlan) (files laid : Files) (first second : T
         read = (λ i. base_of parts.settings (sym trips.is i) (sym stop_times.is i)) ∙ parts.read_is;
       } in
       let now = said_with parts.settings (record parts.more { slots = parts.read.slots }) parts.entries parts.pulls parts.lines in
-      let trips_text = trips_of now first written.blocks in
+      let trips_text = trips_of naming now first written.blocks in
       let stop_times_text = stop_times_of now second in
       let both = with_both files trips_text stop_times_text in
       let trips_stand = trips-stand files trips_text stop_times_text in
@@ -89,11 +91,11 @@ module _ (states : WrittenFeedStatesPlan) (files laid : Files) (first second : T
       let stop_times_found : after paper.StopTimes ≡ File stop_times_text = ap (found_as MOST_BYTES) is.stop_times
       ∙ found-readable both stop_times_name stop_times_text stop_times_stand stop_times_readable in
       let read = read_again states parts.settings parts.read parts.more parts.entries parts.pulls parts.lines trips.bytes stop_times.bytes
-      first second outcome feed likings written whole trips_unmarked stop_times_unmarked in
+      first second outcome feed likings naming written whole trips_unmarked stop_times_unmarked in
       let table = table_again states parts.settings parts.read parts.more parts.entries parts.pulls parts.lines trips.bytes
-      stop_times.bytes first second outcome feed likings written whole trips_unmarked stop_times_unmarked in
+      stop_times.bytes first second outcome feed likings naming written whole trips_unmarked stop_times_unmarked in
       finds-least states parts.settings parts.read parts.more parts.entries parts.pulls parts.lines trips.bytes stop_times.bytes first
-      second outcome feed likings written whole trips_unmarked stop_times_unmarked after
+      second outcome feed likings naming written whole trips_unmarked stop_times_unmarked after
       (says-again after before said (laid-alike files trips_text stop_times_text laid is) parts _
       ((λ i. base_of parts.settings (trips_found i) (stop_times_found i)) ∙ read) refl (ap (found_as MOST_BYTES) is.edits))
       (ap (table_in paper.Trips) trips_found ∙ ap (or_refused paper.Trips) table)
@@ -116,7 +118,7 @@ module _ (states : WrittenFeedStatesPlan) (seen heard : Option ReadView) (before
   has = said.2
 
   abbrev trips_text : List ℕ
-  trips_text = trips_of said.0 has.first has.written.blocks
+  trips_text = trips_of has.naming said.0 has.first has.written.blocks
 
   abbrev stop_times_text : List ℕ
   stop_times_text = stop_times_of said.0 has.second
@@ -125,7 +127,7 @@ module _ (states : WrittenFeedStatesPlan) (seen heard : Option ReadView) (before
   files_between =
       ap (λ (w : World). w.shelf.files) one.carried
       ∙ ap (λ (o : OutcomeView). (with_writings o.writes before.shelf).files) has.written.done
-      ∙ written-files said.0 has.first has.second has.written.blocks before.shelf
+      ∙ written-files has.naming said.0 has.first has.second has.written.blocks before.shelf
 
   module _ (files written laid : Files) (told : before.shelf.files ≡ Some files) (now : middle.shelf.files ≡ Some written)
       (there : again.shelf.files ≡ Some laid) where
@@ -156,7 +158,7 @@ module _ (states : WrittenFeedStatesPlan) (seen heard : Option ReadView) (before
         let first_is = sym (ap (λ pages. table_in paper.Trips (found_of pages paper.Trips)) read_first) ∙ has.first_is in
         let second_is = sym (ap (λ pages. table_in paper.StopTimes (found_of pages paper.StopTimes)) read_first) ∙ has.second_is in
         let told =
-        tells states files laid has.first has.second one.chosen.outcome two.chosen.outcome said.0 says first_is second_is has.likings has.written
+        tells states files laid has.first has.second one.chosen.outcome two.chosen.outcome said.0 says first_is second_is has.likings has.naming has.written
         (can.whole said.0 has.second says second_is)
         (subst (λ written. IsLaid written laid) both is) (subst (λ written. IsReadable written trips_name) both can.trips)
         (subst (λ written. IsReadable written stop_times_name) both can.stop_times) audited in
