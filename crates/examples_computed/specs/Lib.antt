@@ -2,3 +2,4 @@ pub mod Choices
 pub mod Claims
 pub mod Edits
 pub mod Feeds
+pub mod Names

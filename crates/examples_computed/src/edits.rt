@@ -3,6 +3,7 @@ ghost use Rattle.blocks_command.specs.Answers.{answer_text};
 ghost use Rattle.desk_feed.specs.Feed.{lines_by};
 ghost use Rattle.desk_io.specs.declared.shelf.Found.TheVariants.{File};
 ghost use Rattle.examples_computed.specs.Claims.{one_deadhead, two_trips};
+ghost use Rattle.examples_computed.specs.Names.{numbered_by_b};
 ghost use Rattle.feed_desk.specs.Answers.{answers_by};
 ghost use Rattle.feed_desk.specs.Plans.{plan_at};
 ghost use Rattle.edit_script.specs.Machine.{machine, numbers_of, timetable_at};
@@ -27,6 +28,6 @@ pub fn a_file_of_edits()
 
 /// What is printed of them. The shift is refused, since no trip may be moved.
 pub fn four_answers()
-    ensures { answers_by (answer_text one_deadhead (codes "B")) two_trips script (plan_at two_trips script one_deadhead nothing_liked) 4
+    ensures { answers_by (answer_text one_deadhead numbered_by_b) two_trips script (plan_at two_trips script one_deadhead nothing_liked) 4
         ≡ answers }
 {}

@@ -8,7 +8,7 @@
 //! which the verdict is yes. A script of four records is read from its bytes, and its answers are those that `blocks` prints.
 //!
 //! Beside them are a time and its rounding, a table, a deficit, the sum of the maxima, a script with an undo, a refused feed and its
-//! line, a choice between two least plans, and a verdict that is no.
+//! line, a choice between two least plans, the names of blocks, and a verdict that is no.
 //!
 //! The matrix of the examples is written down: no definition computes least walks, since they are known by what they are.
 #![tactic(auto)]
@@ -19,6 +19,7 @@ mod deficits;
 mod edits;
 mod feeds;
 mod files;
+mod names;
 mod plans;
 mod times;
 
@@ -28,5 +29,6 @@ pub use deficits::{a_deficit, a_sum_of_maxima};
 pub use edits::{a_file_of_edits, a_script, four_answers};
 pub use feeds::{a_feed, a_refusal, a_refused_feed};
 pub use files::a_table;
+pub use names::{a_tie_of_names, names_of_blocks};
 pub use plans::{a_file_of_blocks, a_file_of_prices, a_line, a_plan};
 pub use times::{a_rounded_arrival, a_rounded_departure, a_time};

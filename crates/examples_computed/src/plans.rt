@@ -1,5 +1,7 @@
 ghost use Rattle.std.specs.Prelude.{◌≡◌, [], ◌∷◌, ◌++◌, codes, length};
 ghost use Rattle.block_build.specs.Files.{blocks_text, prices_text};
+ghost use Rattle.block_names.specs.Names.{names_of};
+ghost use Rattle.examples_computed.specs.Names.{numbered_by_b};
 ghost use Rattle.desk_core.specs.Counts.{blocks_in, minutes_in};
 ghost use Rattle.desk_feed.specs.Numbers.{numbers_line};
 ghost use Rattle.examples_computed.specs.Claims.{blocks_file, one_deadhead, one_plan, prices_file, two_trips};
@@ -19,7 +21,8 @@ pub fn a_line()
 
 /// The bytes of `blocks.csv`.
 pub fn a_file_of_blocks()
-    ensures { blocks_text two_trips one_deadhead (codes "B") (blocks_in two_trips one_plan) ≡ blocks_file }
+    ensures { let blocks = blocks_in two_trips one_plan in
+        blocks_text two_trips one_deadhead (names_of numbered_by_b blocks) blocks ≡ blocks_file }
 {}
 
 /// The bytes of `prices.csv`.
