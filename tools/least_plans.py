@@ -1,13 +1,14 @@
-"""The least plans of a small feed, found by trying every blocking, and how much each is liked. tools/hostile asks.
+"""The least plans of a small feed, found by trying every blocking, how much each is liked, and the names of its blocks. tools/hostile
+asks.
 
-It knows feeds without a script and without dates, whose trips have two rows each, the first before the last. A plan is liked by the
-key `prefer` of desk.toml, as docs/FORMATS.md says.
+It knows feeds without dates, whose trips have two rows each, the first before the last; those whose plan is tried have no script.
+A plan is liked by the key `prefer` of desk.toml, and its blocks are named by `block_names`, as docs/FORMATS.md says.
 """
 import csv
 import pathlib
 import tomllib
 from collections.abc import Iterator
-from itertools import pairwise, product
+from itertools import count, pairwise, product
 from typing import NamedTuple
 
 PREFERRED = ["stated", "line", "waiting"]
@@ -142,3 +143,38 @@ def wrong_choice(folder: pathlib.Path) -> list[str]:
         return [f"blocks.csv has {day.cost(blocks)} vehicles and minutes, and {least} are enough"]
     most, own = [-it for it in liked], day.liking(blocks)
     return [] if own == most else [f"a least plan is liked {most} by {day.prefer}, and that of blocks.csv {own}"]
+
+
+def names_wanted(folder: pathlib.Path, blocks: list[list[str]]) -> list[str]:
+    """The names of blocks, each by the names of its trips, in a folder whose desk.toml says how blocks are named."""
+    desk = tomllib.loads((folder / "desk.toml").read_text())
+    prefix = desk.get("block_prefix", "B")
+    if desk.get("block_names", "numbered") == "numbered":
+        return [f"{prefix}{number + 1}" for number in range(len(blocks))]
+    stated = {row["trip_id"]: row.get("block_id", "") for row in rows_of(folder / "trips.txt")
+              if row["service_id"] in desk.get("services", [row["service_id"]])}
+    # How many trips of each stated name each block has, the names by the trips of the block.
+    trips: list[dict[str, int]] = []
+    for block in blocks:
+        trips.append({})
+        for name in (stated.get(trip, "") for trip in block):
+            if name:
+                trips[-1][name] = trips[-1].get(name, 0) + 1
+    asked = {name: max(range(len(blocks)), key=lambda number: trips[number].get(name, 0)) for of in trips for name in of}
+    taken = [max((name for name in of if asked[name] == number), key=of.__getitem__, default=None) for number, of in enumerate(trips)]
+    free = (name for name in (f"{prefix}{number}" for number in count(1)) if name not in stated.values())
+    return [next(free) if name is None else name for name in taken]
+
+
+def wrong_names(folder: pathlib.Path) -> list[str]:
+    """What is wrong with the names of the blocks in the `blocks.csv` of a folder. Records that follow on one another with one name are
+    a block."""
+    names: list[str] = []
+    blocks: list[list[str]] = []
+    for row in rows_of(folder / "blocks.csv"):
+        if not names or names[-1] != row["block_id"]:
+            names.append(row["block_id"])
+            blocks.append([])
+        blocks[-1].append(row["trip_id"])
+    wanted = names_wanted(folder, blocks)
+    return [] if names == wanted else [f"the blocks are named {names}, and not {wanted}"]
