@@ -62,8 +62,12 @@ KEYS = {
     "early": "`early = 0`, a whole number from 0 to 60",
     "late": "`late = 2`, a whole number from 0 to 60",
     "block_prefix": '`block_prefix = "V"`, a text of at most 32 bytes',
+    "block_names": '`block_names = "numbered"` or `block_names = "stated"`',
     "prefer": '`prefer = ["stated", "line", "waiting"]`, these in any order, or some of them, or none'}
 """The keys of `desk.toml`, and the form of each."""
+
+NAMED = ("numbered", "stated")
+"""How blocks may be named."""
 
 PREFERRED = ("stated", "line", "waiting")
 """What may be preferred."""

@@ -8,7 +8,7 @@ from typing import Any
 
 from desk.calendars import parse_date
 from desk.errors import DeskError
-from desk.hints_forms import KEYS, PREFERRED
+from desk.hints_forms import KEYS, NAMED, PREFERRED
 from desk.hints_names import Known, folded, shown
 from desk.hints_toml import MOST_INTEGER, entry_line, quoted_line
 from desk.hints_trips import TripFile
@@ -77,6 +77,8 @@ def _why(key: str, value: Any) -> str | None:
         return f"`{key}` is {_kind(value)} and no table"
     if key == "block_prefix":
         return _why_prefix(value)
+    if key == "block_names":
+        return _why_named(value)
     return _why_minutes(f"`{key}`", value, 240 if key == "layover" else 60)
 
 
@@ -135,6 +137,13 @@ def _why_prefix(value: Any) -> str | None:
         return f"`block_prefix` is {_kind(value)} and no text in quotes"
     size = len(value.encode())
     return f"`block_prefix` has {size} bytes" if size > 32 else None
+
+
+def _why_named(value: Any) -> str | None:
+    """What is wrong with how blocks are to be named."""
+    if not isinstance(value, str):
+        return f"`block_names` is {_kind(value)} and no text in quotes"
+    return None if value in NAMED else f"`block_names` is {shown(value)}"
 
 
 def _why_class(route: str, value: Any) -> str | None:

@@ -77,7 +77,7 @@ def draft_shared(town: Town, days: NewDays, terminals: Sequence[Terminal], repor
     services = list(dict.fromkeys(trip.service_id for trip in town.selected.values()))
     route = next((trip.route_id for trip in town.selected.values() if trip.route_id), "")
     terminal = next((terminal.name for terminal in terminals if terminal.name not in layovers), "")
-    text = settings_text(None, services, terminal, route, layovers, has_days=True, has_blocks=_has_blocks(town))
+    text = settings_text(None, services, terminal, route, layovers, has_days=True, blocks=_blocks_of(town))
     write_whole(town.path("desk.toml"), text)
     report.draft("desk.toml", f"for all day types; a layover of {LAYOVER} minutes")
 
@@ -87,7 +87,7 @@ def layovers_of_days(town: Town, days: NewDays) -> Fitting | None:
 
     None where the feed has no blocks, or where `audit` could be asked for no day type.
     """
-    if not _has_blocks(town):
+    if not any(_blocks_of(town)):
         return None
     in_all, is_known = Fitting(), False
     for kind in days.found.types:
@@ -102,11 +102,11 @@ def layovers_of_days(town: Town, days: NewDays) -> Fitting | None:
     return in_all if is_known else None
 
 
-def _has_blocks(town: Town) -> bool:
-    """Whether a trip of any day has a block of today."""
+def _blocks_of(town: Town) -> set[str]:
+    """The blocks of today of the trips of all days."""
     with open_records(town.path("trips.txt")) as records:
         block = records.find("block_id")
-        return block is not None and any(fields[block] for _, fields in records)
+        return set() if block is None else {fields[block] for _, fields in records}
 
 
 def draft_folders(room: Path, days: NewDays, replace: bool, report: Report) -> None:

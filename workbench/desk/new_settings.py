@@ -3,7 +3,7 @@ from __future__ import annotations
 
 import datetime
 import re
-from collections.abc import Mapping, Sequence
+from collections.abc import Collection, Mapping, Sequence
 
 from desk.toml import quoted
 
@@ -41,6 +41,10 @@ late = 0
 # Blocks are named by this and a number: B1, B2 and so on.
 block_prefix = "B"
 
+# Blocks keep the names that the agency has for them in block_id, "stated", and only others have numbers. "numbered" gives all of
+# them numbers.{unnamed}
+{unmarked}block_names = "stated"
+
 # Many plans have the fewest vehicles and empty minutes. Of these the one is taken that keeps the most neighbours of the blocks of
 # today, "stated". Of these it is the one that changes line least inside blocks, "line", and then that with the least waiting,
 # "waiting". The first matters most. What is not there does not matter.{without}
@@ -67,23 +71,27 @@ date = "{date}"
 _UNSTATED = """ Without this line it is as it says here.
 # This feed states no blocks of today. `./desk adopt` makes those of a plan the stated ones."""
 
+_UNNAMED = """ So it is without this line."""
+
 _FITTING = """\
 # The greatest ones, up to the layover above, with which vehicles can make the blocks of today. `audit` says so.
 """
 
 
 def settings_text(date: datetime.date | None, services: Sequence[str], terminal: str, route: str,
-                  layovers: Mapping[str, int] | None = None, has_days: bool = False, has_blocks: bool = False) -> str:
+                  layovers: Mapping[str, int] | None = None, has_days: bool = False, blocks: Collection[str] = ()) -> str:
     """The text of `desk.toml` for a day, with services, a terminal and a route of the feed as examples, and with these layovers.
 
-    Where the town has days it is for all of them, and has no date. Where the feed states no blocks, `prefer` is an example too.
+    Where the town has days it is for all of them, and has no date. `blocks` are those that the feed states. Where it states
+    none, `block_names` and `prefer` are examples too, and so is `block_names` where one of them is not UTF-8.
     """
     no_date = _DAYS if has_days else _NO_DAY
     head = no_date if date is None else _DAY.format(name=f"a {date:%A}", date=f"{date:%Y%m%d}")
     shown = ", ".join(_quoted(name) for name in services[:NAMES_SHOWN]) or '"weekday", "school"'
     lines = "".join(f"{_quoted(name)} = {minutes}\n" for name, minutes in (layovers or {}).items())
-    without, mark = ("", "") if has_blocks else (_UNSTATED, "# ")
-    return head + _REST.format(without=without, mark=mark, services=shown, layover=LAYOVER, terminal=_quoted(terminal or "Station"),
+    without, mark = ("", "") if any(blocks) else (_UNSTATED, "# ")
+    unnamed, unmarked = ("", "") if any(blocks) and all(map(_is_text, blocks)) else (_UNNAMED, "# ")
+    return head + _REST.format(without=without, mark=mark, unnamed=unnamed, unmarked=unmarked, services=shown, layover=LAYOVER, terminal=_quoted(terminal or "Station"),
                                layovers=_FITTING + lines if lines else "", route=_quoted(route or "line_1"))
 
 
@@ -101,6 +109,11 @@ def with_key(settings: bytes, key: str, value: str) -> bytes:
     line = f"{key} = {quoted(value)}".encode()
     changed, count = re.subn(pattern, lambda found: line, settings, count=1)
     return changed if count else line + b"\n" + settings
+
+
+def _is_text(name: str) -> bool:
+    """Whether a name is UTF-8 in its file."""
+    return not re.search("[\ud800-\udfff]", name)
 
 
 def _quoted(name: str) -> str:

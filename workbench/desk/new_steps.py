@@ -14,7 +14,7 @@ from desk.files import write_whole
 from desk.frequencies import Repeats, expand
 from desk.left_out import SortedTrips, sort_trips
 from desk.limits import MOST_BYTES, MOST_EMPTY_MINUTES, MOST_PLACES, MOST_TRIPS
-from desk.new_layovers import layovers_of_today, states_blocks
+from desk.new_layovers import layovers_of_today
 from desk.new_left_out import sound_feed, tell_left_out
 from desk.new_report import TOLD, Report, counted, some
 from desk.new_settings import LAYOVER, settings_text
@@ -159,7 +159,8 @@ def draft_settings(town: Town, date: datetime.date | None, terminals: Sequence[T
     route = next((trip.route_id for trip in town.day() if trip.route_id), "")
     layovers = layovers_of_today(town, report)
     terminal = next((terminal.name for terminal in terminals if terminal.name not in layovers), "")
-    write_whole(town.path("desk.toml"), settings_text(date, services, terminal, route, layovers, has_blocks=states_blocks(town)))
+    write_whole(town.path("desk.toml"), settings_text(date, services, terminal, route, layovers,
+                                                        blocks={trip.block_id for trip in town.selected.values()}))
 
 
 def draft_running(town: Town, terminals: Sequence[Terminal], depot: Depot | None, pace: Pace, report: Report) -> None:

@@ -92,12 +92,13 @@ class SharedTrips:
             for block in self.blocks(other) or ():
                 for one, two in pairwise(trip for trip in block.trips if trip in shared):
                     if one not in found and two not in taken:
-                        found[one] = two, f"{other.name} {block.name}"
+                        found[one] = two, block.name
                         taken.add(two)
         return found
 
     def _stated_blocks(self, day: PlannedDay) -> dict[str, str]:
-        """The block of each trip with neighbours that are taken: one for all that follow on one another."""
+        """The block of each trip with neighbours that are taken: one for all that follow on one another. It has the name of the first
+        pair's block, if no other has that."""
         links = self._links(day)
         after = {trip for trip, _ in links.values()}
         found: dict[str, str] = {}

@@ -42,7 +42,7 @@ def lay_stated(town: Town, room: Path) -> None:
 
 
 def lay_blocks(town: Town, room: Path, blocks: Blocks) -> None:
-    """Writes the `trips.txt` of a room with these blocks. None has a name of the agency's blocks, so these stay apart from them.
+    """Writes the `trips.txt` of a room with these blocks. All other trips have the agency's blocks, whose names none of these has.
 
     A `trips.txt` that cannot be read stays as it is, and the program says what is wrong with it.
     """
@@ -50,7 +50,8 @@ def lay_blocks(town: Town, room: Path, blocks: Blocks) -> None:
     found = _lines_of(path, path.stat().st_mtime_ns) if blocks and path.is_file() else None
     if found is None:
         return
-    lines, names, taken = found.lines.copy(), {"": ""}, found.blocks.copy()
+    lines, names = found.lines.copy(), {"": ""}
+    taken = {block for trip, block in found.blocks if trip not in blocks}
     for trip, block in blocks.items():
         if block not in names:
             names[block] = distinct(block, "stated", lambda name: name in taken)
@@ -65,12 +66,13 @@ def lay_blocks(town: Town, room: Path, blocks: Blocks) -> None:
 
 @dataclass(frozen=True)
 class _Lines:
-    """The lines of a `trips.txt` with a column of blocks: the places of each trip in them, that of a block in a line, and all blocks."""
+    """The lines of a `trips.txt` with a column of blocks: the places of each trip in them, that of a block in a line, and the block of
+    each trip."""
 
     lines: list[str]
     places: dict[str, list[int]]
     block: int
-    blocks: set[str]
+    blocks: list[tuple[str, str]]
 
 
 @lru_cache(maxsize=1)
@@ -80,12 +82,12 @@ def _lines_of(path: Path, _: int) -> _Lines | None:
         with open_records(path) as records:
             name, block, width = records.column("trip_id"), records.find(BLOCK), len(records.header)
             header = records.header if block is not None else [*records.header, BLOCK]
-            found = _Lines([record_text(header)], {}, width if block is None else block, set())
+            found = _Lines([record_text(header)], {}, width if block is None else block, [])
             for _, fields in records:
                 if block is None:
                     fields.insert(width, "")
                 found.places.setdefault(fields[name], []).append(len(found.lines))
-                found.blocks.add(fields[found.block])
+                found.blocks.append((fields[name], fields[found.block]))
                 found.lines.append(record_text(fields))
             return found
     except DeskError:

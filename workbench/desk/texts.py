@@ -9,12 +9,13 @@ import csv
 import io
 import re
 from collections.abc import Callable, Iterator
+from itertools import islice, product
 from pathlib import Path
 from typing import Any, NoReturn
 
 from desk.errors import DeskError
 from desk.records import record_text
-from desk.texts_names import refuse_hidden_ends
+from desk.texts_names import Fits, fitting_names, refuse_hidden_ends
 from desk.texts_written import as_text
 from desk.town import Town
 
@@ -50,6 +51,9 @@ class Lines:
 
     def __init__(self, command: str, text: str) -> None:
         self.command = command
+        # Which names blocks may have; None where they are numbered, and any name where nothing is known of the feed.
+        self.fits: Fits | None = lambda name: True
+        self.are_numbered = True
         self.lines = text.split("\n")
         self.at = 0
         if self.lines.pop() or not self.lines:
@@ -98,7 +102,10 @@ def as_json(command: str, text: bytes | str, folder: Path | str | None = None, t
     lines = Lines(command, text)
     found = lines.seen("feed refused: (.+)")
     if folder is not None and not found:
-        refuse_hidden_ends(command, town or Town(folder), Path(folder))
+        town = town or Town(folder)
+        refuse_hidden_ends(command, town, Path(folder))
+        lines.fits = fitting_names(command, town, Path(folder))
+        lines.are_numbered = lines.fits is None
     parsed = {"feed_refused": found[1]} if found else READERS[command](lines)
     if lines.next() is not None:
         lines.refuse()
@@ -211,9 +218,25 @@ def read_show(lines: Lines) -> Json:
 
 
 def read_blocks(lines: Lines, shown: list[str], empty: tuple[str, ...]) -> list[Json]:
-    """The blocks of these lines. Their names are one prefix with the numbers from 1, and only one prefix may fit."""
+    """The blocks of these lines, which may be read in one way alone."""
+    readings = _numbered_readings(shown, empty) if lines.are_numbered else []
+    if not readings and lines.fits:
+        readings = _named_readings(shown, lines.fits, empty)
+    if len(readings) != 1:
+        lines.refuse(f"follows on lines of blocks that can be read in {len(readings)} ways, for the names in them")
+    return readings[0]
+
+
+def _named_readings(shown: list[str], fits: Fits, empty: tuple[str, ...]) -> list[list[Json]]:
+    """The readings of these lines of blocks whose names fit: the first two."""
+    ways = [[block for name, _ in _splits(line, ": ") if fits(name) and (block := read_block(line, name, empty))] for line in shown]
+    return [list(reading) for reading in islice(product(*ways), 2)]
+
+
+def _numbered_readings(shown: list[str], empty: tuple[str, ...]) -> list[list[Json]]:
+    """The readings of these lines of blocks whose names are one prefix with the numbers from 1."""
     if not shown:
-        return []
+        return [[]]
     readings = []
     for at in (found.start() for found in re.finditer("(?=1: )", shown[0])):
         if len(shown[0][:at].encode()) > MOST_PREFIX:
@@ -223,9 +246,7 @@ def read_blocks(lines: Lines, shown: list[str], empty: tuple[str, ...]) -> list[
             blocks = [read_block(line, name, empty) for line, name in zip(shown, names)]
             if all(blocks):
                 readings.append([block for block in blocks if block])
-    if len(readings) != 1:
-        lines.refuse(f"follows on lines of blocks that can be read in {len(readings)} ways, for the names in them")
-    return readings[0]
+    return readings
 
 
 def read_block(line: str, name: str, empty: tuple[str, ...]) -> Json | None:

@@ -4,7 +4,8 @@ The texts put names as they are. A trip that is named `X 06:00 06:30; Y` would b
 """
 from __future__ import annotations
 
-from collections.abc import Iterator
+import re
+from collections.abc import Callable, Iterator
 from pathlib import Path
 
 from desk.errors import DeskError
@@ -21,6 +22,9 @@ JOINED_BY_SEMICOLONS = ("fixed", "blocks", "chains")
 """The commands with lines whose parts are joined by `; `."""
 
 
+Fits = Callable[[str], bool]
+"""Whether a block may have a name."""
+
 EDITS = ("shift", "cancel", "restore", "extra")
 """The words of the edits that name a trip."""
 
@@ -36,9 +40,26 @@ def refuse_hidden_ends(command: str, town: Town, folder: Path) -> None:
             raise DeskError(f"{where}: the name {name!r} hides where names end in the text of {command}: what it says cannot be told")
 
 
+def keeps_names(town: Town) -> bool:
+    """Whether blocks keep the names that the feed states."""
+    return town.settings.get("block_names") == "stated"
+
+
+def fitting_names(command: str, town: Town, folder: Path) -> Fits | None:
+    """Which names blocks may have in the text of a command: those that the feed in the folder states, or numbers. None where all are
+    numbers, or the text names no block by its line."""
+    if command not in ("fixed", "blocks") or not keeps_names(town):
+        return None
+    stated = {trip.block_id for trip in Town(folder, town.settings).selected.values()}
+    numbered = re.compile(re.escape(str(town.settings.get("block_prefix", "B"))) + "[1-9][0-9]*")
+    return lambda name: name in stated or numbered.fullmatch(name) is not None
+
+
 def _names(command: str, town: Town, folder: Path) -> Iterator[tuple[str, str]]:
     """Each name that the text of a command may put, with where it stands."""
     kinds = NAMES.get(command, ())
+    if TRIPS in kinds and BLOCKS not in kinds and keeps_names(town):
+        kinds = (*kinds, BLOCKS)
     for trip in town.day() if PLACES in kinds else town.selected.values() if kinds else ():
         names = {TRIPS: (trip.trip_id,), BLOCKS: (trip.block_id,), PLACES: (trip.start, trip.end)}
         yield from ((f"trips.txt record {trip.record}", name) for kind in kinds for name in names[kind])

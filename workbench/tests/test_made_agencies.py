@@ -8,6 +8,7 @@ import zipfile
 from pathlib import Path
 from unittest import mock
 
+from desk.plans import read_blocks
 from desk.program import run
 from tests.feeds import FolderTest, needs_program, zip_feed
 from tests.made_agencies import BAD, DAY, LAYOVER, made_agency
@@ -43,15 +44,16 @@ class MadeAgencies(FolderTest):
         status, text, errors = self.desk("publish", town, out)
         self.assertEqual((status, errors), (0, ""))
         self.assertIn(f"{trips:,} trips of the day in ", text)
-        self.check_zip(trips, out)
+        self.check_zip(trips, town, out)
 
-    def check_zip(self, trips: int, out: Path) -> None:
-        """The zip has the agency's files, each trip of the day once in a block, and no repeated trip."""
+    def check_zip(self, trips: int, town: Path, out: Path) -> None:
+        """The zip has the agency's files, each trip of the day once in its planned block, and no repeated trip."""
         with zipfile.ZipFile(out) as archive:
             self.assertEqual(sorted(set(made_agency(300)) - {"frequencies.txt"}), sorted(archive.namelist()))
             rows = list(csv.DictReader(io.StringIO(archive.read("trips.txt").decode("utf-8-sig"))))
         day = [row for row in rows if row["service_id"] != "holiday"]
-        self.assertEqual((trips, trips), (len(day), len({row["trip_id"] for row in day if row["block_id"].startswith("B")})))
+        planned = {trip: block.name for block in read_blocks(town / "blocks.csv") for trip in block.trips}
+        self.assertEqual((trips, planned), (len(day), {row["trip_id"]: row["block_id"] for row in day}))
         self.assertEqual([], [row for row in rows if row["trip_id"] in (*BAD, "night")])
 
 

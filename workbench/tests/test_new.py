@@ -488,9 +488,9 @@ class Settings(NewTest):
     def test_what_is_said_and_what_is_explained(self) -> None:
         self.new(agency())
         text = self.read("desk.toml")
-        self.assertEqual({"date": "20260902", "layover": 5, "early": 0, "late": 0, "block_prefix": "B", "layovers": {},
+        self.assertEqual({"date": "20260902", "layover": 5, "early": 0, "late": 0, "block_prefix": "B", "layovers": {}, "block_names": "stated",
                           "prefer": ["stated", "line", "waiting"]}, tomllib.loads(text))
-        for key in ("date =", "services =", "layover =", "early =", "late =", "block_prefix =", "prefer =", "[layovers]",
+        for key in ("date =", "services =", "layover =", "early =", "late =", "block_prefix =", "block_names =", "prefer =", "[layovers]",
                     "[classes]"):
             at = next(number for number, line in enumerate(text.splitlines()) if line.removeprefix("# ").startswith(key))
             self.assertTrue(text.splitlines()[at - 1].startswith("# ") or key == "late =", key)

@@ -9,6 +9,7 @@ import sys
 import unittest
 from pathlib import Path
 
+from desk.plans import read_blocks
 from desk.program import ROOT
 from tests.feeds import FolderTest, needs_program, write_feed
 from tests.forms import is_answer
@@ -202,11 +203,11 @@ class SharedTripsTest(FolderTest):
         """The agency has a block that is named as a stated one, and its file has no order, quotes and no end of line."""
         trips = (self.town / "trips.txt").read_text()
         self.desk("plan", self.town)
-        before = (self.sat / "blocks.csv").read_bytes()
+        before = [block.trips for block in read_blocks(self.sat / "blocks.csv")]
         named = (self.sat / "stated.csv").read_text().splitlines()[1].split(",")[1]
         (self.town / "trips.txt").write_text(trips.replace("sat-2", f'"{named}"').removesuffix("\n"))
         self.desk("plan", self.town)
-        self.assertEqual((self.sat / "blocks.csv").read_bytes(), before)
+        self.assertEqual([block.trips for block in read_blocks(self.sat / "blocks.csv")], before)
         (self.town / "trips.txt").write_text("".join(line.rsplit(",", 1)[0] + "\n" for line in trips.splitlines()))
         status, text, _ = self.desk("plan", self.town)
         self.assertEqual((status, self.row("Saturday", text)[7:10]), (0, ["0", "of", "8"]), text)

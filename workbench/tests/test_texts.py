@@ -213,6 +213,16 @@ class Refusals(FolderTest):
         parsed = texts.as_json("fixed", "B: 1: T1: U 06:00 06:30\nB: 2: V 06:10 06:40\nfixed 2\n")
         self.assertEqual([(block["block"], block["trips"][0]["trip"]) for block in parsed["blocks"]], [("B: 1", "T1: U"), ("B: 2", "V")])
 
+    def test_names_that_the_feed_states(self) -> None:
+        feed = two_trips(self.room / "named", {"desk.toml": 'block_names = "stated"\n',
+                                               "trips.txt": 'service_id,trip_id,block_id\nW,T1: U,B: 7\nW,U2,\n'})
+        parsed = texts.as_json("fixed", "B: 7: T1: U 06:00 06:30\nB1: U2 07:00 07:30\nfixed 2\n", feed)
+        self.assertEqual([(block["block"], block["trips"][0]["trip"]) for block in parsed["blocks"]], [("B: 7", "T1: U"), ("B1", "U2")])
+        self.refuse("fixed", "8: T1: U 06:00 06:30\nfixed 1\n", "0 ways", feed)
+        hidden = two_trips(self.room / "hidden", {"desk.toml": 'block_names = "stated"\n',
+                                                  "trips.txt": 'service_id,trip_id,block_id\nW,U1,"a; b"\nW,U2,\n'})
+        self.refuse("fixed", "a; b: U1 06:00 06:30\nfixed 1\n", "trips.txt record 1: the name 'a; b' hides", hidden)
+
     def test_names_of_the_feed_that_hide_ends(self) -> None:
         hidden = "U1 06:00 06:10; U3"
         feed = two_trips(self.room / "feed", {
