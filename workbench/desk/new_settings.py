@@ -83,16 +83,18 @@ def settings_text(date: datetime.date | None, services: Sequence[str], terminal:
     """The text of `desk.toml` for a day, with services, a terminal and a route of the feed as examples, and with these layovers.
 
     Where the town has days it is for all of them, and has no date. `blocks` are those that the feed states. Where it states
-    none, `block_names` and `prefer` are examples too, and so is `block_names` where one of them is not UTF-8.
+    none, `prefer` is an example too. So is `block_names`, but not for day types, since the blocks of one are stated for another.
+    Where one that the feed states is not UTF-8 it is an example in any case.
     """
     no_date = _DAYS if has_days else _NO_DAY
     head = no_date if date is None else _DAY.format(name=f"a {date:%A}", date=f"{date:%Y%m%d}")
     shown = ", ".join(_quoted(name) for name in services[:NAMES_SHOWN]) or '"weekday", "school"'
     lines = "".join(f"{_quoted(name)} = {minutes}\n" for name, minutes in (layovers or {}).items())
     without, mark = ("", "") if any(blocks) else (_UNSTATED, "# ")
-    unnamed, unmarked = ("", "") if any(blocks) and all(map(_is_text, blocks)) else (_UNNAMED, "# ")
-    return head + _REST.format(without=without, mark=mark, unnamed=unnamed, unmarked=unmarked, services=shown, layover=LAYOVER, terminal=_quoted(terminal or "Station"),
-                               layovers=_FITTING + lines if lines else "", route=_quoted(route or "line_1"))
+    unnamed, unmarked = ("", "") if (has_days or any(blocks)) and all(map(_is_text, blocks)) else (_UNNAMED, "# ")
+    return head + _REST.format(without=without, mark=mark, unnamed=unnamed, unmarked=unmarked, services=shown, layover=LAYOVER,
+                               terminal=_quoted(terminal or "Station"), layovers=_FITTING + lines if lines else "",
+                               route=_quoted(route or "line_1"))
 
 
 def day_text(label: str, dates: int, date: datetime.date) -> str:

@@ -509,15 +509,19 @@ class Settings(NewTest):
         tomllib.loads(settings_text(None, [], "", ""))
 
     def test_a_feed_without_blocks_has_what_is_preferred_as_an_example(self) -> None:
+        """So it has names of blocks, but not for day types: the blocks of one are stated for another."""
         feed = agency()
         feed["trips.txt"] = re.sub(r"(?m),[^,\r\n]*(?=\r$)", "", feed["trips.txt"])
         self.new(feed)
         text = self.read("desk.toml")
-        self.assertNotIn("prefer", tomllib.loads(text))
+        self.assertEqual({"prefer", "block_names"} & set(tomllib.loads(text)), set())
         self.assertEqual(["stated", "line", "waiting"], tomllib.loads(self.examples_taken(text))["prefer"])
         self.assertIn("# This feed states no blocks of today. `./desk adopt` makes those of a plan the stated ones.\n", text)
         with mock.patch("desk.new_days.today", return_value=FIRST_DAY), mock.patch("desk.new_days.fitting", side_effect=DeskError("none")):
+            self.new(feed, "--days", "--replace")
+            unstated = tomllib.loads(self.read("desk.toml"))
             self.new(agency(), "--days", "--replace")
+        self.assertEqual((unstated["block_names"], "prefer" in unstated), ("stated", False))
         self.assertEqual(["stated", "line", "waiting"], tomllib.loads(self.read("desk.toml"))["prefer"])
 
     @needs_program

@@ -210,7 +210,7 @@ class SharedTripsTest(FolderTest):
         self.assertEqual([block.trips for block in read_blocks(self.sat / "blocks.csv")], before)
         (self.town / "trips.txt").write_text("".join(line.rsplit(",", 1)[0] + "\n" for line in trips.splitlines()))
         status, text, _ = self.desk("plan", self.town)
-        self.assertEqual((status, self.row("Saturday", text)[7:10]), (0, ["0", "of", "8"]), text)
+        self.assertEqual((status, self.row("Saturday", text)[7:]), (0, ["0", "of", "8", "0", "of", "10"]), text)
 
 
 @needs_program
