@@ -163,14 +163,15 @@ def changed_block(first: Side, second: Side, old: str, new: str) -> Found:
 
 
 def trips_that_differ(first: Side, second: Side, partner: dict[str, str]) -> Found:
-    """The trips that run in one plan alone, at other times, or in a block that is not the partner of theirs."""
+    """The trips that run in one plan alone, at other times, or in a block that is not the partner of theirs, and how many of both plans
+    are in a block of another name."""
     labels = _labels(first, second)
     both = [trip for trip in first.block_of if trip in second.block_of]
     other = [{"trip": trip, "first": first.block_of[trip], "second": second.block_of[trip]} for trip in both
              if partner.get(first.block_of[trip]) != second.block_of[trip]]
     moved = [trip for trip in both if trip in first.times and trip in second.times and first.times[trip] != second.times[trip]]
     return {
-        "both": len(both), "in_other_blocks": other,
+        "both": len(both), "in_other_blocks": other, "other_names": sum(first.block_of[trip] != second.block_of[trip] for trip in both),
         "cancelled": [labels(trip, first) for trip in first.block_of if trip not in second.block_of],
         "new": [labels(trip, second) for trip in second.block_of if trip not in first.block_of],
         "moved": [labels(trip, second) | {"minutes": second.times[trip][0] - first.times[trip][0],

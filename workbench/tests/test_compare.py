@@ -54,7 +54,7 @@ class Compared(FolderTest):
 
     def test_a_block_that_is_gone_gives_the_other_its_name(self) -> None:
         found = self.found(self.town("town"), self.town("other", {"edits.csv": "cancel,U1\ncancel,U2\n"}))
-        self.assertEqual(found["same"], [{"first": "B2", "second": "B1"}])
+        self.assertEqual((found["same"], found["trips"]["other_names"]), ([{"first": "B2", "second": "B1"}], 2))
         self.assertEqual(found["gone"], [{"block": "B1", "trips": [{"trip": "U1", "second": None}, {"trip": "U2", "second": None}]}])
         self.assertEqual([trip["trip"] for trip in found["trips"]["cancelled"]], ["U1", "U2"])
         text = compare_text(found)
@@ -66,7 +66,7 @@ class Compared(FolderTest):
         found = self.found(self.town("town"), self.town("other", {
             "edits.csv": "shift,U2,+2\nextra,E1,A,B,08:00,08:30\ncancel,U3\ncancel,U4\nextra,E2,C,A,05:00,05:30\n"}))
         trips = found["trips"]
-        self.assertEqual((trips["both"], trips["in_other_blocks"]), (2, []))
+        self.assertEqual((trips["both"], trips["in_other_blocks"], trips["other_names"]), (2, [], 0))
         self.assertEqual(trips["moved"], [{"trip": "U2", "line": "9", "departs": "06:42", "from": "B", "to": "A", "minutes": 2, "departed": "06:40"}])
         self.assertEqual(sorted((trip["trip"], trip["line"], trip["departs"], trip["from"], trip["to"]) for trip in trips["new"]),
                          [("E1", "", "08:00", "A", "B"), ("E2", "", "05:00", "C", "A")])
@@ -146,6 +146,7 @@ class SmallTown(FolderTest):
         partner = {pair["first"]: pair["second"] for pair in found["same"] + found["changed"]}
         self.assertEqual({trip["trip"] for trip in found["trips"]["in_other_blocks"]},
                          {trip for trip in set(was) & set(now) if partner.get(was[trip]) != now[trip]})
+        self.assertEqual(found["trips"]["other_names"], sum(was[trip] != now[trip] for trip in set(was) & set(now)))
         self.assertEqual(len(partner) + len(found["gone"]), len(set(was.values())))
         self.assertEqual(len(partner) + len(found["new"]), len(set(now.values())))
         orders = [{}, {}]
@@ -169,7 +170,7 @@ class Words(unittest.TestCase):
                 "line_changes": 0, "waiting": 0}
         text = compare_text({
             "first": {"plan": "a", **side}, "second": {"plan": "b", **side},
-            "trips": {"both": 1, "in_other_blocks": [], "moved": [], "cancelled": [], "new": []}, "same": [], "gone": [],
+            "trips": {"both": 1, "in_other_blocks": [], "other_names": 0, "moved": [], "cancelled": [], "new": []}, "same": [], "gone": [],
             "changed": [{"first": "B1", "second": "B2", "leaves": ["05:50", "05:55"], "ends": ["07:00", "07:00"],
                          "lost": [], "gained": [], "moved": []}],
             "new": [{"block": "B3", "leaves": "06:00", "ends": "07:00", "trips": [{"trip": "U1", "first": "B1"}]}]})
