@@ -5,19 +5,31 @@ import pathlib
 import re
 
 from pages.crates import ROOT, crates
+from pages.page import link
 from pages.specs import Key, Names
 
 COMMENT_OR_TEXT = re.compile(r'//[^\n]*|"(?:\\.|[^"\\])*"|\'(?:\\.|[^\'\\])\'')
 OPENING = re.compile(r"\bfn\s+(\w+)|\bimpl\b([^{;]*)\{|\btrait\s+(\w+)[^{;]*\{|\bghost\s+(\w+)\s*(?::[^={;]*)?=\s*\{")
-CLAUSE = re.compile(r"\b(?:requires|ensures)\b\s*\w*\s*$")
+CLAUSE = re.compile(r"\b(requires|ensures)\b\s*\w*\s*$")
+EQUATION = re.compile(r"≡ \(?([\w.]+)")
 
 
 @dataclasses.dataclass(frozen=True)
 class Function:
-    """A function, or what an `impl` says of its trait: its file from the root, its name, and what its contract cites."""
+    """A function, or what an `impl` says of its trait: its file from the root, its name and its lines. Then the definitions that
+    are cited: by what it ensures, of these the ones with which an equation begins, and by what it requires."""
     file: pathlib.Path
     name: str
-    cites: frozenset[Key]
+    line: int
+    last: int
+    ensures: frozenset[Key]
+    equals: frozenset[Key]
+    requires: frozenset[Key]
+
+    @property
+    def crate(self) -> str:
+        """The crate that has it."""
+        return self.file.parts[1]
 
 
 def blanked(text: str) -> str:
@@ -38,23 +50,23 @@ def closing(text: str, at: int) -> int:
     return len(text)
 
 
-def clauses_from(text: str, at: int) -> tuple[str, int]:
-    """The clauses of a function whose name ends at a place, and the place behind its body."""
-    clauses, begun, n = [], at, at
+def clauses_from(text: str, at: int) -> tuple[dict[str, str], int]:
+    """What a function whose name ends at a place ensures and requires, and the place behind its body."""
+    clauses, begun, n = {"ensures": "", "requires": ""}, at, at
     while n < len(text):
         if text[n] in "([":
             n = closing(text, n)
         elif text[n] == ";":
-            return "\n".join(clauses), n + 1
+            return clauses, n + 1
         elif text[n] == "{":
             end = closing(text, n)
-            if not CLAUSE.search(text[begun:n]):
-                return "\n".join(clauses), end
-            clauses.append(text[n + 1:end - 1])
+            if not (clause := CLAUSE.search(text[begun:n])):
+                return clauses, end
+            clauses[clause[1]] += text[n + 1:end - 1] + "\n"
             begun = n = end
         else:
             n += 1
-    return "\n".join(clauses), n
+    return clauses, n
 
 
 def owner_of(head: str) -> tuple[str, str]:
@@ -70,6 +82,12 @@ def owner_of(head: str) -> tuple[str, str]:
 def functions_in(text: str, names: Names, file: pathlib.Path) -> list[Function]:
     """The functions of a source."""
     found, text, n, ends = [], blanked(text), 0, []
+
+    def add(name: str, ensures: str, requires: str = "") -> None:
+        equal = " ".join(EQUATION.findall(ensures))
+        cited = [frozenset(names.cited(it)) for it in (ensures, equal, requires)]
+        found.append(Function(file, name, text.count("\n", 0, opening.start()) + 1, text.count("\n", 0, n - 1) + 1, *cited))
+
     while opening := OPENING.search(text, n):
         while ends and opening.start() >= ends[-1][0]:
             ends.pop()
@@ -77,11 +95,11 @@ def functions_in(text: str, names: Names, file: pathlib.Path) -> list[Function]:
         owner = ends[-1][1] if ends else ("", "")
         if method:
             clauses, n = clauses_from(text, opening.end())
-            found.append(Function(file, f"{owner[1]}::{method}" if owner[1] else method, frozenset(names.cited(clauses))))
+            add(f"{owner[1]}::{method}" if owner[1] else method, **clauses)
         elif member:
             n = closing(text, opening.end() - 1)
             if owner[0]:
-                found.append(Function(file, owner[0], frozenset(names.cited(text[opening.end():n]))))
+                add(owner[0], text[opening.end():n])
         else:
             n = opening.end()
             ends.append((closing(text, n - 1), owner_of(head) if head is not None else (trait, trait)))
@@ -90,20 +108,30 @@ def functions_in(text: str, names: Names, file: pathlib.Path) -> list[Function]:
 
 @functools.cache
 def functions() -> tuple[Function, ...]:
-    """The functions of all crates whose contracts cite a definition, in the order of crates.txt."""
+    """The functions of all crates, in the order of crates.txt."""
     found = []
     for crate in crates():
         for path in sorted((ROOT / "crates" / crate / "src").rglob("*.rt")):
             text = path.read_text()
-            found += [it for it in functions_in(text, Names(text), path.relative_to(ROOT)) if it.cites]
+            found += functions_in(text, Names(text), path.relative_to(ROOT))
     return tuple(found)
 
 
 @functools.cache
 def citing() -> dict[Key, list[Function]]:
-    """For each definition the functions whose contracts cite it."""
+    """For each definition the functions that ensure something by it, and then those that only require something by it."""
     found: dict[Key, list[Function]] = {}
     for it in functions():
-        for key in it.cites:
+        for key in it.ensures:
+            found.setdefault(key, []).append(it)
+    for it in functions():
+        for key in it.requires - it.ensures:
             found.setdefault(key, []).append(it)
     return found
+
+
+def linked(found: list[Function]) -> str:
+    """Functions as links to their lines, file by file."""
+    files = dict.fromkeys(it.file for it in found)
+    return "; ".join(", ".join(link(f"`{it.name}`", it.file, it.line) for it in found if it.file == file)
+                     + f" in {file.parts[1]}/{file.name}" for file in files)

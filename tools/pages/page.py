@@ -16,9 +16,9 @@ def begun(title: str, text: str) -> str:
     return f"# {title}\n\n{MADE} {paragraphs(text)}\n"
 
 
-def link(text: str, file: pathlib.Path) -> str:
-    """A link from a page of docs/ to a file, which is given from the root of the repository."""
-    return f"[{text}](../{file.as_posix()})"
+def link(text: str, file: pathlib.Path, line: int = 0) -> str:
+    """A link from a page of docs/ to a file, which is given from the root of the repository, or to a line of it."""
+    return f"[{text}](../{file.as_posix()}{f'#L{line}' if line else ''})"
 
 
 def cell(text: str) -> str:

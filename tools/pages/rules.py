@@ -1,44 +1,71 @@
-"""The index of rules: each with its definitions, and the functions whose contracts cite these."""
-from pages.contracts import Function, citing
-from pages.crates import layers
+"""The index of rules: each with its definitions, and the functions that compute it."""
+import re
+from collections.abc import Callable
+
+from pages.contracts import Function, citing, linked
 from pages.page import begun, link, table
 from pages.specs import Definition, definitions, users
 
-INTRO = """A rule is a definition in `specs/` with a line `-- rule: NAME` above it. Its code is each function whose contract cites
-it. Where no contract does so, or only laws, the code is that of the nearest definition which names it and is cited, in the same
-crate; the column begins with that. [FORMATS.md](FORMATS.md) has the rules in words.
+INTRO = """Rules are in the order of their words in bold, and each name of a definition or a function is a link to its line.
+
+An example: `feed_trip_at` defines the layover of a trip, and the function of the same name adds it. A rule may have several
+definitions. An edit that adds a trip adds a layover too, so that rule has a second row.
+
+- A rule is a definition in `specs/` with a line `-- rule: NAME` above it. The function that computes it cites it in its contract.
+- The functions are those of the definition's own crate, or else of the lowest one that has any, and at most four. "By" names a
+  definition in between, where no contract cites the rule itself.
+- [FORMATS.md](FORMATS.md) has the rules in words. [TABLES.md](TABLES.md) finds a refusal by its text, and a limit by its number.
 """
-FILES = 2
+LEAD = re.compile(r"(?:(?:the|a|an|which|what|how|many|much|when|why|of|several|too|is|holds|without) )*")
+MOST = 4
+EXAMPLES = "examples_computed"
 
 
-def is_law(function: Function) -> bool:
-    """Whether a function does nothing, and is there for its contract."""
-    return function.name.endswith("_law")
+def is_shown(function: Function) -> bool:
+    """Whether a function computes something. A law does nothing, and an example computes by what it shows."""
+    return not function.name.endswith("_law") and function.crate != EXAMPLES
+
+
+def stems(name: str) -> set[str]:
+    """The words of a name, each without an ending of the plural."""
+    return {it.lower().removesuffix("s") for it in re.findall(r"[A-Z]?[a-z]+", name.rpartition("::")[2])} - {"of", "i", "ha", "are", "with"}
+
+
+def first_of(found: list[Function], *tests: Callable[[Function], bool]) -> list[Function]:
+    """The functions that hold to the first test to which any holds, or all."""
+    return next((some for test in tests if (some := [it for it in found if test(it)])), found)
+
+
+def nearest(rule: Definition) -> tuple[str, list[Function]]:
+    """The functions of a rule's crate that cite a definition through which they reach the rule, and the name of the nearest."""
+    seen = [rule.key]
+    for key in seen:
+        seen += [it for it in users().get(key, []) if it not in seen and it[0] == rule.key[0]]
+        if key != rule.key and (found := [it for it in citing().get(key, []) if it.crate == rule.key[0] and is_shown(it)]):
+            return key[2], found
+    return "", []
 
 
 def code_of(rule: Definition) -> tuple[str, list[Function]]:
-    """The functions whose contracts cite a rule. Where these are laws at most, also those of the nearest definition that names
-    it, with the name of that."""
-    direct = citing().get(rule.key, [])
-    if not all(map(is_law, direct)):
-        return "", direct
-    seen, by, found = [rule.key], "", []
-    for key in seen:
-        seen += [it for it in users().get(key, []) if it not in seen and it[0] == rule.key[0]]
-        more = [it for it in citing().get(key, []) if it.file.parts[1] == rule.key[0] and not is_law(it) and it not in found]
-        by, found = by or (key[2] if more else ""), found + more
-    near = list(dict.fromkeys(it.file for it in found))[:FILES]
-    return by, direct + [it for it in found if it.file in near]
+    """The functions that compute a rule, with the name of the definition through which they cite it, if they do not name it."""
+    cited = citing().get(rule.key, [])
+    by, found = "", [it for it in cited if is_shown(it)]
+    if not found:
+        by, found = nearest(rule)
+    if not found:
+        return "", first_of(cited, lambda it: it.crate != EXAMPLES)
+    key, name = rule.key, rule.name
+    found = first_of(found, lambda it: key in it.ensures and it.name.rpartition("::")[2] == name,
+                     lambda it: key in it.ensures and it.crate == key[0], lambda it: key in it.equals, lambda it: key in it.ensures)
+    found = [it for it in found if it.crate == found[0].crate]
+    found = first_of(first_of(found, lambda it: key in it.equals), lambda it: bool(stems(it.name) & stems(name)))
+    return by, list({it.name: it for it in reversed(found)}.values())[::-1][:MOST]
 
 
 def shown(rule: Definition) -> str:
-    """The code of a rule, file by file; laws come last."""
-    by, functions = code_of(rule)
-    functions = sorted(functions, key=is_law)
-    files = dict.fromkeys(it.file for it in functions)
-    text = "; ".join(link(f"{file.parts[1]}/{file.name}", file) + ": "
-                     + ", ".join(dict.fromkeys(f"`{it.name}`" for it in functions if it.file == file)) for file in files)
-    return f"by `{by}`: {text}" if by else text
+    """The code of a rule."""
+    by, found = code_of(rule)
+    return f"by `{by}`: {linked(found)}" if by else linked(found)
 
 
 def rules() -> dict[str, list[Definition]]:
@@ -55,16 +82,29 @@ def without_code() -> list[str]:
     return [f"{rule} (`{it.name}`)" for rule, owners in rules().items() for it in owners if not code_of(it)[1]]
 
 
+def lead_of(rule: str) -> str:
+    """What comes before the first word of a rule that says what it is about."""
+    found = LEAD.match(rule)
+    return found[0] if found else ""
+
+
+def name_of(rule: str) -> str:
+    """The name of a rule, with the word in bold by which it is found."""
+    lead = lead_of(rule)
+    word = re.match(r"[^\s,]+", rule[len(lead):])
+    return f"{lead}**{word[0]}**{rule[len(lead) + word.end():]}" if word else rule
+
+
+def sorted_by(rule: str) -> str:
+    """What the order of the rules goes by."""
+    return rule[len(lead_of(rule)):].replace("`", "").lower()
+
+
 def index() -> str:
     """The page."""
-    parts = [begun("Rules", INTRO)]
-    for layer in layers():
-        names = {crate.name for crate in layer.crates}
-        rows = []
-        for rule, owners in rules().items():
-            if owners[0].key[0] in names:
-                rows += [(rule if it is owners[0] else "", f"{link(f'`{it.name}`', it.file)} of `{it.key[0]}`", shown(it))
-                         for it in owners]
-        if rows:
-            parts.append(f"\n## {layer.name.capitalize()}\n\n" + table(("Rule", "Definition", "Code"), rows))
-    return "".join(parts)
+    rows = []
+    for rule, owners in sorted(rules().items(), key=lambda it: sorted_by(it[0])):
+        for it in owners:
+            definition = f"{link(f'`{it.name}`', it.file, it.line)} in {it.key[0]}/{it.file.name}"
+            rows.append((name_of(rule) if it is owners[0] else "", definition, shown(it)))
+    return begun("Rules", INTRO) + "\n" + table(("Rule", "Definition", "Computed by"), rows)

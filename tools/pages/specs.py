@@ -22,8 +22,9 @@ Key = tuple[str, str, str]
 
 @dataclasses.dataclass(frozen=True)
 class Definition:
-    """A definition: whether others may name it, its comment without tags, its tags, and its text."""
+    """A definition: its line, whether others may name it, its comment without tags, its tags, and its text."""
     key: Key
+    line: int
     public: bool
     comment: str
     rules: tuple[str, ...]
@@ -101,8 +102,8 @@ def read_spec(crate: str, path: pathlib.Path) -> Spec:
         words = tuple(it.removeprefix("-- word: ") for it in comment if it.startswith("-- word: "))
         rest = [it for it in comment if not it.startswith(("-- rule: ", "-- word: "))]
         body = "\n".join(it for it in lines[n:end] if not it.strip().startswith("--"))
-        definitions.append(Definition((crate, path.stem, found["name"]), bool(found["pub"] or found["pub_record"]), plain(rest), rules,
-                                      tuple((here, field) for here, _, field in (it.partition(" = ") for it in words)), body))
+        definitions.append(Definition((crate, path.stem, found["name"]), n + 1, bool(found["pub"] or found["pub_record"]), plain(rest),
+                                      rules, tuple((here, field) for here, _, field in (it.partition(" = ") for it in words)), body))
     return Spec(crate, path.stem, plain(lines[:head]), tuple(definitions))
 
 

@@ -1,17 +1,22 @@
 """The tables of statuses, files, columns, refusals and limits, from their enums and constants."""
+import functools
 import pathlib
 import re
 
+from pages.contracts import Function, blanked, closing, functions, linked
 from pages.crates import ROOT
 from pages.page import begun, link, sentence, table
 from pages.specs import Key, Names, definitions, specs
 from pages.texts import printed
 
 INTRO = """[FORMATS.md](FORMATS.md) says when each comes, and what is read and printed. In a text, words in capitals stand for
-what a run has: FILE for the name of a file, N for the number of a record, which is counted from 1 after the header.
+what a run has: FILE for the name of a file, N for the number of a record, which is counted from 1 after the header. A function is
+a link to its line, and so is a constant.
 """
 STATUS = "crates/desk_run/src/status.rt"
 LIMITS = "crates/limits/src/limits.rt"
+TESTS = ("uses", "examples_computed")
+"""Crates that refuse nothing."""
 EDITS: Key = ("edit_script", "Lines", "fault_text_of")
 PLANNERS: Key = ("planners_command", "Answers", "planner_fault_text")
 FAULTS = [
@@ -105,6 +110,27 @@ def files() -> str:
     return table(("File", "Columns that are read by their names, in the order in which they are looked for"), rows)
 
 
+@functools.cache
+def makers(enum: str) -> dict[str, list[Function]]:
+    """For each variant of an enum the functions that make it, but those that hand it on or print it."""
+    found: dict[str, list[Function]] = {}
+    for path in dict.fromkeys(it.file for it in functions() if it.crate not in TESTS):
+        text = blanked(source(str(path)))
+        here = [it for it in functions() if it.file == path]
+        made, matched = [], set()
+        for named in re.finditer(rf"(?<!\w){enum}::(\w+)", text):
+            line = text.count("\n", 0, named.start()) + 1
+            owner = next(it for it in here if it.line <= line <= it.last)
+            end = closing(text, named.end()) if text[named.end()] == "(" else named.end()
+            if re.match(r"\s*(=>|\|(?!\|)|if\b|=(?!=))", text[end:]):
+                matched.add((named[1], owner))
+            elif not owner.name.endswith("fault_text"):
+                made.append((named[1], owner))
+        for variant, owner in dict.fromkeys(it for it in made if it not in matched):
+            found.setdefault(variant, []).append(owner)
+    return found
+
+
 def texts_of(key: Key) -> dict[str, str]:
     """What a definition prints of each refusal, as a pattern."""
     names = Names(source(f"crates/{key[0]}/specs/{key[1]}.antt"))
@@ -123,15 +149,16 @@ def refusals(file: str, enum: str, key: Key) -> str:
         if case != "Memory":
             if case not in texts:
                 raise SystemExit(f"book: {enum}::{case} has no text")
-            rows.append((texts[case], sentence(comment)))
-    return table(("Text", "Comes"), rows)
+            rows.append((texts[case], sentence(comment), linked(makers(enum).get(case, []))))
+    return table(("Text", "Comes", "Refused by"), rows)
 
 
-def home_of(crate: str, constant: str) -> pathlib.Path:
-    """The file of a crate that has a constant, from the root."""
+def home_of(crate: str, constant: str) -> tuple[pathlib.Path, int]:
+    """The file of a crate that has a constant, from the root, and the constant's line."""
     for path in sorted((ROOT / "crates" / crate / "src").glob("*.rt")):
-        if f"const {constant}:" in path.read_text():
-            return path.relative_to(ROOT)
+        for number, line in enumerate(path.read_text().splitlines(), 1):
+            if f"const {constant}:" in line:
+                return path.relative_to(ROOT), number
     raise SystemExit(f"book: {constant} is no constant of {crate}")
 
 
@@ -145,7 +172,8 @@ def limits() -> str:
     rows = []
     for comment, field in fields:
         name = held[field]
-        owner = f"{link(f'`{name}`', home_of(owners[name], name))} of `{owners[name]}`"
+        file, line = home_of(owners[name], name)
+        owner = f"{link(f'`{name}`', file, line)} in {owners[name]}/{file.name}"
         rows.append((sentence(comment_of(comment)), f"{int(values[field]):,}", owner))
     return table(("Limit", "At most", "Constant"), rows)
 
