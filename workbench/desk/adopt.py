@@ -1,4 +1,4 @@
-"""`./desk adopt TOWN`: the plan as it stands becomes the blocks that the feed states, so that the next plan can stay near it.
+"""`./desk adopt TOWN`: the plan becomes the blocks that the feed states, so that the next plan can stay near it.
 
 The program writes the blocks: they come into `block_id` of the town's own `trips.txt`. That file as it was stands beside it under
 another name, and the agency's files in `agency/` stay as they are.
@@ -28,7 +28,7 @@ from desk.texts_written import line_of_record
 from desk.town import Town
 
 WORD = "adopt"
-HELP = "make the plan as it stands the blocks that the feed states, in block_id of the town's own trips.txt"
+HELP = "make the plan the blocks that the feed states, in block_id of the town's own trips.txt"
 
 TRIPS, BEFORE = "trips.txt", "trips_before_{}.txt"
 """The file that is written, and the name of each that stood in its place, with its number."""

@@ -1,4 +1,4 @@
-"""What stands on a running board: the rows of a vehicle's day, with the timing points of its trips.
+"""What a running board shows: the rows of a vehicle's day, with the timing points of its trips.
 
 The blocks and their minutes are those of the program. What passengers read is as it is published, with the script's shifts: its
 seconds stay, and the layover behind it stands apart.

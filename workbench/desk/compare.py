@@ -1,4 +1,4 @@
-"""`desk compare`: two plans side by side, of one day or of two, and what a planner has to tell whom.
+"""`desk compare`: two plans side by side, of one day or of two, and what a planner has to say to whom.
 
 The numbers of each are those that the program says of it. Blocks are compared by their trips, their times and their empty
 running, and not by their names. A vehicle that is saved in the morning gives all later blocks another number.
@@ -30,7 +30,7 @@ from desk.times import format_minute
 from desk.town import Town, town_above
 
 WORD = "compare"
-HELP = "two plans side by side, of one day, of two days or of two periods, and what to tell whom"
+HELP = "two plans side by side, of one day, of two days or of two periods, and who has to know what"
 
 def add_arguments(parser: argparse.ArgumentParser) -> None:
     """The words of `desk compare`."""

@@ -1,4 +1,4 @@
-"""What differs between two plans, as a text for the planner, who tells others."""
+"""What differs between two plans, as a text that the planner passes on."""
 from __future__ import annotations
 
 from collections.abc import Iterator

@@ -1,4 +1,4 @@
-"""What day types are called: by their weekdays, by school days and holidays where the services' names tell, or by their dates."""
+"""What day types are called: by their weekdays, by school days and holidays where services are named so, or by their dates."""
 from __future__ import annotations
 
 import datetime

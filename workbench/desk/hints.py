@@ -1,4 +1,4 @@
-"""What stands beside the program's words after a refusal or a fault: what was found, and how it is mended.
+"""What is printed below the program's words after a refusal or a fault: what was found, and how it is mended.
 
 The program's texts stay as they are. Each hint is one line, and where nothing is known there is none.
 """

@@ -1,4 +1,4 @@
-"""The journal, `journal.db`, as the program reads it from a copy: to open a database may change what stands in its folder."""
+"""The journal, `journal.db`, as the program reads it from a copy: because opening a database may change files of its folder."""
 from __future__ import annotations
 
 import fcntl

@@ -1,4 +1,4 @@
-"""What stands in the folder's place, and which file could not be read or written, and why."""
+"""What is in the folder's place, and which file could not be read or written, and why."""
 from __future__ import annotations
 
 import difflib

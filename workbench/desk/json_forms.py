@@ -85,14 +85,14 @@ Shifts = TypedDict("Shifts", {"refused": list[Refused], "shifts": list[Shift], "
 """The shifts, and the sum after all."""
 
 Standing = TypedDict("Standing", {"planner": str, "edit": Literal["cancel", "restore"], "trip": str})
-"""A planner's edit that stands."""
+"""A planner's edit in force."""
 
 StandingShift = TypedDict("StandingShift", {"planner": str, "edit": Literal["shift"], "trip": str, "shift": int})
-"""A planner's shift that stands."""
+"""A planner's shift in force."""
 
 StandingExtra = TypedDict("StandingExtra", {"planner": str, "edit": Literal["extra"], "trip": str, "from": str, "to": str,
                                             "departs": str, "arrives": str})
-"""A planner's extra trip that stands."""
+"""A planner's extra trip in force."""
 
 Done = TypedDict("Done", {"record": int, "ok": Literal[True]})
 """An accepted record of a planner."""
@@ -100,7 +100,7 @@ Done = TypedDict("Done", {"record": int, "ok": Literal[True]})
 Planners = TypedDict("Planners", {"refused": list[Refused], "records": list[Done | NotAccepted],
                                   "standing": list[Standing | StandingShift | StandingExtra],
                                   "fixed": int, "vehicles": int, "minutes": int})
-"""The records of the planners, the edits that stand, and the numbers with them."""
+"""The records of the planners, the edits in force, and the numbers with them."""
 
 Misfit = TypedDict("Misfit", {"block": str, "first": str, "second": str, "short": int | None})
 """Two trips of a stated block that do not fit: by how many minutes, or null where no way leads there."""
@@ -224,7 +224,7 @@ PlannedTown = TypedDict("PlannedTown", {"town": str, "fleet": Fleet | None, "tod
 """A town: its fleet by the plan and today, what is to be mended in its folders, and its day types."""
 
 Towns = TypedDict("Towns", {"towns": list[PlannedTown]})
-"""The towns that are planned. What stands of a day type is in `plan.json` of its folder too."""
+"""The towns that are planned. The plan of a day type is in `plan.json` of its folder too."""
 
 Lengths = TypedDict("Lengths", {"shortest": int, "shortest_block": str, "median": int | float, "mean": float, "longest": int,
                                 "longest_block": str})

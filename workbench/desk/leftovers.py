@@ -1,4 +1,4 @@
-"""What runs that were cut off have left half done in a town: it is put back by the next command, and told.
+"""What runs that were cut off have left half done in a town: the next command undoes it, and says so.
 
 Older workbenches put a part of `edits.csv` in its place while `keep` ran, and the whole script beside it.
 """

@@ -1,4 +1,4 @@
-"""`./desk new --more`: what a new date or a new feed needs is put behind a planner's records, and these stay as they are."""
+"""`./desk new --more`: what a new date or a new feed needs is added behind a planner's records, which stay as they are."""
 from __future__ import annotations
 
 import datetime

@@ -1,4 +1,4 @@
-"""A town is made in a room beside it, and stands in its place when all of it is made.
+"""A town is made in a room beside it, and moved to its place when all of it is made.
 
 A town that is there is made anew all or none. Its files go aside, into a folder of the town, while those of the room come in. Where
 that is cut off, `undo` puts them back: at once after an error, and by the next command after a kill.

@@ -1,4 +1,4 @@
-"""The steps of `./desk new`: each makes files in the room of the town, and tells in the report what they were made from."""
+"""The steps of `./desk new`: each makes files in the room of the town, and says in the report what they were made from."""
 from __future__ import annotations
 
 import datetime

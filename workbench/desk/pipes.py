@@ -1,4 +1,4 @@
-"""What stands in a town in the place of a file, and would keep the program or the workbench waiting."""
+"""What is in a town in the place of a file, and would keep the program or the workbench waiting."""
 from __future__ import annotations
 
 from pathlib import Path

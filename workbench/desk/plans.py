@@ -1,4 +1,4 @@
-"""A plan of the program: `blocks.csv` and `boards.csv` read, and judged to be of one plan and of the feed as it stands.
+"""A plan of the program: `blocks.csv` and `boards.csv` read, and judged to be of one plan and of the feed as it is now.
 
 The minutes are those of the files and texts of the program. A plan is given only where `check` says yes to it.
 """

@@ -1,4 +1,4 @@
-"""The proved program, which answers: it is run with words, and what it puts is given back byte for byte."""
+"""The proved program, which answers: it is run with words, and what it prints is returned byte for byte."""
 from __future__ import annotations
 
 import os

@@ -1,4 +1,4 @@
-"""`./desk publish TOWN OUT.zip`: the agency's feed with the plan in it, for other systems, read again before it stands there."""
+"""`./desk publish TOWN OUT.zip`: the agency's feed with the plan in it, for other systems, read again before it is written."""
 from __future__ import annotations
 
 import argparse

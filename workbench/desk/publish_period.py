@@ -1,4 +1,4 @@
-"""`./desk publish` of a town with days: one feed for the whole period, read again before it stands there."""
+"""`./desk publish` of a town with days: one feed for the whole period, read again before it is written."""
 from __future__ import annotations
 
 import sys

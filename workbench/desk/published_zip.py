@@ -1,4 +1,4 @@
-"""A feed as a zip, which stands in its place only once it is judged. The same files make the same zip."""
+"""A feed as a zip, which is written only once it is judged. The same files make the same zip."""
 from __future__ import annotations
 
 import shutil

@@ -21,7 +21,7 @@ from desk.town import Town
 
 WORDS = {
     "save": "keep the script, the blocks and the prices of a town as a version under a name",
-    "saved": "list the versions of a town, or put one back",
+    "saved": "list the versions of a town, or restore one",
 }
 
 SCRIPT = "edits.csv"

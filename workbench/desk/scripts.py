@@ -1,4 +1,4 @@
-"""Scripts of edits: their records, what the program says of each, and which edits stand."""
+"""Scripts of edits: their records, what the program says of each, and which edits are in force."""
 from __future__ import annotations
 
 from collections.abc import Iterable

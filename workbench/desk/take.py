@@ -16,7 +16,7 @@ from desk.rooms import SCRIPTS
 from desk.town import Town
 
 WORD = "take"
-HELP = "put the planners' edits that stand into edits.csv, and empty planner_edits.csv"
+HELP = "append the planners' edits in force to edits.csv, and empty planner_edits.csv"
 
 
 def add_arguments(parser: argparse.ArgumentParser) -> None:

@@ -1,4 +1,4 @@
-"""What is printed on a terminal: letters of a feed that a terminal would obey stand as their escapes."""
+"""What is printed on a terminal: letters of a feed that a terminal would obey are printed as their escapes."""
 from __future__ import annotations
 
 import io

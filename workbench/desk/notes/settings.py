@@ -1,4 +1,4 @@
-"""Notes on the tables of `desk.toml`: keys that are no place and no route, or that stand below a table by mistake."""
+"""Notes on the tables of `desk.toml`: keys that are no place and no route, or that are below a table by mistake."""
 from __future__ import annotations
 
 from collections.abc import Iterator

@@ -1,4 +1,4 @@
-/** What has changed of a day: the server sends of its lists what is new, and which elements stand as before. */
+/** What has changed of a day: the server sends of its lists what is new, and which elements are as before. */
 
 const LISTS = ["trips", "blocks", "script"];
 

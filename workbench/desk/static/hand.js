@@ -1,4 +1,4 @@
-/** The hand: which bar is chosen, by its name on any day, and what stands of it beside the vehicles. */
+/** The hand: which bar is chosen, by its name on any day, and what is shown of it beside the vehicles. */
 
 import { byId } from "./elements.js";
 import { nameOf } from "./day.js";

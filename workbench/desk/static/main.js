@@ -1,4 +1,4 @@
-/** The page: a day that stands in it, or the day of `desk open`, which can be changed. */
+/** The page: a day that is written in it, or the day of `desk open`, which can be changed. */
 
 import { byId } from "./elements.js";
 import { SIZES } from "./bars.js";

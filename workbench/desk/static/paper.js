@@ -1,4 +1,4 @@
-/** The day on paper: tables whose head has the title and the hours, which the browser puts on every page.
+/** The day on paper: tables whose head has the title and the hours, which the browser prints on every page.
 
 Places are in shares of the width, so any paper is filled. Labels are chosen so that they fit on A4. */
 

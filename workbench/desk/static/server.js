@@ -1,4 +1,4 @@
-/** The server of `desk open`, which is asked by names that stand beside the page. */
+/** The server of `desk open`, which is asked by names beside the page. */
 
 /** What the server answers to a name. */
 export function ask(name) {
