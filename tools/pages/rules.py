@@ -27,8 +27,9 @@ def is_shown(function: Function) -> bool:
 
 
 def stems(name: str) -> set[str]:
-    """The words of a name, each without an ending of the plural."""
-    return {it.lower().removesuffix("s") for it in re.findall(r"[A-Z]?[a-z]+", name.rpartition("::")[2])} - {"of", "i", "ha", "are", "with"}
+    """The words of a name that say what it is about, each without an ending of the plural."""
+    words = re.findall(r"[A-Z]?[a-z]+", name.rpartition("::")[2])
+    return {it.lower().removesuffix("s") for it in words} - {"of", "with", "are"} - {"i", "ha"}
 
 
 def first_of(found: list[Function], *tests: Callable[[Function], bool]) -> list[Function]:

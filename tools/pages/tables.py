@@ -15,6 +15,9 @@ a link to its line, and so is a constant.
 """
 STATUS = "crates/desk_run/src/status.rt"
 LIMITS = "crates/limits/src/limits.rt"
+OPTIONAL = re.compile(r"\b(?:field_of|selected_fields) column\.(\w+) trips\b")
+"""How definitions read a column of `trips.txt` that need not be there."""
+
 TESTS = ("uses", "examples_computed")
 """Crates that refuse nothing."""
 EDITS: Key = ("edit_script", "Lines", "fault_text_of")
@@ -103,11 +106,21 @@ def required() -> dict[str, list[str]]:
     return found
 
 
+def optional() -> dict[str, list[str]]:
+    """For each variant of `Paper` the columns that are read where its file has them."""
+    texts = [it.text for spec in specs() for it in spec.definitions]
+    return {"Trips": list(dict.fromkeys(it for text in texts for it in OPTIONAL.findall(text)))}
+
+
 def files() -> str:
     """The table of files and their columns."""
-    found = required()
-    rows = [(f"`{name}`", ", ".join(f"`{columns()[it]}`" for it in found.get(paper, []))) for paper, name in papers().items()]
-    return table(("File", "Columns that are read by their names, in the order in which they are looked for"), rows)
+    found, more = required(), optional()
+    rows = []
+    for paper, name in papers().items():
+        names = [f"`{columns()[it]}`" for it in found.get(paper, [])]
+        names += [f"(`{columns()[it]}`)" for it in more.get(paper, []) if it not in found.get(paper, [])]
+        rows.append((f"`{name}`", ", ".join(names)))
+    return table(("File", "Columns in the order in which they are looked for, in brackets where they need not be there"), rows)
 
 
 @functools.cache
@@ -120,7 +133,9 @@ def makers(enum: str) -> dict[str, list[Function]]:
         made, matched = [], set()
         for named in re.finditer(rf"(?<!\w){enum}::(\w+)", text):
             line = text.count("\n", 0, named.start()) + 1
-            owner = next(it for it in here if it.line <= line <= it.last)
+            owner = next((it for it in here if it.line <= line <= it.last), None)
+            if owner is None:
+                raise SystemExit(f"book: {path}:{line} names {named[0]} outside of functions")
             end = closing(text, named.end()) if text[named.end()] == "(" else named.end()
             if re.match(r"\s*(=>|\|(?!\|)|if\b|=(?!=))", text[end:]):
                 matched.add((named[1], owner))
