@@ -2,6 +2,7 @@
 //! journal and a count of steps. It ends with the status of `run`.
 #![tactic(auto)]
 
+mod outer;
 mod start;
 
 use desk_program::status_line;

@@ -1,5 +1,5 @@
 -- What a keeper over a database is seen as, and what it answers to an error of the database.
-use Rattle.std.specs.Prelude.{Bool, true, false, List, None, is_some, Result, Ok, Err}
+use Rattle.std.specs.Prelude.{ℕ, Bool, true, false, List, None, is_some, Result, Ok, Err}
 use Rattle.desk_io.specs.History.{Call}
 use Rattle.desk_keeper.specs.Keeper.{KeeperState}
 use Rattle.desk_keeper.specs.declared.keeper.KeeperFault.{KeeperFault}
@@ -16,6 +16,10 @@ keeper_state_of keeper = record { journal = None; faults = keeper.faults }
 
 abbrev pub keeper_history_of : SqliteKeeper → List Call
 keeper_history_of keeper = keeper.history.calls
+
+-- the folder in which the journal is
+abbrev pub journal_folder_of : SqliteKeeper → List ℕ
+journal_folder_of keeper = keeper.folder
 
 -- the database is open, which the last call of it left so
 abbrev pub is_open : SqliteKeeper → Bool

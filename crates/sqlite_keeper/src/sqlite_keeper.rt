@@ -23,12 +23,14 @@ impl<'a> SqliteKeeper<'a> {
     ghost use Rattle.std.specs.Prelude.{◌≡◌, [], length, nat_le, if◌then◌else◌, None, Ok, Err, IfOk, IfErr};
     ghost use Rattle.desk_keeper.specs.Keeper.{Loads};
     ghost use Rattle.std.specs.Prelude.{false, is_ok};
-    ghost use Rattle.sqlite_keeper.specs.SqliteKeeper.{has_succeeded, is_open, keeper_history_of, keeper_state_of, refusal_of};
+    ghost use Rattle.sqlite_keeper.specs.SqliteKeeper.{has_succeeded, is_open, journal_folder_of, keeper_history_of};
+    ghost use Rattle.sqlite_keeper.specs.SqliteKeeper.{keeper_state_of, refusal_of};
 
     /// The journal in this folder. The file is not opened before the first call. No fault was counted, and no call came.
     pub fn over(rt: &'a HostRuntime, folder: Text) -> SqliteKeeper<'a>
         ensures state { keeper_state_of result ≡ record { journal = None; faults = 0 } }
         ensures history { keeper_history_of result ≡ [] }
+        ensures folder { journal_folder_of result ≡ folder }
     {
         SqliteKeeper {
             rt,
