@@ -26,7 +26,8 @@ use Rattle.desk_feed.specs.Judging.{IsGivenOf, ending_of, refused_of}
 use Rattle.desk_feed.specs.Schedule.{IsMatrixFor}
 use Rattle.desk_feed.specs.Script.{some_refused}
 use Rattle.audit_command.specs.declared.audit.Auditable.TheVariants.{Trips, Refused}
-use Rattle.audit_command.specs.Audit.{AuditsBy, EndsBy, IsAudited, IsJudged, IsRefusedName, audit_does, ending_by, stated_of, trips_in}
+use Rattle.audit_command.specs.Audit.{AuditEndsBy, AuditsBy, IsAudited, IsRefusedName, JudgesStated, audit_does, ending_with_misfits}
+use Rattle.audit_command.specs.Audit.{stated_of, trips_table}
 use Rattle.audit_command.specs.Auditable.{IsAuditable, Judges}
 use Rattle.desk_feed.proofs.OneMatrix.{matrix-same}
 
@@ -38,7 +39,7 @@ refused-names trips chosen outcome is names = is.first.bad (names is.record_befo
 -- what is done where nothing is judged
 refused-by : (said : FeedView) (trips : Result TableView FeedFault) (outcome : OutcomeView)
     → IsAuditable said.settings trips (Refused outcome)
-    → AuditsBy said trips outcome × EndsBy said trips outcome.ending × (outcome.lines ≡ None)
+    → AuditsBy said trips outcome × AuditEndsBy said trips outcome.ending × (outcome.lines ≡ None)
 refused-by said (Err refused) outcome is = (is, ap (λ (o : OutcomeView). o.ending) is, ap (λ (o : OutcomeView). o.lines) is)
 refused-by said (Ok trips) outcome is = (
   inl is,
@@ -50,9 +51,9 @@ refused-by said (Ok trips) outcome is = (
 )
 
 pub refused-given : (read : ReadView) (said : FeedView) (outcome : OutcomeView)
-    → IsAuditable said.settings (trips_in read) (Refused outcome) → IsGivenOf audit_does read said outcome
+    → IsAuditable said.settings (trips_table read) (Refused outcome) → IsGivenOf audit_does read said outcome
 refused-given read said outcome is =
-    let does = refused-by said (trips_in read) outcome is in
+    let does = refused-by said (trips_table read) outcome is in
     record { gives = does.0; ends = does.1; unkept = λ _. does.2 }
 
 -- an ending after a script is not that of a no
@@ -66,17 +67,17 @@ script-ends false e = subst is-no (sym e) tt
 
 module _ (refused : List ℕ) (end : Ending) (timetable : TimetableView) (matrix : MatrixView) (stated : List NamedBlock)
     (outcome : OutcomeView) where
-  judged-ends : (misfits : List Misfit) → IsJudged refused end timetable matrix stated misfits outcome
-      → outcome.ending ≡ ending_by misfits end
+  judged-ends : (misfits : List Misfit) → JudgesStated refused end timetable matrix stated misfits outcome
+      → outcome.ending ≡ ending_with_misfits misfits end
   judged-ends [] is = ap (λ (o : OutcomeView). o.ending) is.done
   judged-ends (misfit ∷ misfits) is = ap (λ (o : OutcomeView). o.ending) is
 
-  judged-lines : (misfits : List Misfit) → IsJudged refused end timetable matrix stated misfits outcome → outcome.lines ≡ None
+  judged-lines : (misfits : List Misfit) → JudgesStated refused end timetable matrix stated misfits outcome → outcome.lines ≡ None
   judged-lines [] is = ap (λ (o : OutcomeView). o.lines) is.done
   judged-lines (misfit ∷ misfits) is = ap (λ (o : OutcomeView). o.lines) is
 
 -- a run that does not end as no has no misfit, and one that does has one
-none-by : (misfits : List Misfit) (end : Ending) → ending_by misfits end ≢ ending.No → misfits ≡ []
+none-by : (misfits : List Misfit) (end : Ending) → ending_with_misfits misfits end ≢ ending.No → misfits ≡ []
 none-by [] end not = refl
 none-by (misfit ∷ misfits) end not = absurd (not refl)
 
@@ -85,9 +86,9 @@ module _ (said : FeedView) (trips : TableView) where
   here = stated_of said trips
 
   pub audited-by : AreNames trips (chosen_in said.settings trips) → (matrix : MatrixView) → IsMatrixFor said matrix
-      → (outcome : OutcomeView) → IsJudged (refused_of said) (ending_of said) (standing said) matrix here
+      → (outcome : OutcomeView) → JudgesStated (refused_of said) (ending_of said) (standing said) matrix here
       (misfits_in (standing said) matrix here) outcome
-      → AuditsBy said (Ok trips) outcome × EndsBy said (Ok trips) outcome.ending × (outcome.lines ≡ None)
+      → AuditsBy said (Ok trips) outcome × AuditEndsBy said (Ok trips) outcome.ending × (outcome.lines ≡ None)
   audited-by names matrix is outcome judged =
       let ends = judged-ends (refused_of said) (ending_of said) (standing said) matrix here outcome
       (misfits_in (standing said) matrix here) judged in
@@ -98,7 +99,7 @@ module _ (said : FeedView) (trips : TableView) where
         no = λ ended are.
             let none = have-no-misfit (standing said) matrix here are in
             script-ends (some_refused said.base said.lines (length said.lines))
-            (sym (ends ∙ ap (λ misfits. ending_by misfits (ending_of said)) none) ∙ ended);
+            (sym (ends ∙ ap (λ misfits. ending_with_misfits misfits (ending_of said)) none) ∙ ended);
         blocking = λ other.
             are-blocking trips (standing said) (chosen_in said.settings trips) matrix
             (none-by (misfits_in (standing said) matrix here) (ending_of said) (λ e. other (ends ∙ e)));
@@ -107,7 +108,7 @@ module _ (said : FeedView) (trips : TableView) where
         record {
           judged = λ _ other other_is.
               ends
-              ∙ ap (λ m. ending_by (misfits_in (standing said) m here) (ending_of said))
+              ∙ ap (λ m. ending_with_misfits (misfits_in (standing said) m here) (ending_of said))
               (matrix-same said.entries said.pulls (length said.base.places) matrix other is other_is);
           refused = λ no. absurd (no names);
         },
@@ -118,11 +119,11 @@ module _ (said : FeedView) (trips : TableView) where
 module _ (said : FeedView) (matrix : MatrixView) (edited : Edited) (table : TableView) (chosen : Vec Bool Global) where
   audited-read : IsMatrixFor said matrix → IsEdited said.base said.lines edited → (read : Result TableView FeedFault)
       → IsAuditable said.settings read (Trips table chosen) → (outcome : OutcomeView) → Judges edited matrix table chosen.items outcome
-      → AuditsBy said read outcome × EndsBy said read outcome.ending × (outcome.lines ≡ None)
+      → AuditsBy said read outcome × AuditEndsBy said read outcome.ending × (outcome.lines ≡ None)
   audited-read is stands (Err refused) may outcome judged = absurd may
   audited-read is stands (Ok trips) may outcome judged =
       let judge : List ℕ → Ending → TimetableView → TableView → List Bool → Type 0 = λ refused end t trips chosen.
-      IsJudged refused end t matrix (stated_in trips t chosen) (misfits_in t matrix (stated_in trips t chosen)) outcome in
+      JudgesStated refused end t matrix (stated_in trips t chosen) (misfits_in t matrix (stated_in trips t chosen)) outcome in
       let by-refused : judge (refused_of said) edited.ending edited.script.timetable table chosen.items =
       subst (λ r. judge r edited.ending edited.script.timetable table chosen.items) stands.refused judged in
       let by-ending : judge (refused_of said) (ending_of said) edited.script.timetable table chosen.items =
@@ -136,11 +137,11 @@ module _ (said : FeedView) (matrix : MatrixView) (edited : Edited) (table : Tabl
       audited-by said trips may.2 matrix is outcome by-chosen
 
   pub audited-given : {E : Type 0} (read : ReadView) → IsMatrixFor said matrix → IsEdited said.base said.lines edited
-      → IsAuditable said.settings (trips_in read) (Trips table chosen) → (result : Result OutcomeView E)
+      → IsAuditable said.settings (trips_table read) (Trips table chosen) → (result : Result OutcomeView E)
       → IfOk result (Judges edited matrix table chosen.items) → IfOk result (IsGivenOf audit_does read said)
   audited-given read is stands may (Err e) judged = tt
   audited-given read is stands may (Ok outcome) judged =
-      let does = audited-read is stands (trips_in read) may outcome judged in
+      let does = audited-read is stands (trips_table read) may outcome judged in
       record { gives = does.0; ends = does.1; unkept = λ _. does.2 }
 
 -- trips that may be judged have the `block_id` of each selected record as text, and a mark for each record

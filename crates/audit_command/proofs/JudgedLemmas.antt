@@ -15,7 +15,7 @@ use Rattle.desk_run.specs.Outcome.{OutcomeView}
 use Rattle.desk_run.specs.declared.status.Ending.{Ending}
 use Rattle.desk_feed.specs.Edited.{refusing_first}
 use Rattle.deadhead_matrix.specs.Plans.{IsScheduled}
-use Rattle.audit_command.specs.Audit.{IsCosted, IsJudged, text_of_costs}
+use Rattle.audit_command.specs.Audit.{IsCosted, JudgesStated, text_of_costs}
 
 abbrev is-some : List Misfit → Type 0
 is-some [] = ⊥
@@ -46,7 +46,7 @@ module _ (refused : List ℕ) (end : Ending) (timetable : TimetableView) (matrix
   -- where there is no misfit
   pub judged-none : {E : Type 0} (misfits : List Misfit) → misfits ≡ [] → (result : Result OutcomeView E)
       → IfOk result (IsCosted refused end timetable matrix stated)
-      → IfOk result (λ outcome. IsJudged refused end timetable matrix stated misfits outcome)
+      → IfOk result (λ outcome. JudgesStated refused end timetable matrix stated misfits outcome)
   judged-none [] e result done = done
   judged-none (misfit ∷ misfits) e (Err f) done = tt
   judged-none (misfit ∷ misfits) e (Ok outcome) done = absurd (subst is-some e tt)

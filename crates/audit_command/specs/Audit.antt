@@ -32,8 +32,8 @@ use Rattle.desk_feed.specs.Schedule.{IsMatrixFor, most_steps}
 use Rattle.audit_command.specs.Lines.{costs_text, misfits_text}
 
 -- the table of the trips, or why it is none; an accepted feed has one
-abbrev pub trips_in : ReadView → Result TableView FeedFault
-trips_in read = table_in paper.Trips (found_of read.pages paper.Trips)
+abbrev pub trips_table : ReadView → Result TableView FeedFault
+trips_table read = table_in paper.Trips (found_of read.pages paper.Trips)
 
 -- a record, counted from 0, is the first selected one whose `block_id` is not text
 pub record IsFirstBad (trips : TableView) (chosen : List Bool) (r : ℕ) : Type 0 where
@@ -66,9 +66,9 @@ pub record IsCosted (refused : List ℕ) (end : Ending) (timetable : TimetableVi
       → standing_of (network_of timetable matrix) (slots_by stated) least ≡ Nothing
 
 -- what is put of stated blocks: their misfits, and that they are no blocking; or where there is none their cost
-abbrev pub IsJudged : List ℕ → Ending → TimetableView → MatrixView → List NamedBlock → List Misfit → OutcomeView → Type 0
-IsJudged refused end timetable matrix stated [] outcome = IsCosted refused end timetable matrix stated outcome
-IsJudged refused end timetable matrix stated (misfit ∷ misfits) outcome =
+abbrev pub JudgesStated : List ℕ → Ending → TimetableView → MatrixView → List NamedBlock → List Misfit → OutcomeView → Type 0
+JudgesStated refused end timetable matrix stated [] outcome = IsCosted refused end timetable matrix stated outcome
+JudgesStated refused end timetable matrix stated (misfit ∷ misfits) outcome =
     outcome ≡ refusing_first refused (misfits_text timetable stated (misfit ∷ misfits)) ending.No
 
 -- the blocks that a feed states of the timetable after its script
@@ -79,7 +79,7 @@ stated_of said trips = stated_in trips (standing said) (chosen_in said.settings 
 pub record IsAudited (said : FeedView) (trips : TableView) (outcome : OutcomeView) : Type 0 where
   pub matrix : MatrixView
   pub matrix_is : IsMatrixFor said matrix
-  pub judged : IsJudged (refused_of said) (ending_of said) (standing said) matrix (stated_of said trips)
+  pub judged : JudgesStated (refused_of said) (ending_of said) (standing said) matrix (stated_of said trips)
       (misfits_in (standing said) matrix (stated_of said trips)) outcome
   pub no : outcome.ending ≡ ending.No → ¬ IsBlocking (network_of (standing said) matrix) (slots_by (stated_of said trips))
   pub blocking : outcome.ending ≢ ending.No → IsBlocking (network_of (standing said) matrix) (slots_by (stated_of said trips))
@@ -96,25 +96,25 @@ AuditsBy said (Err refused) outcome = outcome ≡ refusing refused
 AuditsBy said (Ok trips) outcome = AuditsOf said trips outcome
 
 abbrev pub Audits : ReadView → FeedView → OutcomeView → Type 0
-Audits read said outcome = AuditsBy said (trips_in read) outcome
+Audits read said outcome = AuditsBy said (trips_table read) outcome
 
 -- how a run ends by the misfits: as the script does where there is none, and else as no
-abbrev pub ending_by : List Misfit → Ending → Ending
-ending_by [] end = end
-ending_by (misfit ∷ misfits) end = ending.No
+abbrev pub ending_with_misfits : List Misfit → Ending → Ending
+ending_with_misfits [] end = end
+ending_with_misfits (misfit ∷ misfits) end = ending.No
 
 -- how the run ends: by the misfits, which every matrix of the feed gives alike, and as refused where a `block_id` is
 pub record EndsOf (said : FeedView) (trips : TableView) (end : Ending) : Type 0 where
   pub judged : AreNames trips (chosen_in said.settings trips) → (matrix : MatrixView) → IsMatrixFor said matrix
-      → end ≡ ending_by (misfits_in (standing said) matrix (stated_of said trips)) (ending_of said)
+      → end ≡ ending_with_misfits (misfits_in (standing said) matrix (stated_of said trips)) (ending_of said)
   pub refused : ¬ AreNames trips (chosen_in said.settings trips) → end ≡ ending.FeedRefused
 
-abbrev pub EndsBy : FeedView → Result TableView FeedFault → Ending → Type 0
-EndsBy said (Err refused) end = end ≡ ending.FeedRefused
-EndsBy said (Ok trips) end = EndsOf said trips end
+abbrev pub AuditEndsBy : FeedView → Result TableView FeedFault → Ending → Type 0
+AuditEndsBy said (Err refused) end = end ≡ ending.FeedRefused
+AuditEndsBy said (Ok trips) end = EndsOf said trips end
 
 abbrev pub Ends : ReadView → FeedView → Ending → Type 0
-Ends read said end = EndsBy said (trips_in read) end
+Ends read said end = AuditEndsBy said (trips_table read) end
 
 -- with the most steps of a plan from scratch
 abbrev pub audit_does : FeedAsked

@@ -10,7 +10,7 @@ use Rattle.block_audit.specs.Stated.{AreNames, stated_in}
 use Rattle.desk_run.specs.Outcome.{OutcomeView}
 use Rattle.desk_feed.specs.declared.script.Edited.{Edited}
 use Rattle.desk_feed.specs.Judging.{refusing}
-use Rattle.audit_command.specs.Audit.{IsJudged, IsRefusedName}
+use Rattle.audit_command.specs.Audit.{JudgesStated, IsRefusedName}
 use Rattle.audit_command.specs.declared.audit.Auditable.{Auditable}
 use Rattle.audit_command.specs.declared.audit.Auditable.TheVariants.{Trips, Refused}
 
@@ -25,5 +25,5 @@ IsAuditable settings (Err refused) (Refused outcome) = outcome ≡ refusing refu
 -- the blocks that selected trips state of a timetable after its script are judged
 abbrev pub Judges : Edited → MatrixView → TableView → List Bool → OutcomeView → Type 0
 Judges edited matrix trips chosen outcome =
-    IsJudged edited.refused edited.ending edited.script.timetable matrix (stated_in trips edited.script.timetable chosen)
+    JudgesStated edited.refused edited.ending edited.script.timetable matrix (stated_in trips edited.script.timetable chosen)
     (misfits_in edited.script.timetable matrix (stated_in trips edited.script.timetable chosen)) outcome

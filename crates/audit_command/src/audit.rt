@@ -8,7 +8,7 @@ ghost use Rattle.desk_feed.specs.Feed.{HasPapers};
 ghost use Rattle.desk_feed.specs.Schedule.{most_steps};
 ghost use Rattle.desk_run.specs.Outside.{outside};
 ghost use Rattle.desk_run.specs.Performs.{Performs};
-ghost use Rattle.audit_command.specs.Audit.{IsCosted, IsJudged, audit_asked, trips_in};
+ghost use Rattle.audit_command.specs.Audit.{IsCosted, JudgesStated, audit_asked, trips_table};
 ghost use Rattle.audit_command.specs.Auditable.{IsAuditable, Judges};
 
 use crate::judging::bad_name;
@@ -40,7 +40,7 @@ enum Auditable {
 // The trips of what was read, where the `block_id` of each selected record is UTF-8.
 fn read_trips(alloc: Global, settings: &Settings, read: &Read) -> Result<Auditable, Memory>
     requires { HasPapers read.now.pages }
-    ensures { IfOk result (IsAuditable settings.now (trips_in read.now)) }
+    ensures { IfOk result (IsAuditable settings.now (trips_table read.now)) }
 {
     let trips = match table_in(alloc, Paper::Trips, read.found(Paper::Trips)) {
         Ok(trips) => trips,
@@ -69,7 +69,7 @@ fn judged<L: Ledger>(
     requires runs { All (All (Runs timetable.now)) (slots_by stated.now) }
     requires blocking { misfits_in timetable.now matrix.now stated.now ≡ []
         → IsBlocking (network_of timetable.now matrix.now) (slots_by stated.now) }
-    ensures judged { IfOk result (IsJudged refused.now ending timetable.now matrix.now stated.now
+    ensures judged { IfOk result (JudgesStated refused.now ending timetable.now matrix.now stated.now
         (misfits_in timetable.now matrix.now stated.now)) }
     ensures counted { steps.new ≤ steps.old + most_steps (length timetable.now.slots) }
 {

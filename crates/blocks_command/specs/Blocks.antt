@@ -57,29 +57,25 @@ plans_outcome base lines matrix likings naming =
 abbrev pub IsNamedBy : NamingView → TimetableView → Plan → Type 0
 IsNamedBy naming timetable plan = AreBlockNames (length (blocks_in timetable plan)) (plan_names naming timetable plan)
 
--- It is done of the plan at each moment. Pulls are valid, and the blocks of the last plan can be told apart by their names.
-pub record IsPlanned (base : TimetableView) (lines : List Line) (matrix : MatrixView) (likings : LikingsView) (naming : NamingView)
-    (outcome : OutcomeView) : Type 0 where
-  pub are : ArePlanned base lines matrix likings
-  pub pulls : All IsPull matrix.pulls
-  pub named : IsNamedBy naming (standing_after base lines) (plan_at base lines matrix likings (length lines))
-  pub done : outcome ≡ plans_outcome base lines matrix likings naming
-
 -- what is written of the last plan is a claim on which the verdict is yes, with the vehicles and the minutes of its blocks
 abbrev pub IsLastAccepted : TimetableView → MatrixView → NamingView → Plan → Type 0
 IsLastAccepted timetable matrix naming plan =
     IsAccepted timetable matrix (plan_names naming timetable plan) (blocks_in timetable plan) plan.leave plan.enter
 
--- and of a feed: its prices prove it to `check`
-pub record IsPlan (likings : LikingsView) (naming : NamingView) (said : FeedView) (outcome : OutcomeView) : Type 0 where
+-- What `blocks` writes and puts of a feed, by the plan at each moment of its script. Pulls are valid, and the blocks of the last
+-- plan can be told apart by their names. Its prices prove it to `check`.
+pub record WritesPlans (likings : LikingsView) (naming : NamingView) (said : FeedView) (outcome : OutcomeView) : Type 0 where
   pub matrix : MatrixView
   pub matrix_is : IsMatrixFor said matrix
-  pub planned : IsPlanned said.base said.lines matrix likings naming outcome
+  pub are : ArePlanned said.base said.lines matrix likings
+  pub pulls : All IsPull matrix.pulls
+  pub named : IsNamedBy naming (standing said) (plan_at said.base said.lines matrix likings (length said.lines))
+  pub done : outcome ≡ plans_outcome said.base said.lines matrix likings naming
   pub accepted : IsLastAccepted (standing said) matrix naming (plan_at said.base said.lines matrix likings (length said.lines))
 
 -- what `blocks` asks of a feed whose blocks are named
 abbrev pub blocks_named : NamingAsked
-blocks_named = doing_named (λ read naming said. IsPlan (likings_in read said.settings said.base) naming said) most_steps_of
+blocks_named = doing_named (λ read naming said. WritesPlans (likings_in read said.settings said.base) naming said) most_steps_of
 
 -- and of any feed
 abbrev pub blocks_does : FeedAsked

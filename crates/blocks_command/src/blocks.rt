@@ -1,11 +1,13 @@
-ghost use Rattle.std.specs.Prelude.{◌≡◌, ◌+◌, ◌≤◌, ◌++◌, length, None, IfOk, OnOk, string_bytes};
+ghost use Rattle.std.specs.Prelude.{◌≡◌, ◌+◌, ◌≤◌, ◌++◌, length, All, None, IfOk, OnOk, string_bytes};
 ghost use Rattle.blocks_command.specs.Answers.{numbers_text};
 ghost use Rattle.desk_run.specs.Outside.{outside};
 ghost use Rattle.desk_run.specs.Performs.{Performs};
-ghost use Rattle.blocks_command.specs.Blocks.{IsNamedBy, IsPlanned, blocks_asked, plan_files};
+ghost use Rattle.blocks_command.specs.Blocks.{IsNamedBy, blocks_asked, plan_files, plans_outcome};
+ghost use Rattle.deadhead_matrix.specs.Pulls.{IsPull};
+ghost use Rattle.desk_feed.specs.Edited.{standing_after};
 ghost use Rattle.desk_feed.specs.Schedule.{most_steps};
 ghost use Rattle.desk_feed.specs.Script.{IsScript};
-ghost use Rattle.feed_desk.specs.Plans.{most_to};
+ghost use Rattle.feed_desk.specs.Plans.{ArePlanned, most_to, plan_at};
 
 use crate::answers::{Numbers, push_numbers};
 use block_build::{NamedBlocks, SlotPrices, blocks_text, prices_text};
@@ -88,7 +90,11 @@ fn planned<L: Ledger>(
 ) -> Result<Outcome<'static>, Memory>
     requires script { IsScript lines.now }
     requires places { length timetable.places ≡ length matrix.walks }
-    ensures planned { IfOk result (IsPlanned timetable lines.now matrix likings.now naming.now) }
+    ensures are { OnOk result (ArePlanned timetable lines.now matrix likings.now) }
+    ensures pulls { OnOk result (All IsPull matrix.pulls) }
+    ensures named { OnOk result (IsNamedBy naming.now (standing_after timetable lines.now)
+        (plan_at timetable lines.now matrix likings.now (length lines.now))) }
+    ensures done { IfOk result (λ outcome. outcome ≡ plans_outcome timetable lines.now matrix likings.now naming.now) }
     ensures counted { steps.new ≤ steps.old + (most_steps (length timetable.slots) + most_to timetable lines.now (length lines.now)) }
 {
     let answers = Numbers { alloc, naming };

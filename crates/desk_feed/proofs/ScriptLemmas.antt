@@ -20,33 +20,33 @@ use Rattle.edit_script.specs.Follow.{IsLineAt}
 use Rattle.edit_script.specs.Machine.{IsAt, Numbered, State, after_line, after_record, machine, or_same}
 use Rattle.edit_script.specs.Script.{IsRefusal, ScriptView}
 use Rattle.desk_feed.specs.Script.{AreRefusals, IsStepped, first_records, line_at, record_at, refusal_in, refusal_text, refused_to}
-use Rattle.desk_feed.specs.Script.{some_refused, standing_at, state_at, step_at}
+use Rattle.desk_feed.specs.Script.{gathered, some_refused, standing_at, state_at, step_at}
 
 -- the records of a moment, and what was put of them
 pub first-none : (lines : List Line) → first_records lines 0 ≡ []
-unfolding first_records
+unfolding first_records gathered
 first-none lines = refl
 
 pub first-next : (lines : List Line) (n k : ℕ) → k ≡ n + 1 → first_records lines k ≡ first_records lines n ++ record_at lines n ∷ []
-unfolding first_records
+unfolding first_records gathered
 first-next lines n k e = let next : k ≡ suc n = omega (arith, e) in ap (first_records lines) next
 
 pub refused-none : (base : TimetableView) (lines : List Line) → refused_to base lines 0 ≡ []
-unfolding refused_to
+unfolding refused_to gathered
 refused-none base lines = refl
 
 pub refused-next : (base : TimetableView) (lines : List Line) (n k : ℕ) → k ≡ n + 1
     → refused_to base lines k ≡ refused_to base lines n ++ refusal_text (n + 1) (line_at lines n) (refusal_in (step_at base lines n))
-unfolding refused_to
+unfolding refused_to gathered
 refused-next base lines n k e = let next : k ≡ suc n = omega (arith, e) in ap (refused_to base lines) next
 
 pub some-none : (base : TimetableView) (lines : List Line) → some_refused base lines 0 ≡ false
-unfolding some_refused
+unfolding some_refused gathered
 some-none base lines = refl
 
 pub some-next : (base : TimetableView) (lines : List Line) (n k : ℕ) → k ≡ n + 1
     → some_refused base lines k ≡ (some_refused base lines n || is_some (refusal_in (step_at base lines n)))
-unfolding some_refused
+unfolding some_refused gathered
 some-next base lines n k e = let next : k ≡ suc n = omega (arith, e) in ap (some_refused base lines) next
 
 -- a step of the machine that is accepted has no refusal

@@ -30,10 +30,15 @@ numbered number line = record { number = number; line = line }
 abbrev pub record_at : List Line → ℕ → Numbered
 record_at lines n = numbered (n + 1) (line_at lines n)
 
+-- What is gathered of so many of the first records, one after the other: what there is before the first, and what the n-th record
+-- makes of what was gathered of those before it.
+unfoldable pub gathered : {A : Type 0} → A → (ℕ → A → A) → ℕ → A
+gathered before next zero = before
+gathered before next (suc n) = next n (gathered before next n)
+
 -- so many of the first records
 unfoldable pub first_records : List Line → ℕ → List Numbered
-first_records lines zero = []
-first_records lines (suc n) = first_records lines n ++ record_at lines n ∷ []
+first_records lines = gathered [] λ n records. records ++ record_at lines n ∷ []
 
 -- word: stands; moment = in effect; point after so many records
 -- A moment is a number of records: the state after so many of the first, and the timetable that stands then.
@@ -75,13 +80,11 @@ refusal_text number line (Some refused) = refusal_line number line refused
 
 -- the lines of those that are refused of so many of the first records
 unfoldable pub refused_to : TimetableView → List Line → ℕ → List ℕ
-refused_to base lines zero = []
-refused_to base lines (suc n) = refused_to base lines n ++ refusal_text (n + 1) (line_at lines n) (refusal_in (step_at base lines n))
+refused_to base lines = gathered [] λ n text. text ++ refusal_text (n + 1) (line_at lines n) (refusal_in (step_at base lines n))
 
 -- whether one of them is refused
 unfoldable pub some_refused : TimetableView → List Line → ℕ → Bool
-some_refused base lines zero = false
-some_refused base lines (suc n) = some_refused base lines n || is_some (refusal_in (step_at base lines n))
+some_refused base lines = gathered false λ n some. some || is_some (refusal_in (step_at base lines n))
 
 -- how a run ends by that
 abbrev pub ending_by : Bool → Ending

@@ -12,23 +12,23 @@ use Rattle.desk_feed.specs.Edited.{standing_after}
 use Rattle.deadhead_matrix.specs.Plans.{IsScheduled}
 use Rattle.feed_desk.specs.Answers.{refusals}
 use Rattle.feed_desk.specs.Drawn.{HasDrawn, HasFollowed, IsDrawn}
-use Rattle.feed_desk.specs.Plans.{IsPlannedAt, plan_at}
+use Rattle.feed_desk.specs.Plans.{plan_at}
 use Rattle.feed_desk.specs.declared.draw.Drawn.{Drawn}
 use Rattle.feed_desk.specs.declared.follow.Followed.{Followed}
 use Rattle.feed_desk.proofs.MomentsLemmas.{refusals-are}
 
 module _ (base : TimetableView) (lines : List Line) (matrix : MatrixView) (likings : LikingsView) (plan : Plan)
     (blocks : List (List ℕ)) (drawn : IsDrawn base lines matrix likings plan blocks) where
-  last-planned : IsPlannedAt (standing_after base lines) matrix plan
-  last-planned = subst (IsPlannedAt (standing_after base lines) matrix) (sym drawn.last) (drawn.are.planned (length lines) (omega arith))
-
   -- the timetable after the script is valid
   pub drawn-valid : IsTimetable (standing_after base lines)
-  drawn-valid = last-planned.valid
+  drawn-valid = drawn.are.valid (length lines) (omega arith)
 
   -- and the blocks are those of a plan that its prices prove, least over all blockings
   pub drawn-scheduled : IsScheduled (standing_after base lines) matrix plan blocks
-  drawn-scheduled = subst (IsScheduled (standing_after base lines) matrix plan) (sym drawn.along) last-planned.scheduled
+  drawn-scheduled =
+      subst (IsScheduled (standing_after base lines) matrix plan) (sym drawn.along)
+      (subst (λ plan. IsScheduled (standing_after base lines) matrix plan (blocks_in (standing_after base lines) plan)) (sym drawn.last)
+      (drawn.are.scheduled (length lines) (omega arith)))
 
 -- the blocks of the desk that has followed a script are drawn
 pub has-drawn : {D : Type 0} (base : TimetableView) (lines : List Line) (matrix : MatrixView) (likings : LikingsView)

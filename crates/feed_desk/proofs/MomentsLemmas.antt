@@ -16,7 +16,7 @@ use Rattle.deadhead_matrix.specs.Matrix.{MatrixView}
 use Rattle.assignment_model.specs.Choice.{IsChosen}
 use Rattle.assignment_model.specs.Prices.{Plan}
 use Rattle.plan_choice.specs.Likings.{LikingsView}
-use Rattle.deadhead_matrix.specs.Plans.{IsPlanFor}
+use Rattle.deadhead_matrix.specs.Plans.{IsPlanFor, IsScheduled}
 use Rattle.deadhead_matrix.specs.Pulls.{IsPull}
 use Rattle.fixed_fleet.specs.Rule.{first_in_first_out}
 use Rattle.edit_script.specs.Machine.{IsAt, machine, numbers_of}
@@ -32,12 +32,12 @@ use Rattle.desk_core.specs.Counts.{blocks_in}
 use Rattle.desk_core.specs.Desk.{DeskView, IsRefused, plans_of}
 use Rattle.desk_core.specs.Standing.{IsLed, IsOpened}
 use Rattle.desk_feed.specs.Script.{IsStepped, first_records, line_at, record_at, refusal_in, refusal_text, refused_to, standing_at}
-use Rattle.desk_feed.specs.Script.{state_at, step_at}
+use Rattle.desk_feed.specs.Script.{gathered, state_at, step_at}
 use Rattle.desk_feed.specs.Edited.{ending_after}
 use Rattle.desk_feed.proofs.ScriptLemmas.{first-next, first-none, some-next, some-none}
 use Rattle.edit_script.proofs.FoldsLemmas.{standing-folds}
 use Rattle.feed_desk.specs.Answers.{Answer, answers_by, refusals}
-use Rattle.feed_desk.specs.Plans.{ArePlanned, AreRelinked, IsFixed, IsPlannedAt, fixed_number, most_of, most_to, plan_at, plans_at}
+use Rattle.feed_desk.specs.Plans.{ArePlanned, AreRelinked, IsFixed, fixed_number, most_for, most_to, plan_at, plans_at}
 use Rattle.feed_desk.specs.Plans.{plans_by}
 use Rattle.feed_desk.specs.Drawn.{HasFollowed}
 use Rattle.feed_desk.specs.declared.follow.Followed.{Followed}
@@ -81,40 +81,40 @@ extend-new desks m next k lt = by (nat_le k m) refl
 answers-same : (answer : Answer) (base : TimetableView) (lines : List Line) (plans other : ℕ → Plan) (n : ℕ)
     → ((k : ℕ) → k ≤ n → plans k ≡ other k)
     → answers_by answer base lines plans n ≡ answers_by answer base lines other n
-unfolding answers_by
+unfolding answers_by gathered
 answers-same answer base lines plans other zero same = refl
 answers-same answer base lines plans other (suc n) same = λ i.
     answers-same answer base lines plans other n (λ k le. same k (omega (arith, le))) i
     ++ answer (n + 1) (line_at lines n) (standing_at base lines (suc n)) (same (suc n) (omega arith) i) (refusal_in (step_at base lines n))
 
 answers-none : (answer : Answer) (base : TimetableView) (lines : List Line) (plans : ℕ → Plan) → answers_by answer base lines plans 0 ≡ []
-unfolding answers_by
+unfolding answers_by gathered
 answers-none answer base lines plans = refl
 
 answers-more : (answer : Answer) (base : TimetableView) (lines : List Line) (plans : ℕ → Plan) (n : ℕ)
     → answers_by answer base lines plans (suc n)
     ≡ answers_by answer base lines plans n
     ++ answer (n + 1) (line_at lines n) (standing_at base lines (suc n)) (plans (suc n)) (refusal_in (step_at base lines n))
-unfolding answers_by
+unfolding answers_by gathered
 answers-more answer base lines plans n = refl
 
 -- of refused records alone their lines are put
 pub refusals-are : (base : TimetableView) (lines : List Line) (plans : ℕ → Plan) (n : ℕ)
     → answers_by refusals base lines plans n ≡ refused_to base lines n
-unfolding answers_by refused_to
+unfolding answers_by refused_to gathered
 refusals-are base lines plans zero = refl
 refusals-are base lines plans (suc n) =
     ap (λ text. text ++ refusal_text (n + 1) (line_at lines n) (refusal_in (step_at base lines n))) (refusals-are base lines plans n)
 
 -- and so are the steps
 most-none : (base : TimetableView) (lines : List Line) → most_to base lines 0 ≡ 0
-unfolding most_to
+unfolding most_to gathered
 most-none base lines = refl
 
 most-more : (base : TimetableView) (lines : List Line) (n : ℕ)
-    → most_to base lines (suc n) ≡ most_to base lines n + most_of (line_at lines n) (length (standing_at base lines (suc n)).slots)
+    → most_to base lines (suc n) ≡ most_to base lines n + most_for (line_at lines n) (length (standing_at base lines (suc n)).slots)
     (refusal_in (step_at base lines n))
-unfolding most_to
+unfolding most_to gathered
 most-more base lines n = refl
 
 pub most-le : (base : TimetableView) (lines : List Line) (n d m : ℕ) → n + d ≡ m → most_to base lines n ≤ most_to base lines m
@@ -157,7 +157,7 @@ module _ (answer : MatrixView → Answer) (base : TimetableView) (lines : List L
     (matrix : next.matrix ≡ last.matrix) (plan : IsPlanFor next.script.timetable next.matrix next.plan)
     (valid : IsTimetable next.script.timetable)
     (put : more ≡ text ++ answer next.matrix (m + 1) (line_at lines m) next.script.timetable next.plan refused)
-    (counted : now ≤ old + most_of (line_at lines m) (length next.script.timetable.slots) refused) where
+    (counted : now ≤ old + most_for (line_at lines m) (length next.script.timetable.slots) refused) where
   abbrev before : AreMoments base lines first m last so_far.desks
   before = so_far.are
 
@@ -224,9 +224,9 @@ module _ (answer : MatrixView → Answer) (base : TimetableView) (lines : List L
       ∙ sym (answers-more (answer first.matrix) base lines (λ k. (desks k).plan) m)
 
   -- the steps of the record are counted with those before it
-  most-next : most_to base lines (suc m) ≡ most_to base lines m + most_of (line_at lines m) (length next.script.timetable.slots) refused
+  most-next : most_to base lines (suc m) ≡ most_to base lines m + most_for (line_at lines m) (length next.script.timetable.slots) refused
   most-next = most-more base lines m
-      ∙ (λ i. most_to base lines m + most_of (line_at lines m) (length (sym next_is.at.timetable i).slots) (sym step.0 i))
+      ∙ (λ i. most_to base lines m + most_for (line_at lines m) (length (sym next_is.at.timetable i).slots) (sym step.0 i))
 
   pub IsAnswered-next : (some_more : Bool) → some_more ≡ (some || is_some refused)
       → IsAnswered (answer first.matrix) base lines first had (m + 1) next more some_more now
@@ -319,17 +319,20 @@ module _ (restores : AreRestored) (proves : AreProved) (makes : MakesMoves) (are
       (λ lt. sym (in_order k (m - k) m (omega (arith, lt)) m_in (sym standing)))
       (by_order m k)
 
-  planned : (m : ℕ) → m ≤ n → IsPlannedAt (standing_at base lines m) first.matrix (desks m).plan
-  planned m le =
+  -- the timetable of a moment is valid, and the plan is one of it
+  valid : (m : ℕ) → m ≤ n → IsTimetable (standing_at base lines m)
+  valid m le = subst IsTimetable (are.each m le).at.timetable (are.each m le).valid
+
+  abbrev IsPlanOf : TimetableView → Plan → Type 0
+  IsPlanOf timetable plan = IsScheduled timetable first.matrix plan (blocks_in timetable plan)
+
+  scheduled : (m : ℕ) → m ≤ n → IsPlanOf (standing_at base lines m) (desks m).plan
+  scheduled m le =
       let here = are.each m le in
-      subst (λ timetable. IsPlannedAt timetable first.matrix (desks m).plan) here.at.timetable (record {
-        valid = here.valid;
-        scheduled = record {
-          certified = here.plan;
-          along = refl;
-          least = proves (desks m).script.timetable first.matrix (desks m).plan here.valid pulls here.plan;
-        };
-        without = fixed-is makes are_made reaches (desks m).script.timetable here.valid;
+      subst (λ timetable. IsPlanOf timetable (desks m).plan) here.at.timetable (record {
+        certified = here.plan;
+        along = refl;
+        least = proves (desks m).script.timetable first.matrix (desks m).plan here.valid pulls here.plan;
       })
 
   unchanged : (m : ℕ) → m < n → IsSome (refusal_in (step_at base lines m)) → (desks (suc m)).plan ≡ (desks m).plan
@@ -357,7 +360,7 @@ module _ (restores : AreRestored) (proves : AreProved) (makes : MakesMoves) (are
 
   -- the plans of each moment are those that are computed
   computed : (m : ℕ) → m ≤ n → plans_of (desks m) ≡ plans_at base lines first.matrix likings m
-  unfolding plans_at
+  unfolding plans_at gathered
   computed zero le = ap plans_of are.begins ∙ (λ i. record { plan = begun i; earlier = opened.earlier i; later = opened.later i })
   computed (suc m) le =
       by (line_at lines m) (refusal_in (step_at base lines m)) (are.follow m (omega (arith, le)))
@@ -384,8 +387,10 @@ module _ (restores : AreRestored) (proves : AreProved) (makes : MakesMoves) (are
 
   pub are-planned : n ≡ length lines → ArePlanned base lines first.matrix likings
   are-planned all = record {
-    planned = λ m le. subst (IsPlannedAt (standing_at base lines m) first.matrix) (plan-is m (omega (arith, all, le)))
-        (planned m (omega (arith, all, le)));
+    valid = λ m le. valid m (omega (arith, all, le));
+    scheduled = λ m le. subst (IsPlanOf (standing_at base lines m)) (plan-is m (omega (arith, all, le)))
+        (scheduled m (omega (arith, all, le)));
+    without = λ m le. fixed-is makes are_made reaches (standing_at base lines m) (valid m (omega (arith, all, le)));
     chosen = subst (λ plan. IsChosen (network_of base first.matrix) (likes base first.matrix likings) (blocks_in base plan))
         (ap (λ (d : DeskView). d.plan) (sym are.begins) ∙ plan-is zero (omega arith)) chosen;
     restored = λ m k m_in k_in standing.

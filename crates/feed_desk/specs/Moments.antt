@@ -15,7 +15,7 @@ use Rattle.feed_desk.specs.Answers.{Answer, answers_by}
 use Rattle.feed_desk.specs.Plans.{most_to}
 
 -- an edit is done as that of some record, which may be applied
-pub record IsEdited (edit : Edit) (old new : DeskView) : Type 0 where
+pub record IsEditDone (edit : Edit) (old new : DeskView) : Type 0 where
   pub number : ℕ
   pub next : IsNext old.script number edit
   pub done : IsDone number edit old new
@@ -23,7 +23,7 @@ pub record IsEdited (edit : Edit) (old new : DeskView) : Type 0 where
 -- what a record does to a desk: its edit is done, or it is refused and changes nothing
 abbrev pub IsFollowed : Line → Option EditFault → DeskView → DeskView → Type 0
 IsFollowed line.NotAnEdit None old new = ⊥
-IsFollowed (line.Edit edit) None old new = IsEdited edit old new
+IsFollowed (line.Edit edit) None old new = IsEditDone edit old new
 IsFollowed line (Some refused) old new = new ≡ old
 
 -- a desk is where the machine is at a moment, and its plan is one for a valid timetable

@@ -1,5 +1,5 @@
 -- The plans of a script, one for each moment, and the steps that they take.
-use Rattle.std.specs.Prelude.{◌≡◌, ℕ, zero, suc, ◌+◌, ◌<◌, ◌≤◌, List, [], length, Option, None, IsSome, pos, unsigned_abs}
+use Rattle.std.specs.Prelude.{◌≡◌, ℕ, suc, ◌+◌, ◌<◌, ◌≤◌, List, [], length, Option, None, IsSome, pos, unsigned_abs}
 use Rattle.trip_model.specs.Blocking.{IsFewest}
 use Rattle.trip_model.specs.Deficit.{deficit, live_moves}
 use Rattle.trip_model.specs.Maximum.{sum_of_maxima}
@@ -20,7 +20,7 @@ use Rattle.desk_core.specs.Desk as desk
 use Rattle.desk_feed.specs.Feed.{FeedView}
 use Rattle.deadhead_matrix.specs.Plans.{IsScheduled}
 use Rattle.desk_feed.specs.Schedule.{most_steps}
-use Rattle.desk_feed.specs.Script.{line_at, refusal_in, standing_at, state_at, step_at}
+use Rattle.desk_feed.specs.Script.{gathered, line_at, refusal_in, standing_at, state_at, step_at}
 
 -- the sum of the maxima of the deficits
 abbrev pub fixed_number : TimetableView → ℕ
@@ -32,13 +32,6 @@ pub record IsFixed (timetable : TimetableView) (fixed : ℕ) : Type 0 where
   pub blocks : List (List ℕ)
   pub fewest : IsFewest (plain_network (trip_moves timetable.slots)) blocks
   pub count : length blocks ≡ fixed
-
--- A plan of a timetable that stands. Its prices prove it, and its blocks are least over all blockings. The fewest vehicles
--- without deadheads are the sum of the maxima. The timetable is valid.
-pub record IsPlannedAt (timetable : TimetableView) (matrix : MatrixView) (plan : Plan) : Type 0 where
-  pub valid : IsTimetable timetable
-  pub scheduled : IsScheduled timetable matrix plan (blocks_in timetable plan)
-  pub without : IsFixed timetable (fixed_number timetable)
 
 -- Along which paths a record changes the links of a plan for a timetable: those of the repair of its trip. What an undo and a
 -- redo give follows from what stands. A refused record changes no plan.
@@ -54,21 +47,25 @@ plans_by line refused before after matrix plans = plans
 module _ (base : TimetableView) (lines : List Line) (matrix : MatrixView) (likings : LikingsView) where
   -- the plans after so many of the first records, computed record by record
   unfoldable pub plans_at : ℕ → PlansView
-  plans_at zero = record { plan = first_plan base matrix likings; earlier = []; later = [] }
-  plans_at (suc n) = plans_by (line_at lines n) (refusal_in (step_at base lines n)) (standing_at base lines n)
-      (standing_at base lines (suc n)) matrix (plans_at n)
+  plans_at = gathered (record { plan = first_plan base matrix likings; earlier = []; later = [] }) λ n plans.
+      plans_by (line_at lines n) (refusal_in (step_at base lines n)) (standing_at base lines n) (standing_at base lines (suc n))
+      matrix plans
 
   -- rule: which plan stands after a record
   -- the plan then
   abbrev pub plan_at : ℕ → Plan
   plan_at m = (plans_at m).plan
 
--- What holds of the plan at each moment of a script. A moment is after so many of its records. It is a plan of the timetable that
--- stands then. Of the base timetable no least blocking is liked more. Where the same edits stand the plans are equal, prices
+-- What holds of the plan at each moment of a script. A moment is after so many of its records. The timetable that stands then is
+-- valid. The prices of its plan prove it, and its blocks are least over all blockings. The fewest vehicles without deadheads are
+-- the sum of the maxima. Of the base timetable no least blocking is liked more. Where the same edits stand the plans are equal, prices
 -- included. A refused record leaves the plan as it is. The edit of a trip changes links along the paths of its repair alone. The
 -- edits that stand are each accepted over those before.
 pub record ArePlanned (base : TimetableView) (lines : List Line) (matrix : MatrixView) (likings : LikingsView) : Type 0 where
-  pub planned : (m : ℕ) → m ≤ length lines → IsPlannedAt (standing_at base lines m) matrix (plan_at base lines matrix likings m)
+  pub valid : (m : ℕ) → m ≤ length lines → IsTimetable (standing_at base lines m)
+  pub scheduled : (m : ℕ) → m ≤ length lines → let plan = plan_at base lines matrix likings m in
+      IsScheduled (standing_at base lines m) matrix plan (blocks_in (standing_at base lines m) plan)
+  pub without : (m : ℕ) → m ≤ length lines → IsFixed (standing_at base lines m) (fixed_number (standing_at base lines m))
   pub chosen : IsChosen (network_of base matrix) (likes base matrix likings) (blocks_in base (plan_at base lines matrix likings 0))
   pub restored : (m k : ℕ) → m ≤ length lines → k ≤ length lines → (state_at base lines m).standing ≡ (state_at base lines k).standing
       → plan_at base lines matrix likings m ≡ plan_at base lines matrix likings k
@@ -80,15 +77,14 @@ pub record ArePlanned (base : TimetableView) (lines : List Line) (matrix : Matri
       (plan_at base lines matrix likings (suc n)).next
 
 -- the most steps of a record, with so many slots after it: none where it is refused
-abbrev pub most_of : Line → ℕ → Option EditFault → ℕ
-most_of (line.Edit edit) slots None = desk.most_steps edit slots
-most_of line slots refused = 0
+abbrev pub most_for : Line → ℕ → Option EditFault → ℕ
+most_for (line.Edit edit) slots None = desk.most_steps edit slots
+most_for line slots refused = 0
 
 -- and of so many of the first records
 unfoldable pub most_to : TimetableView → List Line → ℕ → ℕ
-most_to base lines zero = 0
-most_to base lines (suc n) = most_to base lines n + most_of (line_at lines n) (length (standing_at base lines (suc n)).slots)
-    (refusal_in (step_at base lines n))
+most_to base lines = gathered 0 λ n most.
+    most + most_for (line_at lines n) (length (standing_at base lines (suc n)).slots) (refusal_in (step_at base lines n))
 
 -- the most steps of all plans: those of the first one, and then those of each record
 abbrev pub most_steps_of : FeedView → ℕ

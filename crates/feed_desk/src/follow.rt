@@ -4,7 +4,7 @@ ghost use Rattle.desk_feed.specs.Script.{IsScript, IsStepped};
 ghost use Rattle.edit_script.specs.Edits.{IsLineInForm};
 ghost use Rattle.feed_desk.specs.Drawn.{HasFollowed};
 ghost use Rattle.feed_desk.specs.Moments.{IsFollowed};
-ghost use Rattle.feed_desk.specs.Plans.{most_of, most_to};
+ghost use Rattle.feed_desk.specs.Plans.{most_for, most_to};
 
 use crate::answers::{Answers, ScriptRecord};
 use deadhead_matrix::Matrix;
@@ -55,7 +55,8 @@ fn step_desk<D: InStep, L: Ledger>(
     ensures matrix { desk.new.matrix ≡ desk.old.matrix }
     ensures named { result ≢ Ok (Some EditFault.Memory) }
     ensures last { desk.new.script.last ≤ number }
-    ensures counted { IfOk result (λ refused. steps.new ≤ steps.old + most_of line.now (length desk.new.script.timetable.slots) refused) }
+    ensures counted { IfOk result (λ refused. steps.new ≤ steps.old + most_for line.now (length desk.new.script.timetable.slots)
+        refused) }
     ensures uncounted { OnErr result (steps.new ≡ steps.old) }
 {
     machine_law();

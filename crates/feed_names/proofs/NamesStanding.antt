@@ -42,7 +42,7 @@ use Rattle.edit_script.specs.Script.{last_alone}
 use Rattle.block_build.specs.Names.{IsName}
 use Rattle.claim_files.proofs.EachRecord.{provided-parts, same_Ok}
 use Rattle.desk_feed.specs.Feed.{lines_by}
-use Rattle.desk_feed.specs.Script.{first_records, line_at, record_at, standing_at, state_at}
+use Rattle.desk_feed.specs.Script.{first_records, gathered, line_at, record_at, standing_at, state_at}
 
 -- the name of an extra trip is text
 abbrev pub IsNamed : Edit → Type 0
@@ -165,7 +165,7 @@ at-named (line ∷ lines) zero named = All-head IsLineNamed line lines named
 at-named (line ∷ lines) (suc n) named = at-named lines n (All-tail IsLineNamed line lines named)
 
 first-named : (lines : List Line) (n : ℕ) → All IsLineNamed lines → All IsRecordNamed (first_records lines n)
-unfolding first_records
+unfolding first_records gathered
 first-named lines zero named = All-nil IsRecordNamed
 first-named lines (suc n) named =
     All-push IsRecordNamed (first_records lines n) (record_at lines n) (first-named lines n named) (at-named lines n named)

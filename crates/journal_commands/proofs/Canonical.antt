@@ -15,7 +15,7 @@ use Rattle.edit_script.specs.Lines.{fields_of}
 use Rattle.edit_script.specs.Script.{all_but_last}
 use Rattle.edit_script.specs.Laws.{EditReadsBack}
 use Rattle.journal_commands.specs.Journal.{canonical_line, journal_text, with_feed}
-use Rattle.journal_commands.specs.Keep.{IsWritten}
+use Rattle.journal_commands.specs.Keep.{IsWritable}
 
 -- a record without its line end
 abbrev front_of : List (List ℕ) → List ℕ
@@ -82,12 +82,12 @@ records-canonical edits = ap records (text-canonical edits)
     ∙ records-back (map fields_of edits) (record { filled = filled-all edits; unmarked = unmarked-all edits })
 
 module _ (reads : EditReadsBack) where
-  lines-back : (edits : List Edit) → All IsWritten edits → map line_of (map fields_of edits) ≡ map line.Edit edits
+  lines-back : (edits : List Edit) → All IsWritable edits → map line_of (map fields_of edits) ≡ map line.Edit edits
   lines-back [] written = refl
   lines-back (edit ∷ edits) written =
-      let here = All-head IsWritten edit edits written in
-      λ i. ap line_by (reads edit here.0 here.1).1 i ∷ lines-back edits (All-tail IsWritten edit edits written) i
+      let here = All-head IsWritable edit edits written in
+      λ i. ap line_by (reads edit here.0 here.1).1 i ∷ lines-back edits (All-tail IsWritable edit edits written) i
 
-  pub script-canonical : (edits : List Edit) → All IsWritten edits
+  pub script-canonical : (edits : List Edit) → All IsWritable edits
       → map line_of (records (journal_text (map canonical_line edits))) ≡ map line.Edit edits
   script-canonical edits written = ap (map line_of) (records-canonical edits) ∙ lines-back edits written

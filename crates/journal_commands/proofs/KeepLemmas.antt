@@ -15,7 +15,7 @@ use Rattle.desk_feed.specs.Script.{ending_by}
 use Rattle.journal_commands.specs.declared.replay.Replay.{Replay}
 use Rattle.journal_commands.specs.declared.replay.Source.TheVariants as source
 use Rattle.journal_commands.specs.Journal.{script_with}
-use Rattle.journal_commands.specs.Keep.{appending, keep_does, keeping, keeping_lines, kept_lines, answers, records_line, some_refused}
+use Rattle.journal_commands.specs.Keep.{appending, keep_does, keeping, keeping_lines, kept_lines, answers, records_line, either_refused}
 use Rattle.journal_commands.specs.Replay.{all_records, answers_to, kept_to, some_to}
 use Rattle.journal_commands.specs.Replayed.{IsThrough}
 use Rattle.journal_commands.proofs.ReplayLemmas.{kept-journal}
@@ -41,7 +41,7 @@ module _ (base : TimetableView) (stored : Journal) (journal lines : List Line) (
       ∙ ap (λ ks. ks ++ kept_to base (all_records 0 journal) source.Edits (length journal) lines (length lines))
       (one.kept ∙ (λ i. kept i ++ kept-journal base [] 0 journal (length journal) i))
 
-  some-both : last.some ≡ some_refused base journal lines
+  some-both : last.some ≡ either_refused base journal lines
   some-both =
       two.some
       ∙ ap (λ b. b || some_to base (all_records 0 journal) source.Edits (length journal) lines (length lines))

@@ -7,7 +7,7 @@ use Rattle.edit_script.specs.declared.edit.Line.{Line}
 use Rattle.edit_script.specs.declared.fault.EditFault.{EditFault}
 use Rattle.edit_script.specs.Machine.{IsAt, Numbered, machine, state_after}
 use Rattle.trip_model.specs.Timetable.{TimetableView}
-use Rattle.desk_feed.specs.Script.{IsStepped, line_at, numbered, refusal_in}
+use Rattle.desk_feed.specs.Script.{IsStepped, gathered, line_at, numbered, refusal_in}
 use Rattle.journal_commands.specs.declared.replay.Replay.{Replay}
 use Rattle.journal_commands.specs.declared.replay.Source.{Source}
 use Rattle.journal_commands.specs.declared.replay.Source.TheVariants as source
@@ -15,12 +15,12 @@ use Rattle.journal_commands.specs.Replay.{answer_line, answers_to, kept_line, ke
 use Rattle.journal_commands.specs.Replayed.{IsThrough}
 
 pub records-none : (before : ℕ) (lines : List Line) → records_from before lines 0 ≡ []
-unfolding records_from
+unfolding records_from gathered
 records-none before lines = refl
 
 pub records-next : (before : ℕ) (lines : List Line) (n : ℕ)
     → records_from before lines (suc n) ≡ records_from before lines n ++ numbered (before + (n + 1)) (line_at lines n) ∷ []
-unfolding records_from
+unfolding records_from gathered
 records-next before lines n = refl
 
 or-assoc : (a b c : Bool) → ((a || b) || c) ≡ (a || (b || c))
@@ -33,31 +33,31 @@ or-false false = refl
 
 module _ (base : TimetableView) (first : List Numbered) (source : Source) (before : ℕ) (lines : List Line) where
   answers-none : answers_to base first source before lines 0 ≡ []
-  unfolding answers_to
+  unfolding answers_to gathered
   answers-none = refl
 
   answers-next : (n : ℕ) → answers_to base first source before lines (suc n)
       ≡ answers_to base first source before lines n
       ++ answer_line source (n + 1) (line_at lines n) (refusal_at base first source before lines n)
-  unfolding answers_to
+  unfolding answers_to gathered
   answers-next n = refl
 
   pub kept-none : kept_to base first source before lines 0 ≡ []
-  unfolding kept_to
+  unfolding kept_to gathered
   kept-none = refl
 
   pub kept-next : (n : ℕ) → kept_to base first source before lines (suc n) ≡ kept_to base first source before lines n
       ++ kept_line source (line_at lines n) (refusal_at base first source before lines n)
-  unfolding kept_to
+  unfolding kept_to gathered
   kept-next n = refl
 
   some-none : some_to base first source before lines 0 ≡ false
-  unfolding some_to
+  unfolding some_to gathered
   some-none = refl
 
   some-next : (n : ℕ) → some_to base first source before lines
       (suc n) ≡ (some_to base first source before lines n || is_some (refusal_at base first source before lines n))
-  unfolding some_to
+  unfolding some_to gathered
   some-next n = refl
 
   pub through-none : (was : Replay) → IsAt base (machine base first) was.script → IsThrough base first source before lines 0 was was

@@ -24,7 +24,7 @@ use Rattle.edit_script.specs.Machine.{Numbered, State, begun, machine, or_stays,
 use Rattle.desk_feed.specs.Script.{line_at, numbered, refusal_in}
 use Rattle.journal_commands.specs.declared.replay.Source.TheVariants as source
 use Rattle.journal_commands.specs.Journal.{canonical_line, journal_text}
-use Rattle.journal_commands.specs.Keep.{IsWritten, IsWrittenLine, Replays, kept_lines}
+use Rattle.journal_commands.specs.Keep.{IsWritable, IsWritableLine, Replays, kept_lines}
 use Rattle.journal_commands.specs.Replay.{all_records, kept_line, kept_to, records_from, refusal_at}
 use Rattle.journal_commands.proofs.Canonical.{script-canonical}
 use Rattle.journal_commands.proofs.Dropped.{AreSame, due, lines_of, same-refl, same-timetable, show-same, step-same}
@@ -68,13 +68,13 @@ kept-edit (line.Edit (Restore trip)) (Some refused) = refl
 kept-edit (line.Edit (Extra trip from to departs arrives)) None = refl
 kept-edit (line.Edit (Extra trip from to departs arrives)) (Some refused) = refl
 
-written-if : (edit : Edit) (refusal : Option EditFault) → IsWritten edit → All IsWritten (edit_if edit refusal)
-written-if edit None is = All-cons IsWritten edit [] is (All-nil IsWritten)
-written-if edit (Some refused) is = All-nil IsWritten
+written-if : (edit : Edit) (refusal : Option EditFault) → IsWritable edit → All IsWritable (edit_if edit refusal)
+written-if edit None is = All-cons IsWritable edit [] is (All-nil IsWritable)
+written-if edit (Some refused) is = All-nil IsWritable
 
-written-kept : (l : Line) (refusal : Option EditFault) → IsWrittenLine l → All IsWritten (edit_kept l refusal)
-written-kept line.NotAnEdit refusal is = All-nil IsWritten
-written-kept (line.Edit Show) refusal is = All-nil IsWritten
+written-kept : (l : Line) (refusal : Option EditFault) → IsWritableLine l → All IsWritable (edit_kept l refusal)
+written-kept line.NotAnEdit refusal is = All-nil IsWritable
+written-kept (line.Edit Show) refusal is = All-nil IsWritable
 written-kept (line.Edit Undo) refusal is = written-if Undo refusal is
 written-kept (line.Edit Redo) refusal is = written-if Redo refusal is
 written-kept (line.Edit (Shift trip by)) refusal is = written-if (Shift trip by) refusal is
@@ -82,10 +82,10 @@ written-kept (line.Edit (Cancel trip)) refusal is = written-if (Cancel trip) ref
 written-kept (line.Edit (Restore trip)) refusal is = written-if (Restore trip) refusal is
 written-kept (line.Edit (Extra trip from to departs arrives)) refusal is = written-if (Extra trip from to departs arrives) refusal is
 
-written-at : (lines : List Line) (n : ℕ) → All IsWrittenLine lines → IsWrittenLine (line_at lines n)
+written-at : (lines : List Line) (n : ℕ) → All IsWritableLine lines → IsWritableLine (line_at lines n)
 written-at [] n all = tt
-written-at (l ∷ lines) zero all = All-head IsWrittenLine l lines all
-written-at (l ∷ lines) (suc n) all = written-at lines n (All-tail IsWrittenLine l lines all)
+written-at (l ∷ lines) zero all = All-head IsWritableLine l lines all
+written-at (l ∷ lines) (suc n) all = written-at lines n (All-tail IsWritableLine l lines all)
 
 -- lines without numbers, through the edit machine
 module _ (base : TimetableView) where
@@ -143,10 +143,10 @@ module _ (base : TimetableView) where
         ∙ (λ i. kept-edits n i ++ kept-edit (line_at lines n) (refusal_at base first source.Edits before lines n) i)
         ∙ sym (map-append canonical_line (edits_to n) (edit_kept (line_at lines n) (refusal_at base first source.Edits before lines n)))
 
-    written-edits : (n : ℕ) → All IsWrittenLine lines → All IsWritten (edits_to n)
-    written-edits zero all = All-nil IsWritten
+    written-edits : (n : ℕ) → All IsWritableLine lines → All IsWritable (edits_to n)
+    written-edits zero all = All-nil IsWritable
     written-edits (suc n) all =
-        All-append IsWritten (edits_to n) (edit_kept (line_at lines n) (refusal_at base first source.Edits before lines n))
+        All-append IsWritable (edits_to n) (edit_kept (line_at lines n) (refusal_at base first source.Edits before lines n))
         (written-edits n all)
         (written-kept (line_at lines n) (refusal_at base first source.Edits before lines n) (written-at lines n all))
 
@@ -229,7 +229,7 @@ replays reads base lines stored script written all is =
     let both : script ≡ journal ++ map line.Edit kept =
     sym lines_read ∙ ap (λ ks. map line_of (records (journal_text ks))) new
     ∙ script-canonical reads (stored ++ kept)
-    (All-append IsWritten stored kept written (written-edits base first before lines (length lines) all))
+    (All-append IsWritable stored kept written (written-edits base first before lines (length lines) all))
     ∙ map-append line.Edit stored kept in
     let alone = subst (λ ls. AreSame (machine base (all_records 0 script)) (fold (with_line base) begun ls)) (lines-all 0 script ∙ both)
     (records-lines base (all_records 0 script) begun begun (same-refl begun)) in

@@ -41,8 +41,8 @@ module _ (base : TimetableView) (journal lines : List Line) where
   kept_lines = kept_to base journal_records source.Edits (length journal) lines (length lines)
 
   -- whether a record of either is refused
-  abbrev pub some_refused : Bool
-  some_refused = some_to base [] source.Journal 0 journal (length journal) || some_to base journal_records source.Edits (length journal)
+  abbrev pub either_refused : Bool
+  either_refused = some_to base [] source.Journal 0 journal (length journal) || some_to base journal_records source.Edits (length journal)
       lines (length lines)
 
 -- what is done: the lines are appended. The answers are put, and then how many records the journal has. Or it would have more
@@ -54,7 +54,7 @@ appending text kept end (Err refused) = refusing refused
 
 abbrev pub keeping_lines : TimetableView → Journal → List Line → List Line → OutcomeView
 keeping_lines base stored journal lines =
-    appending (answers base journal lines) (kept_lines base journal lines) (ending_by (some_refused base journal lines))
+    appending (answers base journal lines) (kept_lines base journal lines) (ending_by (either_refused base journal lines))
     (script_with stored (kept_lines base journal lines))
 
 -- a journal that is none is refused
@@ -67,27 +67,27 @@ abbrev pub keeping : ReadView → FeedView → OutcomeView
 keeping read said = keeping_by said.base (lines_loaded read.journal) said.lines (script_loaded read.journal)
 
 -- an edit that can be written and read: it is in form, and its names are texts
-abbrev pub IsWritten : Edit → Type 0
-IsWritten edit = InForm edit × HasTexts edit
+abbrev pub IsWritable : Edit → Type 0
+IsWritable edit = InForm edit × HasTexts edit
 
-abbrev pub IsWrittenLine : Line → Type 0
-IsWrittenLine (line.Edit edit) = IsWritten edit
-IsWrittenLine line.NotAnEdit = ⊤
+abbrev pub IsWritableLine : Line → Type 0
+IsWritableLine (line.Edit edit) = IsWritable edit
+IsWritableLine line.NotAnEdit = ⊤
 
 -- the timetable that stands after the records of a script alone, and after those of a journal and then of a script
-abbrev pub standing_after : TimetableView → List Line → TimetableView
-standing_after base lines = timetable_at base (machine base (all_records 0 lines))
+abbrev pub standing_alone : TimetableView → List Line → TimetableView
+standing_alone base lines = timetable_at base (machine base (all_records 0 lines))
 
-abbrev pub standing_after_both : TimetableView → List Line → List Line → TimetableView
-standing_after_both base journal lines = timetable_at base (machine base (all_records 0 journal ++ all_records (length journal) lines))
+abbrev pub standing_along_both : TimetableView → List Line → List Line → TimetableView
+standing_along_both base journal lines = timetable_at base (machine base (all_records 0 journal ++ all_records (length journal) lines))
 
 -- Where each line of a journal is a canonical line, the journal that `keep` leaves, replayed alone, gives the timetable that
 -- stood at its end.
 abbrev pub Replays : TimetableView → List Line → Type 0
 Replays base lines =
-    (stored : List Edit) (script : List Line) → All IsWritten stored → All IsWrittenLine lines
+    (stored : List Edit) (script : List Line) → All IsWritable stored → All IsWritableLine lines
     → script_with (map canonical_line stored) (kept_lines base (map line.Edit stored) lines) ≡ Ok script
-    → standing_after base script ≡ standing_after_both base (map line.Edit stored) lines
+    → standing_alone base script ≡ standing_along_both base (map line.Edit stored) lines
 
 -- what `keep` gives of what was read; and the journal that it leaves replays
 pub record Keeps (read : ReadView) (said : FeedView) (outcome : OutcomeView) : Type 0 where

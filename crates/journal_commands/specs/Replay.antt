@@ -1,5 +1,5 @@
 -- The records of the journal and of the script, one after the other, through the edit machine.
-use Rattle.std.specs.Prelude.{ℕ, zero, suc, ◌+◌, Bool, false, List, [], ◌∷◌, ◌++◌, length, Option, None, Some, codes, is_some, ◌||◌}
+use Rattle.std.specs.Prelude.{ℕ, ◌+◌, Bool, false, List, [], ◌∷◌, ◌++◌, length, Option, None, Some, codes, is_some, ◌||◌}
 use Rattle.std.specs.Fmt.{decimal}
 use Rattle.edit_script.specs.declared.edit.Edit.TheVariants.{Show}
 use Rattle.edit_script.specs.declared.edit.Line.{Line}
@@ -8,7 +8,7 @@ use Rattle.edit_script.specs.declared.fault.EditFault.{EditFault}
 use Rattle.edit_script.specs.Machine.{Numbered, machine, state_after}
 use Rattle.trip_model.specs.Timetable.{TimetableView}
 use Rattle.desk_keeper.specs.Keeper.{Journal}
-use Rattle.desk_feed.specs.Script.{line_at, numbered, reason_text, refusal_in, refusal_line}
+use Rattle.desk_feed.specs.Script.{gathered, line_at, numbered, reason_text, refusal_in, refusal_line}
 use Rattle.journal_commands.specs.Journal.{canonical_line}
 use Rattle.journal_commands.specs.declared.replay.Source.{Source}
 use Rattle.journal_commands.specs.declared.replay.Source.TheVariants as source
@@ -30,8 +30,7 @@ kept_line source.Edits line.NotAnEdit refusal = []
 
 -- so many of the first of some lines, as records that are numbered on from a number
 unfoldable pub records_from : ℕ → List Line → ℕ → List Numbered
-records_from before lines zero = []
-records_from before lines (suc n) = records_from before lines n ++ numbered (before + (n + 1)) (line_at lines n) ∷ []
+records_from before lines = gathered [] λ n records. records ++ numbered (before + (n + 1)) (line_at lines n) ∷ []
 
 -- all of them
 abbrev pub all_records : ℕ → List Line → List Numbered
@@ -46,13 +45,10 @@ module _ (base : TimetableView) (first : List Numbered) (source : Source) (befor
 
   -- what is put of so many of them, what is kept, and whether one is refused
   unfoldable pub answers_to : ℕ → List ℕ
-  answers_to zero = []
-  answers_to (suc n) = answers_to n ++ answer_line source (n + 1) (line_at lines n) (refusal_at n)
+  answers_to = gathered [] λ n text. text ++ answer_line source (n + 1) (line_at lines n) (refusal_at n)
 
   unfoldable pub kept_to : ℕ → Journal
-  kept_to zero = []
-  kept_to (suc n) = kept_to n ++ kept_line source (line_at lines n) (refusal_at n)
+  kept_to = gathered [] λ n kept. kept ++ kept_line source (line_at lines n) (refusal_at n)
 
   unfoldable pub some_to : ℕ → Bool
-  some_to zero = false
-  some_to (suc n) = some_to n || is_some (refusal_at n)
+  some_to = gathered false λ n some. some || is_some (refusal_at n)

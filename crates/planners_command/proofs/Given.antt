@@ -19,13 +19,13 @@ use Rattle.planner_desk.specs.Standing.{timetable_of}
 use Rattle.planners_command.specs.Answers.{answers_to, standing_text}
 use Rattle.planners_command.specs.Moments.{ArePlanners, stand_after, timetable_after}
 use Rattle.planners_command.specs.Numbers.{IsNumbered}
-use Rattle.planners_command.specs.Planners.{EndsBy, GivesBy, IsPlanned, IsPlanners, ending_after, planners_does, planners_text}
+use Rattle.planners_command.specs.Planners.{PlannersEndBy, GivesBy, PutsPlanners, IsPlanners, ending_behind, planners_does, planners_text}
 use Rattle.planners_command.specs.Reading.{lines_in}
 use Rattle.planners_command.specs.Stepped.{HasNumbers}
 
 -- how a run ends that does this, and that it appends no lines
 ends-by : (said : FeedView) (lines : Result (List PlannerLine) FeedFault) (outcome : OutcomeView) → GivesBy said lines outcome
-    → EndsBy said lines outcome.ending
+    → PlannersEndBy said lines outcome.ending
 ends-by said (Ok lines) outcome gives = ap (λ (o : OutcomeView). o.ending) gives.planned.done
 ends-by said (Err refused) outcome gives = ap (λ (o : OutcomeView). o.ending) gives
 
@@ -58,16 +58,16 @@ refused-given read said refused is (Ok outcome) put = given-of read said outcome
 -- what is put over a timetable after the script is put of the feed
 pub planners-of : {E : Type 0} (said : FeedView) (lines : List PlannerLine) (matrix : MatrixView) (edited : Edited)
     → IsMatrixFor said matrix → IsEdited said.base said.lines edited → ArePlanners (standing said) lines
-    → (result : Result OutcomeView E) → IfOk result (IsPlanned edited.refused edited.ending edited.script.timetable matrix lines)
+    → (result : Result OutcomeView E) → IfOk result (PutsPlanners edited.refused edited.ending edited.script.timetable matrix lines)
     → IfOk result (IsPlanners said lines)
 planners-of said lines matrix edited matrix_is is are (Err e) planned = tt
 planners-of said lines matrix edited matrix_is is are (Ok outcome) planned = record {
   are = are;
   matrix = matrix;
   matrix_is = matrix_is;
-  planned = subst (λ end. IsPlanned (refused_of said) end (standing said) matrix lines outcome) is.ending
-      (subst (λ refused. IsPlanned refused edited.ending (standing said) matrix lines outcome) is.refused
-      (subst (λ (t : TimetableView). IsPlanned edited.refused edited.ending t matrix lines outcome) is.timetable planned));
+  planned = subst (λ end. PutsPlanners (refused_of said) end (standing said) matrix lines outcome) is.ending
+      (subst (λ refused. PutsPlanners refused edited.ending (standing said) matrix lines outcome) is.refused
+      (subst (λ (t : TimetableView). PutsPlanners edited.refused edited.ending t matrix lines outcome) is.timetable planned));
 }
 
 -- the numbers behind what becomes of the records and the records that stand
@@ -75,8 +75,8 @@ pub planned-put : {E : Type 0} (refused : List ℕ) (end : Ending) (base : Timet
     (timetable : TimetableView) (standing : List Standing) (text above whole : List ℕ) (ending : Ending)
     → standing ≡ stand_after base lines → timetable ≡ timetable_of base standing → text ≡ answers_to base lines (length lines)
     → above ≡ text ++ standing_text standing → HasNumbers timetable matrix above whole
-    → ending ≡ ending_after base lines end → (result : Result OutcomeView E)
-    → IfOk result (λ outcome. outcome ≡ refusing_first refused whole ending) → IfOk result (IsPlanned refused end base matrix lines)
+    → ending ≡ ending_behind base lines end → (result : Result OutcomeView E)
+    → IfOk result (λ outcome. outcome ≡ refusing_first refused whole ending) → IfOk result (PutsPlanners refused end base matrix lines)
 planned-put refused end base matrix lines timetable standing text above whole ending stand is text_is above_is has ending_is (Err e) done =
     tt
 planned-put refused end base matrix lines timetable standing text above whole ending stand is text_is above_is has ending_is (Ok outcome)

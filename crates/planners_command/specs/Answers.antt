@@ -1,5 +1,5 @@
 -- What is put of the records of planners: what becomes of each, and those that stand.
-use Rattle.std.specs.Prelude.{ℕ, zero, suc, ◌+◌, List, [], ◌∷◌, ◌++◌, Option, None, Some, codes}
+use Rattle.std.specs.Prelude.{ℕ, ◌+◌, List, [], ◌∷◌, ◌++◌, Option, None, Some, codes}
 use Rattle.std.specs.Fmt.{decimal}
 use Rattle.std.specs.List.{flat_map}
 use Rattle.gtfs_tables.specs.Writing.{record_text}
@@ -7,6 +7,7 @@ use Rattle.edit_script.specs.Edits.{trip_of}
 use Rattle.edit_script.specs.Lines.{fault_text_of, fields_of}
 use Rattle.edit_script.specs.declared.fault.EditFault.TheVariants as edit_fault
 use Rattle.trip_model.specs.Timetable.{TimetableView}
+use Rattle.desk_feed.specs.Script.{gathered}
 use Rattle.planner_desk.specs.Laws.{trip_at}
 use Rattle.planner_desk.specs.Standing.{last_place}
 use Rattle.planner_desk.specs.declared.edit.PlannerEdit.{PlannerEdit}
@@ -51,9 +52,8 @@ answer_line number standing line refused = codes "planner " ++ (decimal number +
 
 -- what is put of so many of the first records
 unfoldable pub answers_to : TimetableView → List PlannerLine → ℕ → List ℕ
-answers_to base lines zero = []
-answers_to base lines (suc n) = answers_to base lines n
-    ++ answer_line (n + 1) (stand_at base lines n) (line_at lines n) (refusal_in (step_at base lines n))
+answers_to base lines = gathered [] λ n text.
+    text ++ answer_line (n + 1) (stand_at base lines n) (line_at lines n) (refusal_in (step_at base lines n))
 
 -- a record that stands, as it is printed: its planner, and the record of its edit as it is written
 unfoldable pub asked_line : PlannerEdit → List ℕ

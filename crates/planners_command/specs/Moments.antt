@@ -1,8 +1,9 @@
 -- The records of planners over a base timetable: which stand at each moment, and what the rules say of each step.
-use Rattle.std.specs.Prelude.{◌≡◌, ℕ, zero, suc, ◌+◌, Bool, false, List, [], ◌∷◌, ◌++◌, length, is_some, IsOk, Option, None, Some, Result}
+use Rattle.std.specs.Prelude.{◌≡◌, ℕ, suc, ◌+◌, Bool, false, List, [], ◌∷◌, ◌++◌, length, is_some, IsOk, Option, None, Some, Result}
 use Rattle.std.specs.Prelude.{Ok, Err, slice_index_or, ◌||◌}
 use Rattle.edit_script.specs.declared.edit.Edit.TheVariants.{Undo}
 use Rattle.trip_model.specs.Timetable.{TimetableView}
+use Rattle.desk_feed.specs.Script.{gathered}
 use Rattle.planner_desk.specs.Laws.{HasNone, IsHeld, TakesBack}
 use Rattle.planner_desk.specs.Machine.{Numbered, line_after, planners_machine}
 use Rattle.planner_desk.specs.Standing.{Folds, timetable_of}
@@ -21,8 +22,7 @@ record_at lines n = record { number = n + 1; line = line_at lines n }
 
 -- so many of the first records
 unfoldable pub first_records : List PlannerLine → ℕ → List Numbered
-first_records lines zero = []
-first_records lines (suc n) = first_records lines n ++ record_at lines n ∷ []
+first_records lines = gathered [] λ n records. records ++ record_at lines n ∷ []
 
 -- A moment is a number of records: those that stand after so many of the first.
 abbrev pub stand_at : TimetableView → List PlannerLine → ℕ → List Standing
@@ -38,9 +38,8 @@ refusal_in (Ok standing) = None
 refusal_in (Err refused) = Some refused
 
 -- whether one of so many of the first records is refused
-unfoldable pub some_refused : TimetableView → List PlannerLine → ℕ → Bool
-some_refused base lines zero = false
-some_refused base lines (suc n) = some_refused base lines n || is_some (refusal_in (step_at base lines n))
+unfoldable pub one_refused : TimetableView → List PlannerLine → ℕ → Bool
+one_refused base lines = gathered false λ n some. some || is_some (refusal_in (step_at base lines n))
 
 -- those that stand after all records, and the timetable of their edits, in order, over the base
 abbrev pub stand_after : TimetableView → List PlannerLine → List Standing

@@ -15,7 +15,7 @@ use Rattle.desk_feed.specs.Judging.{FeedAsked, ending_of, of_feed, refused_of, r
 use Rattle.desk_feed.specs.Schedule.{IsMatrixFor, most_steps}
 use Rattle.planner_desk.specs.declared.edit.PlannerLine.{PlannerLine}
 use Rattle.planners_command.specs.Answers.{answers_to, standing_text}
-use Rattle.planners_command.specs.Moments.{ArePlanners, some_refused, stand_after, timetable_after}
+use Rattle.planners_command.specs.Moments.{ArePlanners, one_refused, stand_after, timetable_after}
 use Rattle.planners_command.specs.Numbers.{IsNumbered}
 use Rattle.planners_command.specs.Reading.{lines_in}
 
@@ -27,22 +27,22 @@ planners_text base lines numbers = answers_to base lines (length lines) ++ (stan
 abbrev pub ending_with : Bool → Ending → Ending
 ending_with some end = if some then ending.EditsRefused else end
 
-abbrev pub ending_after : TimetableView → List PlannerLine → Ending → Ending
-ending_after base lines end = ending_with (some_refused base lines (length lines)) end
+abbrev pub ending_behind : TimetableView → List PlannerLine → Ending → Ending
+ending_behind base lines end = ending_with (one_refused base lines (length lines)) end
 
 -- It is put behind the lines of the refused records of the script, with the numbers of the planners' timetable.
-pub record IsPlanned (refused : List ℕ) (end : Ending) (base : TimetableView) (matrix : MatrixView) (lines : List PlannerLine)
+pub record PutsPlanners (refused : List ℕ) (end : Ending) (base : TimetableView) (matrix : MatrixView) (lines : List PlannerLine)
     (outcome : OutcomeView) : Type 0 where
   pub numbers : List ℕ
   pub numbered : IsNumbered (timetable_after base lines) matrix numbers
-  pub done : outcome ≡ refusing_first refused (planners_text base lines numbers) (ending_after base lines end)
+  pub done : outcome ≡ refusing_first refused (planners_text base lines numbers) (ending_behind base lines end)
 
 -- and of a feed: the planners begin where its script ends, and what holds of their records holds
 pub record IsPlanners (said : FeedView) (lines : List PlannerLine) (outcome : OutcomeView) : Type 0 where
   pub are : ArePlanners (standing said) lines
   pub matrix : MatrixView
   pub matrix_is : IsMatrixFor said matrix
-  pub planned : IsPlanned (refused_of said) (ending_of said) (standing said) matrix lines outcome
+  pub planned : PutsPlanners (refused_of said) (ending_of said) (standing said) matrix lines outcome
 
 -- of what was read; a script of planners that is none is refused
 abbrev pub GivesBy : FeedView → Result (List PlannerLine) FeedFault → OutcomeView → Type 0
@@ -50,9 +50,9 @@ GivesBy said (Ok lines) outcome = IsPlanners said lines outcome
 GivesBy said (Err refused) outcome = outcome ≡ refusing refused
 
 -- how the run ends then, and the most steps
-abbrev pub EndsBy : FeedView → Result (List PlannerLine) FeedFault → Ending → Type 0
-EndsBy said (Ok lines) end = end ≡ ending_after (standing said) lines (ending_of said)
-EndsBy said (Err refused) end = end ≡ ending.FeedRefused
+abbrev pub PlannersEndBy : FeedView → Result (List PlannerLine) FeedFault → Ending → Type 0
+PlannersEndBy said (Ok lines) end = end ≡ ending_behind (standing said) lines (ending_of said)
+PlannersEndBy said (Err refused) end = end ≡ ending.FeedRefused
 
 abbrev pub most_by : TimetableView → Result (List PlannerLine) FeedFault → ℕ
 most_by base (Ok lines) = most_steps (length (timetable_after base lines).slots)
@@ -70,7 +70,7 @@ abbrev pub planners_does : FeedAsked
 planners_does = record {
   further = own_papers;
   keeps = false;
-  Ends = λ read said. EndsBy said (lines_in read);
+  Ends = λ read said. PlannersEndBy said (lines_in read);
   Gives = λ read said. GivesBy said (lines_in read);
   most = λ read said. most_by (standing said) (lines_in read);
 }

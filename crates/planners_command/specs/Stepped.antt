@@ -10,7 +10,7 @@ use Rattle.planner_desk.specs.declared.fault.PlannerFault.{PlannerFault}
 use Rattle.planner_desk.specs.declared.fault.PlannerFault.TheVariants as fault
 use Rattle.planners_command.specs.declared.answers.PlannerAnswers.{PlannerAnswers}
 use Rattle.planners_command.specs.Answers.{answers_to}
-use Rattle.planners_command.specs.Moments.{refusal_in, some_refused, stand_at}
+use Rattle.planners_command.specs.Moments.{refusal_in, one_refused, stand_at}
 use Rattle.planners_command.specs.Numbers.{IsNumbered}
 
 -- what a record does to planners: those stand that the machine makes of it, or it is refused and changes nothing
@@ -24,7 +24,7 @@ pub record AreAnswers (base : TimetableView) (lines : List PlannerLine) (n : ℕ
   pub base_is : answers.planners.base ≡ base
   pub stand : answers.planners.standing ≡ stand_at base lines n
   pub text : string_bytes answers.text ≡ answers_to base lines n
-  pub some : answers.some ≡ some_refused base lines n
+  pub some : answers.some ≡ one_refused base lines n
 
 -- a refusal is no lack of memory
 abbrev pub IsTold : PlannerFault → Type 0

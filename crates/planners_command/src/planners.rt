@@ -7,7 +7,7 @@ ghost use Rattle.desk_run.specs.Outside.{outside};
 ghost use Rattle.desk_run.specs.Performs.{Performs};
 ghost use Rattle.planners_command.specs.Moments.{timetable_after};
 ghost use Rattle.planners_command.specs.Planners as spec;
-ghost use Rattle.planners_command.specs.Planners.{IsPlanned, IsPlanners, planners_asked};
+ghost use Rattle.planners_command.specs.Planners.{PutsPlanners, IsPlanners, planners_asked};
 ghost use Rattle.planners_command.specs.Reading.{IsPlannerScript};
 
 use crate::answers::{answer_all, push_standing};
@@ -47,7 +47,7 @@ fn planned<L: Ledger>(
 ) -> Result<Outcome<'static>, Memory>
     requires places { length edited.now.script.timetable.places ≡ length matrix.now.walks }
     requires script { IsPlannerScript lines.now }
-    ensures planned { IfOk result (IsPlanned edited.now.refused edited.now.ending edited.now.script.timetable matrix.now lines.now) }
+    ensures planned { IfOk result (PutsPlanners edited.now.refused edited.now.ending edited.now.script.timetable matrix.now lines.now) }
     ensures counted { steps.new ≤ steps.old + most_steps (length (timetable_after edited.now.script.timetable lines.now).slots) }
 {
     let base = edited.script.timetable();

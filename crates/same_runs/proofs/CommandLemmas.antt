@@ -45,12 +45,12 @@ use Rattle.plan_commands.specs.Check.{check_asked, check_does, checked}
 use Rattle.planner_desk.specs.declared.edit.PlannerLine.{PlannerLine}
 use Rattle.planners_command.specs.Moments.{timetable_after}
 use Rattle.planners_command.specs.Numbers.{IsNumbered}
-use Rattle.planners_command.specs.Planners.{GivesBy, ending_after, planners_asked, planners_does, planners_text}
+use Rattle.planners_command.specs.Planners.{GivesBy, ending_behind, planners_asked, planners_does, planners_text}
 use Rattle.planners_command.specs.Reading.{lines_in}
-use Rattle.audit_command.specs.Audit.{AuditsBy, IsFirstBad, IsJudged, audit_asked, audit_does, stated_of, trips_in}
+use Rattle.audit_command.specs.Audit.{AuditsBy, IsFirstBad, JudgesStated, audit_asked, audit_does, stated_of, trips_table}
 use Rattle.audit_command.specs.Lines.{costs_text}
 use Rattle.sample_command.specs.Sample.{HasSummary, numbered_by, sample_asked, sample_read, summary_does, summary_line}
-use Rattle.write_command.specs.Write.{IsWritten, WritesBy, feed_files, stop_times_in, trip_columns, trips_in as write_trips_in}
+use Rattle.write_command.specs.Write.{IsWritten, WritesBy, feed_files, stop_times_in, trip_columns, trips_table as write_trips_table}
 use Rattle.write_command.specs.Write.{write_asked, write_named, written_line}
 use Rattle.same_runs.specs.Same.{IsDetermined}
 use Rattle.same_runs.proofs.ChainLemmas.{one-text}
@@ -120,7 +120,7 @@ one-planners said (Ok lines) one other is is' =
     numbered in
     is.planned.done
     ∙ ap (λ numbers. refusing_first (refused_of said) (planners_text (standing said) lines numbers)
-    (ending_after (standing said) lines (ending_of said))) numbers
+    (ending_behind (standing said) lines (ending_of said))) numbers
     ∙ sym is'.planned.done
 one-planners said (Err refused) one other is is' = is ∙ sym is'
 
@@ -131,7 +131,8 @@ planners-determined = determined-feed planners_does (λ read said one other. one
 -- the cost of stated blocks beside whichever least ones
 one-cost : (refused : List ℕ) (end : Ending) (timetable : TimetableView) (matrix : MatrixView) (stated : List NamedBlock)
     (misfits : List Misfit) (one other : OutcomeView)
-    → IsJudged refused end timetable matrix stated misfits one → IsJudged refused end timetable matrix stated misfits other → one ≡ other
+    → JudgesStated refused end timetable matrix stated misfits one → JudgesStated refused end timetable matrix stated misfits other
+    → one ≡ other
 one-cost refused end timetable matrix stated [] one other is is' =
     let network = network_of timetable matrix in
     let number = one-number network is.least is'.least is.scheduled.least is'.scheduled.least in
@@ -158,14 +159,14 @@ one-audit said (Ok trips) one other (inl is) (inr is') = absurd (is.first.bad (i
 one-audit said (Ok trips) one other (inr is) (inl is') = absurd (is'.first.bad (is.0 is'.record_before is'.first.within is'.first.selected))
 one-audit said (Ok trips) one other (inr is) (inr is') =
     let same = matrix-same said.entries said.pulls (length said.base.places) is.1.matrix is'.1.matrix is.1.matrix_is is'.1.matrix_is in
-    let judged = subst (λ matrix. IsJudged (refused_of said) (ending_of said) (standing said) matrix (stated_of said trips)
+    let judged = subst (λ matrix. JudgesStated (refused_of said) (ending_of said) (standing said) matrix (stated_of said trips)
     (misfits_in (standing said) matrix (stated_of said trips)) other) (sym same) is'.1.judged in
     one-cost (refused_of said) (ending_of said) (standing said) is.1.matrix (stated_of said trips)
     (misfits_in (standing said) is.1.matrix (stated_of said trips)) one other is.1.judged judged
 
 audit-determined : IsDetermined audit_asked
 unfolding audit_asked
-audit-determined = determined-feed audit_does (λ read said one other. one-audit said (trips_in read) one other)
+audit-determined = determined-feed audit_does (λ read said one other. one-audit said (trips_table read) one other)
 
 sample-determined : (trips : ℕ) → IsDetermined (sample_asked trips)
 sample-determined trips = λ read one other given given'.
@@ -188,8 +189,8 @@ blocks-determined : IsDetermined blocks_asked
 unfolding blocks_asked
 blocks-determined =
     determined-named blocks_named (λ read naming said one other is is'.
-    is.planned.done ∙ ap (λ matrix. plans_outcome said.base said.lines matrix (likings_in read said.settings said.base) naming)
-    (one-matrix said is.matrix is'.matrix is.matrix_is is'.matrix_is) ∙ sym is'.planned.done)
+    is.done ∙ ap (λ matrix. plans_outcome said.base said.lines matrix (likings_in read said.settings said.base) naming)
+    (one-matrix said is.matrix is'.matrix is.matrix_is is'.matrix_is) ∙ sym is'.done)
 
 chart-determined : IsDetermined chart_asked
 unfolding chart_asked
@@ -254,7 +255,7 @@ write-determined : IsDetermined write_asked
 unfolding write_asked
 write-determined =
     determined-named write_named (λ read naming said one other.
-    one-write (likings_in read said.settings said.base) naming said (write_trips_in read) (stop_times_in read) one other)
+    one-write (likings_in read said.settings said.base) naming said (write_trips_table read) (stop_times_in read) one other)
 
 -- so each command's outcome is determined
 pub determined : (command : CommandName) → IsDetermined (asked_by command)

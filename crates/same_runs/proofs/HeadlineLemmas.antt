@@ -14,7 +14,7 @@ use Rattle.edit_script.specs.declared.fault.EditFault.{EditFault}
 use Rattle.trip_model.specs.Timetable.{TimetableView}
 use Rattle.desk_feed.specs.Feed.{FeedView, said_by}
 use Rattle.desk_feed.specs.Judging.{Does, refusing, said_in}
-use Rattle.desk_feed.specs.Script.{first_records, record_at, refusal_in, standing_at, state_at, step_at}
+use Rattle.desk_feed.specs.Script.{first_records, gathered, record_at, refusal_in, standing_at, state_at, step_at}
 use Rattle.desk_run.specs.Commands.{IsGiven}
 use Rattle.desk_run.specs.Outcome.{OutcomeView, status_of}
 use Rattle.desk_run.specs.Reading.{ReadView, found_of}
@@ -26,14 +26,14 @@ use Rattle.feed_naming.specs.Naming.{naming_by, naming_in}
 use Rattle.feed_desk.specs.Answers.{answers_by}
 use Rattle.feed_desk.specs.Plans.{plan_at}
 use Rattle.blocks_command.specs.Answers.{answer_text, numbers_text}
-use Rattle.blocks_command.specs.Blocks.{IsPlan, blocks_asked, blocks_does, blocks_named}
+use Rattle.blocks_command.specs.Blocks.{WritesPlans, blocks_asked, blocks_does, blocks_named}
 use Rattle.same_runs.specs.Headline.{Headline, IsPartOf, line_after}
 use Rattle.same_runs.proofs.PutLemmas.{accepted_line, answers-part, part-before}
 
 -- a refused record leaves the state as it is
 state-stays : (base : TimetableView) (lines : List Line) (n : ℕ) → IsSome (refusal_in (step_at base lines n))
     → state_at base lines (suc n) ≡ state_at base lines n
-unfolding first_records
+unfolding first_records gathered
 state-stays base lines n some =
     fold-append (with_record base) begun (first_records lines n) (record_at lines n ∷ []) ∙ by (step_at base lines n) some
   where
@@ -44,11 +44,12 @@ state-stays base lines n some =
 -- what `blocks` gives of an accepted feed
 pub headline : (found : Paper → Found) (said : FeedView) (naming : NamingView) (outcome : OutcomeView) → said_by found ≡ Ok said
     → naming_by said.settings (table_in paper.Trips (found paper.Trips)) ≡ Ok naming
-    → IsPlan (likings_by said.settings said.base (table_in paper.Trips (found paper.Trips))) naming said outcome → Headline found outcome
+    → WritesPlans (likings_by said.settings said.base (table_in paper.Trips (found paper.Trips))) naming said outcome
+    → Headline found outcome
 headline found said naming outcome accepted named p =
     let base = said.base in
     let lines = said.lines in
-    let are = p.planned.are in
+    let are = p.are in
     let likings = likings_by said.settings said.base (table_in paper.Trips (found paper.Trips)) in
     let plan = plan_at base lines p.matrix likings in
     record {
@@ -66,12 +67,12 @@ headline found said naming outcome accepted named p =
           let numbers = numbers_text (standing_at base lines (suc n)) p.matrix (plan (suc n)) in
           let part : IsPartOf line before = subst (λ number. IsPartOf (accepted_line number numbers) before) (next n)
           (answers-part p.matrix naming base lines plan (length lines) n low none) in
-          subst (λ (o : OutcomeView). IsPartOf line o.text) (sym p.planned.done) (part-before line before last part));
-      last = (answers_by (answer_text p.matrix naming) base lines plan (length lines), ap (λ (o : OutcomeView). o.text) p.planned.done);
-      without = λ m low. (let w = (are.planned m low).without in (w.blocks, w.fewest, w.count));
-      least = λ m low. (are.planned m low).scheduled.least;
+          subst (λ (o : OutcomeView). IsPartOf line o.text) (sym p.done) (part-before line before last part));
+      last = (answers_by (answer_text p.matrix naming) base lines plan (length lines), ap (λ (o : OutcomeView). o.text) p.done);
+      without = λ m low. (let w = are.without m low in (w.blocks, w.fewest, w.count));
+      least = λ m low. (are.scheduled m low).least;
       chosen = are.chosen;
-      written = ap (λ (o : OutcomeView). o.writes) p.planned.done;
+      written = ap (λ (o : OutcomeView). o.writes) p.done;
       claimed = p.accepted;
       undone = λ m k low low' same. (ap (fold after_record base) same, are.restored m k low low' same);
       refused = λ n low some. (ap (timetable_at base) (state-stays base lines n some), are.unchanged n low some);

@@ -8,7 +8,7 @@ use Rattle.assignment_model.specs.Prices.{Plan}
 use Rattle.deadhead_matrix.specs.Matrix.{MatrixView}
 use Rattle.edit_script.specs.declared.edit.Line.{Line}
 use Rattle.edit_script.specs.declared.fault.EditFault.{EditFault}
-use Rattle.desk_feed.specs.Script.{line_at, refusal_in, standing_at, step_at}
+use Rattle.desk_feed.specs.Script.{gathered, line_at, refusal_in, standing_at, step_at}
 use Rattle.feed_desk.specs.Answers.{answers_by}
 use Rattle.block_names.specs.Names.{NamingView}
 use Rattle.blocks_command.specs.Answers.{answer_text, numbers_text, shown_text}
@@ -53,7 +53,7 @@ module _ (matrix : MatrixView) (naming : NamingView) where
     pub answers-part : (m n : ℕ) → n < m → refusal_in (step_at base lines n) ≡ None
         → IsPartOf (accepted_line (n + 1) (numbers_text (standing_at base lines (suc n)) matrix (plans (suc n))))
         (answers_by (answer_text matrix naming) base lines plans m)
-    unfolding answers_by
+    unfolding answers_by gathered
     answers-part zero n low none = absurd (omega (arith, low))
     answers-part (suc m) n low none =
         let part = λ (k : ℕ). accepted_line (k + 1) (numbers_text (standing_at base lines (suc k)) matrix (plans (suc k))) in

@@ -7,7 +7,7 @@ use Rattle.desk_run.specs.Outcome.{OutcomeView}
 use Rattle.plan_choice.specs.Likings.{LikingsView}
 use Rattle.feed_desk.specs.Plans.{plan_at}
 use Rattle.block_names.specs.Names.{NamingView}
-use Rattle.blocks_command.specs.Blocks.{IsPlan}
+use Rattle.blocks_command.specs.Blocks.{WritesPlans}
 
 -- the blocks of the plan after the script of a feed, by how links are liked
 abbrev pub blocks_after : LikingsView → FeedView → MatrixView → List (List ℕ)
@@ -15,5 +15,5 @@ blocks_after likings said matrix = blocks_in (standing said) (plan_at said.base 
 
 -- those that `blocks` lists in `blocks.csv`
 abbrev pub listed : (likings : LikingsView) (naming : NamingView) (said : FeedView) (outcome : OutcomeView)
-    → IsPlan likings naming said outcome → List (List ℕ)
+    → WritesPlans likings naming said outcome → List (List ℕ)
 listed likings naming said outcome plan = blocks_after likings said plan.matrix

@@ -1,7 +1,7 @@
 //! Laws of runs. Each is the contract of a function that does nothing.
 ghost use Rattle.std.specs.Prelude.{◌≡◌, ℕ, ◌≤◌, length};
 ghost use Rattle.block_names.specs.Names.{NamingView};
-ghost use Rattle.blocks_command.specs.Blocks.{IsPlan, blocks_asked, plan_files};
+ghost use Rattle.blocks_command.specs.Blocks.{WritesPlans, blocks_asked, plan_files};
 ghost use Rattle.desk_feed.specs.Feed.{FeedView, standing};
 ghost use Rattle.desk_program.specs.Commands.{asked_by};
 ghost use Rattle.desk_program.specs.declared.command.CommandName.{CommandName};
@@ -38,18 +38,18 @@ pub fn same_run_law()
 /// `write` writes, where these commands read the same feed.
 pub fn same_blocks_law()
     ensures listed { (likings : LikingsView) (naming : NamingView) (said : FeedView) (outcome : OutcomeView)
-        (plan : IsPlan likings naming said outcome)
+        (plan : WritesPlans likings naming said outcome)
         → outcome.writes ≡ plan_files (standing said) plan.matrix naming
         (plan_at said.base said.lines plan.matrix likings (length said.lines)) }
     ensures joined { (likings : LikingsView) (naming : NamingView) (said : FeedView) (outcome other : OutcomeView)
-        (plan : IsPlan likings naming said outcome)
+        (plan : WritesPlans likings naming said outcome)
         (joined : IsJoined likings naming said other) → joined.blocks ≡ listed likings naming said outcome plan }
     ensures drawn { (likings : LikingsView) (naming : NamingView) (said : FeedView) (outcome other : OutcomeView)
-        (plan : IsPlan likings naming said outcome)
+        (plan : WritesPlans likings naming said outcome)
         (chart : IsChart likings naming said other) → chart.blocks ≡ listed likings naming said outcome plan }
     ensures written { (likings : LikingsView) (naming : NamingView) (said : FeedView) (outcome other : OutcomeView)
         (trips stop_times : TableView)
-        (plan : IsPlan likings naming said outcome) (written : IsWritten likings naming said trips stop_times other)
+        (plan : WritesPlans likings naming said outcome) (written : IsWritten likings naming said trips stop_times other)
         → written.blocks ≡ listed likings naming said outcome plan }
 {}
 

@@ -52,7 +52,7 @@ use Rattle.desk_feed.proofs.OneMatrix.{matrix-same}
 use Rattle.desk_feed.proofs.ScriptLemmas.{first-none, refused-none, some-none}
 use Rattle.feed_desk.proofs.DrawnLemmas.{drawn-scheduled, drawn-valid}
 use Rattle.write_command.specs.Write.{IsWritten}
-use Rattle.audit_command.specs.Audit.{AuditsBy, AuditsOf, IsAudited, IsCosted, IsJudged}
+use Rattle.audit_command.specs.Audit.{AuditsBy, AuditsOf, IsAudited, IsCosted, JudgesStated}
 use Rattle.audit_command.specs.Lines.{above_line, cost_line, costs_text}
 use Rattle.two_runs.specs.Audited.{IsWholeAfter, least_text}
 use Rattle.two_runs.proofs.DeadheadsOver.{with_slots}
@@ -206,14 +206,15 @@ module _ (states : WrittenFeedStatesPlan) (settings : SettingsView) (read more :
         audited.matrix_is) in
         let least = subst (λ network. IsLeast network (slots_by stated)) network plan.stated.least in
         let quiet =
-        subst (λ (t : TimetableView). IsJudged (refused_of said_again) (ending_of said_again) t audited.matrix (stated_in table t chosen)
+        subst (λ (t : TimetableView).
+        JudgesStated (refused_of said_again) (ending_of said_again) t audited.matrix (stated_in table t chosen)
         (misfits_in t audited.matrix (stated_in table t chosen)) audit) standing_again audited.judged in
         let judged =
-        subst (λ misfits. IsJudged [] ending.Done base_again audited.matrix stated misfits audit)
+        subst (λ misfits. JudgesStated [] ending.Done base_again audited.matrix stated misfits audit)
         (have-no-misfit base_again audited.matrix stated least.fewest.blocking)
-        (subst (λ end. IsJudged [] end base_again audited.matrix stated (misfits_in base_again audited.matrix stated) audit)
+        (subst (λ end. JudgesStated [] end base_again audited.matrix stated (misfits_in base_again audited.matrix stated) audit)
         (ap ending_by (some-none base_again []))
-        (subst (λ refused. IsJudged refused (ending_of said_again) base_again audited.matrix stated
+        (subst (λ refused. JudgesStated refused (ending_of said_again) base_again audited.matrix stated
         (misfits_in base_again audited.matrix stated) audit) (refused-none base_again []) quiet)) in
         costed-least audited.matrix least audit judged
 

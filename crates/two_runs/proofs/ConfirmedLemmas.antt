@@ -36,9 +36,9 @@ use Rattle.block_names.specs.Names.{NamingView, names_of}
 use Rattle.feed_naming.specs.Commands.{DoesNamed}
 use Rattle.feed_naming.specs.Naming.{naming_in}
 use Rattle.feed_desk.specs.Answers.{answers_by}
-use Rattle.feed_desk.specs.Plans.{fixed_number, IsPlannedAt, plan_at}
+use Rattle.feed_desk.specs.Plans.{fixed_number, plan_at}
 use Rattle.blocks_command.specs.Answers.{answer_text}
-use Rattle.blocks_command.specs.Blocks.{IsPlan, blocks_asked, blocks_does, blocks_named}
+use Rattle.blocks_command.specs.Blocks.{WritesPlans, blocks_asked, blocks_does, blocks_named}
 use Rattle.desk_feed.specs.Feed.{FeedView, feed_papers, kept_on, lines_by, said_by, said_with, standing}
 use Rattle.desk_feed.specs.Judging.{Does, refused_of, refusing, said_in}
 use Rattle.plan_commands.specs.Check.{IsChecked, check_asked, checked, claim_in, claim_outcome, claim_papers, verdict_outcome, yes_line}
@@ -102,7 +102,7 @@ pub record HasPlanned (read : ReadView) (outcome : OutcomeView) : Type 0 where
   pub said : FeedView
   pub says : said_in read ≡ Ok said
   pub naming : NamingView
-  pub plan : IsPlan (likings_in read said.settings said.base) naming said outcome
+  pub plan : WritesPlans (likings_in read said.settings said.base) naming said outcome
 
 planned_said : (read : ReadView) (outcome : OutcomeView) → IsGiven blocks_asked read outcome → status_of outcome.ending ≤ EDITS_REFUSED
     → HasPlanned read outcome
@@ -143,15 +143,12 @@ module _ (seen again : Option ReadView) (before left later after : World) (first
   abbrev likings : LikingsView
   likings = likings_in one.chosen.read said.settings said.base
 
-  abbrev plan : IsPlan likings naming said one.chosen.outcome
+  abbrev plan : WritesPlans likings naming said one.chosen.outcome
   plan = planned.plan
 
   -- the plan at the last moment, and its blocks
   abbrev last_plan : Plan
   last_plan = plan_at said.base said.lines plan.matrix likings (length said.lines)
-
-  last_planned : IsPlannedAt (standing said) plan.matrix last_plan
-  last_planned = plan.planned.are.planned (length said.lines) (omega arith)
 
   abbrev blocks : List (List ℕ)
   blocks = blocks_in (standing said) last_plan
@@ -165,7 +162,7 @@ module _ (seen again : Option ReadView) (before left later after : World) (first
   -- the files after the first run, where the shelf tells them
   files_left : left.shelf.files ≡ with_texts text_of_blocks text_of_prices before.shelf.files
   files_left = ap (λ (w : World). w.shelf.files) one.carried
-      ∙ ap (λ (o : OutcomeView). (with_writings o.writes before.shelf).files) plan.planned.done
+      ∙ ap (λ (o : OutcomeView). (with_writings o.writes before.shelf).files) plan.done
 
   -- the blocks and the prices are accepted
   accepted : IsAccepted (standing said) plan.matrix (names_of naming blocks) blocks last_plan.leave last_plan.enter
@@ -224,7 +221,7 @@ module _ (seen again : Option ReadView) (before left later after : World) (first
       vehicles = vehicles;
       minutes = minutes;
       yes = two.answered ∙ ap (λ (o : OutcomeView). status_of o.ending) yes;
-      planned = ap (λ (w : World). w.sink) one.carried ∙ ap (λ (o : OutcomeView). put_bytes o.text before.sink) plan.planned.done;
+      planned = ap (λ (w : World). w.sink) one.carried ∙ ap (λ (o : OutcomeView). put_bytes o.text before.sink) plan.done;
       checked = ap (λ (w : World). w.sink) two.carried ∙ ap (λ (o : OutcomeView). put_bytes o.text later.sink) yes;
     }
 

@@ -41,7 +41,7 @@ use Rattle.feed_likings.specs.Likings.{likings_in}
 use Rattle.feed_naming.specs.Commands.{DoesNamed}
 use Rattle.feed_naming.specs.Naming.{naming_in}
 use Rattle.write_command.specs.Write.{IsWritten, Writes, WritesBy, feed_files, files_of, stop_times_in, stop_times_name, stop_times_of}
-use Rattle.write_command.specs.Write.{trips_in, trips_name, trips_of, write_asked, write_does}
+use Rattle.write_command.specs.Write.{trips_table, trips_name, trips_of, write_asked, write_does}
 use Rattle.two_runs.specs.Audited.{IsLaid}
 use Rattle.two_runs.proofs.DeadheadsOver.{deadheads-over, slots-kept, with_slots}
 use Rattle.two_runs.proofs.TwoFiles.{first-stands, is_name, others-stand, second-stands, with_two, with_two_told}
@@ -179,17 +179,20 @@ has-written likings naming said (Ok first) (Ok second) outcome low (inr (inr doe
     record { first = first; second = second; first_is = refl; second_is = refl; likings = likings; naming = naming; written = does.1.1 }
 
 pub written-said : (read : ReadView) (outcome : OutcomeView) → IsGiven write_asked read outcome → status_of outcome.ending ≤ EDITS_REFUSED
-    → (said : FeedView) × (said_in read ≡ Ok said) × HasWritten said (trips_in read) (stop_times_in read) outcome
+    → (said : FeedView) × (said_in read ≡ Ok said) × HasWritten said (trips_table read) (stop_times_in read) outcome
 unfolding write_asked
 written-said read outcome given low = by (said_in read) refl given.gives
   where
     Found : Type 0
-    Found = (said : FeedView) × (said_in read ≡ Ok said) × HasWritten said (trips_in read) (stop_times_in read) outcome
+    Found = (said : FeedView) × (said_in read ≡ Ok said) × HasWritten said (trips_table read) (stop_times_in read) outcome
 
     named : (said : FeedView) → said_in read ≡ Ok said → (result : Result NamingView FeedFault)
         → DoesNamed (λ naming. Writes read naming said) result outcome → Found
-    named said is (Ok naming) does =
-        (said, is, has-written (likings_in read said.settings said.base) naming said (trips_in read) (stop_times_in read) outcome low does)
+    named said is (Ok naming) does = (
+      said,
+      is,
+      has-written (likings_in read said.settings said.base) naming said (trips_table read) (stop_times_in read) outcome low does,
+    )
     named said is (Err refused) does = absurd (refused-high outcome refused low does)
 
     by : (result : Result FeedView FeedFault) → said_in read ≡ result → Does (write_does.Gives read) result outcome → Found

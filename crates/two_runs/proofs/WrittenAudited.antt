@@ -28,7 +28,8 @@ use Rattle.desk_run.specs.declared.status.TheConstants.{EDITS_REFUSED}
 use Rattle.desk_run.proofs.EachStatus.{pages_told}
 use Rattle.desk_feed.specs.Feed.{FeedView, feed_papers, said_by, said_with}
 use Rattle.desk_feed.specs.Judging.{Does, said_in}
-use Rattle.write_command.specs.Write.{IsWritten, stop_times_in, stop_times_name, stop_times_of, trips_in, trips_name, trips_of, write_asked}
+use Rattle.write_command.specs.Write.{IsWritten, stop_times_in, stop_times_name, stop_times_of, trips_name, trips_of, trips_table}
+use Rattle.write_command.specs.Write.{write_asked}
 use Rattle.audit_command.specs.Audit.{AuditsBy, audit_asked}
 use Rattle.two_runs.specs.Audited.{CanBeAudited, FindsLeast, IsLaid, IsReadable, IsWholeAfter}
 use Rattle.two_runs.proofs.AuditedLemmas.{TellsLeast, finds-least, read_again, table_again}
@@ -111,10 +112,10 @@ module _ (states : WrittenFeedStatesPlan) (seen heard : Option ReadView) (before
     (one : HasEnded write_asked seen before middle first) (two : HasEnded audit_asked heard again after second)
     (all : first ≤ EDITS_REFUSED) where
   abbrev said : (said : FeedView) × (said_in one.chosen.read ≡ Ok said)
-      × HasWritten said (trips_in one.chosen.read) (stop_times_in one.chosen.read) one.chosen.outcome
+      × HasWritten said (trips_table one.chosen.read) (stop_times_in one.chosen.read) one.chosen.outcome
   said = written-said one.chosen.read one.chosen.outcome one.chosen.given (omega (arith, all, one.answered))
 
-  abbrev has : HasWritten said.0 (trips_in one.chosen.read) (stop_times_in one.chosen.read) one.chosen.outcome
+  abbrev has : HasWritten said.0 (trips_table one.chosen.read) (stop_times_in one.chosen.read) one.chosen.outcome
   has = said.2
 
   abbrev trips_text : List ℕ

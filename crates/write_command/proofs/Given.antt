@@ -26,7 +26,7 @@ use Rattle.feed_desk.specs.declared.draw.Drawn.{Drawn}
 use Rattle.write_command.specs.declared.write.Writable.TheVariants.{Texts, Refused}
 use Rattle.write_command.specs.Writable.{IsWritable, IsWrittenOf}
 use Rattle.write_command.proofs.ReadAgain.{read-again}
-use Rattle.write_command.specs.Write.{EndsBy, IsRefusal, IsWritten, Writes, WritesBy, files_of, stop_times_in, trips_in, write_named}
+use Rattle.write_command.specs.Write.{EndsBy, IsRefusal, IsWritten, Writes, WritesBy, files_of, stop_times_in, trips_table, write_named}
 use Rattle.write_command.specs.Write.{written_line}
 
 -- a table with a field that is not UTF-8 is not one of texts
@@ -87,8 +87,8 @@ pub write-given : {E : Type 0} (read : ReadView) (naming : NamingView) (said : F
 write-given read naming said (Err e) does = tt
 write-given read naming said (Ok outcome) does = record {
   gives = does;
-  ends = ends-by (likings_in read said.settings said.base) naming said (trips_in read) (stop_times_in read) outcome does;
-  unkept = unkept-by (likings_in read said.settings said.base) naming said (trips_in read) (stop_times_in read) outcome does;
+  ends = ends-by (likings_in read said.settings said.base) naming said (trips_table read) (stop_times_in read) outcome does;
+  unkept = unkept-by (likings_in read said.settings said.base) naming said (trips_table read) (stop_times_in read) outcome does;
 }
 
 -- a refusal of what was found of a paper is told
@@ -143,12 +143,12 @@ pub written-given : {D E : Type 0} (read : ReadView) (naming : NamingView) (said
     (timetable : TimetableView) (base : ℕ) (table : TableView) (text : List ℕ)
     → IsMatrixFor said matrix → HasDrawn said.base said.lines matrix likings drawn → likings ≡ likings_in read said.settings said.base → timetable ≡ drawn.desk.script.timetable
     → base ≡ length said.base.slots
-    → IsWritable said.settings timetable base (trips_in read) (stop_times_in read) (Texts table text)
+    → IsWritable said.settings timetable base (trips_table read) (stop_times_in read) (Texts table text)
     → (result : Result OutcomeView E) → IfOk result (IsWrittenOf said.settings naming drawn table text)
     → IfOk result (Writes read naming said)
 written-given read naming said matrix likings drawn timetable base table text is has liked same count writable (Err e) written = tt
 written-given read naming said matrix likings drawn timetable base table text is has liked same count writable (Ok outcome) written =
-    both-by (likings_in read said.settings said.base) naming said timetable base (trips_in read) (stop_times_in read) table text outcome writable.0 writable.1
+    both-by (likings_in read said.settings said.base) naming said timetable base (trips_table read) (stop_times_in read) table text outcome writable.0 writable.1
     (λ second made. record {
       matrix = matrix;
       matrix_is = is;

@@ -37,8 +37,8 @@ use Rattle.feed_desk.specs.Drawn.{IsDrawn}
 use Rattle.feed_desk.specs.Plans.{most_steps_of}
 
 -- the tables of the two papers, or why one is none; an accepted feed has both
-abbrev pub trips_in : ReadView → Result TableView FeedFault
-trips_in read = table_in paper.Trips (found_of read.pages paper.Trips)
+abbrev pub trips_table : ReadView → Result TableView FeedFault
+trips_table read = table_in paper.Trips (found_of read.pages paper.Trips)
 
 abbrev pub stop_times_in : ReadView → Result TableView FeedFault
 stop_times_in read = table_in paper.StopTimes (found_of read.pages paper.StopTimes)
@@ -134,7 +134,7 @@ WritesBy likings naming said trips stop_times outcome =
 
 abbrev pub Writes : ReadView → NamingView → FeedView → OutcomeView → Type 0
 Writes read naming said outcome =
-    WritesBy (likings_in read said.settings said.base) naming said (trips_in read) (stop_times_in read) outcome
+    WritesBy (likings_in read said.settings said.base) naming said (trips_table read) (stop_times_in read) outcome
 
 -- how the run ends: as the script does where all fields of both are texts, and else as refused
 pub record EndsOf (said : FeedView) (trips stop_times : TableView) (end : Ending) : Type 0 where
@@ -148,7 +148,7 @@ EndsBy said (Ok trips) (Err refused) end = end ≡ ending.FeedRefused
 EndsBy said (Ok trips) (Ok stop_times) end = EndsOf said trips stop_times end
 
 abbrev pub Ends : ReadView → FeedView → Ending → Type 0
-Ends read said end = EndsBy said (trips_in read) (stop_times_in read) end
+Ends read said end = EndsBy said (trips_table read) (stop_times_in read) end
 
 -- with the most steps of the plans of its script
 abbrev pub write_named : NamingAsked

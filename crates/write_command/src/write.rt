@@ -6,7 +6,7 @@ ghost use Rattle.desk_feed.specs.Script.{IsScript};
 ghost use Rattle.desk_run.specs.Outside.{outside};
 ghost use Rattle.desk_run.specs.Performs.{Performs};
 ghost use Rattle.feed_desk.specs.Plans.{most_steps_of};
-ghost use Rattle.write_command.specs.Write.{Writes, files_of, stop_times_in, trips_in, write_asked};
+ghost use Rattle.write_command.specs.Write.{Writes, files_of, stop_times_in, trips_table, write_asked};
 ghost use Rattle.write_command.specs.Writable.{IsWritable, IsWrittenOf};
 
 use crate::judging::trip_columns;
@@ -45,7 +45,7 @@ fn writable_of<'a>(
     base: u16,
 ) -> Result<Writable<'a>, Memory>
     requires { HasPapers read.now.pages }
-    ensures { IfOk result (IsWritable settings.now timetable.now base (trips_in read.now) (stop_times_in read.now)) }
+    ensures { IfOk result (IsWritable settings.now timetable.now base (trips_table read.now) (stop_times_in read.now)) }
 {
     let trips = read.found(Paper::Trips);
     let stop_times = read.found(Paper::StopTimes);

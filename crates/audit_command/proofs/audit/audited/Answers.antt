@@ -5,7 +5,7 @@ use Rattle.trip_model.specs.Timetable.{TimetableView}
 use Rattle.deadhead_matrix.specs.Fitting.{network_of}
 use Rattle.block_audit.specs.Misfits.{misfits_in}
 use Rattle.block_audit.specs.Stated.{NamedBlock, slots_by, stated_in}
-use Rattle.audit_command.specs.Audit.{IsJudged}
+use Rattle.audit_command.specs.Audit.{JudgesStated}
 use Rattle.audit_command.proofs.audit.audited.Goals as goal
 
 pub judged-requires-clause-blocking : goal.judged-requires-clause-blocking
@@ -22,7 +22,7 @@ returns-clause-judged g c =
     let edited = c.args.edited.now in
     let m = c.args.matrix.now in
     let does : TimetableView → List NamedBlock
-    → Type 0 = λ t s. IfOk c.judged.result (IsJudged edited.refused edited.ending t m s (misfits_in t m s)) in
+    → Type 0 = λ t s. IfOk c.judged.result (JudgesStated edited.refused edited.ending t m s (misfits_in t m s)) in
     let stated = subst (λ (s : List NamedBlock). does c.timetable-timetable.result.now s) c.in_ok-stated.ensures.stated
     c.judged.ensures.judged in
     subst (λ (t : TimetableView). does t (stated_in c.args.trips.now t c.args.chosen.now)) c.timetable-timetable.ensures stated

@@ -6,7 +6,7 @@ use Rattle.desk_feed.specs.Schedule.{most_steps}
 use Rattle.planner_desk.specs.Planners.{PlannersView}
 use Rattle.planner_desk.specs.Standing.{timetable_of}
 use Rattle.planners_command.specs.Answers.{answers_to}
-use Rattle.planners_command.specs.Moments.{some_refused, stand_after}
+use Rattle.planners_command.specs.Moments.{one_refused, stand_after}
 use Rattle.planners_command.specs.Planners.{ending_with}
 use Rattle.planners_command.proofs.Given.{planned-put}
 use Rattle.planners_command.proofs.PlannersLaws.{places-standing}
@@ -49,7 +49,7 @@ returns-clause-planned g c =
     c.in_ok-push_standing.ensures
     c.in_ok-push_numbers.ensures.numbers
     (c.ending_with-ending.ensures ∙ ap (λ some. ending_with some edited.ending)
-    (given.some ∙ ap (λ b. some_refused b lines (length lines)) base))
+    (given.some ∙ ap (λ b. one_refused b lines (length lines)) base))
     c.putting_after.result
     (subst (λ text. IfOk c.putting_after.result (λ outcome. outcome ≡ refusing_first edited.refused text c.ending_with-ending.result))
     c.wrap.ensures c.putting_after.ensures)

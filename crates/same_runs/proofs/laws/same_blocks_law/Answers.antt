@@ -6,7 +6,7 @@ use Rattle.same_runs.proofs.laws.same_blocks_law.Goals as goal
 
 pub returns : goal.returns
 returns c = record {
-  listed = λ likings naming said outcome plan. ap (λ (o : OutcomeView). o.writes) plan.planned.done;
+  listed = λ likings naming said outcome plan. ap (λ (o : OutcomeView). o.writes) plan.done;
   joined = λ likings naming said outcome other plan is.
       drawn-are likings said is.matrix is.plan is.blocks is.drawn
       ∙ ap (blocks_after likings said) (one-matrix said is.matrix plan.matrix is.matrix_is plan.matrix_is);

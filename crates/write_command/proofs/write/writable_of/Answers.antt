@@ -4,7 +4,7 @@ use Rattle.gtfs_tables.specs.declared.fault.FeedFault.TheVariants as fault
 use Rattle.gtfs_tables.specs.declared.paper.Paper.TheVariants as paper
 use Rattle.block_writer.specs.StopTimes.{stop_time_columns}
 use Rattle.desk_run.specs.Reading.{found_of}
-use Rattle.write_command.specs.Write.{trip_columns, trips_in}
+use Rattle.write_command.specs.Write.{trip_columns, trips_table}
 use Rattle.write_command.proofs.Given.{beside-texts, told-refusal}
 use Rattle.write_command.proofs.write.writable_of.Goals as goal
 
@@ -24,7 +24,7 @@ returns-in-Err c =
 pub returns : goal.returns
 returns c =
     let other : c.in-Err-stop_times_text.fault ≢ fault.Memory = search rules in
-    inr (beside-texts (table_in paper.Trips c.found-trips.result.now) (trips_in c.args.read.now) c.in-Ok.trips
+    inr (beside-texts (table_in paper.Trips c.found-trips.result.now) (trips_table c.args.read.now) c.in-Ok.trips
     (ap (table_in paper.Trips) c.found-trips.ensures.found) c.in-Ok.ensures.texts
     (told-refusal paper.StopTimes stop_time_columns stop_time_columns c.found-stop_times.result.now
     (found_of c.args.read.now.pages paper.StopTimes) c.in-Err-stop_times_text.fault _

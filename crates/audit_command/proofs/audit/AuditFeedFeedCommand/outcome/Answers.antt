@@ -3,7 +3,7 @@ use Rattle.std.specs.Prelude.{IfOk}
 use Rattle.desk_feed.specs.Commands.{said_to}
 use Rattle.desk_feed.proofs.PapersLemmas.{has-papers}
 use Rattle.block_audit.specs.Stated.{AreNames}
-use Rattle.audit_command.specs.Audit.{trips_in}
+use Rattle.audit_command.specs.Audit.{trips_table}
 use Rattle.audit_command.specs.Auditable.{IsAuditable, Judges}
 use Rattle.audit_command.proofs.Given.{audited-given, names-of, refused-given}
 use Rattle.audit_command.proofs.audit.AuditFeedFeedCommand.outcome.Goals as goal
@@ -16,25 +16,25 @@ returns-in-Refused-clause-given g c =
     let read = c.args.said.read.now in
     let said = said_to c.args.said in
     refused-given read said c.in-Refused.outcome
-    (subst (IsAuditable c.args.said.settings.now (trips_in read)) c.in-Refused.is c.in_ok-outcome.ensures)
+    (subst (IsAuditable c.args.said.settings.now (trips_table read)) c.in-Refused.is c.in_ok-outcome.ensures)
 
 pub audited-requires-clause-chosen : goal.audited-requires-clause-chosen
 audited-requires-clause-chosen g c =
-    let may = subst (IsAuditable c.args.said.settings.now (trips_in c.args.said.read.now)) c.in-Trips.is c.in_ok-outcome.ensures in
+    let may = subst (IsAuditable c.args.said.settings.now (trips_table c.args.said.read.now)) c.in-Trips.is c.in_ok-outcome.ensures in
     ap (λ (xs : List Bool). length xs) c.deref.ensures.value
-    ∙ (names-of c.args.said.settings.now (trips_in c.args.said.read.now) c.in-Trips.trips c.in-Trips.chosen may).0
+    ∙ (names-of c.args.said.settings.now (trips_table c.args.said.read.now) c.in-Trips.trips c.in-Trips.chosen may).0
 
 pub audited-requires-clause-names : goal.audited-requires-clause-names
 audited-requires-clause-names g c =
-    let may = subst (IsAuditable c.args.said.settings.now (trips_in c.args.said.read.now)) c.in-Trips.is c.in_ok-outcome.ensures in
+    let may = subst (IsAuditable c.args.said.settings.now (trips_table c.args.said.read.now)) c.in-Trips.is c.in_ok-outcome.ensures in
     subst (AreNames c.in-Trips.trips) (sym c.deref.ensures.value)
-    (names-of c.args.said.settings.now (trips_in c.args.said.read.now) c.in-Trips.trips c.in-Trips.chosen may).1
+    (names-of c.args.said.settings.now (trips_table c.args.said.read.now) c.in-Trips.trips c.in-Trips.chosen may).1
 
 pub returns-clause-given : goal.returns-clause-given
 returns-clause-given g c =
     let read = c.args.said.read.now in
     let said = said_to c.args.said in
-    let may = subst (IsAuditable c.args.said.settings.now (trips_in read)) c.in-Trips.is c.in_ok-outcome.ensures in
+    let may = subst (IsAuditable c.args.said.settings.now (trips_table read)) c.in-Trips.is c.in_ok-outcome.ensures in
     let edited = c.in_ok-edited.edited in
     let matrix = c.in_ok-matrix.matrix in
     audited-given said matrix edited c.in-Trips.trips c.in-Trips.chosen read c.in_ok-matrix.ensures c.in_ok-edited.ensures.edited may

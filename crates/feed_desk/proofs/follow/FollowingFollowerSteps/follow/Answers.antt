@@ -4,7 +4,7 @@ use Rattle.trip_model.specs.Timetable.{IsTimetable}
 use Rattle.edit_script.specs.declared.edit.Line.TheVariants as line
 use Rattle.desk_feed.proofs.ScriptLemmas.{IsStepped-at}
 use Rattle.feed_desk.specs.Moments.{IsFollowed}
-use Rattle.feed_desk.specs.Plans.{most_of}
+use Rattle.feed_desk.specs.Plans.{most_for}
 use Rattle.feed_desk.proofs.MomentsLemmas.{IsAnswered-next, most-le}
 use Rattle.feed_desk.proofs.follow.FollowingFollowerSteps.follow.Goals as goal
 
@@ -35,7 +35,7 @@ returns-in_err-push_answer-clause-stops g c = stopped c.from_residual-in_err-pus
     c.in_ok-refused.ensures.stepped)
     (subst (λ l. IsFollowed l refused following.desk next) here c.in_ok-refused.ensures.followed) c.in_ok-refused.ensures.matrix
     c.plan-plan.ensures.certified (subst IsTimetable c.timetable.ensures.timetable c.slots-slots.ensures.valid) refl
-    (omega (arith, c.in_ok-refused.ensures.counted, ap (λ l. most_of l (length next.script.timetable.slots) refused) here))
+    (omega (arith, c.in_ok-refused.ensures.counted, ap (λ l. most_for l (length next.script.timetable.slots) refused) here))
     (following.some || is_some refused) refl in
     omega (arith, answered.counted, most-le base lines (n + 1) (length lines - (n + 1)) (length lines) (omega (arith, at.within))))
 
@@ -54,6 +54,6 @@ returns-clause-stands g c = λ was had lines n number_is at stands.
     c.plan-plan.ensures.certified (subst IsTimetable c.timetable.ensures.timetable c.slots-slots.ensures.valid)
     (c.in_ok-push_answer.ensures ∙ λ i. string_bytes following.text
     ++ g.A.Answers.answer (stands.0 i) next.matrix (number_is i) (here i) next.script.timetable next.plan refused)
-    (omega (arith, c.in_ok-refused.ensures.counted, ap (λ l. most_of l (length next.script.timetable.slots) refused) here)) _
+    (omega (arith, c.in_ok-refused.ensures.counted, ap (λ l. most_for l (length next.script.timetable.slots) refused) here)) _
     (λ i. following.some || c.is_some.ensures i) in
     (stands.0, answered)
