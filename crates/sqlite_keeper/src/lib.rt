@@ -5,7 +5,7 @@
 //! is not there. Other programs then find it locked, until a call fails or the keeper is dropped. Each append is one
 //! transaction.
 //!
-//! `blockdesk` shows a use, in `src/start.rt`.
+//! `blockdesk` shows a use, in `src/outer.rt`.
 //!
 //! It tells nothing of its journal. So the contract that the crates above use is that of every `Keeper`. A load answers no more
 //! lines than the limit of the call. `Failed` comes only where the count of faults rose.
