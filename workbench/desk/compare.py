@@ -21,6 +21,7 @@ from desk.compare_text import compare_text
 from desk.errors import DeskError
 from desk.files import read_bytes
 from desk.lines import LineNames
+from desk.neighbours import other_neighbours
 from desk.period import has_days
 from desk.plans import read_blocks, timetable
 from desk.rooms import lay_settings, own_room
@@ -163,15 +164,17 @@ def changed_block(first: Side, second: Side, old: str, new: str) -> Found:
 
 
 def trips_that_differ(first: Side, second: Side, partner: dict[str, str]) -> Found:
-    """The trips that run in one plan alone, at other times, or in a block that is not the partner of theirs, and how many of both plans
-    are in a block of another name."""
+    """The trips that run in one plan alone, at other times, or in a block that is not the partner of theirs. Of those of both plans it
+    counts those with other neighbours, and those in a block of another name."""
     labels = _labels(first, second)
     both = [trip for trip in first.block_of if trip in second.block_of]
     other = [{"trip": trip, "first": first.block_of[trip], "second": second.block_of[trip]} for trip in both
              if partner.get(first.block_of[trip]) != second.block_of[trip]]
     moved = [trip for trip in both if trip in first.times and trip in second.times and first.times[trip] != second.times[trip]]
+    beside = other_neighbours(*([block.trips for block in side.blocks.values()] for side in (first, second)))
     return {
-        "both": len(both), "in_other_blocks": other, "other_names": sum(first.block_of[trip] != second.block_of[trip] for trip in both),
+        "both": len(both), "in_other_blocks": other, "other_neighbours": len(beside),
+        "other_names": sum(first.block_of[trip] != second.block_of[trip] for trip in both),
         "cancelled": [labels(trip, first) for trip in first.block_of if trip not in second.block_of],
         "new": [labels(trip, second) for trip in second.block_of if trip not in first.block_of],
         "moved": [labels(trip, second) | {"minutes": second.times[trip][0] - first.times[trip][0],

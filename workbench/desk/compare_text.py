@@ -29,8 +29,9 @@ def _numbers(found: Found) -> list[str]:
     return lines + [
         f"blocks: {found['first']['blocks']} were, {found['second']['blocks']} are, {len(found['same'])} the same, "
         f"{len(found['changed'])} changed, {len(found['gone'])} gone, {len(found['new'])} new",
-        f"trips: {trips['both']} in both, {len(trips['in_other_blocks'])} of them in other blocks, {trips['other_names']} in blocks of other "
-        f"names, {len(trips['moved'])} at other times, {more}", *counts_text(found["first"], found["second"])]
+        f"trips: {trips['both']} in both, {len(trips['in_other_blocks'])} of them in other blocks, {trips['other_neighbours']} with other "
+        f"neighbours, {trips['other_names']} in blocks of other names, {len(trips['moved'])} at other times, {more}",
+        *counts_text(found["first"], found["second"])]
 
 
 def counts_text(first: Found, second: Found) -> list[str]:

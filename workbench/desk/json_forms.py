@@ -162,9 +162,9 @@ Passengers = TypedDict("Passengers", {"trip": str, "line": str, "departs": str, 
 Moved = TypedDict("Moved", {"trip": str, "line": str, "departs": str, "from": str, "to": str, "minutes": int, "departed": str})
 """A shifted trip, by how many minutes, and when it departed before."""
 
-TripsOfBoth = TypedDict("TripsOfBoth", {"both": int, "in_other_blocks": list[OtherBlock], "other_names": int,
-                                        "cancelled": list[Passengers], "new": list[Passengers], "moved": list[Moved]})
-"""How many trips run in both plans, those that differ, and how many are in blocks of other names."""
+TripsOfBoth = TypedDict("TripsOfBoth", {"both": int, "in_other_blocks": list[OtherBlock], "other_neighbours": int,
+                                        "other_names": int, "cancelled": list[Passengers], "new": list[Passengers], "moved": list[Moved]})
+"""How many trips run in both plans, those that differ, and how many have other neighbours or are in blocks of other names."""
 
 Compare = TypedDict("Compare", {"first": Side, "second": Side, "trips": TripsOfBoth, "same": list[Pair], "changed": list[Changed],
                                 "gone": list[Gone], "new": list[New]})

@@ -16,6 +16,15 @@ def neighbours(blocks: Iterable[Sequence[str]]) -> Iterator[Pair]:
         yield from pairwise(trips)
 
 
+def other_neighbours(before: Iterable[Sequence[str]], after: Iterable[Sequence[str]]) -> set[str]:
+    """The trips of two plans before or after which another trip runs in the second one. Trips of one plan alone are passed over."""
+    plans = [list(blocks) for blocks in (before, after)]
+    first, second = ({trip for trips in blocks for trip in trips} for blocks in plans)
+    both = first & second
+    was, now = (set(neighbours([trip for trip in trips if trip in both] for trips in blocks)) for blocks in plans)
+    return {trip for pair in was ^ now for trip in pair}
+
+
 def stated_neighbours(trips: Iterable[DayTrip], departs: Mapping[str, int]) -> set[Pair]:
     """The neighbours of the blocks that the feed states by `block_id`: trips that run, by departure and then as in `trips.txt`."""
     stated: dict[str, list[str]] = {}

@@ -10,16 +10,15 @@ from dataclasses import replace
 from pathlib import Path
 
 from desk.answers import tell
-from desk.compare import partners, trips_that_differ
-from desk.compare_side import Side
 from desk.day import CLAIM, Day, ask_in, plan_day
 from desk.edits import Script, record_of, writing
 from desk.errors import DeskError, UsageError
 from desk.files import read_bytes, write_whole
 from desk.hints_scripts import script_hints
 from desk.keeping import keep
+from desk.marks import marks
 from desk.pipes import refuse_pipes
-from desk.plans import Block, StatedBlock, read_plan
+from desk.plans import read_plan
 from desk.proof import proved
 from desk.rooms import FEED_FILES, room_of, scripts_of, state_of
 from desk.scripts import Record, with_record
@@ -93,7 +92,7 @@ class Session:
             script.append(record)
             seen = self._view(before)
             self._day = replace(after, state=state_of(after.town))
-            return {"done": True, "said": told.said, "moved": moved(before, after), "change": change_of(seen, self._view(self._day))}
+            return {"done": True, "said": told.said, "marks": marks(before, after), "change": change_of(seen, self._view(self._day))}
 
     def suggest(self, asked: Json) -> Json:
         """What the program suggests for the day and what helps it, or what it says of the blocks of today."""
@@ -182,26 +181,3 @@ def write_files(town: Path, folder: Path, words: str, command: str) -> str:
     if command == "joined":
         read_plan(Town(folder))
     return said
-
-
-def moved(before: Day, after: Day) -> list[str]:
-    """The trips that are in other blocks than before, at other times, or new. A block that does the same has none of them."""
-    same = {_does(block) for block in before.blocks} & {_does(block) for block in after.blocks}
-    sides = _side(before, same), _side(after, same)
-    differ = trips_that_differ(*sides, partners(*sides))
-    return sorted({trip["trip"] for kind in ("in_other_blocks", "moved", "new") for trip in differ[kind]})
-
-
-def _does(block: Block) -> tuple[tuple[str, int], ...]:
-    """Which trips a block makes, and when."""
-    return tuple((ride.name, ride.departs) for ride in block.rides)
-
-
-def _side(day: Day, same: set[tuple[tuple[str, int], ...]]) -> Side:
-    """A day as a plan that is compared, without these blocks."""
-    blocks = [block for block in day.blocks if _does(block) not in same]
-    stated = {block.name: StatedBlock(block.name, tuple(ride.name for ride in block.rides), tuple(ride.empty for ride in block.rides))
-              for block in blocks}
-    times = {ride.name: (ride.departs, ride.ends) for block in blocks for ride in block.rides}
-    names = {ride.name: block.name for block in blocks for ride in block.rides}
-    return Side(day.town.folder.name, day.town, {}, stated, times, names)

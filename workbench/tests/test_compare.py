@@ -66,7 +66,7 @@ class Compared(FolderTest):
         found = self.found(self.town("town"), self.town("other", {
             "edits.csv": "shift,U2,+2\nextra,E1,A,B,08:00,08:30\ncancel,U3\ncancel,U4\nextra,E2,C,A,05:00,05:30\n"}))
         trips = found["trips"]
-        self.assertEqual((trips["both"], trips["in_other_blocks"], trips["other_names"]), (2, [], 0))
+        self.assertEqual((trips["both"], trips["in_other_blocks"], trips["other_neighbours"], trips["other_names"]), (2, [], 0, 0))
         self.assertEqual(trips["moved"], [{"trip": "U2", "line": "9", "departs": "06:42", "from": "B", "to": "A", "minutes": 2, "departed": "06:40"}])
         self.assertEqual(sorted((trip["trip"], trip["line"], trip["departs"], trip["from"], trip["to"]) for trip in trips["new"]),
                          [("E1", "", "08:00", "A", "B"), ("E2", "", "05:00", "C", "A")])
@@ -149,6 +149,11 @@ class SmallTown(FolderTest):
         self.assertEqual(found["trips"]["other_names"], sum(was[trip] != now[trip] for trip in set(was) & set(now)))
         self.assertEqual(len(partner) + len(found["gone"]), len(set(was.values())))
         self.assertEqual(len(partner) + len(found["new"]), len(set(now.values())))
+        beside = [{trip: next((other for other in order[at + 1:] if block[other] == block[trip]), None) for at, trip in enumerate(order)}
+                  for block in (was, now) for order in ([trip for trip in block if trip in was and trip in now],)]
+        others = {trip for trip in beside[0] if beside[0][trip] != beside[1][trip]}
+        self.assertEqual(found["trips"]["other_neighbours"], len(others | {after[trip] for after in beside for trip in others} - {None}))
+        self.assertGreater(found["trips"]["other_neighbours"], 0)
         orders = [{}, {}]
         for order, folder in zip(orders, (town, other)):
             for row in rows(folder / "blocks.csv"):
@@ -170,7 +175,8 @@ class Words(unittest.TestCase):
                 "line_changes": 0, "waiting": 0}
         text = compare_text({
             "first": {"plan": "a", **side}, "second": {"plan": "b", **side},
-            "trips": {"both": 1, "in_other_blocks": [], "other_names": 0, "moved": [], "cancelled": [], "new": []}, "same": [], "gone": [],
+            "trips": {"both": 1, "in_other_blocks": [], "other_neighbours": 0, "other_names": 0, "moved": [],
+                      "cancelled": [], "new": []}, "same": [], "gone": [],
             "changed": [{"first": "B1", "second": "B2", "leaves": ["05:50", "05:55"], "ends": ["07:00", "07:00"],
                          "lost": [], "gained": [], "moved": []}],
             "new": [{"block": "B3", "leaves": "06:00", "ends": "07:00", "trips": [{"trip": "U1", "first": "B1"}]}]})

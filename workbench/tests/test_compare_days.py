@@ -52,7 +52,8 @@ class DaysTest(FolderTest):
         self.assertEqual(found["days"], ["Monday 2026-09-07", "Saturday 2026-09-12"])
         text = self.desk("compare", first, second)[1]
         self.assertIn(f"was {first}, Monday 2026-09-07: yes, vehicles 2, minutes 0\n", text)
-        self.assertIn("trips: 2 in both, 0 of them in other blocks, 0 in blocks of other names, 0 at other times, 2 on the first day alone, 2 on the second alone\n", text)
+        self.assertIn("trips: 2 in both, 0 of them in other blocks, 0 with other neighbours, 0 in blocks of other names, 0 at other times, "
+                      "2 on the first day alone, 2 on the second alone\n", text)
         self.assertIn("trips of one of the days alone\n Monday 2026-09-07: line 9 07:20 from A to B (M3)\n", text)
         self.assertIn(" Saturday 2026-09-12: line 9 07:25 from A to B (M3 at 07:25)\n", text)
 

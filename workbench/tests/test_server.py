@@ -383,7 +383,8 @@ class SessionTest(FolderTest):
         self.assertEqual((first["said"], len(first["hints"]), self.script()), ("record 1: refused, U2: outside tolerance (+2)", 1, ""))
         answer = self.edit(edit="shift", trip="U2", shift=1)
         self.assertEqual((answer["done"], answer["said"]), (True, "record 1: ok, fixed 2, vehicles 1, minutes 31"))
-        self.assertEqual((answer["moved"], answer["change"]["numbers"]), (["U2"], {"vehicles": 1, "minutes": 31, "fixed": 2}))
+        self.assertEqual(answer["marks"], {"trips": ["U1", "U2"], "neighbours": 2, "names": 1, "times": 1, "new": 0})
+        self.assertEqual(answer["change"]["numbers"], {"vehicles": 1, "minutes": 31, "fixed": 2})
         self.assertEqual(self.script(), "shift,U2,+1\n")
         refused = self.edit(edit="shift", trip="U2", shift=1)
         self.assertEqual(refused, {"done": False, "said": "record 2: refused, U2: outside tolerance (+2)", "hints": [
@@ -394,6 +395,27 @@ class SessionTest(FolderTest):
         again = self.edit(edit="redo")
         self.assertEqual((self.script(), again["change"]["undo"], again["change"]["redo"]), ("shift,U2,+1\nundo\nredo\n", "shift,U2,+1", None))
         self.assertFalse((self.town / "blocks.csv").exists())
+
+    def test_marks(self) -> None:
+        """Trips in another block are counted by neighbours and by names. Names mark a trip where they stay, and numbers mark none."""
+        shutil.copytree(ROOT / "examples" / "small_town", self.room / "numbered")
+        shutil.copytree(ROOT / "examples" / "small_town", self.room / "named")
+        toml = self.room / "named" / "desk.toml"
+        toml.write_text('block_names = "stated"\n' + toml.read_text())
+        found = {}
+        for town in ("numbered", "named"):
+            session = Session(self.room / town)
+            for trip in ("wd_1_o_0540", "wd_2_o_0735"):
+                state = session.day()["day"]["state"]
+                answer = session.edit({"edit": "cancel", "trip": trip, "state": state})
+                found[town, trip] = answer["marks"]
+                session.edit({"edit": "undo", "state": answer["change"]["state"]})
+        none = {"neighbours": 0, "times": 0, "new": 0}
+        self.assertEqual(found["numbered", "wd_1_o_0540"], none | {"trips": [], "names": 163})
+        self.assertEqual(found["named", "wd_1_o_0540"], none | {"trips": [], "names": 0})
+        cut = ["wd_2_i_0640", "wd_2_i_0810"]
+        self.assertEqual(found["numbered", "wd_2_o_0735"], none | {"trips": cut, "neighbours": 2, "names": 18})
+        self.assertEqual(found["named", "wd_2_o_0735"], none | {"trips": [*cut, "wd_2_o_0605"], "neighbours": 2, "names": 2})
 
     def test_one_run(self) -> None:
         """An edit is one run of the program, and its answer has what changed. The proof of the plan is asked for by itself."""

@@ -65,7 +65,7 @@ function drawTrip(trip, scale, size, look) {
   if (size.labels) {
     parts.push(labelOf(trip, x, until, size, style));
   }
-  if (look.isChanged(trip)) {
+  if (look.isMarked(trip)) {
     parts.push(svg("path", { class: "changed-mark", d: `M${x} ${size.top}h9l-9 9z` }));
   }
   return parts;

@@ -65,11 +65,14 @@ export function showUndo({ undo, redo, planner }) {
   byId("redo").title = redo ?? "";
 }
 
-/** What an edit has changed, in words. */
-export function changeWords(before, after, moved) {
+/** What an edit has changed, in words: the numbers, and how many trips are marked and why. */
+export function changeWords(before, after, marks) {
   const changed = Object.keys(NUMBERS).filter((key) => before[key] !== after[key]);
   const words = changed.map((key) => `${NUMBERS[key]} ${before[key]} → ${after[key]}`).join(", ");
-  return `${words || "the numbers are as before"}. Marked: ${count(moved, "trip")} in another block or at another time.`;
+  const blocks = `In another block: ${marks.neighbours} by neighbours, ${marks.names} by names.`;
+  const marked = `Marked: ${count(marks.trips.length, "trip")}.`;
+  const others = [marks.times && `At another time: ${marks.times}.`, marks.new && `New: ${marks.new}.`];
+  return [`${words || "the numbers are as before"}.`, marked, blocks, ...others].filter((part) => part).join(" ");
 }
 
 /** What stands above the pages of a day on paper. */

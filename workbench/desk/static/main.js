@@ -35,7 +35,7 @@ const VIEWS = ["Vehicles", "Terminals", "Blocks"];
 class Page {
   constructor(canEdit) {
     this.canEdit = canEdit;
-    this.moved = new Set();
+    this.marked = new Set();
     this.stale = new Set();
     this.lines = new LineStyles();
     this.scale = new Scale();
@@ -179,15 +179,15 @@ class Page {
     if (bar === this.foundBar) {
       states.push("found");
     }
-    if (bar.trip && this.isChanged(bar.trip)) {
+    if (bar.trip && this.isMarked(bar.trip)) {
       states.push("changed");
     }
     return states;
   }
 
-  /** Whether a trip is in another block, or at another time, than before the last edit. */
-  isChanged(trip) {
-    return this.moved.has(trip.id);
+  /** Whether the last edit has put a trip into another block or to another time, or has brought it in. */
+  isMarked(trip) {
+    return this.marked.has(trip.id);
   }
 
   /** Whether the Tab key reaches a bar. */
@@ -248,7 +248,7 @@ class Page {
       this.proveSoon();
       return false;
     }
-    this.say(`${words}: ${changeWords(this.before, this.day.view.numbers, this.moved.size)}`);
+    this.say(`${words}: ${changeWords(this.before, this.day.view.numbers, answer.marks)}`);
     return true;
   }
 
@@ -269,7 +269,7 @@ class Page {
     const view = answer.change ? changed(this.day.view, answer.change) : answer.day;
     if (view) {
       this.before = answer.done ? this.day.view.numbers : null;
-      this.moved = new Set(answer.moved ?? []);
+      this.marked = new Set(answer.marks?.trips ?? []);
       this.show(view, true);
     }
     return answer;
@@ -303,7 +303,7 @@ class Page {
       return null;
     }
     if (answer.day) {
-      this.moved = new Set();
+      this.marked = new Set();
       this.before = null;
       this.show(answer.day);
     } else {
