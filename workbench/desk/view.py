@@ -14,6 +14,7 @@ from desk.plans import Block
 from desk.records import open_records
 from desk.scripts import Record, standing
 from desk.texts import Json, minute_of
+from desk.texts_names import keeps_names
 from desk.texts_written import edit_text, verdict_text
 from desk.town import Town
 from desk.unlisted import told, unlisted
@@ -31,6 +32,7 @@ def as_view(day: Day) -> Json:
     numbers = {trip["id"]: number for number, trip in enumerate(trips)}
     done, undone = standing(day.records)
     fixed, vehicles, minutes = day.cost
+    names = _stated_names(day)
     return {
         "title": day.town.title,
         "date": day_text(day.town),
@@ -40,7 +42,7 @@ def as_view(day: Day) -> Json:
         "numbers": {"vehicles": vehicles, "minutes": minutes, "fixed": fixed},
         "colours": lines.colours,
         "trips": trips,
-        "blocks": [_block(block, numbers) for block in day.blocks],
+        "blocks": [_block(block, numbers, block.name in names) for block in day.blocks],
         "script": [_record(record) for record in day.records],
         "undo": done[-1].text if done else None,
         "redo": undone[-1].text if undone else None,
@@ -140,9 +142,14 @@ def _tolerances(town: Town) -> dict[str, tuple[int, int]]:
         return {fields[name]: (int(fields[early]), int(fields[late])) for _, fields in records}
 
 
-def _block(block: Block, numbers: dict[str, int]) -> Json:
-    """A block: its rides as the numbers of their trips, each with the empty minutes before it."""
-    return {"name": block.name, "class": block.vehicle_class, "home": block.home, "figures": block_figures(block),
+def _stated_names(day: Day) -> set[str]:
+    """The names that the feed states for blocks, where blocks keep them."""
+    return {published.trip.block_id for published in day.published.values() if published.trip} if keeps_names(day.town) else set()
+
+
+def _block(block: Block, numbers: dict[str, int], is_kept: bool) -> Json:
+    """A block: its rides as the numbers of their trips, each with the empty minutes before it. A kept name is one of the feed."""
+    return {"name": block.name, "kept": is_kept, "class": block.vehicle_class, "home": block.home, "figures": block_figures(block),
             "rides": [[numbers[ride.name], ride.empty] for ride in block.rides]}
 
 

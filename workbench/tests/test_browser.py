@@ -164,6 +164,10 @@ class LookTest(BrowserTest):
         dim, all_trips = (self.names(selector) for selector in (".bar.trip.dim", ".bar.trip"))
         self.assertEqual([trip for trip in all_trips if trip not in dim], [trip for trip in all_trips if trip.startswith("L3-")])
         self.browser.click("#filter-clear")
+        self.choose("#filter-terminal", "Terminal 7")
+        rows = [block.name for block in self.day.blocks if any("Terminal 7" in (ride.start, ride.end) for ride in block.rides)]
+        self.assertEqual(self.drawn(), [f"block {name}" for name in rows][:len(self.drawn())])
+        self.browser.click("#filter-clear")
         self.browser.type("#filter-from", "25:99")
         self.assertEqual(self.browser.run("return document.getElementById('filter-from').getAttribute('aria-invalid')"), "true")
         self.browser.type("#filter-from", "22:00")
@@ -429,10 +433,10 @@ class LookTest(BrowserTest):
 class ServedTest(BrowserTest):
     """A test of the page of `desk open`."""
 
-    def serve(self, town: Path) -> None:
-        """Opens the page of a town."""
+    def serve(self, town: Path, planner: str | None = None) -> None:
+        """Opens the page of a town, for a planner where one is named."""
         self.town = town
-        self.server = self.serve_page(Session(self.town))
+        self.server = self.serve_page(Session(self.town, planner))
         self.browser.open(self.server.address)
 
     def serve_example(self, name: str) -> None:
@@ -510,6 +514,20 @@ class OpenTest(ServedTest):
         self.browser.click("#redo")
         self.wait_for("redo: ")
         self.assertEqual(self.script(), "shift,wd_2_o_0735,+10\nundo\nredo\n")
+        self.assertEqual(self.browser.errors(), [])
+
+    def test_no_trips(self) -> None:
+        """A day without trips has neither tick nor cross, and says which dates have trips. When that is mended the tick is back."""
+        good = (self.town / "desk.toml").read_text()
+        self.browser.wait(lambda: self.browser.text("#verdict").startswith("✓ No plan has fewer vehicles"))
+        (self.town / "desk.toml").write_text(good.replace("20260907", "20260831"))
+        self.wait_for("The folder has changed")
+        words = self.browser.text("#verdict")
+        self.assertIn("Trips run on 20260901 (Tuesday, 188 trips)", words)
+        self.assertTrue(words.startswith("No trip runs."), words)
+        self.assertEqual((self.browser.texts("#verdict .yes, #verdict .no"), self.names(".bar")), ([], []))
+        (self.town / "desk.toml").write_text(good)
+        self.browser.wait(lambda: self.browser.text("#verdict").startswith("✓ "))
         self.assertEqual(self.browser.errors(), [])
 
     def test_keys_and_cancel(self) -> None:
@@ -598,6 +616,63 @@ class OpenTest(ServedTest):
         self.browser.click("#keep")
         self.browser.wait(lambda: "kept 0 records" in self.browser.text("#answered"))
         self.assertEqual(self.browser.run(CONTRASTS, LEAST_CONTRAST), [])
+        self.assertEqual(self.browser.errors(), [])
+
+
+@needs_browser
+@needs_program
+class NamesTest(ServedTest):
+    """The page of a town whose blocks keep the names of the feed."""
+
+    def rows(self) -> list[str]:
+        """The names of the rows, from above."""
+        return [name.removeprefix("block ") for name in self.labels("#panel-Vehicles .sheet > g")]
+
+    def test_names_that_stay(self) -> None:
+        """Rows have the stated names, after an edit too, and go by them, new ones last. Trips are counted by neighbours and by names."""
+        shutil.copytree(ROOT / "examples" / "small_town", self.room / "named", ignore=shutil.ignore_patterns("expected"))
+        toml = self.room / "named" / "desk.toml"
+        toml.write_text('block_names = "stated"\n' + toml.read_text())
+        self.serve(self.room / "named")
+        self.assertEqual(self.rows(), ["1.1", "1.2", "1.3", "1.4", "2.1", "2.2", "3.1", "2.3", "S.1", "S.2", "S.3"])
+        self.browser.click(self.bar("wd_2_o_0735"))
+        self.browser.keys("Delete")
+        said = self.wait_for("cancel wd_2_o_0735: ")
+        self.assertIn("vehicles 11 → 12", said)
+        self.assertIn("Marked: 3 trips. In another block: 2 by neighbours, 2 by names.", said)
+        self.assertEqual(sorted(self.names(".bar.changed")), ["wd_2_i_0640", "wd_2_i_0810", "wd_2_o_0605"])
+        run(["blocks", self.town])
+        self.assertEqual(self.rows(), [block.name for block in read_blocks(self.town / "blocks.csv")])
+        self.choose("#sort", "name, kept ones first")
+        self.assertEqual(self.rows(), ["1.1", "1.2", "1.3", "1.4", "2.1", "2.2", "2.3", "3.1", "S.1", "S.2", "S.3", "V1"])
+        self.assertEqual(self.browser.errors(), [])
+
+
+@needs_browser
+@needs_program
+class PlannerTest(ServedTest):
+    """The page of a planner."""
+
+    def test_boards_write_and_keep(self) -> None:
+        """A planner's page writes boards and feed by the edits that stand. Keep takes these into the script, and empties their file."""
+        shutil.copytree(ROOT / "examples" / "small_town", self.room / "town", ignore=shutil.ignore_patterns("expected"))
+        self.serve(self.room / "town", "ann")
+        self.assertIn("planner ann", self.browser.text("#date"))
+        self.browser.click(self.bar("wd_2_o_0735"))
+        self.browser.keys("Shift+ArrowRight", "Enter")
+        self.wait_for("shift wd_2_o_0735 +1: ")
+        self.browser.click("#tab-Edits")
+        for what, file, record in (("boards", "boards.csv", ",trip,wd_2_o_0735,Station,07:36,"),
+                                   ("feed", "stop_times_blocks.txt", "wd_2_o_0735,07:36:00,07:36:00,")):
+            self.browser.click(f"#export-{what}")
+            self.browser.wait(lambda file=file: (self.town / file).is_file() and self.browser.text("#answered"))
+            self.assertIn(record, (self.town / file).read_text())
+        planned = self.town / "planner_edits.csv"
+        self.assertEqual((self.script(), planned.read_text()), ("", "ann,shift,wd_2_o_0735,+1\n"))
+        self.browser.click("#keep")
+        self.browser.wait(lambda: "kept 1 records" in self.browser.text("#answered"))
+        self.assertIn("took 1 record into", self.browser.text("#answered"))
+        self.assertEqual((self.script(), planned.read_text()), ("shift,wd_2_o_0735,+1\n", ""))
         self.assertEqual(self.browser.errors(), [])
 
 

@@ -12,6 +12,7 @@ const ORDERS = {
   end: (one, other) => one.returns - other.returns,
   "span, longest first": (one, other) => other.figures.span - one.figures.span,
   "waiting, longest first": (one, other) => other.figures.waiting - one.figures.waiting,
+  "name, kept ones first": (one, other) => other.kept - one.kept || text(one.name, other.name),
 };
 
 /** Offers the orders, and calls `changed` when another one is chosen. */
