@@ -207,15 +207,18 @@ class LookTest(BrowserTest):
 
     def test_small_windows(self) -> None:
         """A phone and a window of 800 by 600 show mostly the chart. Tools and legend fold, and come by their buttons."""
-        self.open(400)
+        self.open(1500)
+        beyond = "const page = document.documentElement; return [page.scrollWidth - page.clientWidth, page.scrollHeight - page.clientHeight]"
         for width, height in ((390, 844), (800, 600), (911, 512)):
             self.browser.resize(width, height)
             self.browser.wait(lambda: self.browser.run("return document.getElementById('legend').hidden"))
             frame = self.box("#panel-Vehicles .frame")
             self.assertGreater(frame["width"] * frame["height"], 0.7 * width * height)
+            self.assertLessEqual(frame["bottom"], self.box("#run")["top"])
             for button, part in (("tools", "#search"), ("legend", "#legend")):
                 self.browser.click(f"#fold-{button}")
                 self.assertGreater(self.box(part)["height"], 0)
+                self.assertEqual(self.browser.run(beyond), [0, 0], (width, button))
                 self.browser.click(f"#fold-{button}")
                 self.assertEqual(self.box(part)["height"], 0)
         self.browser.resize(1400, 1000)
@@ -576,6 +579,7 @@ class OpenTest(ServedTest):
         self.assertGreater(self.box("#panel-Vehicles .frame")["height"], 844 * 0.4)
         self.browser.click("#side form button")
         self.wait_for("shift wd_1_o_0740")
+        self.assertLess(self.box("#said")["bottom"], self.box("#side")["top"])
         self.browser.click("#side .close")
         self.assertEqual(self.box("#side")["height"], 0)
         self.assertEqual(self.browser.errors(), [])
