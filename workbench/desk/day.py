@@ -69,13 +69,15 @@ class Proof:
 class Day:
     """A plan of a town. `cost` is the vehicles without deadheads, the vehicles of the blocks, and their empty minutes.
 
-    `scripts` are those after which it is, and `claim` has the two files that the program has written of it. `written` says whether
-    the `blocks.csv` of the town is one of them: `same`, `other`, or `missing`. `proof` is None until it is asked for.
+    `scripts` are those after which it is, `shown` has the blocks as the program shows them, and `claim` the two files that it has
+    written of them. `written` says whether the `blocks.csv` of the town is one of these: `same`, `other`, or `missing`. `proof` is None
+    until it is asked for.
     """
 
     town: Town
     state: str
     scripts: Scripts
+    shown: list[Json]
     blocks: list[Block]
     cost: tuple[int, int, int]
     claim: dict[str, bytes]
@@ -93,8 +95,11 @@ class Day:
         return with_edits(own, self.planners.standing) if self.planners else own
 
 
-def plan_day(town: Town, scripts: Scripts | None = None, with_planners: bool = False) -> Day:
-    """The day of a town after its scripts, or after these, without its proof. Without planners their script is passed over."""
+def plan_day(town: Town, scripts: Scripts | None = None, with_planners: bool = False, before: Day | None = None) -> Day:
+    """The day of a town after its scripts, or after these, without its proof. Without planners their script is passed over.
+
+    What is as on a day before, of the same town, is the same object: the trips as they are published, and the blocks.
+    """
     state = state_of(town)
     scripts = scripts_of(town) if scripts is None else scripts
     own = script = scripts.get("edits.csv", b"")
@@ -114,11 +119,11 @@ def plan_day(town: Town, scripts: Scripts | None = None, with_planners: bool = F
     cost = told["fixed"], told["vehicles"], told["minutes"]
     if planners and planners.cost != cost:
         raise DeskError("the numbers of `planners` are not those of `blocks` with the same edits")
-    published = {**_published(town), **_extras(records)}
+    published = _published(town, records, before)
     written = _compared(claim["blocks.csv"], town.path("blocks.csv"))
-    shown = told["records"][-1].get("plan", {"blocks": []})
-    blocks = [_block(block, published, bool(town.table("classes"))) for block in shown["blocks"]]
-    return Day(town, state, scripts, blocks, cost, claim, records[:count], published, written, planners)
+    shown = told["records"][-1].get("plan", {"blocks": []})["blocks"]
+    blocks = _blocks(shown, published, bool(town.table("classes")), before)
+    return Day(town, state, scripts, shown, blocks, cost, claim, records[:count], published, written, planners)
 
 
 def read_planners(town: Town, scripts: Scripts) -> Planners:
@@ -146,10 +151,18 @@ def _compared(planned: bytes, stands: Path) -> str:
     return "same" if read_bytes(stands) == planned else "other"
 
 
-def _published(town: Town) -> dict[str, Published]:
-    """The trips of a town by their names. The program has accepted them, so each has its times."""
-    return {trip.trip_id: Published(trip.start, trip.end, departure_minute(trip.departure or 0), arrival_minute(trip.arrival or 0), trip)
-            for trip in town.day()}
+def _published(town: Town, records: list[Record], before: Day | None) -> dict[str, Published]:
+    """The trips of a town and those that its script adds, by their names."""
+    if before and before.town is town:
+        found = {name: published for name, published in before.published.items() if published.trip}
+    else:
+        # The program has accepted these trips, so each has its times.
+        found = {trip.trip_id: Published(
+            trip.start, trip.end, departure_minute(trip.departure or 0), arrival_minute(trip.arrival or 0), trip) for trip in town.day()}
+    for name, extra in _extras(records).items():
+        known = before.published.get(name) if before else None
+        found[name] = known if known and known == extra else extra
+    return found
 
 
 def _extras(records: list[Record]) -> dict[str, Published]:
@@ -160,6 +173,20 @@ def _extras(records: list[Record]) -> dict[str, Published]:
             _, name, start, end, departs, arrives = record.fields
             found[name] = Published(start, end, parse_minute(departs) or 0, parse_minute(arrives) or 0, None)
     return found
+
+
+def _blocks(shown: list[Json], published: dict[str, Published], has_classes: bool, before: Day | None) -> list[Block]:
+    """The blocks as the program shows them."""
+    known: dict[str, tuple[Json, Block]] = {}
+    if before:
+        same = {name for name, trip in before.published.items() if published.get(name) is trip}
+        known = {block.name: (told, block) for told, block in zip(before.shown, before.blocks)
+                 if same.issuperset(ride.name for ride in block.rides)}
+    blocks = []
+    for told in shown:
+        was = known.get(told["block"])
+        blocks.append(was[1] if was and was[0] == told else _block(told, published, has_classes))
+    return blocks
 
 
 def _block(shown: Json, published: dict[str, Published], has_classes: bool) -> Block:

@@ -14,7 +14,8 @@ from desk.texts_names import keeps_names
 
 def marks(before: Day, after: Day) -> Json:
     """The trips that are marked after an edit, and how many there are of each kind."""
-    days = before.blocks, after.blocks
+    same = {id(block) for block in before.blocks} & {id(block) for block in after.blocks}
+    days = [[block for block in day.blocks if id(block) not in same] for day in (before, after)]
     was, now = ({ride.name: (block.name, ride.departs, ride.ends) for block in blocks for ride in block.rides} for blocks in days)
     both = was.keys() & now.keys()
     kinds = {"neighbours": other_neighbours(*([[ride.name for ride in block.rides] for block in blocks] for blocks in days)),

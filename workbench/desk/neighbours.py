@@ -1,4 +1,4 @@
-"""Trips that follow on one another in blocks: those of the blocks that the feed states, and changes of line."""
+"""Trips that follow on one another in blocks: those that the feed states, those that another plan has, and changes of line."""
 from __future__ import annotations
 
 from collections.abc import Iterable, Iterator, Mapping, Sequence

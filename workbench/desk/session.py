@@ -158,7 +158,7 @@ class Session:
     def _tried(self, before: Day, script: Script, record: bytes) -> Day:
         """The day with a record behind the script, which is not written."""
         scripts = scripts_of(before.town) | {self.script_name: with_record(script.content, record)}
-        return plan_day(before.town, scripts, with_planners=self.planner is not None)
+        return plan_day(before.town, scripts, self.planner is not None, before)
 
     def _records(self, day: Day) -> list[Record]:
         """The records of the script that is written."""
@@ -167,7 +167,7 @@ class Session:
     def _view(self, day: Day) -> Json:
         """The day as the page reads it, with who edits."""
         if self._seen is None or self._seen[0] is not day:
-            view = as_view(day)
+            view = as_view(day, self._seen)
             self._seen = day, view | {"planner": self.planner} | (self.beside(view) if self.beside else {})
         return self._seen[1]
 

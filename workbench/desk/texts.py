@@ -71,7 +71,8 @@ class Lines:
     def seen(self, pattern: re.Pattern[str] | str) -> re.Match[str] | None:
         """The next line, which is taken, where it is of this form; else None."""
         line = self.next()
-        found = None if line is None else re.fullmatch(pattern, line)
+        form = pattern if isinstance(pattern, re.Pattern) else re.compile(pattern)
+        found = None if line is None else form.fullmatch(line)
         self.at += found is not None
         return found
 
@@ -253,8 +254,9 @@ def read_block(line: str, name: str, empty: tuple[str, ...]) -> Json | None:
     """The block of a line behind its name, or None where it is of no form. `empty` is which empty minutes it may have."""
     block: Json = {"block": name, "out": 0, "trips": [], "in": 0}
     before = None
+    form = re.compile(f"({'|'.join(empty)}) {ABOVE_0}")
     for part in line[len(name) + 2:].split("; "):
-        minutes = re.fullmatch(f"({'|'.join(empty)}) {ABOVE_0}", part)
+        minutes = form.fullmatch(part)
         trip = None if minutes else TRIP.fullmatch(part)
         if block["in"] or not (minutes or trip):
             return None

@@ -10,7 +10,7 @@ from desk.figures import block_figures
 from desk.lines import LineNames
 from desk.notes.days import no_trips
 from desk.notes.note import View
-from desk.plans import Block
+from desk.plans import Block, Ride
 from desk.records import open_records
 from desk.scripts import Record, standing
 from desk.texts import Json, minute_of
@@ -19,20 +19,23 @@ from desk.texts_written import edit_text, verdict_text
 from desk.town import Town
 from desk.unlisted import told, unlisted
 
+Seen = tuple[Day, Json]
+"""A day and its view."""
+
 LISTS = ("trips", "blocks", "script")
 """The lists of a view that are long, and mostly as they were after an edit."""
 
 PROVED = "No plan has fewer vehicles, and none with as many has fewer empty minutes: checked by prices."
 
 
-def as_view(day: Day) -> Json:
-    """All that the page shows of a day."""
+def as_view(day: Day, seen: Seen | None = None) -> Json:
+    """All that the page shows of a day. What is as it was seen before, of a day of the same town, is the same object."""
     lines = LineNames(day.town)
-    trips = _trips(day, lines)
+    seen = seen if seen and seen[0].town is day.town else None
+    trips = _trips(day, lines, seen)
     numbers = {trip["id"]: number for number, trip in enumerate(trips)}
     done, undone = standing(day.records)
     fixed, vehicles, minutes = day.cost
-    names = _stated_names(day)
     return {
         "title": day.town.title,
         "date": day_text(day.town),
@@ -42,7 +45,7 @@ def as_view(day: Day) -> Json:
         "numbers": {"vehicles": vehicles, "minutes": minutes, "fixed": fixed},
         "colours": lines.colours,
         "trips": trips,
-        "blocks": [_block(block, numbers, block.name in names) for block in day.blocks],
+        "blocks": _blocks(day, numbers, seen),
         "script": [_record(record) for record in day.records],
         "undo": done[-1].text if done else None,
         "redo": undone[-1].text if undone else None,
@@ -66,7 +69,7 @@ def parts_of(before: list[Json], after: list[Json]) -> list[Any]:
     """A list in parts: `[first, count]` are elements that stand where they stood in the list before, and all else is an element."""
     parts: list[Any] = []
     for place, element in enumerate(after):
-        if place >= len(before) or element != before[place]:
+        if place >= len(before) or element is not before[place] and element != before[place]:
             parts.append(element)
         elif parts and isinstance(parts[-1], list):
             parts[-1][1] += 1
@@ -100,14 +103,20 @@ def _verdict(day: Day, said: Json) -> Json:
     return {"yes": None, "text": text, "words": f"No trip runs. {why or 'The script cancels all of them.'}"}
 
 
-def _trips(day: Day, lines: LineNames) -> list[Json]:
+def _trips(day: Day, lines: LineNames, seen: Seen | None) -> list[Json]:
     """The trips of the files in their order, those that do not run too."""
+    known: dict[str, tuple[Published, Ride | None, Json]] = {}
+    if seen:
+        were = _rides(seen[0])
+        known = {name: (published, were.get(name), shown) for (name, published), shown in zip(seen[0].published.items(), seen[1]["trips"])}
     tolerances = _tolerances(day.town)
     early, late = (_number(day.town.settings.get(key)) for key in ("early", "late"))
-    rides = {ride.name: ride for block in day.blocks for ride in block.rides}
-    trips = []
+    rides, trips = _rides(day), []
     for name, published in day.published.items():
-        ride = rides.get(name)
+        ride, before = rides.get(name), known.get(name)
+        if before and before[0] is published and before[1] is ride and before[2]["line"] == lines.of(published.trip):
+            trips.append(before[2])
+            continue
         shown = _published(name, published, lines)
         shown["early"], shown["late"] = tolerances.get(name, (early, late)) if published.trip else (early, late)
         shown |= {"runs": ride is not None, "shift": ride.shift if ride else 0}
@@ -117,14 +126,19 @@ def _trips(day: Day, lines: LineNames) -> list[Json]:
     return trips
 
 
+def _rides(day: Day) -> dict[str, Ride]:
+    """The rides of a day by the names of their trips."""
+    return {ride.name: ride for block in day.blocks for ride in block.rides}
+
+
 def _published(name: str, published: Published, lines: LineNames) -> Json:
     """What the files say of a trip."""
     trip = published.trip
     shown: Json = {"id": name, "from": published.start, "to": published.end, "departs": published.departs, "arrives": published.arrives,
                    "ends": published.arrives, "extra": trip is None, "line": "", "headsign": "", "service": "", "published": None}
     if trip:
-        line = lines.names.get(trip.route_id, trip.route_id)
-        shown |= {"line": line, "headsign": trip.headsign, "service": trip.service_id, "published": [trip.departure, trip.arrival]}
+        shown |= {"line": lines.of(trip), "headsign": trip.headsign, "service": trip.service_id,
+                  "published": [trip.departure, trip.arrival]}
     return shown
 
 
@@ -147,9 +161,21 @@ def _stated_names(day: Day) -> set[str]:
     return {published.trip.block_id for published in day.published.values() if published.trip} if keeps_names(day.town) else set()
 
 
-def _block(block: Block, numbers: dict[str, int], is_kept: bool) -> Json:
-    """A block: its rides as the numbers of their trips, each with the empty minutes before it. A kept name is one of the feed."""
-    return {"name": block.name, "kept": is_kept, "class": block.vehicle_class, "home": block.home, "figures": block_figures(block),
+def _blocks(day: Day, numbers: dict[str, int], seen: Seen | None) -> list[Json]:
+    """The blocks: their rides as the numbers of their trips, each with the empty minutes before it. A kept name is one of the feed."""
+    names = _stated_names(day)
+    known = {block.name: (block, shown["figures"]) for block, shown in zip(seen[0].blocks, seen[1]["blocks"])} if seen else {}
+    shown = []
+    for block in day.blocks:
+        was = known.get(block.name)
+        figures = was[1] if was and was[0] is block else block_figures(block)
+        shown.append(_block(block, numbers, block.name in names, figures))
+    return shown
+
+
+def _block(block: Block, numbers: dict[str, int], is_kept: bool, figures: Json) -> Json:
+    """A block with its figures."""
+    return {"name": block.name, "kept": is_kept, "class": block.vehicle_class, "home": block.home, "figures": figures,
             "rides": [[numbers[ride.name], ride.empty] for ride in block.rides]}
 
 

@@ -26,7 +26,7 @@ def made_day(trips: int) -> Day:
     blocks = _blocks(published)
     empty = sum(ride.empty for block in blocks for ride in block.rides) + sum(block.home for block in blocks)
     verdict = {"verdict": "yes", "vehicles": len(blocks), "minutes": empty, "refused": []}
-    return Day(Town(Path("made town")), "state", {}, blocks, (len(blocks) + 9, len(blocks), empty), {}, [], published, "same", None,
+    return Day(Town(Path("made town")), "state", {}, [], blocks, (len(blocks) + 9, len(blocks), empty), {}, [], published, "same", None,
                Proof(verdict, _deficits(blocks), {}), datetime.datetime(2026, 9, 7, 8, 15))
 
 

@@ -396,13 +396,14 @@ class LookTest(BrowserTest):
         self.assertIn(f"block {name}", self.browser.run("return document.activeElement.getAttribute('aria-label')"))
 
     def test_paper(self) -> None:
-        """On A4 and on A3 each page has the title and, above drawings, the hours."""
+        """On A4 and on A3 each page has the title and, above drawings, the hours. The 80 vehicles take seven sheets of A4."""
         self.open(600)
         pages = []
         for width, height in ((21.0, 29.7), (29.7, 42.0)):
             paper = self.browser.printed(width, height)
             self.assertTrue(paper.startswith(b"%PDF"))
             pages.append(len(re.findall(rb"/Type\s*/Page\b(?!s)", paper)))
+        self.assertEqual((len(self.day.blocks), pages[0]), (80, 7))
         self.assertGreater(pages[0], pages[1])
         self.assertGreaterEqual(pages[1], 3)
         heads = self.browser.texts("#paper thead")

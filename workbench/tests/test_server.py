@@ -432,6 +432,49 @@ class SessionTest(FolderTest):
         for name in LISTS:
             self.assertEqual(whole_of(day[name], change[name]), whole[name])
 
+    def test_what_is_as_before(self) -> None:
+        """Behind many edits the day is as it is read by a session that has not seen them, whatever stays the same object between two."""
+        shutil.copytree(ROOT / "examples" / "small_town", self.room / "small")
+        routes = self.room / "small" / "routes.txt"
+        session = Session(self.room / "small")
+        before = session.day()["day"]
+        edits = [{"edit": "cancel", "trip": "wd_2_o_0735"}, {"edit": "shift", "trip": "wd_3_i_0850", "shift": 1},
+                 {"edit": "extra", "trip": "E", "from": "Station", "to": "Hospital", "departs": "10:00", "arrives": "10:20"},
+                 {"edit": "undo"},
+                 {"edit": "extra", "trip": "E", "from": "Hospital", "to": "Station", "departs": "10:00", "arrives": "10:20"},
+                 {"edit": "extra", "trip": "F", "from": "Station", "to": "Oakfield", "departs": "11:00", "arrives": "11:20"},
+                 {"edit": "cancel", "trip": "E"}, {"edit": "undo"}, {"edit": "cancel", "trip": "wd_1_o_0540"}, {"edit": "undo"}]
+        for number, edit in enumerate(edits):
+            if number == 3:
+                routes.write_text(routes.read_text().replace("line_2,stb,2,", "line_2,stb,2b,"))
+            answer = session.edit(edit | {"state": before["state"]})
+            self.assertTrue(answer["done"], answer)
+            change, whole = answer["change"], Session(self.room / "small").day()["day"]
+            before = change | {name: whole_of(before[name], change[name]) for name in LISTS}
+            passing = ("proof", "made")
+            self.assertEqual({name: told for name, told in before.items() if name not in passing},
+                             {name: told for name, told in whole.items() if name not in passing}, edit)
+            self.assertTrue(any(isinstance(part, list) and part[1] > 9 for part in change["trips"]), edit)
+        for places in ("Station,Hospital", "Hospital,Station"):
+            (self.room / "small" / "edits.csv").write_text(f"extra,E,{places},10:00,10:20\ncancel,E\n")
+            self.assertEqual(session.day()["day"]["trips"], Session(self.room / "small").day()["day"]["trips"])
+
+    def test_blocks_of_another_script(self) -> None:
+        """A block that is shown as before is the same object, but where its trip runs between other places now."""
+        times = [(trip, number, "08:00:00" if number == 1 else "08:30:00", stop) for trip, ends in (("T", "CD"), ("U", "DC"))
+                 for number, stop in enumerate(ends, 1)]
+        town = Town(write_feed(self.room / "two", {
+            "trips.txt": "service_id,trip_id\nW,T\nW,U\n",
+            "stop_times.txt": table("trip_id,stop_sequence,arrival_time,departure_time,stop_id",
+                                    [(trip, number, time, time, stop) for trip, number, time, stop in times])}))
+        there, back = ({"edits.csv": f"extra,E,{places},08:10,08:40\n".encode()} for places in ("C,D", "D,C"))
+        first, whole = plan_day(town, there), plan_day(town, back)
+        second = plan_day(town, back, before=first)
+        self.assertEqual(([block.name for block in whole.blocks], first.shown), (["B1", "B2", "B3"], second.shown))
+        self.assertEqual((second.blocks, second.published), (whole.blocks, whole.published))
+        after = plan_day(town, second.scripts, before=second)
+        self.assertTrue(all(one is other for one, other in zip(second.blocks, after.blocks, strict=True)))
+
     def test_parts(self) -> None:
         """A list in parts has what stands where it stood as slices, and all else as it is."""
         for before, after, parts in (("abc", "abc", [[0, 3]]), ("abc", "axcd", [[0, 1], "x", [2, 1], "d"]), ("abc", "", []), ("", "a", ["a"]),
