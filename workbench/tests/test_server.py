@@ -30,6 +30,7 @@ from desk.town import Town
 from desk.view import LISTS, parts_of
 from desk.web import HEADERS, MOST_BODY, MOST_LINES, STATIC
 from tests.feeds import TOKEN, FolderTest, needs_program, table, write_feed
+from tests.small_town import two_trips
 
 RUN = program.run
 
@@ -416,6 +417,14 @@ class SessionTest(FolderTest):
         cut = ["wd_2_i_0640", "wd_2_i_0810"]
         self.assertEqual(found["numbered", "wd_2_o_0735"], none | {"trips": cut, "neighbours": 2, "names": 18})
         self.assertEqual(found["named", "wd_2_o_0735"], none | {"trips": [*cut, "wd_2_o_0605"], "neighbours": 2, "names": 2})
+
+    def test_names_of_a_day_type(self) -> None:
+        """The blocks of a day type keep the names that its own file states, where the agency states others."""
+        town = two_trips(self.room / "period", {
+            "desk.toml": 'block_names = "stated"\n', "trips.txt": "service_id,trip_id,block_id\nW,U1,old\nW,U2,old\n"})
+        day = write_feed(town / "days" / "mon", {"desk.toml": "", "stated.csv": "trip_id,block_id\nU1,N7\nU2,N7\n"})
+        names = [[block["name"] for block in Session(folder).day()["day"]["blocks"]] for folder in (town, day)]
+        self.assertEqual(names, [["old"], ["N7"]])
 
     def test_one_run(self) -> None:
         """An edit is one run of the program, and its answer has what changed. The proof of the plan is asked for by itself."""
