@@ -1,0 +1,7 @@
+//! Laws of plans as they are computed. Each is the contract of a function that does nothing.
+ghost use Rattle.planned_laws.specs.Laws as spec;
+
+/// A search that may begin at a row finds a plan that is matched and covered, along a path from that row.
+pub fn found_law()
+    ensures { spec.AreFound }
+{}
