@@ -1,3 +1,9 @@
+pub mod ChoiceLemmas
+pub mod EachLemmas
+pub mod FirstLemmas
 pub mod GrownLemmas
+pub mod OrderLemmas
+pub mod PairLemmas
+pub mod PlaceLemmas
 pub mod SearchLemmas
 pub mod StepLemmas

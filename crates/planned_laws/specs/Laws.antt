@@ -1,9 +1,21 @@
 -- What holds of plans that are computed, for every timetable.
-use Rattle.std.specs.Prelude.{◌≡◌, ℕ, ◌≤◌, Bool, length, Option, None}
+use Rattle.std.specs.Prelude.{◌≡◌, ℕ, ◌+◌, ◌*◌, ◌≤◌, All, Bool, length, Option, None}
+use Rattle.assignment_model.specs.Choice.{IsChosen}
 use Rattle.assignment_model.specs.Paths.{IsPath}
 use Rattle.assignment_model.specs.Prices.{Plan}
+use Rattle.assignment_model.specs.declared.limits.TheConstants.{MOST_LIKING}
+use Rattle.deadhead_matrix.specs.Fitting.{network_of}
+use Rattle.deadhead_matrix.specs.Matrix.{MatrixView}
+use Rattle.deadhead_matrix.specs.Plans.{IsScheduled}
+use Rattle.deadhead_matrix.specs.Pulls.{IsPull}
+use Rattle.desk_core.specs.Computed.{first_plan, likes}
+use Rattle.desk_core.specs.Counts.{blocks_in}
+use Rattle.pair_graph.specs.Pairs.{PairsView}
+use Rattle.plan_choice.specs.Likings.{LikingsView}
 use Rattle.trip_model.specs.Links.{next_of, before_of}
-use Rattle.trip_model.specs.declared.limits.TheConstants.{MOST_SLOTS}
+use Rattle.trip_model.specs.Plain.{AreMoves}
+use Rattle.trip_model.specs.Timetable.{TimetableView, IsTimetable}
+use Rattle.trip_model.specs.declared.limits.TheConstants.{LAST_MINUTE, MOST_SLOTS}
 use Rattle.pair_search.specs.Assignment.{AreWeights, IsMatched, Covers, MayBegin}
 use Rattle.pair_search.specs.Determined.{found}
 
@@ -25,3 +37,31 @@ pub record IsFound (w : ℕ → ℕ → Option ℕ) (n : ℕ) (out : ℕ → Boo
 abbrev pub AreFound : Type 0
 AreFound = (w : ℕ → ℕ → Option ℕ) (n : ℕ) (out : ℕ → Bool) (a : ℕ) (b : Option ℕ) (plan : Plan) → n ≤ MOST_SLOTS → AreWeights w n
     → HasSlots n plan → MayBegin w n out a b plan.next plan.leave plan.enter → IsFound w n out a b plan (found w a plan)
+
+-- No more slots than there may be. Their moves are valid, and no pull is longer than one may be.
+pub record ArePairs (pairs : PairsView) : Type 0 where
+  pub few : length pairs.moves ≤ MOST_SLOTS
+  pub moves : AreMoves (length pairs.matrix.walks) pairs.moves
+  pub pulls : All IsPull pairs.matrix.pulls
+
+-- all that counts is together no more than a link may be liked
+abbrev pub AreLikings : LikingsView → Type 0
+AreLikings likings = likings.stated + likings.line + likings.waiting * LAST_MINUTE ≤ MOST_LIKING
+
+-- A first plan has as many slots as the timetable. Its prices prove it, and its blocks are least. No least blocking is liked more.
+pub record IsFirst (timetable : TimetableView) (matrix : MatrixView) (likings : LikingsView) (plan : Plan) : Type 0 where
+  pub slots : HasSlots (length timetable.slots) plan
+  pub scheduled : IsScheduled timetable matrix plan (blocks_in timetable plan)
+  pub chosen : IsChosen (network_of timetable matrix) (likes timetable matrix likings) (blocks_in timetable plan)
+
+-- A timetable, the matrix over its places and likings, as those of each feed are that is accepted.
+pub record MayPlan (timetable : TimetableView) (matrix : MatrixView) (likings : LikingsView) : Type 0 where
+  pub valid : IsTimetable timetable
+  pub places : length timetable.places ≡ length matrix.walks
+  pub pulls : All IsPull matrix.pulls
+  pub liked : AreLikings likings
+
+-- the plan of each timetable that is made from nothing is such
+abbrev pub AreFirst : Type 0
+AreFirst = (timetable : TimetableView) (matrix : MatrixView) (likings : LikingsView) → MayPlan timetable matrix likings
+    → IsFirst timetable matrix likings (first_plan timetable matrix likings)

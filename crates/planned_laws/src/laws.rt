@@ -5,3 +5,8 @@ ghost use Rattle.planned_laws.specs.Laws as spec;
 pub fn found_law()
     ensures { spec.AreFound }
 {}
+
+/// The first plan of a timetable is least, and of all least plans it is the one that is liked best.
+pub fn first_law()
+    ensures { spec.AreFirst }
+{}

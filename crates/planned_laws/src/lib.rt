@@ -1,8 +1,9 @@
-//! What a search finds is matched and covered, whatever runs.
+//! The first plan of a timetable is least, whatever runs.
 //!
-//! A law for a reader, which nothing calls: [`laws::found_law`]. It is the contract of a function that does nothing.
+//! Laws for a reader, which nothing calls: [`laws::found_law`] and [`laws::first_law`]. Each is the contract of a function that does
+//! nothing.
 //!
-//! The contract cites `Laws`; of `pair_search` `Assignment` and `Determined`.
+//! The contracts cite `Laws`; of `desk_core` `Computed`, and of `pair_search` `Assignment` and `Determined`.
 #![tactic(auto)]
 
 pub mod laws;
