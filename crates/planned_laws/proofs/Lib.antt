@@ -5,5 +5,6 @@ pub mod GrownLemmas
 pub mod OrderLemmas
 pub mod PairLemmas
 pub mod PlaceLemmas
+pub mod RepairLemmas
 pub mod SearchLemmas
 pub mod StepLemmas

@@ -6,10 +6,12 @@ use Rattle.assignment_model.specs.Prices.{Plan}
 use Rattle.assignment_model.specs.declared.limits.TheConstants.{MOST_LIKING}
 use Rattle.deadhead_matrix.specs.Fitting.{network_of}
 use Rattle.deadhead_matrix.specs.Matrix.{MatrixView}
-use Rattle.deadhead_matrix.specs.Plans.{IsScheduled}
+use Rattle.deadhead_matrix.specs.Plans.{IsPlanFor, IsScheduled}
 use Rattle.deadhead_matrix.specs.Pulls.{IsPull}
-use Rattle.desk_core.specs.Computed.{first_plan, likes}
+use Rattle.desk_core.specs.Computed.{first_plan, likes, plan_repaired}
 use Rattle.desk_core.specs.Counts.{blocks_in}
+use Rattle.desk_core.specs.Repair.{IsRepairedIn, MayRepair}
+use Rattle.edit_script.specs.declared.edit.Edit.{Edit}
 use Rattle.pair_graph.specs.Pairs.{PairsView}
 use Rattle.plan_choice.specs.Likings.{LikingsView}
 use Rattle.trip_model.specs.Links.{next_of, before_of}
@@ -65,3 +67,15 @@ pub record MayPlan (timetable : TimetableView) (matrix : MatrixView) (likings : 
 abbrev pub AreFirst : Type 0
 AreFirst = (timetable : TimetableView) (matrix : MatrixView) (likings : LikingsView) → MayPlan timetable matrix likings
     → IsFirst timetable matrix likings (first_plan timetable matrix likings)
+
+-- A plan was repaired after the edit of the trip in a slot. Its prices prove it, and links changed along the paths of the repair.
+pub record IsRepaired (edit : Edit) (slot : ℕ) (timetable : TimetableView) (matrix : MatrixView) (old new : Plan) : Type 0 where
+  pub plan : IsPlanFor timetable matrix new
+  pub links : IsRepairedIn edit slot old.next new.next
+
+-- each plan that may be repaired is so, where it has as many prices as next trips
+abbrev pub AreAllRepaired : Type 0
+AreAllRepaired = (timetable : TimetableView) (matrix : MatrixView) → IsTimetable timetable → length timetable.places ≡ length matrix.walks
+    → All IsPull matrix.pulls → (plan : Plan) → length plan.leave ≡ length plan.next → length plan.enter ≡ length plan.next
+    → (edit : Edit) (slot : ℕ) → MayRepair edit slot timetable matrix plan
+    → IsRepaired edit slot timetable matrix plan (plan_repaired edit slot timetable matrix plan)

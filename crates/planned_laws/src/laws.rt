@@ -10,3 +10,8 @@ pub fn found_law()
 pub fn first_law()
     ensures { spec.AreFirst }
 {}
+
+/// A plan that may be repaired after an edit is certified after it, and links changed along the paths of the repair alone.
+pub fn repaired_law()
+    ensures { spec.AreAllRepaired }
+{}
