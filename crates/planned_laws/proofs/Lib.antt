@@ -1,10 +1,13 @@
 pub mod ChoiceLemmas
+pub mod DeskLemmas
 pub mod EachLemmas
+pub mod EditLemmas
 pub mod FirstLemmas
 pub mod GrownLemmas
 pub mod OrderLemmas
 pub mod PairLemmas
 pub mod PlaceLemmas
+pub mod PlannedLemmas
 pub mod RepairLemmas
 pub mod SearchLemmas
 pub mod StepLemmas

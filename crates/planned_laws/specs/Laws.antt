@@ -1,5 +1,5 @@
 -- What holds of plans that are computed, for every timetable.
-use Rattle.std.specs.Prelude.{◌≡◌, ℕ, ◌+◌, ◌*◌, ◌≤◌, All, Bool, length, Option, None}
+use Rattle.std.specs.Prelude.{◌≡◌, ℕ, ◌+◌, ◌*◌, ◌≤◌, All, Bool, List, length, Option, None}
 use Rattle.assignment_model.specs.Choice.{IsChosen}
 use Rattle.assignment_model.specs.Paths.{IsPath}
 use Rattle.assignment_model.specs.Prices.{Plan}
@@ -11,7 +11,10 @@ use Rattle.deadhead_matrix.specs.Pulls.{IsPull}
 use Rattle.desk_core.specs.Computed.{first_plan, likes, plan_repaired}
 use Rattle.desk_core.specs.Counts.{blocks_in}
 use Rattle.desk_core.specs.Repair.{IsRepairedIn, MayRepair}
+use Rattle.desk_feed.specs.Script.{IsScript}
 use Rattle.edit_script.specs.declared.edit.Edit.{Edit}
+use Rattle.edit_script.specs.declared.edit.Line.{Line}
+use Rattle.feed_desk.specs.Plans.{ArePlanned}
 use Rattle.pair_graph.specs.Pairs.{PairsView}
 use Rattle.plan_choice.specs.Likings.{LikingsView}
 use Rattle.trip_model.specs.Links.{next_of, before_of}
@@ -79,3 +82,8 @@ AreAllRepaired = (timetable : TimetableView) (matrix : MatrixView) → IsTimetab
     → All IsPull matrix.pulls → (plan : Plan) → length plan.leave ≡ length plan.next → length plan.enter ≡ length plan.next
     → (edit : Edit) (slot : ℕ) → MayRepair edit slot timetable matrix plan
     → IsRepaired edit slot timetable matrix plan (plan_repaired edit slot timetable matrix plan)
+
+-- the plans of each script are planned, over each base timetable, matrix and likings of an accepted feed
+abbrev pub AreAllPlanned : Type 0
+AreAllPlanned = (base : TimetableView) (lines : List Line) (matrix : MatrixView) (likings : LikingsView) → MayPlan base matrix likings
+    → IsScript lines → ArePlanned base lines matrix likings

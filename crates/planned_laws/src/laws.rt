@@ -1,5 +1,11 @@
-//! Laws of plans as they are computed. Each is the contract of a function that does nothing.
+//! Laws of plans as they are computed. Each is the contract of a function that does nothing, or that calls laws alone.
 ghost use Rattle.planned_laws.specs.Laws as spec;
+
+use deadhead_matrix::laws::plan_law;
+use desk_core::laws::same_edits_law;
+use edit_script::laws::machine_law;
+use fixed_fleet::laws::plain_blocks_law;
+use trip_model::laws::plain_law;
 
 /// A search that may begin at a row finds a plan that is matched and covered, along a path from that row.
 pub fn found_law()
@@ -15,3 +21,15 @@ pub fn first_law()
 pub fn repaired_law()
     ensures { spec.AreAllRepaired }
 {}
+
+/// The plans of each script are planned, for every feed that is accepted and without any run. So they are least also where a run
+/// stops early, and also for a command that makes no plan.
+pub fn planned_law()
+    ensures { spec.AreAllPlanned }
+{
+    plan_law();
+    plain_law();
+    plain_blocks_law();
+    same_edits_law();
+    machine_law();
+}
