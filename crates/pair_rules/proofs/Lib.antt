@@ -1,0 +1,4 @@
+mod Allowed
+mod Entries
+mod Names
+mod Numbers
