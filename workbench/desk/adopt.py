@@ -16,7 +16,7 @@ from desk.answers import ask, tell
 from desk.day import CLAIM
 from desk.errors import DeskError, complain
 from desk.files import read_bytes, sync_folder, write_whole
-from desk.hints_forms import PREFERRED
+from desk.hints.forms import PREFERRED
 from desk.locks import locked
 from desk.new_report import counted, some
 from desk.period import has_days

@@ -13,7 +13,7 @@ from pathlib import Path
 from desk.answers import FeedRefused, ask
 from desk.errors import DeskError
 from desk.files import read_bytes
-from desk.hints_refusals import refusal_hints
+from desk.hints.refusals import refusal_hints
 from desk.plans import Block, Ride
 from desk.rooms import Scripts, room_of, scripts_of, state_of
 from desk.scripts import Record, fields_of, judged, refuse_open_quote, with_edits, with_show

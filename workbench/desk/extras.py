@@ -5,8 +5,8 @@ from collections import Counter
 from typing import NamedTuple
 
 from desk.day import Day
-from desk.hints_names import Known, advice, shown
-from desk.hints_trips import TripFile
+from desk.hints.names import Known, advice, shown
+from desk.hints.trips import TripFile
 from desk.plans import Ride
 from desk.records import first_records, open_records
 from desk.town import Town

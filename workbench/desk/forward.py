@@ -14,7 +14,7 @@ from typing import BinaryIO
 from desk.answers import read
 from desk.errors import DeskError, complain
 from desk.files import reason
-from desk.hints import hints_before, hints_of, questions_before
+from desk.hints.runs import hints_before, hints_of, questions_before
 from desk.program import DONE, RECORDS_REFUSED, WRITE_FAULT, program_path
 from desk.runs import folder_of_run
 from desk.town import Town, town_above

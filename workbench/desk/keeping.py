@@ -7,8 +7,8 @@ from __future__ import annotations
 
 from desk.answers import tell
 from desk.files import read_bytes
-from desk.hints_edits import is_edit
-from desk.hints_journal import JOURNAL, journal_text
+from desk.hints.edits import is_edit
+from desk.hints.journal import JOURNAL, journal_text
 from desk.rooms import room_of
 from desk.scripts import Record, fields_of
 from desk.times import format_minute, parse_minute

@@ -12,8 +12,8 @@ from desk.adopt import kept_before
 from desk.calendars import format_date, parse_date
 from desk.deadheads import Pace, find_depot
 from desk.errors import DeskError, UsageError
-from desk.hints_places import Places
-from desk.hints_refusals import refusal_hints
+from desk.hints.places import Places
+from desk.hints.refusals import refusal_hints
 from desk.left_out import SortedTrips
 from desk.new_left_out import judge_left_out
 from desk.new_report import Report, counted

@@ -15,7 +15,7 @@ from pathlib import Path
 
 from desk.errors import DeskError
 from desk.files import new_mode, read_bytes, reason, refuse_no_file, sync_folder, write_whole
-from desk.hints_files import GTFS
+from desk.hints.files import GTFS
 from desk.locks import locked
 from desk.rooms import own_room
 from desk.town import AGENCY_FILES

@@ -9,7 +9,7 @@ from pathlib import Path
 from desk.day import Day
 from desk.errors import DeskError, complain
 from desk.files import refuse_if_there, write_whole
-from desk.hints_scripts import script_hints
+from desk.hints.scripts import script_hints
 from desk.period import TownPeriod, has_days
 from desk.period_view import PeriodView
 from desk.policy import checksum

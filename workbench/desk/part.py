@@ -10,7 +10,7 @@ from pathlib import Path
 from desk.adopt import kept_before
 from desk.errors import DeskError
 from desk.files import read_bytes
-from desk.hints_files import OWN
+from desk.hints.files import OWN
 from desk.limits import MOST_TRIPS
 from desk.new_report import counted
 from desk.new_room import settle, town_room

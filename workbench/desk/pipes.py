@@ -4,7 +4,7 @@ from __future__ import annotations
 from pathlib import Path
 
 from desk.files import refuse_no_file
-from desk.hints_files import OTHERS, READ
+from desk.hints.files import OTHERS, READ
 from desk.locks import LOCK
 
 NAMES = (*READ, *sorted(OTHERS), LOCK)

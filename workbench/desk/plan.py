@@ -15,7 +15,7 @@ from collections.abc import Callable, Mapping, Sequence
 from pathlib import Path
 
 from desk.errors import DeskError, complain
-from desk.hints_machine import folder_hints
+from desk.hints.machine import folder_hints
 from desk.period import TownPeriod, has_days
 from desk.plan_report import PlannedTown, report_json, report_text
 from desk.plan_run import LEFT, plan_one

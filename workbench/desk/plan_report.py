@@ -9,7 +9,7 @@ from typing import Any
 
 from desk.errors import one_line
 from desk.figures import columns
-from desk.hints_names import shown
+from desk.hints.names import shown
 from desk.new_report import counted
 from desk.period import PlannedDay
 from desk.plan_run import left_of

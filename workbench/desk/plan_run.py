@@ -15,8 +15,8 @@ from typing import Any
 from desk.answers import ask, tell
 from desk.errors import DeskError
 from desk.files import read_bytes, read_text, write_whole
-from desk.hints_forms import WRITTEN
-from desk.hints_refusals import refusal_hints
+from desk.hints.forms import WRITTEN
+from desk.hints.refusals import refusal_hints
 from desk.rooms import FEED_FILES
 from desk.texts_written import line_of_record
 from desk.toml import toml_text

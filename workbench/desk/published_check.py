@@ -10,7 +10,7 @@ from typing import Any
 from desk.answers import ask
 from desk.day import Day
 from desk.errors import DeskError
-from desk.hints_names import shown
+from desk.hints.names import shown
 from desk.layovers import with_layovers
 from desk.published_feed import Handover
 from desk.records import open_records

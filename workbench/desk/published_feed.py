@@ -11,7 +11,7 @@ from desk.answers import tell
 from desk.calendars import format_date
 from desk.day import Day
 from desk.extras import Extra, listed_extras
-from desk.hints_files import GTFS
+from desk.hints.files import GTFS
 from desk.plans import Ride
 from desk.records import open_records, record_text
 from desk.records import row_text as _row

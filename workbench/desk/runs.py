@@ -9,7 +9,7 @@ from contextlib import contextmanager
 from pathlib import Path
 
 from desk.files import read_bytes, write_whole
-from desk.hints_forms import JOURNAL, READ, WRITTEN
+from desk.hints.forms import JOURNAL, READ, WRITTEN
 from desk.rooms import FEED_FILES, SCRIPTS, room_of, scripts_of
 from desk.town import Town
 

@@ -14,7 +14,7 @@ from desk.day import CLAIM, Day, ask_in, plan_day
 from desk.edits import Script, record_of, writing
 from desk.errors import DeskError, UsageError
 from desk.files import read_bytes, write_whole
-from desk.hints_scripts import script_hints
+from desk.hints.scripts import script_hints
 from desk.keeping import keep
 from desk.marks import marks
 from desk.pipes import refuse_pipes

@@ -8,7 +8,7 @@ from collections.abc import Sequence
 from itertools import pairwise
 
 from desk.answers import FeedRefused, ask
-from desk.hints_forms import PREFERRED
+from desk.hints.forms import PREFERRED
 from desk.neighbours import neighbours
 from desk.period import PlannedDay, TownPeriod
 from desk.plan_run import left_of, stated_of

@@ -3,7 +3,7 @@ from __future__ import annotations
 
 from typing import NamedTuple
 
-from desk.hints_trips import TripFile
+from desk.hints.trips import TripFile
 from desk.records import first_records
 from desk.times import parse_time
 from desk.town import Town

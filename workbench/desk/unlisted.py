@@ -6,7 +6,7 @@ from collections.abc import Iterable, Sequence
 from typing import NamedTuple
 
 from desk.answers import FeedRefused, tell
-from desk.hints_names import shown
+from desk.hints.names import shown
 from desk.plans import read_boards
 from desk.records import first_records
 from desk.rooms import room_of, scripts_of

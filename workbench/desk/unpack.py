@@ -8,7 +8,7 @@ from typing import BinaryIO
 
 from desk.errors import DeskError
 from desk.files import reason, refuse_no_file
-from desk.hints_files import GTFS
+from desk.hints.files import GTFS
 from desk.town import AGENCY_FILES
 from desk.zips import DAMAGES, MOST_BYTES, MOST_FILES, Files, zip_files
 

@@ -11,7 +11,7 @@ from unittest import mock
 from desk import program, texts
 from desk.answers import FeedRefused, ask, read, status_of, tell
 from desk.errors import DeskError
-from desk.hints_names import shown
+from desk.hints.names import shown
 from desk.notes.refusal import refusal_of
 from desk.program import NO
 from desk.records import record_text

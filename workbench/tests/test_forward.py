@@ -14,7 +14,7 @@ import unittest.mock
 from pathlib import Path
 
 from desk import cli, forward, program
-from desk.hints_forms import COMMANDS
+from desk.hints.forms import COMMANDS
 from desk.program import ROOT
 from tests.feeds import FolderTest, needs_program, write_feed
 from tests.test_notes import CLEAN

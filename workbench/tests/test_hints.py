@@ -11,9 +11,9 @@ from pathlib import Path
 from unittest import mock
 
 from desk import program
-from desk.hints import hints_before, hints_of, questions_before
-from desk.hints_edits import wrong
-from desk.hints_machine import read_hints, write_hints
+from desk.hints.edits import wrong
+from desk.hints.machine import read_hints, write_hints
+from desk.hints.runs import hints_before, hints_of, questions_before
 from tests.feeds import Feed, FolderTest, demonstration, needs_program, table, write_feed, zip_feed
 from tests.test_notes import CLEAN
 

@@ -4,8 +4,8 @@ from __future__ import annotations
 import shutil
 import unittest
 
-from desk.hints import hints_before, hints_of
-from desk.hints_forms import COLUMNS, COMMANDS, KEYS
+from desk.hints.forms import COLUMNS, COMMANDS, KEYS
+from desk.hints.runs import hints_before, hints_of
 from tests.feeds import FolderTest, write_feed
 from tests.test_hints import EDITS, refused_line
 from tests.test_notes import CLEAN

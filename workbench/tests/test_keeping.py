@@ -14,7 +14,7 @@ from pathlib import Path
 from unittest import mock
 
 from desk import keeping, program
-from desk.hints_journal import journal_text
+from desk.hints.journal import journal_text
 from desk.locks import LOCK
 from desk.scripts import Record, fields_of
 from desk.session import Session

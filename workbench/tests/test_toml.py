@@ -7,7 +7,7 @@ import unittest
 from typing import Any
 
 from desk import program
-from desk.hints_toml import toml_hints
+from desk.hints.toml import toml_hints
 from desk.toml import TomlError, read_toml, toml_text
 from tests.feeds import FolderTest, agency, needs_program, write_feed
 

@@ -12,8 +12,8 @@ from pathlib import Path
 
 from desk.errors import DeskError, one_line
 from desk.files import reason
-from desk.hints_machine import folder_hints
-from desk.hints_toml import toml_hints
+from desk.hints.machine import folder_hints
+from desk.hints.toml import toml_hints
 from desk.notes import days, depot, files, minutes, places, refusal, scripts, settings, trips, ways
 from desk.notes.note import Note, View
 from desk.notes.period import notes_of_period

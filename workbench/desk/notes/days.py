@@ -7,7 +7,7 @@ from collections.abc import Iterator
 from desk.calendars import format_date
 from desk.dates import Days
 from desk.errors import DeskError
-from desk.hints_names import Finding, Known, advice, shown
+from desk.hints.names import Finding, Known, advice, shown
 from desk.notes.note import Note, View, note_of
 
 DAY = datetime.timedelta(days=1)

@@ -3,7 +3,7 @@ from __future__ import annotations
 
 from collections.abc import Iterator
 
-from desk.hints_names import Finding, shown
+from desk.hints.names import Finding, shown
 from desk.notes.note import Note, View, note_of
 from desk.notes.places import about, no_place, without_effect
 from desk.unlisted import unlisted_of_plan

@@ -3,7 +3,7 @@ from __future__ import annotations
 
 from collections.abc import Iterator
 
-from desk.hints_files import is_sheet, like_names
+from desk.hints.files import is_sheet, like_names
 from desk.notes.note import Note, View
 
 

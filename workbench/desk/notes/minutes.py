@@ -5,7 +5,7 @@ from bisect import bisect_right
 from collections.abc import Iterator
 from pathlib import Path
 
-from desk.hints_names import shown
+from desk.hints.names import shown
 from desk.notes.note import Note, View
 from desk.times import arrival_minute, departure_minute, format_time
 from desk.town import DayTrip

@@ -6,12 +6,12 @@ from typing import Any, NamedTuple
 
 from desk.errors import DeskError
 from desk.files import read_bytes
-from desk.hints_edits import is_edit
-from desk.hints_forms import KEYS
-from desk.hints_names import Finding
-from desk.hints_places import Places
-from desk.hints_scripts import edit_of
-from desk.hints_trips import TripFile
+from desk.hints.edits import is_edit
+from desk.hints.forms import KEYS
+from desk.hints.names import Finding
+from desk.hints.places import Places
+from desk.hints.scripts import edit_of
+from desk.hints.trips import TripFile
 from desk.limits import MOST_TRIPS
 from desk.notes.deadheads import Way, read_ways
 from desk.records import first_records

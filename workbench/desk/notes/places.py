@@ -4,7 +4,7 @@ from __future__ import annotations
 from collections import Counter
 from collections.abc import Iterable, Iterator, Sequence
 
-from desk.hints_names import Finding, Known, advice, difference, folded, shown
+from desk.hints.names import Finding, Known, advice, difference, folded, shown
 from desk.notes.deadheads import Way
 from desk.notes.note import Note, View, note_of
 from desk.records import first_records

@@ -5,9 +5,9 @@ from collections.abc import Iterator
 
 from desk.answers import FeedRefused, ask
 from desk.errors import DeskError
-from desk.hints_machine import read_hints
-from desk.hints_names import shown
-from desk.hints_refusals import LINE, OF_A_TRIP, refusal_hints
+from desk.hints.machine import read_hints
+from desk.hints.names import shown
+from desk.hints.refusals import LINE, OF_A_TRIP, refusal_hints
 from desk.left_out import sort_trips
 from desk.notes.note import Note, View
 from desk.town import Town

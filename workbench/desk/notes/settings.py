@@ -3,8 +3,8 @@ from __future__ import annotations
 
 from collections.abc import Iterator
 
-from desk.hints_forms import KEYS
-from desk.hints_names import Finding, Known, advice, shown
+from desk.hints.forms import KEYS
+from desk.hints.names import Finding, Known, advice, shown
 from desk.notes.note import Note, View
 from desk.notes.places import no_place
 

@@ -4,7 +4,7 @@ from __future__ import annotations
 import re
 from collections.abc import Iterator
 
-from desk.hints_names import Finding, shown
+from desk.hints.names import Finding, shown
 from desk.notes.note import Note, View
 from desk.records import open_records
 from desk.unblocked import unblocked

@@ -4,7 +4,7 @@ from __future__ import annotations
 import heapq
 from collections.abc import Iterator
 
-from desk.hints_names import shown
+from desk.hints.names import shown
 from desk.notes.deadheads import Way
 from desk.notes.note import Note, View
 

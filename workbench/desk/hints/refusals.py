@@ -6,13 +6,13 @@ from pathlib import Path
 
 from desk.dates import Days
 from desk.errors import DeskError
-from desk.hints_files import like_names
-from desk.hints_machine import folder_hints
-from desk.hints_settings import key_hints
-from desk.hints_stop_times import trip_hints
-from desk.hints_tables import empty_hints, header_hints, length_hints, record_hints
-from desk.hints_toml import toml_hints
-from desk.hints_trips import TripFile
+from desk.hints.files import like_names
+from desk.hints.machine import folder_hints
+from desk.hints.settings import key_hints
+from desk.hints.stop_times import trip_hints
+from desk.hints.tables import empty_hints, header_hints, length_hints, record_hints
+from desk.hints.toml import toml_hints
+from desk.hints.trips import TripFile
 from desk.limits import MOST_PLACES, MOST_TRIPS
 from desk.town import Town
 

@@ -6,8 +6,8 @@ from pathlib import Path
 
 from desk.errors import DeskError
 from desk.files import reason
-from desk.hints_forms import COLUMNS, DIFFERENT, FIELDS
-from desk.hints_names import Known, folded, shown
+from desk.hints.forms import COLUMNS, DIFFERENT, FIELDS
+from desk.hints.names import Known, folded, shown
 from desk.limits import MOST_BYTES
 from desk.records import is_utf8, open_records
 

@@ -11,7 +11,7 @@ from pathlib import Path
 from desk.answers import tell
 from desk.errors import DeskError
 from desk.files import read_bytes, reason, refuse_no_file
-from desk.hints_forms import JOURNAL
+from desk.hints.forms import JOURNAL
 from desk.limits import MOST_BYTES
 from desk.rooms import own_room
 

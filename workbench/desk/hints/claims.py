@@ -4,10 +4,10 @@ from __future__ import annotations
 from pathlib import Path
 
 from desk.files import reason
-from desk.hints_files import like_names
-from desk.hints_forms import COLUMNS
-from desk.hints_tables import header_hints, record_at
-from desk.hints_names import shown
+from desk.hints.files import like_names
+from desk.hints.forms import COLUMNS
+from desk.hints.names import shown
+from desk.hints.tables import header_hints, record_at
 from desk.rooms import FEED_FILES
 from desk.town import Town
 

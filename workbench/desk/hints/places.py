@@ -4,7 +4,7 @@ from __future__ import annotations
 from collections.abc import Sequence
 from functools import cached_property
 
-from desk.hints_names import CUTOFF, Finding, Known, advice, shown
+from desk.hints.names import CUTOFF, Finding, Known, advice, shown
 from desk.town import DayTrip, Town
 
 

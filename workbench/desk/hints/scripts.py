@@ -8,12 +8,12 @@ from typing import NamedTuple
 
 from desk.errors import DeskError
 from desk.files import read_bytes
-from desk.hints_edits import is_edit, wrong, wrong_of_planner
-from desk.hints_journal import journal_text
-from desk.hints_names import shown
-from desk.hints_places import Places
-from desk.hints_tables import kind_of, save_as
-from desk.hints_trips import TripFile
+from desk.hints.edits import is_edit, wrong, wrong_of_planner
+from desk.hints.journal import journal_text
+from desk.hints.names import shown
+from desk.hints.places import Places
+from desk.hints.tables import kind_of, save_as
+from desk.hints.trips import TripFile
 from desk.limits import MOST_TRIPS
 from desk.records import open_records
 from desk.rooms import SCRIPTS

@@ -5,7 +5,7 @@ from collections import Counter
 from pathlib import Path
 from typing import NamedTuple
 
-from desk.hints_names import shown
+from desk.hints.names import shown
 from desk.records import open_records
 from desk.times import is_no_time
 from desk.town import sequence_in

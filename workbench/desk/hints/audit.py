@@ -2,7 +2,7 @@
 from __future__ import annotations
 
 from desk.answers import read
-from desk.hints_names import shown
+from desk.hints.names import shown
 from desk.layovers import Fitting, fitting
 from desk.texts import Json
 from desk.town import Town

@@ -9,8 +9,8 @@ import zipfile
 from pathlib import Path
 
 from desk.files import reason
-from desk.hints_forms import READ, WRITTEN
-from desk.hints_journal import journal_hints
+from desk.hints.forms import READ, WRITTEN
+from desk.hints.journal import journal_hints
 
 FULL = 1 << 20
 """With fewer bytes to be had a disk counts as full."""

@@ -8,10 +8,10 @@ from typing import Any
 
 from desk.calendars import parse_date
 from desk.errors import DeskError
-from desk.hints_forms import KEYS, NAMED, PREFERRED
-from desk.hints_names import Known, folded, shown
-from desk.hints_toml import MOST_INTEGER, entry_line, quoted_line
-from desk.hints_trips import TripFile
+from desk.hints.forms import KEYS, NAMED, PREFERRED
+from desk.hints.names import Known, folded, shown
+from desk.hints.toml import MOST_INTEGER, entry_line, quoted_line
+from desk.hints.trips import TripFile
 from desk.town import Town
 
 

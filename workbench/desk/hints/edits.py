@@ -4,7 +4,7 @@ from __future__ import annotations
 import re
 from collections.abc import Sequence
 
-from desk.hints_names import Known, shown
+from desk.hints.names import Known, shown
 from desk.records import is_utf8
 from desk.times import parse_minute
 

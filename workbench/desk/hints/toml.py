@@ -7,8 +7,8 @@ from pathlib import Path
 from typing import Any
 
 from desk.files import read_bytes
-from desk.hints_names import shown
-from desk.hints_tables import kind_of, save_as
+from desk.hints.names import shown
+from desk.hints.tables import kind_of, save_as
 from desk.toml import UNCLOSED, TomlError, read_toml
 
 ENTRY = re.compile(r"""(?P<key>"[^"]*"\s*|'[^']*'\s*|[^=:"']*)(?P<sign>[=:])(?P<value>.*)""")

@@ -9,12 +9,12 @@ from collections.abc import Callable, Sequence
 from pathlib import Path
 
 from desk.errors import DeskError
-from desk.hints_audit import audit_hints
-from desk.hints_claims import claim_hints
-from desk.hints_forms import COMMANDS
-from desk.hints_machine import keeper_hints, read_hints, write_hints
-from desk.hints_refusals import refusal_hints
-from desk.hints_scripts import script_hints
+from desk.hints.audit import audit_hints
+from desk.hints.claims import claim_hints
+from desk.hints.forms import COMMANDS
+from desk.hints.machine import keeper_hints, read_hints, write_hints
+from desk.hints.refusals import refusal_hints
+from desk.hints.scripts import script_hints
 from desk.keeping import compared
 from desk.limits import MOST_TRIPS
 from desk.notes.days import no_trips

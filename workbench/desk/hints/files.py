@@ -4,7 +4,7 @@ from __future__ import annotations
 import re
 from pathlib import Path
 
-from desk.hints_names import Known
+from desk.hints.names import Known
 from desk.rooms import FEED_FILES, SCRIPTS
 
 READ = (*FEED_FILES, *SCRIPTS)

@@ -7,7 +7,7 @@ from collections.abc import Iterable
 from functools import cached_property
 
 from desk.calendars import format_date
-from desk.hints_names import Finding, Known, advice, difference, folded, shown
+from desk.hints.names import Finding, Known, advice, difference, folded, shown
 from desk.records import open_records
 from desk.town import Town
 
