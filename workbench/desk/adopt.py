@@ -13,12 +13,12 @@ from itertools import zip_longest
 from pathlib import Path
 
 from desk.answers import ask, tell
+from desk.counts import counted, some
 from desk.day import CLAIM
 from desk.errors import DeskError, complain
 from desk.files import read_bytes, sync_folder, write_whole
 from desk.hints.forms import PREFERRED
 from desk.locks import locked
-from desk.new_report import counted, some
 from desk.period import has_days
 from desk.plans import StatedBlock, read_blocks
 from desk.published_feed import WRITTEN

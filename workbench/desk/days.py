@@ -8,9 +8,10 @@ import textwrap
 from pathlib import Path
 
 from desk.calendars import format_date
+from desk.counts import counted
 from desk.day_types import DayType
 from desk.errors import one_line
-from desk.new_report import WIDTH, counted
+from desk.new.report import WIDTH
 from desk.period import TownPeriod, spans_text
 from desk.town import DAYS
 

@@ -10,7 +10,7 @@ from pathlib import Path
 from desk.edits import finish_taking, is_taking
 from desk.files import read_bytes, sync_folder
 from desk.locks import locked
-from desk.new_room import BEFORE, undo
+from desk.new.room import BEFORE, undo
 
 SCRIPT, WHOLE, PART = "edits.csv", ".whole-edits.csv", ".part-edits.csv"
 """The script that an older workbench has shortened, the whole of it, and the part that it has put in its place."""

@@ -8,13 +8,13 @@ from collections.abc import Collection
 from pathlib import Path
 
 from desk.adopt import kept_before
+from desk.counts import counted
 from desk.errors import DeskError
 from desk.files import read_bytes
 from desk.hints.files import OWN
 from desk.limits import MOST_TRIPS
-from desk.new_report import counted
-from desk.new_room import settle, town_room
-from desk.new_settings import with_key
+from desk.new.room import settle, town_room
+from desk.new.settings import with_key
 from desk.parts import NOT_PARTED, WAYS, Part
 from desk.period import has_days
 from desk.plan_run import LEFT as PLAN

@@ -7,10 +7,10 @@ from dataclasses import dataclass, field
 from pathlib import Path
 from typing import Any
 
+from desk.counts import counted
 from desk.errors import one_line
 from desk.figures import columns
 from desk.hints.names import shown
-from desk.new_report import counted
 from desk.period import PlannedDay
 from desk.plan_run import left_of
 from desk.shared_trips import SharedTrips

@@ -8,12 +8,12 @@ from pathlib import Path
 from desk.answers import tell
 from desk.board_rows import make_boards
 from desk.boards_page import boards_page
+from desk.counts import counted, some
 from desk.day import Day
 from desk.errors import DeskError, UsageError, complain
 from desk.figures import figures_text, make_figures
 from desk.files import refuse_if_there, write_whole
 from desk.lines import LineNames
-from desk.new_report import counted, some
 from desk.period import has_days
 from desk.plans import Plan, read_plan
 from desk.proof import read_day

@@ -8,9 +8,9 @@ from concurrent.futures import ThreadPoolExecutor
 from contextlib import suppress
 from pathlib import Path
 
+from desk.counts import counted
 from desk.day import Day, plan_day
 from desk.errors import DeskError, complain
-from desk.new_report import counted
 from desk.period import TownPeriod
 from desk.period_check import judge_period
 from desk.period_feed import make_period_feed

@@ -75,7 +75,7 @@ class Ends(FolderTest):
     def test_what_was_begun_is_put_away(self) -> None:
         for number in cli.ENDS:
             before = signal.getsignal(number)
-            with self.subTest(number), mock.patch("desk.new_steps.draft_settings", side_effect=lambda *unused: os.kill(os.getpid(), number)):
+            with self.subTest(number), mock.patch("desk.new.steps.draft_settings", side_effect=lambda *unused: os.kill(os.getpid(), number)):
                 # A signal that nobody minds ends the process of the tests.
                 signal.signal(number, signal.SIG_DFL)
                 try:

@@ -60,7 +60,7 @@ class DayTypesTest(FolderTest):
         self.assertEqual(spans_text([mondays[0], *mondays[2:]], every), "Mon 7 Sep 2026; Mon 21 Sep 2026 to Mon 28 Sep 2026")
 
 
-@mock.patch("desk.new_days.today", return_value=NOW)
+@mock.patch("desk.new.days.today", return_value=NOW)
 class NewDaysTest(FolderTest):
     """Towns with days."""
 

@@ -23,7 +23,7 @@ class MadeAgencies(FolderTest):
 
     def test_from_zip_to_zip(self) -> None:
         for trips in SIZES:
-            with self.subTest(trips), mock.patch("desk.new_steps.today", return_value=DAY):
+            with self.subTest(trips), mock.patch("desk.new.steps.today", return_value=DAY):
                 self.check(trips, self.room / f"town{trips}", self.room / f"out{trips}.zip")
 
     def check(self, trips: int, town: Path, out: Path) -> None:

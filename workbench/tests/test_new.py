@@ -11,7 +11,7 @@ from unittest import mock
 
 from desk.errors import DeskError
 from desk.locks import LOCK
-from desk.new_settings import settings_text
+from desk.new.settings import settings_text
 from desk.program import run
 from tests.feeds import FIRST_DAY, Feed, FolderTest, agency, demonstration, needs_program, table, write_feed, zip_feed
 
@@ -23,7 +23,7 @@ class NewTest(FolderTest):
 
     def setUp(self) -> None:
         super().setUp()
-        patch = mock.patch("desk.new_steps.today", return_value=FIRST_DAY + datetime.timedelta(days=2))
+        patch = mock.patch("desk.new.steps.today", return_value=FIRST_DAY + datetime.timedelta(days=2))
         patch.start()
         self.addCleanup(patch.stop)
         self.town = self.room / "town"
@@ -227,7 +227,7 @@ class OtherFeeds(NewTest):
         self.assertNotIn("Edge", self.read("deadheads.csv"))
 
     def test_more_trips_and_terminals_than_the_program_plans(self) -> None:
-        with mock.patch("desk.new_steps.MOST_TRIPS", 601), mock.patch("desk.new_steps.MOST_PLACES", 6), mock.patch("desk.new_steps.MOST_BYTES", 2000):
+        with mock.patch("desk.new.steps.MOST_TRIPS", 601), mock.patch("desk.new.steps.MOST_PLACES", 6), mock.patch("desk.new.steps.MOST_BYTES", 2000):
             text = self.new(agency(), "--depot", "52,0", status=1)
         for line in ("trips.txt: 602 trips run on that day, and the program plans at most 601", "terminals.csv: 7 terminals are more than the 6",
                      "deadheads.csv: it is not drafted, since there are more than 6 terminals", "stop_times.txt: it has more than 2,000 bytes"):
@@ -481,7 +481,7 @@ class Settings(NewTest):
 
     def setUp(self) -> None:
         super().setUp()
-        patch = mock.patch("desk.new_layovers.fitting", side_effect=DeskError("nobody is asked"))
+        patch = mock.patch("desk.new.layovers.fitting", side_effect=DeskError("nobody is asked"))
         patch.start()
         self.addCleanup(patch.stop)
 
@@ -517,7 +517,7 @@ class Settings(NewTest):
         self.assertEqual({"prefer", "block_names"} & set(tomllib.loads(text)), set())
         self.assertEqual(["stated", "line", "waiting"], tomllib.loads(self.examples_taken(text))["prefer"])
         self.assertIn("# This feed states no blocks of today. `./desk adopt` makes those of a plan the stated ones.\n", text)
-        with mock.patch("desk.new_days.today", return_value=FIRST_DAY), mock.patch("desk.new_days.fitting", side_effect=DeskError("none")):
+        with mock.patch("desk.new.days.today", return_value=FIRST_DAY), mock.patch("desk.new.days.fitting", side_effect=DeskError("none")):
             self.new(feed, "--days", "--replace")
             unstated = tomllib.loads(self.read("desk.toml"))
             self.new(agency(), "--days", "--replace")

@@ -10,7 +10,7 @@ from pathlib import Path
 from unittest import mock
 
 from desk.files import new_mode
-from desk.new_room import BEFORE, STEPS, settle, town_room
+from desk.new.room import BEFORE, STEPS, settle, town_room
 from tests.feeds import FIRST_DAY, FolderTest, agency, demonstration, write_feed, zip_feed
 
 Standing = dict[str, bytes | None]
@@ -131,7 +131,7 @@ class OwnFiles(FolderTest):
 
     def test_they_stay(self) -> None:
         town = self.room / "town"
-        with mock.patch("desk.new_steps.today", return_value=FIRST_DAY):
+        with mock.patch("desk.new.steps.today", return_value=FIRST_DAY):
             self.assertEqual(self.desk("new", zip_feed(self.room / "feed.zip", agency()), town)[0], 0)
             write_feed(town / "agency", {"my-notes.txt": "mine", "shapes.txt": "of the older feed"})
             write_feed(town / "agency" / "letters", {"monday.txt": "dear agency"})

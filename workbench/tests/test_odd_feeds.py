@@ -67,7 +67,7 @@ class OddFeeds(FolderTest):
 
     def test_each_is_told_about_in_words(self) -> None:
         for name, (feed, trips, words) in ODD.items():
-            with self.subTest(name), mock.patch("desk.new_steps.today", return_value=datetime.date(2026, 9, 7)):
+            with self.subTest(name), mock.patch("desk.new.steps.today", return_value=datetime.date(2026, 9, 7)):
                 _, text, errors = self.desk("new", zip_feed(self.room / "feed.zip", feed), self.room / name)
                 text = " ".join(text.split())
                 self.assertEqual("", errors)
@@ -76,7 +76,7 @@ class OddFeeds(FolderTest):
                     self.assertIn(word, text)
 
     def test_nothing_odd_is_told_of_a_plain_feed(self) -> None:
-        with mock.patch("desk.new_steps.today", return_value=datetime.date(2026, 9, 7)):
+        with mock.patch("desk.new.steps.today", return_value=datetime.date(2026, 9, 7)):
             status, text, _ = self.desk("new", zip_feed(self.room / "feed.zip", PLAIN), self.room / "plain")
         self.assertEqual(status, 0)
         self.assertNotRegex(text, "left out|Left out|far from|alone|never run|To mend")
@@ -84,7 +84,7 @@ class OddFeeds(FolderTest):
     @needs_program
     def test_each_is_planned(self) -> None:
         for name, (feed, _, _) in ODD.items():
-            with self.subTest(name), mock.patch("desk.new_steps.today", return_value=datetime.date(2026, 9, 7)):
+            with self.subTest(name), mock.patch("desk.new.steps.today", return_value=datetime.date(2026, 9, 7)):
                 town = self.room / name
                 self.desk("new", zip_feed(self.room / "feed.zip", feed), town)
                 self.assertEqual((run(["blocks", town]).status, run(["check", town]).status), (0, 0))

@@ -90,7 +90,7 @@ class PartsTest(FolderTest):
         stops = table("stop_id,stop_name,stop_lat,stop_lon", [(stop, stop.upper(), 52 + number / 100, 1) for number, stop in enumerate("abcdefg")])
         agency = write_feed(self.room / "agency", {name: text for name, text in feed().items() if name.endswith(".txt")} | {"stops.txt": stops})
         town, part = self.room / "large", self.room / "large-Coach"
-        with mock.patch("desk.new_steps.MOST_PLACES", 6):
+        with mock.patch("desk.new.steps.MOST_PLACES", 6):
             self.desk("new", agency, town, "--date", "20260907", "--depot", "52,1")
             self.assertFalse((town / "deadheads.csv").exists())
             self.assertIn(f"{part} has no deadheads.csv: `./desk new {part}/agency {part} --more --depot LAT,LON` drafts it",
@@ -113,7 +113,7 @@ class PartsTest(FolderTest):
         self.assertFalse((self.room / "town-City_Bus").exists())
 
     def test_new_says_first_how_to_part(self) -> None:
-        with mock.patch("desk.new_steps.MOST_TRIPS", 10), mock.patch("desk.parts.MOST_TRIPS", 10):
+        with mock.patch("desk.new.steps.MOST_TRIPS", 10), mock.patch("desk.parts.MOST_TRIPS", 10):
             status, text, _ = self.desk("new", self.town, self.room / "other", "--date", "20260907")
         self.assertEqual(status, 1)
         name = self.room / "other"

@@ -3,11 +3,12 @@ from __future__ import annotations
 
 from contextlib import suppress
 
+from desk.counts import counted, some
 from desk.errors import DeskError
 from desk.layovers import Fitting, fitting
 from desk.limits import MOST_TRIPS
-from desk.new_report import Report, counted, some
-from desk.new_settings import LAYOVER
+from desk.new.report import Report
+from desk.new.settings import LAYOVER
 from desk.town import Town
 
 

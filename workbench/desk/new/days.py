@@ -8,6 +8,7 @@ from dataclasses import dataclass
 from pathlib import Path
 
 from desk.calendars import format_date
+from desk.counts import counted
 from desk.dates import today
 from desk.day_names import free_name
 from desk.day_types import DayType, Period
@@ -16,9 +17,9 @@ from desk.files import write_whole
 from desk.layovers import Fitting, fitting
 from desk.left_out import SortedTrips
 from desk.limits import MOST_TRIPS
-from desk.new_layovers import tell_layovers
-from desk.new_report import Report, counted
-from desk.new_settings import LAYOVER, day_text, settings_text
+from desk.new.layovers import tell_layovers
+from desk.new.report import Report
+from desk.new.settings import LAYOVER, day_text, settings_text
 from desk.period import day_folders, period_of
 from desk.records import open_records
 from desk.stations import Terminal

@@ -7,6 +7,7 @@ from collections.abc import Sequence
 from pathlib import Path
 
 from desk.calendars import read_calendars
+from desk.counts import MOST_NAMED, counted, some
 from desk.dates import Days, check_date, choose, fortnight, today, trips_by_service
 from desk.deadheads import Depot, Pace, Way, draft_pulls, draft_ways, pulls_text, readable, ways_text
 from desk.errors import DeskError
@@ -14,10 +15,10 @@ from desk.files import write_whole
 from desk.frequencies import Repeats, expand
 from desk.left_out import SortedTrips, sort_trips
 from desk.limits import MOST_BYTES, MOST_EMPTY_MINUTES, MOST_PLACES, MOST_TRIPS
-from desk.new_layovers import layovers_of_today
-from desk.new_left_out import sound_feed, tell_left_out
-from desk.new_report import TOLD, Report, counted, some
-from desk.new_settings import LAYOVER, settings_text
+from desk.new.layovers import layovers_of_today
+from desk.new.report import Report
+from desk.new.settings import LAYOVER, settings_text
+from desk.new.sound_feed import sound_feed, tell_left_out
 from desk.parts import proposals
 from desk.stations import NEAR, Terminal, draft_terminals, far_terminals, terminals_text
 from desk.town import AGENCY_FILES, Town
@@ -197,7 +198,7 @@ def _look_at_ways(ways: Sequence[Way], report: Report) -> None:
     """Tells of the longest ways, each in one of its directions."""
     longest = sorted((way for way in ways if way.start < way.end), key=lambda way: (-way.minutes, way.start, way.end))
     if longest:
-        told = some([f"{way.start} to {way.end} {way.minutes}" for way in longest[:TOLD]])
+        told = some([f"{way.start} to {way.end} {way.minutes}" for way in longest[:MOST_NAMED]])
         report.look("deadheads.csv", "a straight line knows no river and no one-way street. "
                     f"The longest ways in minutes: {told}")
 

@@ -7,17 +7,19 @@ import math
 from collections.abc import Callable
 from pathlib import Path
 
-from desk import new_days, new_more, new_steps
 from desk.adopt import kept_before
 from desk.calendars import format_date, parse_date
+from desk.counts import counted
 from desk.deadheads import Pace, find_depot
 from desk.errors import DeskError, UsageError
 from desk.hints.places import Places
 from desk.hints.refusals import refusal_hints
 from desk.left_out import SortedTrips
-from desk.new_left_out import judge_left_out
-from desk.new_report import Report, counted
-from desk.new_room import carry_own, left_as_they_were, settle, town_room
+from desk.new import additions, steps
+from desk.new.days import NewDays, draft_folders, draft_shared, find_days, tell_left
+from desk.new.report import Report
+from desk.new.room import carry_own, left_as_they_were, settle, town_room
+from desk.new.sound_feed import judge_left_out
 from desk.period import has_days
 from desk.town import Town
 
@@ -78,20 +80,20 @@ def _with_hints(error: DeskError, agency: Town) -> DeskError:
 
 def _make(room: Path, arguments: argparse.Namespace, report: Report) -> None:
     """Makes all files of the town in the room."""
-    trips = new_steps.unpack_feed(arguments.feed, room, report)
-    days = new_days.find_days(room, arguments.town, report) if arguments.days else None
-    date = None if days else new_steps.choose_day(room, arguments.date, report)
+    trips = steps.unpack_feed(arguments.feed, room, report)
+    days = find_days(room, arguments.town, report) if arguments.days else None
+    date = None if days else steps.choose_day(room, arguments.date, report)
     town = days.on_busiest(room) if days else Town(room, {} if date is None else {"date": format_date(date)})
     _judge_left_out(town, days, trips, report)
-    terminals = new_steps.draft_places(town, trips, report)
+    terminals = steps.draft_places(town, trips, report)
     depot = find_depot(arguments.depot, terminals, town.stops) if arguments.depot is not None else None
-    new_steps.draft_running(town, terminals, depot, Pace(arguments.detour, arguments.speed), report)
+    steps.draft_running(town, terminals, depot, Pace(arguments.detour, arguments.speed), report)
     if days:
-        new_days.draft_shared(town, days, terminals, report)
-        new_days.draft_folders(room, days, arguments.replace, report)
+        draft_shared(town, days, terminals, report)
+        draft_folders(room, days, arguments.replace, report)
     else:
-        new_steps.draft_settings(town, date, terminals, report)
-    new_steps.judge_limits(town, terminals, report)
+        steps.draft_settings(town, date, terminals, report)
+    steps.judge_limits(town, terminals, report)
     if days:
         report.title = (f"{arguments.town}: {counted(len(days.found.types), 'day type')}, the busiest with "
                         f"{counted(len(town.day()), 'trip')}, from {arguments.feed}")
@@ -104,27 +106,27 @@ def _make(room: Path, arguments: argparse.Namespace, report: Report) -> None:
 def _make_more(room: Path, arguments: argparse.Namespace, report: Report) -> None:
     """Makes the files of the town in the room with those of its planner, to which it adds what the feed or the date needs."""
     own = Town(arguments.town)
-    trips = new_steps.unpack_feed(arguments.feed, room, report)
-    town = new_more.keep_settings(own, room, arguments.date, report)
+    trips = steps.unpack_feed(arguments.feed, room, report)
+    town = additions.keep_settings(own, room, arguments.date, report)
     if arguments.date:
-        new_more.check_asked(town, arguments.date)
-    days = new_days.find_days(room, arguments.town, report) if arguments.days else None
+        additions.check_asked(town, arguments.date)
+    days = find_days(room, arguments.town, report) if arguments.days else None
     if days:
         town = days.on_busiest(room, town.settings)
-        new_days.draft_folders(room, days, False, report)
+        draft_folders(room, days, False, report)
     else:
-        new_more.judge_day(town, report)
+        additions.judge_day(town, report)
     _judge_left_out(town, days, trips, report)
-    terminals = new_more.add_places(own, town, trips, report)
-    new_more.add_running(own, town, terminals, arguments.depot, Pace(arguments.detour, arguments.speed), report)
-    new_steps.judge_limits(town, terminals, report)
+    terminals = additions.add_places(own, town, trips, report)
+    additions.add_running(own, town, terminals, arguments.depot, Pace(arguments.detour, arguments.speed), report)
+    steps.judge_limits(town, terminals, report)
     report.title = f"{arguments.town}: {counted(len(town.day()), 'trip')}, with what {arguments.feed} needs"
 
 
-def _judge_left_out(town: Town, days: new_days.NewDays | None, trips: SortedTrips, report: Report) -> None:
+def _judge_left_out(town: Town, days: NewDays | None, trips: SortedTrips, report: Report) -> None:
     """Tells how many trips were left out: of all days, or of the one that is planned."""
     if days:
-        new_days.tell_left(trips, report)
+        tell_left(trips, report)
     else:
         judge_left_out(town, trips, report)
 

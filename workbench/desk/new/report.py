@@ -2,16 +2,12 @@
 from __future__ import annotations
 
 import textwrap
-from collections.abc import Sequence
 from dataclasses import dataclass, field
 
 from desk.errors import one_line
 
 WIDTH = 120
 """How many characters a line of the report has at most, but for long words."""
-TOLD = 4
-"""How many names of a list the report has."""
-
 MOST_LEFT = 200
 """How many trips that are left out the report has, each on a line."""
 
@@ -67,17 +63,6 @@ class Report:
                 lines += _folded(item, f"  {number}. ")
         lines += ["", f"Next: ./desk {self.next} {one_line(self.town)}"]
         return "".join(line + "\n" for line in lines)
-
-
-def some(names: Sequence[str]) -> str:
-    """Some names of a list, and how many more there are."""
-    more = len(names) - TOLD
-    return "; ".join(names[:TOLD]) + (f"; and {more:,} more" if more > 0 else "")
-
-
-def counted(number: int, thing: str) -> str:
-    """A number with its thing: `1 stop`, `1,742 trips`."""
-    return f"{number:,} {thing}" + ("" if number == 1 else "s")
 
 
 def _folded(text: str, head: str) -> list[str]:

@@ -6,8 +6,9 @@ from contextlib import contextmanager
 from pathlib import Path
 from tempfile import TemporaryDirectory
 
+from desk.counts import counted
 from desk.left_out import SortedTrips, write_without
-from desk.new_report import Report, counted
+from desk.new.report import Report
 from desk.town import AGENCY_FILES, Town
 
 
