@@ -16,7 +16,7 @@ NAME = re.compile(r"[^\W\d]\w*(?:::[^\W\d]\w*)*(?:\(\))?")
 FILE = re.compile(r"[\w.*-]+(?:/[\w.*-]+)*/?")
 ENDINGS = (".rt", ".antt", ".py", ".js", ".edit", ".case", ".css", ".html", ".sh")
 FOLDERS = ("crates", "tools", "docs", "workbench", "examples", "cases", "prebuilt", "src", "specs", "proofs", "must-fail", "edits",
-           "static")
+           "page")
 BASES = ("", "crates", "workbench", "workbench/desk", "docs", "tools")
 SOURCES = ("crates", "workbench", "tools", "examples", "cases", "desk", "blockdesk", "crates.txt", "prebuilt/PROVENANCE", ".ci")
 COMMENT = {".antt": re.compile(r"(?m)--.*$")}

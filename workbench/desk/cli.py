@@ -19,9 +19,9 @@ from desk.pipes import refuse_pipes
 from desk.terminal import shown_on_terminals
 from desk.town import town_above
 from desk.versions import version
-from desk import adopt, boards, compare, days, figures, forward, new, notes, page, part, plan, publish, saved, server, take
+from desk import adopt, boards, compare, days, figures, forward, new, notes, page, part, plan, publish, saved, take, open as open_day
 
-COMMANDS: tuple[ModuleType, ...] = (new, days, plan, part, notes, page, server, boards, figures, publish, adopt, compare, saved,
+COMMANDS: tuple[ModuleType, ...] = (new, days, plan, part, notes, page, open_day, boards, figures, publish, adopt, compare, saved,
                                    take, forward)
 """The modules of the commands, in the order of the help.
 

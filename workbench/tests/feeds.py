@@ -14,11 +14,11 @@ from collections.abc import Iterable, Mapping
 from pathlib import Path
 
 from desk import cli
+from desk.open.session import Session
+from desk.open.web import WebServer
 from desk.program import ROOT, program_path
 from desk.records import record_text
-from desk.session import Session
 from desk.times import format_time
-from desk.web import WebServer
 
 Feed = dict[str, str]
 

@@ -13,9 +13,9 @@ from desk.answers import FeedRefused, ask, read, status_of, tell
 from desk.errors import DeskError
 from desk.hints.names import shown
 from desk.notes.refusal import refusal_of
+from desk.open.session import Session
 from desk.program import NO
 from desk.records import record_text
-from desk.session import Session
 from desk.town import Town
 from desk.unlisted import unlisted_of_plan
 from desk.unpack import unpack

@@ -6,12 +6,12 @@ import re
 import shutil
 from pathlib import Path
 
+from desk.open.session import Session
 from desk.page import static_page
+from desk.page.view import as_text, as_view
 from desk.plans import read_blocks
 from desk.program import ROOT, run
-from desk.server import handed_over
-from desk.session import Session
-from desk.view import as_text, as_view
+from desk.open import handed_over
 from tests.browser import Browser, needs_browser
 from tests.feeds import FolderTest, needs_program, table, write_feed
 from tests.made_days import made_day, many_ties

@@ -16,13 +16,13 @@ from unittest import mock
 from desk import keeping, program
 from desk.hints.journal import journal_text
 from desk.locks import LOCK
+from desk.open.session import Session
 from desk.scripts import Record, fields_of
-from desk.session import Session
 from desk.town import Town
 from tests.feeds import FolderTest, needs_program
 from tests.small_town import two_trips
 
-KEEP = "import sys; from pathlib import Path; from desk.session import Session; Session(Path(sys.argv[1])).keep({})"
+KEEP = "import sys; from pathlib import Path; from desk.open.session import Session; Session(Path(sys.argv[1])).keep({})"
 """Keeps from the page of a town."""
 
 KEPT: list[tuple[str, tuple[str, ...], str | None]] = [

@@ -6,15 +6,14 @@ import re
 import shutil
 from pathlib import Path
 
-from desk.page import IMPORT, joined_script, static_page
+from desk.page import IMPORT, STATIC, joined_script, static_page
+from desk.page.view import as_text, as_view
 from desk.plans import StatedBlock, read_blocks
 from desk.policy import checksum
-from desk.proof import read_day
 from desk.program import ROOT, run
+from desk.proof import read_day
 from desk.texts import Json
 from desk.town import Town
-from desk.view import as_text, as_view
-from desk.web import STATIC
 from tests.feeds import FolderTest, needs_program
 from tests.made_days import made_day
 

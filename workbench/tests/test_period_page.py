@@ -8,7 +8,7 @@ import urllib.request
 from pathlib import Path
 
 from desk.period import TownPeriod
-from desk.server import sessions_of
+from desk.open import sessions_of
 from tests.browser import Browser, needs_browser
 from tests.feeds import TOKEN, FolderTest, needs_program, write_feed
 from tests.made_periods import with_dates_alone

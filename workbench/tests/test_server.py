@@ -22,13 +22,14 @@ from desk import program
 from desk.day import plan_day
 from desk.errors import DeskError, UsageError
 from desk.keeping import NOTHING, canonical
+from desk.open.session import CHANGED, Session
+from desk.open.suggestions import tried
+from desk.open.web import HEADERS, MOST_BODY, MOST_LINES
+from desk.page import STATIC
+from desk.page.view import LISTS, parts_of
 from desk.program import ROOT
 from desk.rooms import own_room
-from desk.session import CHANGED, Session
-from desk.suggestions import tried
 from desk.town import Town
-from desk.view import LISTS, parts_of
-from desk.web import HEADERS, MOST_BODY, MOST_LINES, STATIC
 from tests.feeds import TOKEN, FolderTest, needs_program, table, write_feed
 from tests.small_town import two_trips
 
@@ -107,7 +108,7 @@ class WebTest(FolderTest):
 
     def test_names_alone(self) -> None:
         """Nothing but the fixed names is answered, whatever way leads to a file."""
-        secret = ROOT / "workbench" / "desk" / "web.py"
+        secret = ROOT / "workbench" / "desk" / "open" / "web.py"
         self.assertTrue(secret.is_file())
         for name in ("../web.py", "..%2fweb.py", "%2e%2e/web.py", str(secret), "/" + str(secret), "index.html/", "index.html?x",
                      "index.html#x", "./index.html", "//index.html", "INDEX.HTML", "day/", "edit", "__init__.py", "edits.csv",
@@ -211,7 +212,7 @@ class WebTest(FolderTest):
 
     def test_a_line_that_says_a_byte_now_and_then(self) -> None:
         """A request that does not come whole in time is given up, however often something of it comes."""
-        with mock.patch("desk.web.MOST_SECONDS", 1), socket.create_connection(("127.0.0.1", self.server.server_port), timeout=30) as line:
+        with mock.patch("desk.open.web.MOST_SECONDS", 1), socket.create_connection(("127.0.0.1", self.server.server_port), timeout=30) as line:
             began = time.monotonic()
             with contextlib.suppress(OSError):
                 while time.monotonic() - began < 20:

@@ -9,8 +9,8 @@ from unittest import mock
 from desk.edits import writing
 from desk.leftovers import mend
 from desk.locks import LOCK
+from desk.open.session import Session
 from desk.program import ROOT, run
-from desk.session import Session
 from tests.feeds import FolderTest, needs_program
 
 PLANNED = "ann,shift,U2,+1\nbob,cancel,U1\nann,undo\nbob,undo\nann,shift,U2,+1\n\"cy, d\",extra,\"E,1\",B,C,7:40,07:50\n"

@@ -13,16 +13,13 @@ from collections.abc import Callable, Sequence
 from contextlib import suppress
 from http import HTTPStatus
 from http.server import BaseHTTPRequestHandler, ThreadingHTTPServer
-from pathlib import Path
 from typing import Any
 
 from desk.errors import DeskError, UsageError, one_line
-from desk.session import Session
+from desk.open.session import Session
+from desk.page import STATIC
+from desk.page.view import as_text
 from desk.texts import Json
-from desk.view import as_text
-
-STATIC = Path(__file__).resolve().parent / "static"
-"""The folder of the page's own files, which are read when the server begins."""
 
 KINDS = {".html": "text/html; charset=utf-8", ".css": "text/css; charset=utf-8", ".js": "text/javascript; charset=utf-8"}
 JSON_KIND = "application/json"

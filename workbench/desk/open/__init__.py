@@ -14,11 +14,11 @@ from desk import program
 from desk.edits import writing
 from desk.errors import DeskError, UsageError
 from desk.files import reason
+from desk.open.session import Session
+from desk.open.web import WebServer
+from desk.page.period import PeriodView
 from desk.period import TownPeriod, has_days
-from desk.period_view import PeriodView
 from desk.rooms import own_room
-from desk.session import Session
-from desk.web import WebServer
 
 WORD = "open"
 HELP = "the day in a browser of this machine: see it, change it, and the proof beside it"

@@ -1,4 +1,7 @@
-"""`desk page`: the day, or each day of a period, as one file that needs no other, to look at, to send, and to print."""
+"""`desk page`: the day, or each day of a period, as one file that needs no other, to look at, to send, and to print.
+
+The page of `desk open` shows the same views, by the same files of `static/`.
+"""
 from __future__ import annotations
 
 import argparse
@@ -10,16 +13,18 @@ from desk.day import Day
 from desk.errors import DeskError, complain
 from desk.files import refuse_if_there, write_whole
 from desk.hints.scripts import script_hints
+from desk.page.period import PeriodView
+from desk.page.view import as_text, as_view
 from desk.period import TownPeriod, has_days
-from desk.period_view import PeriodView
 from desk.policy import checksum
 from desk.proof import read_day
 from desk.town import Town
-from desk.view import as_text, as_view
-from desk.web import STATIC
 
 WORD = "page"
 HELP = "the day as one page: its blocks, terminals and numbers, to look at and to print"
+
+STATIC = Path(__file__).resolve().parent / "static"
+"""The folder of the page's own files."""
 
 IMPORT = re.compile(r'import \{ (.+) \} from "\./([a-z_]+)\.js";\n')
 EXPORT = re.compile(r"^export (?=(?:async )?(?:function|class|const) (\w+))", re.M)

@@ -16,17 +16,17 @@ from desk.errors import DeskError, UsageError
 from desk.files import read_bytes, write_whole
 from desk.hints.scripts import script_hints
 from desk.keeping import keep
-from desk.marks import marks
+from desk.open.marks import marks
+from desk.open.suggestions import SUGGESTED, offers
+from desk.page.view import as_view, change_of, proof_view
 from desk.pipes import refuse_pipes
 from desk.plans import read_plan
 from desk.proof import proved
 from desk.rooms import FEED_FILES, room_of, scripts_of, state_of
 from desk.scripts import Record, with_record
-from desk.suggestions import SUGGESTED, offers
 from desk.take import take
 from desk.texts import Json
 from desk.town import Town
-from desk.view import as_view, change_of, proof_view
 
 EXPORTS = {"blocks": ("blocks.csv and prices.csv", "blocks", CLAIM), "boards": ("boards.csv", "joined", ("boards.csv",)),
            "feed": ("the written feed", "write", ("trips_blocks.txt", "stop_times_blocks.txt"))}
