@@ -92,7 +92,7 @@ def answers() -> str:
     shown = {forms.FeedRefused, *(it for _, it in tops())}
     objects = [it for name in said if is_typeddict(it := getattr(forms, name)) and it not in shown]
     parts = [(it.__name__, keys_of(it), said[it.__name__]) for it in objects]
-    without = [f"`{word}`" for word in of_workbench("forward").WORDS if word not in forms.FORMS]
+    without = [f"`{word}`" for word in of_workbench("program_words").WORDS if word not in forms.FORMS]
     return (f"{paragraphs((forms.__doc__ or '').partition(chr(10))[2])}\n\n{', '.join(without[:-1])} and {without[-1]} have none.\n\n"
             + table(("Command", "Keys", "What it says"), rows) + "\n" + table(("Part", "Keys", "What it is"), parts))
 

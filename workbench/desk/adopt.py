@@ -24,8 +24,8 @@ from desk.plans import StatedBlock, read_blocks
 from desk.published_feed import WRITTEN
 from desk.records import Records, open_records
 from desk.rooms import FEED_FILES, SCRIPTS, room_of, scripts_of, state_of
-from desk.texts_written import line_of_record
 from desk.town import Town
+from desk.written_texts import line_of_record
 
 WORD = "adopt"
 HELP = "make the plan the blocks that the feed states, in block_id of the town's own trips.txt"

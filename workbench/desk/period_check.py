@@ -21,7 +21,7 @@ from desk.records import open_records
 from desk.rooms import own_room
 from desk.times import parse_time
 from desk.town import AGENCY_FILES
-from desk.unpack import unpack
+from desk.unpacking import unpack
 
 OF_THE_PLAN = ("trip_id", "service_id", "block_id")
 """The columns of `trips.txt` in which the two feeds may differ."""

@@ -18,9 +18,9 @@ from desk.files import read_bytes, read_text, write_whole
 from desk.hints.forms import WRITTEN
 from desk.hints.refusals import refusal_hints
 from desk.rooms import FEED_FILES
-from desk.texts_written import line_of_record
 from desk.toml import toml_text
 from desk.town import STATED, Town
+from desk.written_texts import line_of_record
 
 LEFT = "plan.json"
 """What a run leaves beside the plan: what the program has said, and of which files."""

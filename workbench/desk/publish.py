@@ -17,9 +17,9 @@ from desk.lines import LineNames
 from desk.period import has_days
 from desk.plans import Plan, read_plan
 from desk.proof import read_day
-from desk.publish_period import publish_period
 from desk.published_check import judge
 from desk.published_feed import Handover, make_feed
+from desk.published_period import publish_period
 from desk.published_zip import write_judged
 from desk.rooms import room_of, scripts_of
 from desk.town import Town

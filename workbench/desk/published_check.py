@@ -17,7 +17,7 @@ from desk.records import open_records
 from desk.times import arrival_minute, departure_minute, format_minute
 from desk.toml import toml_text
 from desk.town import DayTrip, Town
-from desk.unpack import unpack
+from desk.unpacking import unpack
 
 PLANNER_FILES = ("terminals.csv", "deadheads.csv", "depot.csv")
 """The planner's files with which the feed is read again."""

@@ -19,7 +19,7 @@ from pathlib import Path
 
 from desk.files import read_bytes
 from desk.locks import is_taken
-from desk.stated import lay_stated
+from desk.stated_blocks import lay_stated
 from desk.toml import toml_text
 from desk.town import STATED, Town
 

@@ -16,8 +16,8 @@ from desk.errors import DeskError, UsageError
 from desk.files import reason, read_bytes, sync_folder, write_whole
 from desk.rooms import own_room
 from desk.texts import Json, as_json
-from desk.texts_written import as_text, verdict_text
 from desk.town import Town
+from desk.written_texts import as_text, verdict_text
 
 WORDS = {
     "save": "keep the script, the blocks and the prices of a town as a version under a name",

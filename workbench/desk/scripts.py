@@ -7,7 +7,7 @@ from dataclasses import dataclass
 from desk.errors import DeskError
 from desk.records import record_text, records_of
 from desk.texts import Json
-from desk.texts_written import edit_text, line_of_record
+from desk.written_texts import edit_text, line_of_record
 
 SHOW = b"show\n"
 """The record that asks for the plan."""

@@ -14,7 +14,7 @@ from desk.period import PlannedDay, TownPeriod
 from desk.plan_run import left_of, stated_of
 from desk.plans import StatedBlock, read_blocks
 from desk.rooms import room_of, scripts_of
-from desk.stated import lay_blocks, stated_text
+from desk.stated_blocks import lay_blocks, stated_text
 from desk.stations import distinct
 from desk.texts import Json
 

@@ -1,6 +1,6 @@
 """The program's texts as JSON of `json_forms`: one function a command, which refuses what it does not know.
 
-`as_json` reads a text and writes it again by `texts_written.as_text`: only what comes back byte for byte is given.
+`as_json` reads a text and writes it again by `written_texts.as_text`: only what comes back byte for byte is given.
 A name has no line end, and in the lines of blocks and of chains no `; `. A text that can be read in two ways is refused.
 """
 from __future__ import annotations
@@ -16,8 +16,8 @@ from typing import Any, NoReturn
 from desk.errors import DeskError
 from desk.records import record_text
 from desk.texts_names import Fits, fitting_names, refuse_hidden_ends
-from desk.texts_written import as_text
 from desk.town import Town
+from desk.written_texts import as_text
 
 Json = dict[str, Any]
 

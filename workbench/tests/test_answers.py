@@ -17,8 +17,8 @@ from desk.open.session import Session
 from desk.program import NO
 from desk.records import record_text
 from desk.town import Town
-from desk.unlisted import unlisted_of_plan
-from desk.unpack import unpack
+from desk.unlisted_terminals import unlisted_of_plan
+from desk.unpacking import unpack
 from tests.feeds import FolderTest, needs_program
 from tests.small_town import plan, rows, two_trips
 

@@ -6,7 +6,7 @@ import unittest
 from pathlib import Path
 from typing import Any
 
-from desk.compare_text import compare_text
+from desk.compare.text import compare_text
 from tests.feeds import FolderTest, needs_program, write_feed
 from tests.forms import is_answer
 from tests.small_town import plan, rows, small_town

@@ -8,7 +8,7 @@ import zipfile
 from unittest import mock
 
 from desk.program import run
-from desk.unpack import unpack
+from desk.unpacking import unpack
 from tests.feeds import demonstration, needs_program, write_feed, zip_feed
 from tests.publishing import PublishingTest
 from tests.small_town import small_town, two_trips

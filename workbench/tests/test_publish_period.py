@@ -151,10 +151,10 @@ class PeriodTest(PublishingTest):
             self.refused("nothing is written: on 2026-")
         with mock.patch("desk.period_feed._versions_by_name", return_value=({}, {})):
             self.refused("nothing is written: on 2026-")
-        with mock.patch("desk.publish_period.period_trips", return_value=PeriodTrips()):
+        with mock.patch("desk.published_period.period_trips", return_value=PeriodTrips()):
             self.refused("nothing is written: on 2026-")
         with mock.patch("desk.period_check._found", return_value=None), mock.patch("desk.period_check._wanted", return_value=None), \
-                mock.patch("desk.publish_period.period_trips", return_value=PeriodTrips()):
+                mock.patch("desk.published_period.period_trips", return_value=PeriodTrips()):
             self.refused("nothing is written: `audit` of the feed does not say `least`: ")
 
     def test_what_keeps_it_from_being_written(self) -> None:

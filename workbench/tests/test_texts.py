@@ -9,7 +9,7 @@ from pathlib import Path
 from desk import program, texts
 from desk.errors import DeskError
 from desk.json_forms import FORMS, FeedRefused
-from desk.texts_written import as_text
+from desk.written_texts import as_text
 from tests.feeds import FolderTest, needs_program
 from tests.forms import is_answer, objects_of
 from tests.small_town import EXAMPLES, two_trips

@@ -4,9 +4,9 @@ from __future__ import annotations
 from desk.answers import read
 from desk.hints.names import shown
 from desk.layovers import Fitting, fitting
+from desk.missing_block_ids import unblocked
 from desk.texts import Json
 from desk.town import Town
-from desk.unblocked import unblocked
 
 MOST_TOLD = 12
 """How many terminals are told at the most."""

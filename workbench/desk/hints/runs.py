@@ -22,7 +22,7 @@ from desk.notes.note import View
 from desk.period import day_folders
 from desk.program import DONE, FEED_REFUSED, KEEPER_FAULT, READ_FAULT, RECORDS_REFUSED, USAGE, WRITE_FAULT
 from desk.town import Town
-from desk.unlisted import told, unlisted_of_plan
+from desk.unlisted_terminals import told, unlisted_of_plan
 
 NOTHING = re.compile(r"\b(fixed|vehicles|sum) 0\b")
 """The numbers of a day without trips."""

@@ -14,13 +14,13 @@ from desk.deadheads import Pace, find_depot
 from desk.errors import DeskError, UsageError
 from desk.hints.places import Places
 from desk.hints.refusals import refusal_hints
-from desk.left_out import SortedTrips
 from desk.new import additions, steps
 from desk.new.days import NewDays, draft_folders, draft_shared, find_days, tell_left
 from desk.new.report import Report
 from desk.new.room import carry_own, left_as_they_were, settle, town_room
 from desk.new.sound_feed import judge_left_out
 from desk.period import has_days
+from desk.refused_trips import SortedTrips
 from desk.town import Town
 
 WORD = "new"

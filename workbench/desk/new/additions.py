@@ -12,13 +12,13 @@ from desk.counts import counted, some
 from desk.dates import Days, check_date, trips_by_service
 from desk.deadheads import Depot, Pace, draft_pulls, draft_ways, find_depot, readable
 from desk.files import read_bytes, write_whole
-from desk.left_out import SortedTrips
 from desk.limits import MOST_PLACES
 from desk.new.report import Report
 from desk.new.settings import with_key
 from desk.new.steps import all_ends, draft_settings
 from desk.notes.deadheads import read_ways
 from desk.records import first_records, open_records, record_text
+from desk.refused_trips import SortedTrips
 from desk.stations import Terminal, distinct, draft_terminals
 from desk.town import Town
 

@@ -15,13 +15,13 @@ from desk.day_types import DayType, Period
 from desk.errors import DeskError
 from desk.files import write_whole
 from desk.layovers import Fitting, fitting
-from desk.left_out import SortedTrips
 from desk.limits import MOST_TRIPS
 from desk.new.layovers import tell_layovers
 from desk.new.report import Report
 from desk.new.settings import LAYOVER, day_text, settings_text
 from desk.period import day_folders, period_of
 from desk.records import open_records
+from desk.refused_trips import SortedTrips
 from desk.stations import Terminal
 from desk.town import DAYS, Town
 

@@ -7,8 +7,8 @@ from pathlib import Path
 from tempfile import TemporaryDirectory
 
 from desk.counts import counted
-from desk.left_out import SortedTrips, write_without
 from desk.new.report import Report
+from desk.refused_trips import SortedTrips, write_without
 from desk.town import AGENCY_FILES, Town
 
 

@@ -13,16 +13,16 @@ from desk.deadheads import Depot, Pace, Way, draft_pulls, draft_ways, pulls_text
 from desk.errors import DeskError
 from desk.files import write_whole
 from desk.frequencies import Repeats, expand
-from desk.left_out import SortedTrips, sort_trips
 from desk.limits import MOST_BYTES, MOST_EMPTY_MINUTES, MOST_PLACES, MOST_TRIPS
 from desk.new.layovers import layovers_of_today
 from desk.new.report import Report
 from desk.new.settings import LAYOVER, settings_text
 from desk.new.sound_feed import sound_feed, tell_left_out
 from desk.parts import proposals
+from desk.refused_trips import SortedTrips, sort_trips
 from desk.stations import NEAR, Terminal, draft_terminals, far_terminals, terminals_text
 from desk.town import AGENCY_FILES, Town
-from desk.unpack import unpack
+from desk.unpacking import unpack
 
 
 def unpack_feed(feed: Path, room: Path, report: Report) -> SortedTrips:

@@ -6,7 +6,7 @@ from collections.abc import Iterator
 from desk.hints.names import Finding, shown
 from desk.notes.note import Note, View, note_of
 from desk.notes.places import about, no_place, without_effect
-from desk.unlisted import unlisted_of_plan
+from desk.unlisted_terminals import unlisted_of_plan
 
 
 def unlisted(view: View) -> Iterator[Note]:

@@ -8,8 +8,8 @@ from desk.errors import DeskError
 from desk.hints.machine import read_hints
 from desk.hints.names import shown
 from desk.hints.refusals import LINE, OF_A_TRIP, refusal_hints
-from desk.left_out import sort_trips
 from desk.notes.note import Note, View
+from desk.refused_trips import sort_trips
 from desk.town import Town
 
 

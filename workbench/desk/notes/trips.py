@@ -5,9 +5,9 @@ import re
 from collections.abc import Iterator
 
 from desk.hints.names import Finding, shown
+from desk.missing_block_ids import unblocked
 from desk.notes.note import Note, View
 from desk.records import open_records
-from desk.unblocked import unblocked
 
 PREFIXES = ("B", "V", "D", "W", "X", "Y", "Z", "BD", "VD", "NEW", "PLAN")
 """Prefixes of block names. The first free one is named."""

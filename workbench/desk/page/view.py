@@ -15,9 +15,9 @@ from desk.records import open_records
 from desk.scripts import Record, standing
 from desk.texts import Json, minute_of
 from desk.texts_names import keeps_names
-from desk.texts_written import edit_text, verdict_text
 from desk.town import Town
-from desk.unlisted import told, unlisted
+from desk.unlisted_terminals import told, unlisted
+from desk.written_texts import edit_text, verdict_text
 
 Seen = tuple[Day, Json]
 """A day and its view."""

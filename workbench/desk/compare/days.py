@@ -8,7 +8,7 @@ from __future__ import annotations
 from collections.abc import Hashable
 from dataclasses import replace
 
-from desk.compare_side import Side
+from desk.compare.side import Side
 from desk.lines import LineNames
 from desk.plans import StatedBlock
 from desk.records import open_records

@@ -14,10 +14,10 @@ from collections.abc import Callable
 from pathlib import Path
 
 from desk.answers import ask
-from desk.compare_days import as_trips_of
-from desk.compare_periods import compare_periods, periods_text
-from desk.compare_side import Found, Side, counts_of
-from desk.compare_text import compare_text
+from desk.compare.days import as_trips_of
+from desk.compare.periods import compare_periods, periods_text
+from desk.compare.side import Found, Side, counts_of
+from desk.compare.text import compare_text
 from desk.errors import DeskError
 from desk.files import read_bytes
 from desk.lines import LineNames

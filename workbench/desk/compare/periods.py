@@ -4,7 +4,7 @@ from __future__ import annotations
 from collections.abc import Callable
 from pathlib import Path
 
-from desk.compare_side import Found
+from desk.compare.side import Found
 from desk.figures import columns, hours
 from desk.period import PlannedDay, TownPeriod
 from desk.town import DAYS

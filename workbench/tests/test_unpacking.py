@@ -13,7 +13,7 @@ from pathlib import Path
 from unittest import mock
 
 from desk.errors import DeskError
-from desk.unpack import unpack
+from desk.unpacking import unpack
 from tests.feeds import FolderTest, demonstration, write_feed, zip_feed
 
 
@@ -123,7 +123,7 @@ class Refused(FolderTest):
             self.refused(path, "more than 2,000,000 bytes in all")
 
     def test_a_folder_with_more_than_there_may_be(self) -> None:
-        with mock.patch("desk.unpack.MOST_BYTES", 1000):
+        with mock.patch("desk.unpacking.MOST_BYTES", 1000):
             self.refused(write_feed(self.room / "feed", demonstration()), "more than 1,000 bytes in all")
 
     def test_an_entry_that_lies_about_its_size(self) -> None:

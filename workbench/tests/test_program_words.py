@@ -13,7 +13,7 @@ import unittest
 import unittest.mock
 from pathlib import Path
 
-from desk import cli, forward, program
+from desk import cli, program, program_words
 from desk.hints.forms import COMMANDS
 from desk.program import ROOT
 from tests.feeds import FolderTest, needs_program, write_feed
@@ -102,7 +102,7 @@ class TestAnyProgram(FolderTest):
                 self.assertEqual(self.desk(*words)[:2], (0, "".join(f"{word}|" for word in words)))
 
     def test_the_words_are_those_of_the_program(self) -> None:
-        self.assertEqual(set(forward.WORDS), {*COMMANDS, "sample"})
+        self.assertEqual(set(program_words.WORDS), {*COMMANDS, "sample"})
 
     def test_no_hint_stands_beside_an_accepted_feed(self) -> None:
         self.fake("text\\n", 0)
@@ -132,7 +132,7 @@ class TestAnyProgram(FolderTest):
     def test_a_mistake_in_the_hints_changes_nothing(self) -> None:
         self.fake("text\n", 3)
         out, errors = io.StringIO(), io.StringIO()
-        broken = unittest.mock.patch.object(forward, "hints_of", side_effect=IndexError("x"))
+        broken = unittest.mock.patch.object(program_words, "hints_of", side_effect=IndexError("x"))
         with broken, contextlib.redirect_stdout(out), contextlib.redirect_stderr(errors):
             status = cli.main(["blocks", str(self.room)])
         self.assertEqual((status, out.getvalue()), (3, "text\n"))
@@ -182,7 +182,7 @@ class TestTheProgram(FolderTest):
         self.assertEqual(*(written(copy) for copy in copies))
 
     def test_each_word_gives_the_same_text_status_and_files(self) -> None:
-        for command in forward.WORDS:
+        for command in program_words.WORDS:
             if command != "sample":
                 with self.subTest(command):
                     self.same(command, EXAMPLES / "edits")

@@ -5,7 +5,7 @@ from collections.abc import Iterator
 from typing import Any
 
 from desk.figures import hours
-from desk.texts_written import verdict_text
+from desk.written_texts import verdict_text
 
 Found = dict[str, Any]
 
