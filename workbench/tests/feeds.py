@@ -4,6 +4,7 @@ from __future__ import annotations
 import contextlib
 import datetime
 import io
+import json
 import os
 import shutil
 import tempfile
@@ -12,6 +13,7 @@ import unittest
 import zipfile
 from collections.abc import Iterable, Mapping
 from pathlib import Path
+from typing import Any
 
 from desk import cli
 from desk.open.session import Session
@@ -19,6 +21,7 @@ from desk.open.web import WebServer
 from desk.program import ROOT, program_path
 from desk.records import record_text
 from desk.times import format_time
+from tests.forms import is_answer
 
 Feed = dict[str, str]
 
@@ -49,6 +52,14 @@ class FolderTest(unittest.TestCase):
         self.assertNotIn("Traceback", errors.getvalue())
         self.assertNotIn("mistake of the workbench", errors.getvalue())
         return status, out.getvalue(), errors.getvalue()
+
+    def answer(self, *words: str | Path, status: int = 0) -> dict[str, Any]:
+        """The answer of a command as JSON, which ends with this status. It is of the command's form, and nothing else is put."""
+        ended, text, errors = self.desk(*words, "--json")
+        self.assertEqual((ended, errors), (status, ""))
+        answer = json.loads(text)
+        self.assertTrue(is_answer(str(words[0]), answer))
+        return answer
 
     def make_period(self, town: Path, feed: Feed) -> None:
         """Makes a town with days of a feed."""

@@ -1,14 +1,12 @@
 """Tests of two plans side by side: what is the same, what differs, and what the program says of each."""
 from __future__ import annotations
 
-import json
 import unittest
 from pathlib import Path
 from typing import Any
 
 from desk.compare.text import compare_text
 from tests.feeds import FolderTest, needs_program, write_feed
-from tests.forms import is_answer
 from tests.small_town import plan, rows, small_town
 
 FOUR_TRIPS = {
@@ -37,10 +35,7 @@ class Compared(FolderTest):
 
     def found(self, first: Path | str, second: Path | str, status: int = 0) -> dict[str, Any]:
         """What differs, and the text of it is the one that is printed."""
-        ended, out, errors = self.desk("compare", first, second, "--json")
-        self.assertEqual((ended, errors), (status, ""))
-        found = json.loads(out)
-        self.assertTrue(is_answer("compare", found))
+        found = self.answer("compare", first, second, status=status)
         self.assertEqual(self.desk("compare", first, second), (status, compare_text(found), ""))
         return found
 
@@ -140,7 +135,7 @@ class SmallTown(FolderTest):
         town, other = small_town(self.room / "town"), small_town(self.room / "other", "cancel,wd_1_i_0625\nshift,wd_3_i_0850,+1\n")
         for folder in (town, other):
             plan(folder)
-        found = json.loads(self.desk("compare", town, other, "--json")[1])
+        found = self.answer("compare", town, other)
         was, now = ({row["trip_id"]: row["block_id"] for row in rows(folder / "blocks.csv")} for folder in (town, other))
         self.assertEqual(found["trips"]["both"], len(set(was) & set(now)))
         partner = {pair["first"]: pair["second"] for pair in found["same"] + found["changed"]}
@@ -159,7 +154,7 @@ class SmallTown(FolderTest):
             for row in rows(folder / "blocks.csv"):
                 order.setdefault(row["block_id"], []).append((row["trip_id"], row["deadhead"]))
         shifted = now["wd_3_i_0850"]
-        figures = [json.loads(self.desk("figures", folder, "--json")[1]) for folder in (town, other)]
+        figures = [self.answer("figures", folder) for folder in (town, other)]
         for side, of_side in zip(("first", "second"), figures):
             self.assertEqual([found[side][name] for name in COUNTS], [of_side[name] for name in COUNTS])
         self.assertEqual({(pair["first"], pair["second"]) for pair in found["same"]},

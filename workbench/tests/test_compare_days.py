@@ -1,13 +1,11 @@
 """Two days, two periods and two feeds side by side: trips of one name and time, else of one line, direction and minute."""
 from __future__ import annotations
 
-import json
 import shutil
 import unittest
 from pathlib import Path
 
 from tests.feeds import FolderTest, needs_program, table, write_feed
-from tests.forms import is_answer
 from tests.made_periods import with_dates_alone, with_night_and_school
 
 TRIPS = "route_id,service_id,trip_id,direction_id"
@@ -30,11 +28,7 @@ class DaysTest(FolderTest):
 
     def found(self, first: Path, second: Path) -> dict[str, object]:
         """What differs, of two folders that are planned."""
-        status, text, errors = self.desk("compare", first, second, "--json")
-        self.assertEqual((status, errors), (0, ""))
-        found = json.loads(text)
-        self.assertTrue(is_answer("compare", found))
-        return found
+        return self.answer("compare", first, second)
 
     def test_trips_of_one_name_and_time_and_of_one_line_and_minute(self) -> None:
         """M1 has its name and time. M2 is called S2. M3 leaves at another minute, so it is none of the second day. S4 is of the other
@@ -85,7 +79,7 @@ class DaysTest(FolderTest):
         found = self.found(town / "days" / "school-mon-thu", town / "days" / "holidays")
         self.assertEqual([trip["trip"][:6] for trip in found["trips"]["cancelled"]], ["school"] * 6)
         for side, name in (("first", "school-mon-thu"), ("second", "holidays")):
-            figures = json.loads(self.desk("figures", town / "days" / name, "--json")[1])
+            figures = self.answer("figures", town / "days" / name)
             counts = "neighbours", "stated_neighbours", "kept_neighbours", "line_changes", "waiting"
             self.assertEqual([found[side][name] for name in counts], [figures[name] for name in counts])
         self.assertEqual((found["trips"]["new"], found["trips"]["both"]), ([], 52))
@@ -116,8 +110,7 @@ class DaysTest(FolderTest):
         self.assertIn(["Saturday", "12", "12", "33", "33"], [line[:5] for line in lines])
         self.assertIn("Sunday: no such day type any more\n", text)
         self.assertIn(f"`./desk compare {first}/days/fri {second}/days/fri` tells of Friday\n", text)
-        found = json.loads(self.desk("compare", first, second, "--json")[1])
-        self.assertTrue(is_answer("compare", found))
+        found = self.answer("compare", first, second)
         self.assertEqual(len(found["pairs"]), 4)
         friday = next(pair for pair in found["pairs"] if pair["name"] == "Friday")
         kept = [f"{friday[side]['kept_neighbours']} of {friday[side]['stated_neighbours']}" for side in ("first", "second")]

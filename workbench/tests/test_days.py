@@ -2,7 +2,6 @@
 from __future__ import annotations
 
 import datetime
-import json
 import unittest
 from unittest import mock
 
@@ -11,7 +10,6 @@ from desk.day_types import find_period, trips_of_services
 from desk.period import spans_text
 from desk.town import Town
 from tests.feeds import Feed, FolderTest, demonstration, needs_program, write_feed, zip_feed
-from tests.forms import is_answer
 from tests.made_periods import with_dates_alone, with_night_and_school
 
 NOW = datetime.date(2026, 10, 1)
@@ -147,8 +145,7 @@ class NewDaysTest(FolderTest):
         self.assertIn("Sunday: 13 dates, 9 trips, in days/sun\n  Sun 11 Oct 2026 to Sun 27 Dec 2026; Mon 26 Oct 2026\n", text)
         self.assertIn("dates that stand alone: 24 December\n", text)
         self.assertIn("no trips on 1 date: Fri 25 Dec 2026\n", text)
-        told = json.loads(self.desk("days", self.room / "town", "--json")[1])
-        self.assertTrue(is_answer("days", told))
+        told = self.answer("days", self.room / "town")
         self.assertEqual(sum(len(kind["dates"]) for kind in told["days"]) + len(told["without"]), 88)
 
     def test_folders_that_are_no_day_types(self, _: mock.Mock) -> None:

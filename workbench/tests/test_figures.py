@@ -3,7 +3,6 @@ from __future__ import annotations
 
 import csv
 import io
-import json
 import statistics
 import tomllib
 import unittest
@@ -13,7 +12,6 @@ from typing import Any
 
 from desk import program
 from tests.feeds import FolderTest, needs_program, write_feed
-from tests.forms import is_answer
 from tests.small_town import plan, rows, small_town, two_trips
 
 KINDS = {"p": "platform", "l": "layover", "e": "empty", "w": "waiting"}
@@ -114,10 +112,7 @@ class OfAFeed(FolderTest):
 
     def compare(self, feed: Path, route_lines: dict[str, str]) -> None:
         """Compares all figures of a feed."""
-        status, out, errors = self.desk("figures", feed, "--json")
-        self.assertEqual((status, errors), (0, ""))
-        found, other = json.loads(out), Simulated(feed)
-        self.assertTrue(is_answer("figures", found))
+        found, other = self.answer("figures", feed), Simulated(feed)
         self.compare_sums(feed, found, other)
         self.compare_lines(feed, found, other, route_lines)
         self.compare_blocks(found, other)
@@ -197,7 +192,7 @@ class Figures(OfAFeed):
 
     def compare_forms(self, feed: Path) -> None:
         """The records and the text say what the JSON says."""
-        found = json.loads(self.desk("figures", feed, "--json")[1])
+        found = self.answer("figures", feed)
         records = list(csv.DictReader(io.StringIO(self.desk("figures", feed, "--csv")[1], newline="")))
         value = {(row["table"], row["of"], row["figure"]): row["value"] for row in records}
         self.assertEqual(len(value), len(records))
@@ -240,13 +235,13 @@ class Figures(OfAFeed):
                 for number, (at, stop) in enumerate(((leaves, start), (arrives, end)))),
             "edits.csv": "cancel,U2\nextra,E1,B,A,06:15,06:25\n", "deadheads.csv": "from,to,minutes\n"})
         plan(feed)
-        found = json.loads(self.desk("figures", feed, "--json")[1])
+        found = self.answer("figures", feed)
         names = "neighbours", "stated_neighbours", "kept_neighbours", "line_changes"
         self.assertEqual([found[name] for name in names], [4, 3, 1, 4])
         self.assertEqual({name: found[name] for name in names}, counted_neighbours(feed))
         write_feed(feed, {"edits.csv": ""})
         plan(feed)
-        found = json.loads(self.desk("figures", feed, "--json")[1])
+        found = self.answer("figures", feed)
         self.assertEqual([found[name] for name in names], [4, 4, 3, 2])
 
     def test_a_vehicle_that_leaves_the_day_before(self) -> None:
@@ -254,7 +249,7 @@ class Figures(OfAFeed):
             "stop_times.txt": "trip_id,arrival_time,departure_time,stop_id,stop_sequence\n"
                               "U1,00:05:00,00:05:00,A,1\nU1,00:30:00,00:30:00,B,2\nU2,24:50:00,24:50:00,C,1\nU2,25:30:00,25:30:00,A,2\n"})
         plan(feed)
-        found = json.loads(self.desk("figures", feed, "--json")[1])
+        found = self.answer("figures", feed)
         self.assertEqual(found["blocks"][0]["leaves"], "-00:05")
         self.assertEqual(found["in_service"][0], {"from": "-00:15", "vehicles": 1})
         self.assertEqual(len(found["in_service"]), 1 + 25 * 4 + 3)
@@ -263,8 +258,7 @@ class Figures(OfAFeed):
     def test_a_day_without_trips(self) -> None:
         feed = two_trips(self.room / "feed", {"desk.toml": "services = []\n"})
         plan(feed)
-        found = json.loads(self.desk("figures", feed, "--json")[1])
-        self.assertTrue(is_answer("figures", found))
+        found = self.answer("figures", feed)
         self.assertEqual((found["vehicles"], found["spans"], found["in_service"], found["empty_share"]), (0, None, [], 0.0))
         self.assertTrue(self.desk("figures", feed)[1].startswith("vehicles 0, empty minutes 0"))
 

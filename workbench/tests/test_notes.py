@@ -1,7 +1,6 @@
 """Notes: each mistake that the program accepts in silence has one, and a clean town has none."""
 from __future__ import annotations
 
-import json
 import os
 import sqlite3
 import unittest
@@ -15,7 +14,6 @@ from desk.notes import MOST_OF_A_KIND, notes_of
 from desk.notes.note import Note
 from desk.town import Town
 from tests.feeds import Feed, FolderTest, demonstration, needs_program, table, write_feed, zip_feed
-from tests.forms import is_answer
 
 TIMES = "trip_id,arrival_time,departure_time,stop_id,stop_sequence"
 
@@ -574,10 +572,7 @@ class TestAnswers(NotesTest):
 
     def test_json(self) -> None:
         town = write_feed(self.room / "town", silent_feed("no blocks of today"))
-        status, text, _ = self.desk("notes", town, "--json")
-        self.assertEqual(status, 1)
-        self.assertTrue(is_answer("notes", json.loads(text)))
-        self.assertEqual(len(json.loads(text)["notes"]), 1)
+        self.assertEqual(len(self.answer("notes", town, status=1)["notes"]), 1)
         self.assertEqual(self.desk("notes", write_feed(self.room / "other", CLEAN), "--json")[:2], (0, '{\n  "notes": []\n}\n'))
 
     def test_many_notes_of_a_kind_are_counted(self) -> None:

@@ -12,7 +12,6 @@ from pathlib import Path
 from desk.plans import read_blocks
 from desk.program import ROOT
 from tests.feeds import FolderTest, needs_program, write_feed
-from tests.forms import is_answer
 from tests.made_periods import with_a_night_line, with_dates_alone, with_night_and_school
 from tests.small_town import two_trips
 
@@ -61,8 +60,7 @@ class PlanTest(FolderTest):
         self.assertIn("days/sat: feed refused: deadheads.csv record 1: same terminal\n", text)
         self.assertIn("days/sun: today's blocks cannot be run: 8 pairs of trips do not fit, the first ", text)
         self.assertIn("fleet: not known, since 1 day type of 5 has no plan\n", text)
-        answer = json.loads(self.desk("plan", self.town, "--gather", "--json")[1])
-        self.assertTrue(is_answer("plan", answer))
+        answer = self.answer("plan", self.town, "--gather", status=1)
         found = answer["towns"][0]
         self.assertEqual([day["folder"] for day in found["days"] if "error" in day], ["days/sat"])
 
@@ -171,8 +169,7 @@ class SharedTripsTest(FolderTest):
         self.assertFalse((self.sat / "stated.csv").exists())
         pairs = self.pairs(self.fri) - {("night_M_0", "night_M_1"), ("night_M_1", "night_M_2")}
         self.assertEqual(self.row("Saturday", text)[7:10], [str(len(pairs - self.pairs(self.sat))), "of", str(len(pairs))])
-        answer = json.loads(self.desk("plan", self.town, "--gather", "--json")[1])
-        self.assertTrue(is_answer("plan", answer))
+        answer = self.answer("plan", self.town, "--gather")
         shared = {day["folder"]: day["shared"] for day in answer["towns"][0]["days"]}
         self.assertEqual((shared["days/mon-thu"], shared["days/sat"]["trips"]), (None, 9))
 

@@ -3,7 +3,6 @@ from __future__ import annotations
 
 import csv
 import datetime
-import json
 import unittest
 import zipfile
 from pathlib import Path
@@ -45,7 +44,7 @@ class PeriodTest(PublishingTest):
         """On every date of the period, and a month around it, the two feeds have the same runs, and the blocks are the planned ones.
         Gives how many dates have trips."""
         agency, town, made = Gtfs(source or self.agency), Gtfs(self.town), Gtfs(self.out)
-        days = json.loads(self.desk("days", self.town, "--json")[1])["days"]
+        days = self.answer("days", self.town)["days"]
         folder_of = {date: day["folder"] for day in days for date in day["dates"]}
         planned = {day["folder"]: self.planned(day["folder"]) for day in days}
         first, last = (datetime.datetime.strptime(end(folder_of), "%Y%m%d").date() for end in (min, max))
