@@ -44,7 +44,7 @@ def words() -> str:
     for word, parser in parsers().items():
         places = [named(it) for it in parser._actions if not it.option_strings or it.required]
         rows.append((f"`./desk {' '.join([word, *places])}`", sentence(parser.description or "")))
-    said = " ".join(of_workbench("cli").EPILOG.partition(". ")[0].split())
+    said = " ".join(of_workbench("cli").STATUSES.partition(". ")[0].split())
     return f"{table(('Command', 'What it does'), rows)}\n{sentence(said)}\n"
 
 

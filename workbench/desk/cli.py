@@ -38,7 +38,7 @@ DESCRIPTION = """\
 From an agency's zip to a plan: drafts what the program reads, tells what looks wrong, and draws.
 Vehicles, blocks, minutes and verdicts come from the proved program blockdesk. The workbench itself is not proved."""
 
-EPILOG = """\
+STATUSES = """\
 statuses: 0 all is well, 1 something to look at or an error, 2 the words are of no form; the words of the program end
 with its own statuses. `desk COMMAND --help` tells of a command."""
 
@@ -49,6 +49,19 @@ class Parser(argparse.ArgumentParser):
     def error(self, message: str) -> NoReturn:
         """Ends with the message of what is of no form."""
         raise UsageError(f"{message} (`{self.prog} --help` tells the words)")
+
+    def format_help(self) -> str:
+        """The help in the order of all scripts: what a command does, its details with an example, its arguments, and its options."""
+        formatter = self._get_formatter()
+        formatter.add_usage(self.usage, self._actions, self._mutually_exclusive_groups)
+        formatter.add_text(self.description)
+        formatter.add_text(self.epilog)
+        for group in sorted(self._action_groups, key=lambda group: group is self._optionals):
+            formatter.start_section(group.title)
+            formatter.add_text(group.description)
+            formatter.add_arguments(group._group_actions)
+            formatter.end_section()
+        return formatter.format_help()
 
     def print_help(self, file: TextIO | None = None) -> None:
         """Prints the help, and does not pass over an error of the output as the library would."""
@@ -71,7 +84,7 @@ def words_of(module: ModuleType) -> dict[str, str]:
 
 def make_parser() -> Parser:
     """The parser of all commands."""
-    parser = Parser(prog="desk", description=DESCRIPTION, epilog=EPILOG,
+    parser = Parser(prog="desk", description=DESCRIPTION, epilog=STATUSES,
                     formatter_class=argparse.RawDescriptionHelpFormatter)
     parser.add_argument("--version", action=ShowVersion, nargs=0, help="print the commit and the kit, and end")
     words = parser.add_subparsers(title="commands", metavar="COMMAND", dest="word", required=True)

@@ -21,7 +21,7 @@ HELP = "the day types of the calendars: their dates, their trips, and the folder
 
 def add_arguments(parser: argparse.ArgumentParser) -> None:
     """The words of the command."""
-    parser.epilog = "example: ./desk days town"
+    parser.epilog = "Example: ./desk days town"
     parser.add_argument("town", type=Path, metavar="TOWN", help="the folder of the feed")
     parser.add_argument("--json", action="store_true", help="as JSON, with each date")
 

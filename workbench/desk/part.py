@@ -34,7 +34,7 @@ LEFT = (*SCRIPTS, *OWN, PLAN)
 
 def add_arguments(parser: argparse.ArgumentParser) -> None:
     """The words of the command."""
-    parser.epilog = "example: ./desk part town --by agency makes town-NAME for each agency of routes.txt"
+    parser.epilog = "Example: ./desk part town --by agency makes town-NAME for each agency of routes.txt"
     parser.add_argument("town", type=Path, metavar="TOWN", help="the folder of the feed, which stays as it is")
     parser.add_argument("--by", choices=tuple(WAYS), required=True, help="what the trips of a part have in common")
 

@@ -33,7 +33,7 @@ WAIT = 0.02
 
 def add_arguments(parser: argparse.ArgumentParser) -> None:
     """The words of the command."""
-    parser.epilog = ("example: ./desk plan town; over several machines: ./desk plan town --commands | parallel, and then "
+    parser.epilog = ("Example: ./desk plan town; over several machines: ./desk plan town --commands | parallel, and then "
                      "./desk plan town --gather")
     parser.add_argument("towns", nargs="+", type=Path, metavar="TOWN", help="the folder of a town, or of one of its day types")
     how = parser.add_mutually_exclusive_group()

@@ -33,7 +33,7 @@ BOARDS, FIGURES = "-boards.html", "-figures.txt"
 
 def add_arguments(parser: argparse.ArgumentParser) -> None:
     """The words of the command."""
-    parser.epilog = "example: ./desk publish town town.zip --boards --figures"
+    parser.epilog = "Example: ./desk publish town town.zip --boards --figures"
     parser.add_argument("town", type=Path, metavar="TOWN", help="the folder of the feed")
     parser.add_argument("zip", type=Path, metavar="OUT.zip", help="where the feed is written")
     parser.add_argument("--boards", action="store_true", help=f"the running boards too, in OUT{BOARDS}, or with days in OUT-DAY{BOARDS}")

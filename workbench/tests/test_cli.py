@@ -30,6 +30,8 @@ class Words(FolderTest):
                     status, of_word, errors = self.desk(word, "--help")
                     self.assertEqual((0, ""), (status, errors))
                     self.assertIn(f"usage: desk {word}", of_word)
+                    places = [of_word.find(part) for part in ("Example: ", "positional arguments:", "options:") if part in of_word]
+                    self.assertEqual(places, sorted(places))
 
     def test_words_of_no_form(self) -> None:
         for words in ((), ("unknown",), ("new",), ("new", "a"), ("new", "a", "b", "c"), ("new", "a", "b", "--unknown"), ("--unknown",),

@@ -29,7 +29,7 @@ HELP = "make a town of an agency's feed: unpack it, choose a day, draft terminal
 
 def add_arguments(parser: argparse.ArgumentParser) -> None:
     """The words of the command."""
-    parser.epilog = "example: ./desk new agency.zip town --depot 52.1,-0.45"
+    parser.epilog = "Example: ./desk new agency.zip town --depot 52.1,-0.45"
     parser.add_argument("feed", type=Path, metavar="FEED", help="the agency's feed: a zip or a folder in the form of GTFS")
     parser.add_argument("town", type=Path, metavar="TOWN", help="the folder that is made")
     which = parser.add_mutually_exclusive_group()
