@@ -16,6 +16,7 @@ from pathlib import Path
 from typing import Any
 
 from desk import cli
+from desk.locks import LOCK
 from desk.open.session import Session
 from desk.open.web import WebServer
 from desk.program import ROOT, program_path
@@ -24,6 +25,9 @@ from desk.times import format_time
 from tests.forms import is_answer
 
 Feed = dict[str, str]
+
+DESK = ROOT / "desk"
+"""The workbench, as it is run."""
 
 BUILT = ROOT / "crates" / "blockdesk" / "out" / "blockdesk"
 """The program as it is built in this repository. Tests never build it."""
@@ -86,6 +90,11 @@ def write_feed(folder: Path, feed: Mapping[str, str | bytes]) -> Path:
     for name, content in feed.items():
         (folder / name).write_bytes(content if isinstance(content, bytes) else content.encode("utf-8"))
     return folder
+
+
+def files_of(folder: Path) -> dict[str, bytes]:
+    """The bytes of each file below a folder but its lock, by its path from there."""
+    return {str(path.relative_to(folder)): path.read_bytes() for path in folder.rglob("*") if path.is_file() and path.name != LOCK}
 
 
 def zip_feed(path: Path, feed: Mapping[str, str | bytes], inside: str = "") -> Path:

@@ -7,7 +7,7 @@ from unittest import mock
 
 from desk.answers import tell
 from desk.program import run
-from tests.feeds import FolderTest, demonstration, needs_program, write_feed, zip_feed
+from tests.feeds import FolderTest, demonstration, files_of, needs_program, write_feed, zip_feed
 from tests.made_periods import with_dates_alone
 from tests.small_town import plan, rows, small_town, two_trips
 
@@ -37,7 +37,7 @@ class AdoptTest(FolderTest):
 
     def files(self) -> dict[str, bytes]:
         """The files of the town."""
-        return {path.name: path.read_bytes() for path in self.town.iterdir() if path.is_file() and path.name != ".desk.lock"}
+        return files_of(self.town)
 
     def refused(self, words: str, *more: str) -> None:
         """Nothing is written, for this reason."""
@@ -93,9 +93,9 @@ class AdoptTest(FolderTest):
         """Repeated trips have blocks in the town alone. A new feed brings the agency's blocks again, and is not taken back."""
         self.desk("new", zip_feed(self.room / "demo.zip", demonstration()), self.town)
         plan(self.town)
-        agency = {path: path.read_bytes() for path in (self.town / "agency").iterdir()}
+        agency = files_of(self.town / "agency")
         self.assertEqual(self.adopt()[0], 0)
-        self.assertEqual({path: path.read_bytes() for path in (self.town / "agency").iterdir()}, agency)
+        self.assertEqual(files_of(self.town / "agency"), agency)
         self.assertTrue(all(row["block_id"] for row in rows(self.trips) if row["service_id"] == "FULLW"))
         feed = demonstration()
         feed["trips.txt"] += "AB,FULLW,AB3,to Bullfrog,0,1\n"

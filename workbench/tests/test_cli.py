@@ -11,9 +11,8 @@ from desk import cli
 from desk.errors import DeskError, one_line
 from desk.program import ROOT
 from desk.versions import UNKNOWN, version
-from tests.feeds import FolderTest, demonstration, write_feed, zip_feed
+from tests.feeds import DESK, FolderTest, demonstration, write_feed, zip_feed
 
-LAUNCHER = ROOT / "desk"
 
 
 class Words(FolderTest):
@@ -97,7 +96,7 @@ class Ends(FolderTest):
     def test_no_traceback_while_the_modules_are_read(self) -> None:
         """Here a module of the library takes long to be read, and Ctrl+C comes meanwhile."""
         (self.room / "argparse.py").write_text("print('reading', flush=True)\nimport time\ntime.sleep(60)\n")
-        with subprocess.Popen([LAUNCHER, "--help"], stdout=subprocess.PIPE, stderr=subprocess.PIPE, text=True,
+        with subprocess.Popen([DESK, "--help"], stdout=subprocess.PIPE, stderr=subprocess.PIPE, text=True,
                               env={**os.environ, "PYTHONPATH": str(self.room)},
                               preexec_fn=lambda: signal.signal(signal.SIGINT, signal.SIG_DFL)) as running:
             self.assertEqual("reading\n", running.stdout.readline())
@@ -112,11 +111,11 @@ class Launcher(FolderTest):
         """Runs the launcher from a folder that has modules of names that the workbench uses."""
         for name in ("csv.py", "desk.py", "argparse.py"):
             (self.room / name).write_text("raise SystemExit(9)\n")
-        return subprocess.run([LAUNCHER, *map(str, words)], cwd=self.room, capture_output=True, text=True, check=False, **more)
+        return subprocess.run([DESK, *map(str, words)], cwd=self.room, capture_output=True, text=True, check=False, **more)
 
     def test_it_runs_from_any_folder_and_by_a_link(self) -> None:
-        (self.room / "link").symlink_to(LAUNCHER)
-        for words in ([LAUNCHER, "--help"], [self.room / "link", "--help"], [sys.executable, LAUNCHER, "--help"]):
+        (self.room / "link").symlink_to(DESK)
+        for words in ([DESK, "--help"], [self.room / "link", "--help"], [sys.executable, DESK, "--help"]):
             ran = subprocess.run(words, cwd="/", capture_output=True, text=True, check=False)
             self.assertEqual((0, ""), (ran.returncode, ran.stderr))
             self.assertIn("usage: desk", ran.stdout)
@@ -131,22 +130,22 @@ class Launcher(FolderTest):
         self.assertIn("To mend:", self.launch("new", "feed", "town", "--replace").stdout)
 
     def test_an_older_python_is_told(self) -> None:
-        code = f"import sys, runpy; sys.version_info = (3, 8, 1); runpy.run_path({str(LAUNCHER)!r})"
+        code = f"import sys, runpy; sys.version_info = (3, 8, 1); runpy.run_path({str(DESK)!r})"
         ran = subprocess.run([sys.executable, "-c", code], capture_output=True, text=True, check=False)
         self.assertEqual((1, "", "desk: Python 3.11 or later is needed, and this is 3.8\n"), (ran.returncode, ran.stdout, ran.stderr))
 
     def test_a_reader_that_goes_away(self) -> None:
-        with subprocess.Popen([LAUNCHER, "--help"], stdout=subprocess.PIPE, stderr=subprocess.PIPE, text=True) as running:
+        with subprocess.Popen([DESK, "--help"], stdout=subprocess.PIPE, stderr=subprocess.PIPE, text=True) as running:
             running.stdout.close()
             self.assertEqual("", running.stderr.read())
 
     def test_a_full_disk_is_told(self) -> None:
         with open("/dev/full", "w") as full:
-            ran = subprocess.run([LAUNCHER, "--help"], stdout=full, stderr=subprocess.PIPE, text=True, check=False)
+            ran = subprocess.run([DESK, "--help"], stdout=full, stderr=subprocess.PIPE, text=True, check=False)
         self.assertEqual((1, "desk: No space left on device\n"), (ran.returncode, ran.stderr))
 
     def test_no_output_at_all(self) -> None:
-        ran = subprocess.run(["bash", "-c", f"'{LAUNCHER}' --help >&-"], stderr=subprocess.PIPE, text=True, check=False)
+        ran = subprocess.run(["bash", "-c", f"'{DESK}' --help >&-"], stderr=subprocess.PIPE, text=True, check=False)
         self.assertEqual((0, ""), (ran.returncode, ran.stderr))
 
     def test_texts_of_any_locale(self) -> None:

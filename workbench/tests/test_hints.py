@@ -14,7 +14,7 @@ from desk import program
 from desk.hints.edits import wrong
 from desk.hints.machine import read_hints, write_hints
 from desk.hints.runs import hints_before, hints_of, questions_before
-from tests.feeds import Feed, FolderTest, demonstration, needs_program, table, write_feed, zip_feed
+from tests.feeds import Feed, FolderTest, demonstration, files_of, needs_program, table, write_feed, zip_feed
 from tests.test_notes import CLEAN
 
 FEED: Feed = {name: text for name, text in CLEAN.items() if name != "edits.csv"}
@@ -423,9 +423,9 @@ class TestJournals(HintsTest):
         with closing(sqlite3.connect(self.path)) as database:
             database.execute("PRAGMA journal_mode = WAL")
         self.make("CREATE TABLE journal(seq INTEGER PRIMARY KEY, line TEXT NOT NULL)")
-        before = {path.name: path.read_bytes() for path in self.town.iterdir()}
+        before = files_of(self.town)
         self.assertEqual(hints_of("keep", [str(self.town)], 7, ""), [])
-        self.assertEqual({path.name: path.read_bytes() for path in self.town.iterdir()}, before)
+        self.assertEqual(files_of(self.town), before)
 
     def test_a_database_that_is_damaged(self) -> None:
         self.make("CREATE TABLE journal(seq INTEGER PRIMARY KEY, line TEXT NOT NULL)")

@@ -10,10 +10,9 @@ from pathlib import Path
 from unittest import mock
 
 from desk.errors import DeskError
-from desk.locks import LOCK
 from desk.new.settings import settings_text
 from desk.program import run
-from tests.feeds import FIRST_DAY, Feed, FolderTest, agency, demonstration, needs_program, table, write_feed, zip_feed
+from tests.feeds import FIRST_DAY, Feed, FolderTest, agency, demonstration, files_of, needs_program, table, write_feed, zip_feed
 
 READ = ("trips.txt", "stop_times.txt", "calendar.txt", "calendar_dates.txt")
 
@@ -47,7 +46,7 @@ class NewTest(FolderTest):
 
     def tree(self) -> dict[str, bytes]:
         """All files of the town, but for its lock."""
-        return {str(path.relative_to(self.town)): path.read_bytes() for path in self.town.rglob("*") if path.is_file() and path.name != LOCK}
+        return files_of(self.town)
 
 
 class MadeAgency(NewTest):

@@ -10,7 +10,7 @@ from unittest import mock
 from desk.parts import Part, by_agency, by_routes
 from desk.program import run
 from desk.town import Town
-from tests.feeds import Feed, FolderTest, needs_program, table, write_feed
+from tests.feeds import Feed, FolderTest, files_of, needs_program, table, write_feed
 
 ENDS = {"red": "ab", "blue": "bc", "green": "de", "grey": "fg", "night": "de"}
 """The routes and the stops between which each runs: red and blue share one, green and night both."""
@@ -57,13 +57,13 @@ class PartsTest(FolderTest):
 
     @needs_program
     def test_the_towns_of_two_agencies(self) -> None:
-        before = {path.name: path.read_bytes() for path in self.town.iterdir()}
+        before = files_of(self.town)
         status, text, errors = self.desk("part", self.town, "--by", "agency")
         self.assertEqual((status, errors), (0, ""))
         self.assertEqual(text, f"{self.town}-City_Bus: 7 trips of the day on 2 routes\n{self.town}-Coach: 4 trips of the day on 3 routes\n"
                                f"left in {self.town} alone: edits.csv, blocks.csv, trips_before_1.txt\n"
                                f"Next: ./desk notes {self.town}-City_Bus\n")
-        self.assertEqual(before, {path.name: path.read_bytes() for path in self.town.iterdir()})
+        self.assertEqual(before, files_of(self.town))
         trips = []
         for number, name in ((1, "City_Bus"), (2, "Coach")):
             part = self.room / f"town-{name}"

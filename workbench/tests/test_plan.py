@@ -10,12 +10,9 @@ import unittest
 from pathlib import Path
 
 from desk.plans import read_blocks
-from desk.program import ROOT
-from tests.feeds import FolderTest, needs_program, write_feed
+from tests.feeds import DESK, FolderTest, files_of, needs_program, write_feed
 from tests.made_periods import with_a_night_line, with_dates_alone, with_night_and_school
 from tests.small_town import two_trips
-
-DESK = ROOT / "desk"
 
 
 def spread(lines: list[str], folder: Path) -> None:
@@ -151,10 +148,10 @@ class SharedTripsTest(FolderTest):
     def test_the_files_of_a_day_make_its_plan(self) -> None:
         """Each command on the folder plans as `plan` has."""
         self.desk("plan", self.town)
-        before = {path.name: path.read_bytes() for path in self.sat.iterdir()}
+        before = files_of(self.sat)
         for command in ("blocks", "joined"):
             self.assertEqual(self.desk(command, self.sat)[0], 0)
-        self.assertEqual({path.name: path.read_bytes() for path in self.sat.iterdir()}, before)
+        self.assertEqual(files_of(self.sat), before)
         self.assertEqual(self.desk("write", self.sat)[0], 0)
         blocks = dict(line.split(",")[1::-1] for line in (self.sat / "blocks.csv").read_text().splitlines()[1:])
         written = (row.rsplit(",", 1) for row in (self.sat / "trips_blocks.txt").read_text().splitlines()[1:])

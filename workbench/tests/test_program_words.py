@@ -16,7 +16,7 @@ from pathlib import Path
 from desk import cli, program, program_words
 from desk.hints.forms import COMMANDS
 from desk.program import ROOT
-from tests.feeds import FolderTest, needs_program, write_feed
+from tests.feeds import DESK, FolderTest, needs_program, write_feed
 from tests.test_notes import CLEAN
 
 EXAMPLES = ROOT / "examples"
@@ -29,7 +29,7 @@ exit {status}
 
 def run_desk(*words: str | Path, **options: object) -> subprocess.CompletedProcess[bytes]:
     """Runs `./desk` with these words as a process of its own."""
-    return subprocess.run([sys.executable, ROOT / "desk", *words], stdin=subprocess.DEVNULL, capture_output="stdout" not in options,
+    return subprocess.run([sys.executable, DESK, *words], stdin=subprocess.DEVNULL, capture_output="stdout" not in options,
                           check=False, **options)
 
 
@@ -78,7 +78,7 @@ class TestAnyProgram(FolderTest):
     def test_its_standard_error_is_passed_on_while_it_runs(self) -> None:
         self.fake(body="#!/bin/sh\necho proving >&2\nread line < \"$2/pipe\"\necho done\n")
         os.mkfifo(self.room / "pipe")
-        words = [sys.executable, ROOT / "desk", "blocks", self.room]
+        words = [sys.executable, DESK, "blocks", self.room]
         with subprocess.Popen(words, stdout=subprocess.PIPE, stderr=subprocess.PIPE) as running:
             self.assertEqual(running.stderr.readline(), b"proving\n")
             self.assertIsNone(running.poll())
@@ -87,7 +87,7 @@ class TestAnyProgram(FolderTest):
 
     def test_ctrl_c_ends_the_program_too(self) -> None:
         self.fake(body="#!/bin/sh\necho $$ >&2\nexec sleep 60\n")
-        with subprocess.Popen([ROOT / "desk", "blocks", self.room], stdout=subprocess.PIPE, stderr=subprocess.PIPE,
+        with subprocess.Popen([DESK, "blocks", self.room], stdout=subprocess.PIPE, stderr=subprocess.PIPE,
                               preexec_fn=lambda: signal.signal(signal.SIGINT, signal.SIG_DFL)) as running:
             process = int(running.stderr.readline())
             running.send_signal(signal.SIGINT)

@@ -30,7 +30,7 @@ from desk.page.view import LISTS, parts_of
 from desk.program import ROOT
 from desk.rooms import own_room
 from desk.town import Town
-from tests.feeds import TOKEN, FolderTest, needs_program, table, write_feed
+from tests.feeds import DESK, TOKEN, FolderTest, needs_program, table, write_feed
 from tests.small_town import two_trips
 
 RUN = program.run
@@ -267,7 +267,7 @@ class OpenTest(FolderTest):
         """It puts the address, answers there and nowhere else, and ends with status 0 when it is stopped."""
         town = self.room / "town"
         shutil.copytree(ROOT / "examples" / "depot", town, ignore=shutil.ignore_patterns("expected"))
-        with subprocess.Popen([ROOT / "desk", "open", town], stdout=subprocess.PIPE, stderr=subprocess.PIPE, text=True,
+        with subprocess.Popen([DESK, "open", town], stdout=subprocess.PIPE, stderr=subprocess.PIPE, text=True,
                               preexec_fn=lambda: signal.signal(signal.SIGINT, signal.SIG_DFL)) as running, \
                 contextlib.ExitStack() as ended:
             # A shell starts what runs in the background with the signal ignored, and what is waited for at the end has to end.
@@ -286,7 +286,7 @@ class OpenTest(FolderTest):
         """`desk open` of a town that runs, with its host and its path."""
         town = self.room / "town"
         shutil.copytree(ROOT / "examples" / "depot", town, ignore=shutil.ignore_patterns("expected"))
-        running = ended.enter_context(subprocess.Popen([ROOT / "desk", "open", town, *words], stdout=subprocess.PIPE, stderr=subprocess.PIPE, text=True, **more))
+        running = ended.enter_context(subprocess.Popen([DESK, "open", town, *words], stdout=subprocess.PIPE, stderr=subprocess.PIPE, text=True, **more))
         ended.callback(running.kill)
         found = re.match(r"open http://([0-9.:]+)(/[\w-]+/) in", running.stdout.readline())
         return running, found[1], found[2]

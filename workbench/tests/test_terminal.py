@@ -6,8 +6,8 @@ import pty
 import subprocess
 from pathlib import Path
 
-from desk.program import ROOT, run
-from tests.feeds import FolderTest, needs_program
+from desk.program import run
+from tests.feeds import DESK, FolderTest, needs_program
 from tests.small_town import plan, two_trips
 
 NAME = "U1\x1b]0;title\x07\x1b[2J\x9b31m"
@@ -27,7 +27,7 @@ class Terminals(FolderTest):
     def on_terminal(self, *words: str | Path) -> bytes:
         """What a command puts on a terminal."""
         ours, theirs = pty.openpty()
-        with subprocess.Popen([ROOT / "desk", *words], stdin=subprocess.DEVNULL, stdout=theirs, stderr=theirs) as running:
+        with subprocess.Popen([DESK, *words], stdin=subprocess.DEVNULL, stdout=theirs, stderr=theirs) as running:
             os.close(theirs)
             parts = []
             try:
@@ -54,6 +54,6 @@ class Terminals(FolderTest):
 
     def test_what_is_no_terminal_gets_the_bytes(self) -> None:
         for command in ("fixed", "chart", "deficits"):
-            put = subprocess.run([ROOT / "desk", command, self.town], stdin=subprocess.DEVNULL, capture_output=True, check=True).stdout
+            put = subprocess.run([DESK, command, self.town], stdin=subprocess.DEVNULL, capture_output=True, check=True).stdout
             self.assertEqual(put, run([command, self.town]).text)
         self.assertIn(NAME.encode(), run(["fixed", self.town]).text)

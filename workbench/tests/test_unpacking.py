@@ -14,7 +14,7 @@ from unittest import mock
 
 from desk.errors import DeskError
 from desk.unpacking import unpack
-from tests.feeds import FolderTest, demonstration, write_feed, zip_feed
+from tests.feeds import FolderTest, demonstration, files_of, write_feed, zip_feed
 
 
 class Unpacked(FolderTest):
@@ -27,7 +27,7 @@ class Unpacked(FolderTest):
     def unpacked(self, feed: Path) -> dict[str, bytes]:
         """The files of a feed, unpacked."""
         names = unpack(feed, self.room / "agency")
-        found = {path.name: path.read_bytes() for path in (self.room / "agency").iterdir()}
+        found = files_of(self.room / "agency")
         self.assertEqual(sorted(names), sorted(found))
         return found
 
