@@ -1,5 +1,5 @@
 -- What holds of plans that are computed, for every timetable.
-use Rattle.std.specs.Prelude.{◌≡◌, ℕ, ◌+◌, ◌*◌, ◌≤◌, All, Bool, List, length, Option, None}
+use Rattle.std.specs.Prelude.{◌≡◌, ℕ, ◌+◌, ◌*◌, ◌≤◌, All, Bool, List, length, Option, None, Ok}
 use Rattle.assignment_model.specs.Choice.{IsChosen}
 use Rattle.assignment_model.specs.Paths.{IsPath}
 use Rattle.assignment_model.specs.Prices.{Plan}
@@ -11,10 +11,17 @@ use Rattle.deadhead_matrix.specs.Pulls.{IsPull}
 use Rattle.desk_core.specs.Computed.{first_plan, likes, plan_repaired}
 use Rattle.desk_core.specs.Counts.{blocks_in}
 use Rattle.desk_core.specs.Repair.{IsRepairedIn, MayRepair}
+use Rattle.desk_feed.specs.Feed.{FeedView, said_by}
+use Rattle.desk_feed.specs.Schedule.{IsMatrixFor}
 use Rattle.desk_feed.specs.Script.{IsScript}
+use Rattle.desk_io.specs.declared.shelf.Found.{Found}
 use Rattle.edit_script.specs.declared.edit.Edit.{Edit}
 use Rattle.edit_script.specs.declared.edit.Line.{Line}
 use Rattle.feed_desk.specs.Plans.{ArePlanned}
+use Rattle.feed_likings.specs.Likings.{likings_by}
+use Rattle.gtfs_tables.specs.Reading.{table_in}
+use Rattle.gtfs_tables.specs.declared.paper.Paper.{Paper}
+use Rattle.gtfs_tables.specs.declared.paper.Paper.TheVariants as paper
 use Rattle.pair_graph.specs.Pairs.{PairsView}
 use Rattle.plan_choice.specs.Likings.{LikingsView}
 use Rattle.trip_model.specs.Links.{next_of, before_of}
@@ -87,3 +94,23 @@ AreAllRepaired = (timetable : TimetableView) (matrix : MatrixView) → IsTimetab
 abbrev pub AreAllPlanned : Type 0
 AreAllPlanned = (base : TimetableView) (lines : List Line) (matrix : MatrixView) (likings : LikingsView) → MayPlan base matrix likings
     → IsScript lines → ArePlanned base lines matrix likings
+
+-- What a feed says is valid: its timetable, its script, and for each place a pull that is no longer than one may be.
+pub record IsValidFeed (said : FeedView) : Type 0 where
+  pub base : IsTimetable said.base
+  pub script : IsScript said.lines
+  pub pulls : All IsPull said.pulls
+  pub count : length said.pulls ≡ length said.base.places
+
+-- how links are liked by the settings of a feed and by what was found of its trips
+abbrev pub likings_found : (Paper → Found) → FeedView → LikingsView
+likings_found found said = likings_by said.settings said.base (table_in paper.Trips (found paper.Trips))
+
+-- what each accepted feed says is valid
+abbrev pub AreAllAccepted : Type 0
+AreAllAccepted = (found : Paper → Found) (said : FeedView) → said_by found ≡ Ok said → IsValidFeed said
+
+-- there may be plans of the timetable of each accepted feed, with its matrix and its likings
+abbrev pub MayAllPlan : Type 0
+MayAllPlan = (found : Paper → Found) (said : FeedView) → said_by found ≡ Ok said → (matrix : MatrixView) → IsMatrixFor said matrix
+    → MayPlan said.base matrix (likings_found found said)

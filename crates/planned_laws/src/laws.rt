@@ -22,6 +22,13 @@ pub fn repaired_law()
     ensures { spec.AreAllRepaired }
 {}
 
+/// What an accepted feed says is valid, by the definitions of what its files say: its timetable, its script and its pulls. So there
+/// may be plans of its timetable, with its matrix and its likings.
+pub fn accepted_law()
+    ensures said { spec.AreAllAccepted }
+    ensures may { spec.MayAllPlan }
+{}
+
 /// The plans of each script are planned, for every feed that is accepted and without any run. So they are least also where a run
 /// stops early, and also for a command that makes no plan.
 pub fn planned_law()
