@@ -90,9 +90,9 @@ AreAllRepaired = (timetable : TimetableView) (matrix : MatrixView) → IsTimetab
     → (edit : Edit) (slot : ℕ) → MayRepair edit slot timetable matrix plan
     → IsRepaired edit slot timetable matrix plan (plan_repaired edit slot timetable matrix plan)
 
--- the plans of each script are planned, over each base timetable, matrix and likings of an accepted feed
-abbrev pub AreAllPlanned : Type 0
-AreAllPlanned = (base : TimetableView) (lines : List Line) (matrix : MatrixView) (likings : LikingsView) → MayPlan base matrix likings
+-- The plans of each script are planned, over each timetable, matrix and likings with which there may be plans.
+abbrev pub AreEachPlanned : Type 0
+AreEachPlanned = (base : TimetableView) (lines : List Line) (matrix : MatrixView) (likings : LikingsView) → MayPlan base matrix likings
     → IsScript lines → ArePlanned base lines matrix likings
 
 -- What a feed says is valid: its timetable, its script, and for each place a pull that is no longer than one may be.
@@ -114,3 +114,8 @@ AreAllAccepted = (found : Paper → Found) (said : FeedView) → said_by found �
 abbrev pub MayAllPlan : Type 0
 MayAllPlan = (found : Paper → Found) (said : FeedView) → said_by found ≡ Ok said → (matrix : MatrixView) → IsMatrixFor said matrix
     → MayPlan said.base matrix (likings_found found said)
+
+-- the plans of the script of each accepted feed are planned, with its matrix and its likings
+abbrev pub AreAllPlanned : Type 0
+AreAllPlanned = (found : Paper → Found) (said : FeedView) → said_by found ≡ Ok said → (matrix : MatrixView) → IsMatrixFor said matrix
+    → ArePlanned said.base said.lines matrix (likings_found found said)

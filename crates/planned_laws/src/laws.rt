@@ -32,11 +32,13 @@ pub fn accepted_law()
 /// The plans of each script are planned, for every feed that is accepted and without any run. So they are least also where a run
 /// stops early, and also for a command that makes no plan.
 pub fn planned_law()
-    ensures { spec.AreAllPlanned }
+    ensures each { spec.AreEachPlanned }
+    ensures feed { spec.AreAllPlanned }
 {
     plan_law();
     plain_law();
     plain_blocks_law();
     same_edits_law();
     machine_law();
+    accepted_law();
 }
