@@ -109,7 +109,7 @@ module _ (said : FeedView) (trips : TableView) where
           judged = λ _ other other_is.
               ends
               ∙ ap (λ m. ending_with_misfits (misfits_in (standing said) m here) (ending_of said))
-              (matrix-same said.entries said.pulls (length said.base.places) matrix other is other_is);
+              (matrix-same said.entries said.pulls said.rules (length said.base.places) matrix other is other_is);
           refused = λ no. absurd (no names);
         },
         judged-lines (refused_of said) (ending_of said) (standing said) matrix here outcome (misfits_in (standing said) matrix here) judged,

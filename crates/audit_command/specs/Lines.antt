@@ -1,25 +1,28 @@
 -- What is printed of an audit.
-use Rattle.std.specs.Prelude.{ℕ, List, [], ◌∷◌, ◌++◌, length, Option, None, Some, codes}
+use Rattle.std.specs.Prelude.{ℕ, List, [], ◌∷◌, ◌++◌, length, codes}
 use Rattle.std.specs.Fmt.{decimal}
 use Rattle.std.specs.List.{flat_map}
 use Rattle.trip_model.specs.Timetable.{TimetableView, slot_at}
 use Rattle.block_audit.specs.declared.cost.Above.{Above}
 use Rattle.block_audit.specs.declared.cost.Above.TheVariants.{Nothing, Vehicles, Minutes}
 use Rattle.block_audit.specs.declared.misfit.Misfit.{Misfit}
+use Rattle.block_audit.specs.declared.misfit.Why.{Why}
+use Rattle.block_audit.specs.declared.misfit.Why.TheVariants.{NoWay, Late, Forbidden}
 use Rattle.block_audit.specs.Above.{above_by}
 use Rattle.block_audit.specs.Stated.{NamedBlock, block_at}
 
--- by how many minutes a vehicle comes too late, or that there is no way
-abbrev pub short_text : Option ℕ → List ℕ
-short_text None = codes " no way"
-short_text (Some minutes) = codes " short by " ++ decimal minutes
+-- that there is no way, by how many minutes a vehicle comes too late, or that a rule of pairs forbids it
+abbrev pub why_text : Why → List ℕ
+why_text NoWay = codes " no way"
+why_text (Late minutes) = codes " short by " ++ decimal minutes
+why_text Forbidden = codes " forbidden"
 
 -- the line of a misfit: its block, its two trips, and what is wrong
 unfoldable pub misfit_line : TimetableView → List NamedBlock → Misfit → List ℕ
 misfit_line timetable stated misfit =
     codes "block " ++ (block_at stated misfit.block).name ++ codes ": " ++ (slot_at timetable misfit.before).name ++ codes " to "
     ++ (slot_at timetable misfit.after).name
-    ++ short_text misfit.short ++ 10 ∷ []
+    ++ why_text misfit.why ++ 10 ∷ []
 
 -- the lines of misfits, and how many they are
 unfoldable pub misfits_text : TimetableView → List NamedBlock → List Misfit → List ℕ

@@ -137,7 +137,8 @@ impl FeedCommand for AuditFeed {
         };
         let alloc = said.alloc;
         let pulls = said.pulls;
-        let matrix = matrix_of(alloc, &said.timetable, said.deadheads, pulls)?;
+        let rules = said.rules;
+        let matrix = matrix_of(alloc, &said.timetable, said.deadheads, pulls, rules)?;
         let edited = after_script(alloc, said.timetable, said.lines)?;
         audited(alloc, &edited, &matrix, &trips, &chosen, steps)
     }

@@ -2,7 +2,7 @@ ghost use Rattle.std.specs.Prelude.{◌≡◌, ◌<◌, ◌++◌, length, All, I
 ghost use Rattle.price_check.specs.Claim.{Runs};
 ghost use Rattle.audit_command.specs.Lines as spec;
 
-use block_audit::{Above, Misfit, Stated, above_by};
+use block_audit::{Above, Misfit, Stated, Why, above_by};
 use desk_io::{Memory, Text};
 use std::alloc::Global;
 use std::fmt::Write;
@@ -25,9 +25,10 @@ fn push_misfit(
     let before = timetable.name(misfit.before);
     let after = timetable.name(misfit.after);
     write!(text, "block {name}: {before} to {after}")?;
-    match misfit.short {
-        Some(minutes) => write!(text, " short by {minutes}")?,
-        None => text.push_str(" no way")?,
+    match misfit.why {
+        Why::NoWay => text.push_str(" no way")?,
+        Why::Late(minutes) => write!(text, " short by {minutes}")?,
+        Why::Forbidden => text.push_str(" forbidden")?,
     }
     text.push_str("\n")?;
     Ok(())

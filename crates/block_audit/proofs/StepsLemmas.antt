@@ -12,7 +12,7 @@ use Rattle.deadhead_matrix.specs.Matrix.{MatrixView}
 use Rattle.deadhead_matrix.specs.Fitting.{network_of}
 use Rattle.price_check.specs.Claim.{Runs}
 use Rattle.block_audit.specs.declared.misfit.Misfit.{Misfit}
-use Rattle.block_audit.specs.Misfits.{short_by, with_misfit, misfits_after, block_misfits, misfits_from, misfits_in}
+use Rattle.block_audit.specs.Misfits.{short_by, why_of, with_misfit, misfits_after, block_misfits, misfits_from, misfits_in}
 use Rattle.block_audit.specs.Stated.{NamedBlock, block_at, blocks_by, slots_by}
 use Rattle.block_audit.proofs.StatedLemmas.{all-slots}
 
@@ -73,7 +73,7 @@ module _ (timetable : TimetableView) (matrix : MatrixView) where
     where
       by : (b : Bool) → AllByRecursion (IsOf below) (misfits_after timetable matrix block j js)
           → AllByRecursion (IsOf below) (with_misfit
-          (if b then None else Some (record { block = block; before = i; after = j; short = short_by timetable matrix i j }))
+          (if b then None else Some (record { block = block; before = i; after = j; why = why_of (short_by timetable matrix i j) }))
           (misfits_after timetable matrix block j js))
       by true rest = rest
       by false rest = (record { within = within; before = runs; after = all.0 }, rest)

@@ -1,14 +1,17 @@
 -- What stated blocks are.
-use Rattle.std.specs.Prelude.{◌≡◌, ◌≢◌, ℕ, ◌+◌, ◌<◌, Bool, List, [], length, slice_index_or, All, IfSome}
+use Rattle.std.specs.Prelude.{◌≡◌, ◌≢◌, ℕ, ◌+◌, ◌<◌, Bool, List, [], length, slice_index_or, All, ⊤, false}
 use Rattle.gtfs_tables.specs.Table.{TableView}
 use Rattle.trip_model.specs.Blocking.{times, StandsOnce, IsBlock, IsBlocking, IsLeast, slots_in, empty_minutes}
 use Rattle.trip_model.specs.Network.{Network}
-use Rattle.trip_model.specs.Timetable.{TimetableView, IsTimetable}
+use Rattle.trip_model.specs.Timetable.{TimetableView, IsTimetable, slot_at}
+use Rattle.pair_rules.specs.Rules.{PairRule, allows}
 use Rattle.deadhead_matrix.specs.Matrix.{MatrixView}
 use Rattle.deadhead_matrix.specs.Fitting.{network_of}
 use Rattle.block_audit.specs.declared.cost.Above.{Above}
 use Rattle.block_audit.specs.declared.cost.Above.TheVariants.{Nothing, Vehicles, Minutes}
 use Rattle.block_audit.specs.declared.misfit.Misfit.{Misfit}
+use Rattle.block_audit.specs.declared.misfit.Why.{Why}
+use Rattle.block_audit.specs.declared.misfit.Why.TheVariants.{Late, Forbidden}
 use Rattle.block_audit.specs.Above.{above_by}
 use Rattle.block_audit.specs.Misfits.{misfits_in}
 use Rattle.block_audit.specs.Stated.{NamedBlock, slots_by, stated_in}
@@ -33,14 +36,25 @@ HaveNoMisfit =
     → IsBlocking (network_of timetable matrix) (slots_by stated)
     → misfits_in timetable matrix stated ≡ []
 
--- where a way leads from one trip of a misfit to the other, a vehicle comes too late by more than no minutes
-abbrev pub IsLate : Misfit → Type 0
-IsLate misfit = IfSome misfit.short (λ minutes. 0 < minutes)
+-- a vehicle that comes too late does so by more than no minutes
+abbrev pub IsLate : Why → Type 0
+IsLate (Late minutes) = 0 < minutes
+IsLate _ = ⊤
 
 abbrev pub AreLate : Type 0
 AreLate =
     (trips : TableView) (timetable : TimetableView) (chosen : List Bool) (matrix : MatrixView)
-    → All IsLate (misfits_in timetable matrix (stated_in trips timetable chosen))
+    → All (λ misfit. IsLate misfit.why) (misfits_in timetable matrix (stated_in trips timetable chosen))
+
+-- where a misfit is forbidden, the rules of pairs do not allow its second trip straight after its first
+abbrev pub IsForbidden : TimetableView → List PairRule → Misfit → Type 0
+IsForbidden timetable rules misfit = misfit.why ≡ Forbidden
+    → allows rules (slot_at timetable misfit.before).name (slot_at timetable misfit.after).name ≡ false
+
+abbrev pub AreForbidden : Type 0
+AreForbidden =
+    (trips : TableView) (timetable : TimetableView) (chosen : List Bool) (matrix : MatrixView)
+    → All (IsForbidden timetable matrix.rules) (misfits_in timetable matrix (stated_in trips timetable chosen))
 
 -- where the trips of a stated block can be made one after the other in some order, that is their order there
 abbrev pub StandInOrder : Type 0

@@ -4,13 +4,15 @@ ghost use Rattle.block_audit.specs.Laws as spec;
 use deadhead_matrix::laws::deadhead_law;
 use trip_model::laws::plain_law;
 
-/// Each trip that runs is in the stated blocks once. They are a blocking exactly where there is no misfit. Where a way leads
-/// between the trips of a misfit, a vehicle comes too late by at least a minute.
+/// Each trip that runs is in the stated blocks once. They are a blocking exactly where there is no misfit. Where a vehicle comes
+/// too late to the second trip of a misfit, it does so by at least a minute. Where a misfit is forbidden, the rules of pairs do
+/// not allow its two trips.
 pub fn blocking_law()
     ensures stands { spec.EachStands }
     ensures blocking { spec.AreBlocking }
     ensures fitting { spec.HaveNoMisfit }
     ensures late { spec.AreLate }
+    ensures forbidden { spec.AreForbidden }
 {}
 
 /// Where the trips of a stated block can be made one after the other in some order, that is their order there.

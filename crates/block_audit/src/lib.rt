@@ -1,6 +1,7 @@
 //! The blocks that a feed states by the `block_id` of its trips, and whether vehicles can make them.
 //!
-//! [`stated_blocks`] makes them of the table of `trips.txt` and a timetable. [`misfits`] lists the neighbours that do not fit.
+//! [`stated_blocks`] makes them of the table of `trips.txt` and a timetable. [`misfits`] lists the neighbours that do not fit,
+//! and why: no way leads there, a vehicle comes too late, or a rule of pairs forbids it.
 //! [`stated_cost`] counts vehicles and empty minutes where all fit, and [`above_by`] says by how much these are above the
 //! least.
 //!
@@ -19,6 +20,7 @@
 //! - `Laws`: the laws of these
 //! - of `trip_model` `Blocking`, `Order` and `Timetable`
 //! - of `deadhead_matrix` `Fitting`, the network of a timetable and a matrix
+//! - of `pair_rules` `Rules`, which pairs rules allow
 //! - of `price_check` which trips run
 #![tactic(auto)]
 
@@ -29,5 +31,5 @@ mod names;
 mod stated;
 
 pub use cost::{Above, above_by, stated_cost};
-pub use misfit::{Misfit, misfits};
+pub use misfit::{Misfit, Why, misfits};
 pub use stated::{Stated, stated_blocks};

@@ -1,5 +1,7 @@
 ghost use Rattle.std.specs.Prelude.{◌≡◌, ◌<◌, ◌++◌, length, All, IfOk, OnOk};
+ghost use Rattle.pair_rules.specs.Rules.{allows};
 ghost use Rattle.price_check.specs.Claim.{Runs};
+ghost use Rattle.trip_model.specs.Timetable.{slot_at};
 ghost use Rattle.block_audit.specs.Misfits as spec;
 ghost use Rattle.block_audit.specs.Stated.{slots_by};
 
@@ -18,8 +20,19 @@ pub struct Misfit {
     pub before: u16,
     /// The slot of the second trip.
     pub after: u16,
-    /// By how many minutes a vehicle comes too late to the second; None where no way leads there.
-    pub short: Option<u32>,
+    /// Why it cannot.
+    pub why: Why,
+}
+
+/// Why no vehicle can make the second trip of a misfit after the first.
+#[derive(Clone, Copy)]
+pub enum Why {
+    /// No way leads there.
+    NoWay,
+    /// It comes so many minutes too late, which are more than 0.
+    Late(u32),
+    /// It would come in time, and a rule of pairs forbids it.
+    Forbidden,
 }
 
 // By how many minutes a vehicle comes too late from the one trip to the other. It is 0 where it comes in time, and None where
@@ -36,6 +49,28 @@ fn short_by(timetable: &Timetable, matrix: &Matrix, before: u16, after: u16) -> 
     Some((u32::from(first.ends) + minutes).saturating_sub(u32::from(second.departs)))
 }
 
+// Whether the rules of pairs allow the one trip straight after the other.
+fn is_allowed(timetable: &Timetable, matrix: &Matrix, before: u16, after: u16) -> bool
+    requires before { Runs timetable.now before }
+    requires after { Runs timetable.now after }
+    ensures { result ≡ allows matrix.now.rules (slot_at timetable.now before).name (slot_at timetable.now after).name }
+{
+    matrix
+        .rules()
+        .allows(timetable.name(before), timetable.name(after))
+}
+
+// Why two trips do not fit, of which a vehicle comes so many minutes too late from the one to the other.
+fn why_of(short: Option<u32>) -> Why
+    ensures { result ≡ spec.why_of short }
+{
+    match short {
+        None => Why::NoWay,
+        Some(0) => Why::Forbidden,
+        Some(minutes) => Why::Late(minutes),
+    }
+}
+
 // The misfit of two neighbours of a block; None where the second fits after the first.
 fn misfit_between(
     timetable: &Timetable,
@@ -50,14 +85,14 @@ fn misfit_between(
     ensures { result ≡ spec.misfit_between timetable.now matrix.now block before after }
 {
     let short = short_by(timetable, matrix, before, after);
-    if short == Some(0) {
+    if short == Some(0) && is_allowed(timetable, matrix, before, after) {
         return None;
     }
     Some(Misfit {
         block,
         before,
         after,
-        short,
+        why: why_of(short),
     })
 }
 

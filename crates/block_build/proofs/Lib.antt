@@ -1,4 +1,5 @@
 pub mod BlocksMade
 pub mod CostLemmas
 pub mod FilesWritten
+pub mod FitWalk
 pub mod LinesWritten

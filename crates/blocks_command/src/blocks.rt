@@ -120,7 +120,8 @@ impl NamingCommand for WriteBlocks {
         names_law();
         let alloc = said.alloc;
         let pulls = said.pulls;
-        let matrix = matrix_of(alloc, &said.timetable, said.deadheads, pulls)?;
+        let rules = said.rules;
+        let matrix = matrix_of(alloc, &said.timetable, said.deadheads, pulls, rules)?;
         let likings = read_likings(alloc, said.settings, said.read, &said.timetable)?;
         planned(
             alloc,

@@ -1,28 +1,25 @@
 -- The rows of written blocks show the empty minutes before their trips, which are few.
-use Rattle.std.proofs.Common.{◌≡◌, ℕ, zero, suc, ◌+◌, ◌<◌, ◌≤◌, nat_le, cond, Bool, true, false, List, [], ◌∷◌, ◌++◌, length, Option, None}
+use Rattle.std.proofs.Common.{◌≡◌, ℕ, zero, suc, ◌+◌, ◌<◌, ◌≤◌, cond, true, false, List, [], ◌∷◌, ◌++◌, length, Option, None}
 use Rattle.std.proofs.Common.{Some, refl, sym, ap, subst, ◌∙◌, arith}
 use Rattle.std.specs.Prelude.{⊤, unwrap_or}
 use Rattle.std.specs.List.{AllByRecursion}
-use Rattle.std.specs.Option.{is_some}
-use Rattle.std.proofs.lemmas.Bool.{false≢true}
 use Rattle.std.proofs.lemmas.Option.{same_Some}
-use Rattle.deadhead_matrix.specs.Fitting.{empty_between, in_time, out_before, network_of}
-use Rattle.deadhead_matrix.specs.Matrix.{MatrixView, walk}
+use Rattle.deadhead_matrix.specs.Fitting.{out_before, network_of}
+use Rattle.deadhead_matrix.specs.Matrix.{MatrixView}
 use Rattle.assignment_model.specs.Prices.{IsDay}
 use Rattle.assignment_model.proofs.Duality.{fitting}
 use Rattle.price_check.specs.declared.claim.BlockRow.{BlockRow}
 use Rattle.price_check.specs.Claim.{begin_with, block_row}
 use Rattle.price_check.specs.Certificate.{AreShown}
 use Rattle.price_check.specs.Reasons.{minutes_before}
-use Rattle.price_check.proofs.CertificateLemmas.{network-departures}
 use Rattle.price_check.proofs.ChainLemmas.{before_at, before_at-more, before_at-none, before_rest}
-use Rattle.trip_model.specs.declared.trip.Move.{Move}
 use Rattle.trip_model.specs.Blocking.{Follow}
 use Rattle.trip_model.specs.Network.{Network, Fits}
 use Rattle.trip_model.specs.Plain.{move_at, trip_moves}
-use Rattle.trip_model.specs.Timetable.{TimetableView, IsTimetable, slot_at}
+use Rattle.trip_model.specs.Timetable.{TimetableView, slot_at}
 use Rattle.trip_model.specs.Trip.{move_of}
 use Rattle.trip_model.proofs.OrderLemmas.{slot-live, slot-move}
+use Rattle.block_build.proofs.FitWalk.{fits-walk}
 use Rattle.claim_files.proofs.ChainRows.{IsChain, chain, minutes, row, rows_on, later-block, same-block}
 
 -- the move of a slot that runs
@@ -30,32 +27,16 @@ moving : (t : TimetableView) (m : MatrixView) (s : ℕ) → (network_of t m).liv
     → move_at (trip_moves t.slots) s ≡ Some (move_of (slot_at t s).trip)
 moving t m s live = slot-move t s ∙ ap (λ b. cond b (Some (move_of (slot_at t s).trip)) None) (sym (slot-live t s) ∙ live)
 
--- a walk for which there is time is the walk
-walked : (a b : Move) (found : Option ℕ) → is_some (in_time a b found) ≡ true → in_time a b found ≡ found
-walked a b None e = refl
-walked a b (Some k) e = by (nat_le (a.arrives + k) b.leaves) e
-  where
-    by : (test : Bool) → is_some (cond test (Some k) None) ≡ true → cond test (Some k) None ≡ Some k
-    by true e = refl
-    by false e = absurd (false≢true e)
-
 -- a trip may follow on the one before it, or begin a block
 abbrev pub Follows : Network → Option ℕ → ℕ → Type 0
 Follows network None s = network.live s ≡ true
 Follows network (Some i) s = Fits network i s
 
 -- the empty minutes that are written are those of the network
-pub minutes-same : (t : TimetableView) (m : MatrixView) (before : Option ℕ) (s : ℕ) → IsTimetable t → Follows (network_of t m) before s
+pub minutes-same : (t : TimetableView) (m : MatrixView) (before : Option ℕ) (s : ℕ) → Follows (network_of t m) before s
     → minutes t m before s ≡ minutes_before (network_of t m) before s
-minutes-same t m None s valid live = sym (ap (out_before m.pulls) (moving t m s live))
-minutes-same t m (Some i) s valid fits =
-    let runs = (network-departures t m valid).runs i s fits in
-    let a = move_of (slot_at t i).trip in
-    let b = move_of (slot_at t s).trip in
-    let between : empty_between (walk m) (move_at (trip_moves t.slots) i) (move_at (trip_moves t.slots) s) ≡ in_time a b
-    (walk m a.to b.from)
-    = (λ j. empty_between (walk m) (moving t m i runs.0 j) (moving t m s runs.1 j)) in
-    ap (λ found. unwrap_or found 0) (sym (between ∙ walked a b (walk m a.to b.from) (sym (ap is_some between) ∙ fits)))
+minutes-same t m None s live = sym (ap (out_before m.pulls) (moving t m s live))
+minutes-same t m (Some i) s fits = ap (λ found. unwrap_or found 0) (sym (fits-walk t m i s fits))
 
 -- and at most those of a day
 pub minutes-few : (network : Network) (slots : ℕ) (before : Option ℕ) (s : ℕ) → IsDay network slots → Follows network before s
@@ -87,10 +68,10 @@ before-later : (r : BlockRow) (rest : List BlockRow) → begin_with rest r.block
 before-later r [] apart = refl
 before-later r (q ∷ rest) apart = ap (λ joins. cond joins r.slot None) apart
 
-module _ (t : TimetableView) (m : MatrixView) (valid : IsTimetable t) where
+module _ (t : TimetableView) (m : MatrixView) where
   shown-row : (k : ℕ) (before : Option ℕ) (i : ℕ) → Follows (network_of t m) before i → (s : ℕ) → (row t m k before i).slot ≡ Some s
       → (row t m k before i).deadhead ≡ minutes_before (network_of t m) before s
-  shown-row k before i follows s is = minutes-same t m before i valid follows
+  shown-row k before i follows s is = minutes-same t m before i follows
       ∙ ap (minutes_before (network_of t m) before) (same_Some i s is)
 
   chain-shown : (k : ℕ) (before : Option ℕ) (i : ℕ) (js : List ℕ) (rest : List BlockRow) → begin_with rest k ≡ false
@@ -133,9 +114,9 @@ module _ (t : TimetableView) (m : MatrixView) (valid : IsTimetable t) where
       → Follows (network_of t m) before i → Follow (network_of t m) i js
       → AllByRecursion (λ (r : BlockRow). r.deadhead ≤ 8191) (chain t m k before (i ∷ js))
   chain-few slots k before i [] day here along =
-      (omega (arith, minutes-same t m before i valid here, minutes-few (network_of t m) slots before i day here), tt)
+      (omega (arith, minutes-same t m before i here, minutes-few (network_of t m) slots before i day here), tt)
   chain-few slots k before i (j ∷ js) day here along = (
-    omega (arith, minutes-same t m before i valid here, minutes-few (network_of t m) slots before i day here),
+    omega (arith, minutes-same t m before i here, minutes-few (network_of t m) slots before i day here),
     chain-few slots k
         (Some i) j js day along.0 along.1,
   )

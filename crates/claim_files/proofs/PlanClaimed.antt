@@ -153,7 +153,7 @@ module _ (t : TimetableView) (m : MatrixView) (names : List (List ℕ)) (plan : 
     prices = names-prices;
     blocking = subst (IsBlocking (network_of t m)) (sym claimed-blocks) (plan-blocking t m names plan blocks of);
     shown = subst (AreShown (network_of t m)) (sym rows-are)
-        (shown-claimed t m of.valid plan.next blocks (plan-chains t m names plan blocks of) (plan-begins t m names plan blocks of));
+        (shown-claimed t m plan.next blocks (plan-chains t m names plan blocks of) (plan-begins t m names plan blocks of));
     certified = subst (IsCertified (network_of t m)) plan-claimed of.certified.certified;
   }
 

@@ -8,7 +8,7 @@ use Rattle.std.proofs.lemmas.List.FromFn.{get_or-map-range_with_len, length-map-
 use Rattle.block_build.specs.Files.{minutes_before}
 use Rattle.deadhead_matrix.specs.Matrix.{MatrixView}
 use Rattle.assignment_model.specs.Prices.{Plan, IsDay}
-use Rattle.deadhead_matrix.proofs.Days.{IsDay-deadhead}
+use Rattle.deadhead_matrix.proofs.Days.{IsDay-ruled}
 use Rattle.assignment_model.proofs.GreatestPrice.{certified-most}
 use Rattle.deadhead_matrix.specs.Fitting.{network_of}
 use Rattle.price_check.specs.declared.claim.BlockRow.{BlockRow}
@@ -18,7 +18,7 @@ use Rattle.trip_model.specs.Blocking.{times, slots_in, StandsOnce, IsBlock, IsBl
 use Rattle.trip_model.specs.Links.{block_from}
 use Rattle.trip_model.specs.Order.{by_departure}
 use Rattle.trip_model.specs.Plain.{live_slots, move_of_slot, trip_moves}
-use Rattle.trip_model.specs.Timetable.{TimetableView}
+use Rattle.trip_model.specs.Timetable.{TimetableView, slot_names}
 use Rattle.trip_model.proofs.Chains.{AreChains, IsBlocking-blocks_along, block_from-is, chains-of}
 use Rattle.trip_model.proofs.Counting.{StandsOnce-live_slots, length-ones, sum_by-standing, times-cons}
 use Rattle.trip_model.proofs.OrderLemmas.{StandsOnce-by_departure, slot-live}
@@ -73,7 +73,7 @@ module _ (t : TimetableView) (m : MatrixView) (names : List (List ℕ)) (plan : 
   moves-day : IsDay (network_of t m) (length t.slots)
   moves-day =
       subst (IsDay (network_of t m)) (length-map t.slots move_of_slot)
-      (IsDay-deadhead (length t.places) (trip_moves t.slots) m (AreMoves-trips t of.valid) of.pulls
+      (IsDay-ruled (length t.places) (slot_names t) (trip_moves t.slots) m (AreMoves-trips t of.valid) of.pulls
       (omega (arith, of.valid.slots, length-map t.slots move_of_slot)))
 
   pub plan-blocking : IsBlocking (network_of t m) blocks
@@ -95,22 +95,22 @@ module _ (t : TimetableView) (m : MatrixView) (names : List (List ℕ)) (plan : 
       (each-stands (slots_in blocks)))
 
   all-begin : (blocks : List (List ℕ)) → AllByRecursion (IsBlock (network_of t m)) blocks
-      → AllByRecursion (AllByRecursion (λ s. (network_of t m).live s ≡ true)) blocks → AllByRecursion (Begins t m of.valid) blocks
+      → AllByRecursion (AllByRecursion (λ s. (network_of t m).live s ≡ true)) blocks → AllByRecursion (Begins t m) blocks
   all-begin [] each live = tt
   all-begin ([] ∷ blocks) each live = absurd each.0
   all-begin ((i ∷ js) ∷ blocks) each live = ((live.0.0, each.0), all-begin blocks each.1 live.1)
 
-  pub plan-begins : AllByRecursion (Begins t m of.valid) blocks
+  pub plan-begins : AllByRecursion (Begins t m) blocks
   plan-begins = all-begin blocks plan-blocking.each plan-live
 
   runs-of : (s : ℕ) → (network_of t m).live s ≡ true → Runs t s
   runs-of s live = record { within = network-within t m s live; live = sym (slot-live t s) ∙ live }
 
-  few-shown : (block : List ℕ) → Begins t m of.valid block → (n : ℕ) → n < length block → minutes_before t m block n ≤ 999999
+  few-shown : (block : List ℕ) → Begins t m block → (n : ℕ) → n < length block → minutes_before t m block n ≤ 999999
   few-shown [] begins n lt = absurd begins
   few-shown (i ∷ js) begins n lt =
       let block = i ∷ js in
-      let few = chain-few t m of.valid (length t.slots) 0 None i js moves-day begins.0 begins.1 in
+      let few = chain-few t m (length t.slots) 0 None i js moves-day begins.0 begins.1 in
       let each = all-of (λ (r : BlockRow). r.deadhead ≤ 8191) (written_block t m 0 block)
       (subst (AllByRecursion (λ (r : BlockRow). r.deadhead ≤ 8191)) (sym (block-chain t m 0 block)) few) in
       let at = get_or-map-range_with_len (written_trip t m 0 block) 0 (length block) n n (written_trip t m 0 block 0) lt (omega arith) in
@@ -133,19 +133,19 @@ module _ (t : TimetableView) (m : MatrixView) (names : List (List ℕ)) (plan : 
         named = of.named;
         names = of.names;
         filled = all-of (λ block. 0 < length block) blocks
-            (each-to (Begins t m of.valid) (λ block. 0 < length block) filled blocks plan-begins);
+            (each-to (Begins t m) (λ block. 0 < length block) filled blocks plan-begins);
         run = all-of (All (Runs t)) blocks
             (each-to (AllByRecursion (λ s. (network_of t m).live s ≡ true)) (All (Runs t))
             (λ block live. all-of (Runs t) block (each-to (λ s. (network_of t m).live s ≡ true) (Runs t) runs-of block live)) blocks
             plan-live);
         few = slots-few;
         shown = all-of (λ block. (n : ℕ) → n < length block → minutes_before t m block n ≤ 999999) blocks
-            (each-to (Begins t m of.valid) (λ block. (n : ℕ) → n < length block → minutes_before t m block n ≤ 999999) few-shown blocks
+            (each-to (Begins t m) (λ block. (n : ℕ) → n < length block → minutes_before t m block n ≤ 999999) few-shown blocks
             plan-begins);
         left = λ s d lt. omega (arith, (most s).0, get_or_default plan.leave s d 0 lt);
         entered = λ s d lt. omega (arith, (most s).1, get_or_default plan.enter s d 0 lt);
       }
     where
-      filled : (block : List ℕ) → Begins t m of.valid block → 0 < length block
+      filled : (block : List ℕ) → Begins t m block → 0 < length block
       filled [] begins = absurd begins
       filled (i ∷ js) begins = omega arith

@@ -13,7 +13,8 @@ use Rattle.trip_model.specs.Plain.{move_at, AreMoves}
 use Rattle.trip_model.proofs.Counting.{runs-within}
 use Rattle.deadhead_matrix.specs.declared.pulls.Pull.{Pull}
 use Rattle.deadhead_matrix.specs.declared.pulls.TheConstants.{NO_PULL}
-use Rattle.deadhead_matrix.specs.Fitting.{in_time, empty_between, out_before, home_after, deadhead_network}
+use Rattle.deadhead_matrix.specs.Fitting.{in_time, empty_between, out_before, home_after, deadhead_network, ruled_network}
+use Rattle.deadhead_matrix.proofs.Ruled.{AreDepartures-allowed, IsDay-allowed}
 use Rattle.deadhead_matrix.specs.Matrix.{MatrixView, walk}
 use Rattle.assignment_model.specs.Prices.{IsDay}
 use Rattle.deadhead_matrix.specs.Pulls.{IsPull, pull_at}
@@ -42,7 +43,7 @@ reached walk (Some a) None minutes e = absurd (none-some minutes e)
 reached walk None (Some b) minutes e = absurd (none-some minutes e)
 reached walk None None minutes e = absurd (none-some minutes e)
 
-pub AreDepartures-deadhead : (places : ℕ) (moves : List (Option Move)) (matrix : MatrixView) → AreMoves places moves
+AreDepartures-deadhead : (places : ℕ) (moves : List (Option Move)) (matrix : MatrixView) → AreMoves places moves
     → AreDepartures (deadhead_network moves matrix) (λ s. minute_left (move_at moves s))
 AreDepartures-deadhead places moves matrix are = record {
   runs = λ i j fits.
@@ -80,7 +81,7 @@ home-short : (pulls : List Pull) (m : Option Move) → All IsPull pulls → home
 home-short pulls None are = omega arith
 home-short pulls (Some m) are = (IsPull-at pulls m.to are).pull_in
 
-pub IsDay-deadhead : (places : ℕ) (moves : List (Option Move)) (matrix : MatrixView) → AreMoves places moves → All IsPull matrix.pulls
+IsDay-deadhead : (places : ℕ) (moves : List (Option Move)) (matrix : MatrixView) → AreMoves places moves → All IsPull matrix.pulls
     → length moves ≤ 4096
     → IsDay (deadhead_network moves matrix) (length moves)
 IsDay-deadhead places moves matrix are pulls few = record {
@@ -93,3 +94,16 @@ IsDay-deadhead places moves matrix are pulls few = record {
   out = λ s. out-short matrix.pulls (move_at moves s) pulls;
   home = λ s. home-short matrix.pulls (move_at moves s) pulls;
 }
+
+-- the same where rules of pairs forbid some
+pub AreDepartures-ruled : (places : ℕ) (names : List (List ℕ)) (moves : List (Option Move)) (matrix : MatrixView) → AreMoves places moves
+    → AreDepartures (ruled_network names moves matrix) (λ s. minute_left (move_at moves s))
+AreDepartures-ruled places names moves matrix are =
+    AreDepartures-allowed matrix.rules names (deadhead_network moves matrix) (λ s. minute_left (move_at moves s))
+    (AreDepartures-deadhead places moves matrix are)
+
+pub IsDay-ruled : (places : ℕ) (names : List (List ℕ)) (moves : List (Option Move)) (matrix : MatrixView) → AreMoves places moves
+    → All IsPull matrix.pulls → length moves ≤ 4096
+    → IsDay (ruled_network names moves matrix) (length moves)
+IsDay-ruled places names moves matrix are pulls few =
+    IsDay-allowed matrix.rules names (deadhead_network moves matrix) (length moves) (IsDay-deadhead places moves matrix are pulls few)

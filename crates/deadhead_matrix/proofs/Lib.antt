@@ -6,6 +6,7 @@ pub mod MatrixLemmas
 pub mod NamedLemmas
 pub mod OneClass
 pub mod PlanLemmas
+pub mod Ruled
 pub mod Standing
 pub mod TerminalWalks
 pub mod TimelyLinks

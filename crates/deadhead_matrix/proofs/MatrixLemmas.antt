@@ -7,6 +7,7 @@ use Rattle.std.proofs.lemmas.Bool.{eq-eqb, ne_eqb}
 use Rattle.std.proofs.lemmas.List.{get_or-map, length-map, ext_get_or}
 use Rattle.std.proofs.lemmas.List.Elements.{All-map}
 use Rattle.std.proofs.lemmas.List.FromFn.{get_or-map-range_with_len, length-map-range_with_len}
+use Rattle.pair_rules.specs.Rules.{PairRule}
 use Rattle.deadhead_matrix.specs.declared.entry.Entry.{Entry}
 use Rattle.deadhead_matrix.specs.declared.pulls.Pull.{Pull}
 use Rattle.deadhead_matrix.specs.declared.pulls.TheConstants.{NO_PULL}
@@ -15,22 +16,22 @@ use Rattle.deadhead_matrix.specs.Rows.{far, found_at, walks_in, AreLeastRows}
 use Rattle.deadhead_matrix.specs.Matrix.{MatrixView, walk, standing, empty_matrix, matrix_from, AreLeastWalks, IsSquare}
 
 -- as many walks as rows
-pub length-walks : (entries : List Entry) (rows : List (List ℕ)) (pulls : List Pull)
-    → length (matrix_from entries rows pulls).walks ≡ length rows
-length-walks entries rows pulls = length-map rows _
+pub length-walks : (entries : List Entry) (rows : List (List ℕ)) (pulls : List Pull) (rules : List PairRule)
+    → length (matrix_from entries rows pulls rules).walks ≡ length rows
+length-walks entries rows pulls rules = length-map rows _
 
-pub walk-from : (entries : List Entry) (rows : List (List ℕ)) (pulls : List Pull) (a b : ℕ) → a < length rows → b < length rows
-    → walk (matrix_from entries rows pulls) a b ≡ found_at (get_or rows a []) b
-walk-from entries rows pulls a b a_in b_in =
+pub walk-from : (entries : List Entry) (rows : List (List ℕ)) (pulls : List Pull) (rules : List PairRule) (a b : ℕ) → a < length rows
+    → b < length rows → walk (matrix_from entries rows pulls rules) a b ≡ found_at (get_or rows a []) b
+walk-from entries rows pulls rules a b a_in b_in =
     ap (λ row. get_or row b None) (get_or-map (λ row. walks_in row (length rows)) rows a [] [] a_in)
     ∙ get_or-map-range_with_len (found_at (get_or rows a [])) 0 (length rows) b b None b_in (omega arith)
 
-pub AreLeastWalks-from : (entries : List Entry) (rows : List (List ℕ)) (pulls : List Pull) → AreLeastRows entries rows
-    → AreLeastWalks (matrix_from entries rows pulls)
-AreLeastWalks-from entries rows pulls are = λ a b a_in b_in.
-    let a_row : a < length rows = omega (arith, a_in, length-walks entries rows pulls) in
-    let b_row : b < length rows = omega (arith, b_in, length-walks entries rows pulls) in
-    subst (λ m. IsLeastWalk entries a b m) (sym (walk-from entries rows pulls a b a_row b_row)) (are.least a b a_row)
+pub AreLeastWalks-from : (entries : List Entry) (rows : List (List ℕ)) (pulls : List Pull) (rules : List PairRule)
+    → AreLeastRows entries rows → AreLeastWalks (matrix_from entries rows pulls rules)
+AreLeastWalks-from entries rows pulls rules are = λ a b a_in b_in.
+    let a_row : a < length rows = omega (arith, a_in, length-walks entries rows pulls rules) in
+    let b_row : b < length rows = omega (arith, b_in, length-walks entries rows pulls rules) in
+    subst (λ m. IsLeastWalk entries a b m) (sym (walk-from entries rows pulls rules a b a_row b_row)) (are.least a b a_row)
 
 -- a walk of no entries goes nowhere
 nowhere : (es : List Entry) (a b : ℕ) → IsWalk [] a es b → (a ≡ b) × (walk_minutes es ≡ 0)
@@ -57,12 +58,12 @@ row-standing rows are a a_in =
     ∙ least-standing a b (far b) (are.least a b a_in)
     ∙ sym (get_or-map-range_with_len (standing a) 0 n b b None within (omega arith)))
 
-walks-standing : (rows : List (List ℕ)) (pulls : List Pull) → AreLeastRows [] rows
-    → (matrix_from [] rows pulls).walks ≡ (empty_matrix (length rows)).walks
-walks-standing rows pulls are =
+walks-standing : (rows : List (List ℕ)) (pulls : List Pull) (rules : List PairRule) → AreLeastRows [] rows
+    → (matrix_from [] rows pulls rules).walks ≡ (empty_matrix (length rows)).walks
+walks-standing rows pulls rules are =
     let n = length rows in
-    let len = length-walks [] rows pulls in
-    ext_get_or [] (matrix_from [] rows pulls).walks (empty_matrix n).walks
+    let len = length-walks [] rows pulls rules in
+    ext_get_or [] (matrix_from [] rows pulls rules).walks (empty_matrix n).walks
     (len ∙ sym (length-map-range_with_len (λ a. map (standing a) (range_with_len 0 n)) 0 n))
     (λ a a_in. let within : a < n = omega (arith, a_in, len) in
     get_or-map (λ row. walks_in row n) rows a [] [] within
@@ -70,18 +71,20 @@ walks-standing rows pulls are =
     ∙ sym (get_or-map-range_with_len (λ a. map (standing a) (range_with_len 0 n)) 0 n a a [] within (omega arith)))
 
 -- without entries and pulls the matrix is the empty one
-pub matrix-standing : (entries : List Entry) (rows : List (List ℕ)) (pulls : List Pull) → AreLeastRows entries rows → entries ≡ []
-    → pulls ≡ replicate (length rows) NO_PULL
-    → matrix_from entries rows pulls ≡ empty_matrix (length rows)
-matrix-standing entries rows pulls are none zero =
-    let walks = walks-standing rows pulls (subst (λ (es : List Entry). AreLeastRows es rows) none are) in
-    (λ i. record { entries = none i; walks = walks i; pulls = zero i })
+pub matrix-standing : (entries : List Entry) (rows : List (List ℕ)) (pulls : List Pull) (rules : List PairRule)
+    → AreLeastRows entries rows → entries ≡ []
+    → pulls ≡ replicate (length rows) NO_PULL → rules ≡ []
+    → matrix_from entries rows pulls rules ≡ empty_matrix (length rows)
+matrix-standing entries rows pulls rules are none zero free =
+    let walks = walks-standing rows pulls rules (subst (λ (es : List Entry). AreLeastRows es rows) none are) in
+    (λ i. record { entries = none i; walks = walks i; pulls = zero i; rules = free i })
 
 -- each row of walks has as many places as there are rows
-pub IsSquare-from : (entries : List Entry) (rows : List (List ℕ)) (pulls : List Pull) → IsSquare (matrix_from entries rows pulls)
-IsSquare-from entries rows pulls =
-    All-map (λ walks. length walks ≡ length (matrix_from entries rows pulls).walks) (λ row. walks_in row (length rows)) rows
-    (λ a row a_in. length-map-range_with_len (found_at (get_or rows a row)) 0 (length rows) ∙ sym (length-walks entries rows pulls))
+pub IsSquare-from : (entries : List Entry) (rows : List (List ℕ)) (pulls : List Pull) (rules : List PairRule)
+    → IsSquare (matrix_from entries rows pulls rules)
+IsSquare-from entries rows pulls rules =
+    All-map (λ walks. length walks ≡ length (matrix_from entries rows pulls rules).walks) (λ row. walks_in row (length rows)) rows
+    (λ a row a_in. length-map-range_with_len (found_at (get_or rows a row)) 0 (length rows) ∙ sym (length-walks entries rows pulls rules))
 
 -- a least walk takes one number of minutes
 one-walk : (entries : List Entry) (a b : ℕ) (one other : Option ℕ) → IsLeastWalk entries a b one → IsLeastWalk entries a b other
@@ -95,9 +98,9 @@ one-walk entries a b (Some m) (Some n) least least' =
     ap Some (omega (arith, below, above, least.reached.2, least'.reached.2))
 
 -- so matrices of the same entries, the same pulls and as many places are equal
-pub one-matrix : (one other : MatrixView) → one.entries ≡ other.entries → one.pulls ≡ other.pulls → length one.walks ≡ length other.walks
-    → IsSquare one → IsSquare other → AreLeastWalks one → AreLeastWalks other → one ≡ other
-one-matrix one other entries pulls count square square' least least' =
+pub one-matrix : (one other : MatrixView) → one.entries ≡ other.entries → one.pulls ≡ other.pulls → one.rules ≡ other.rules
+    → length one.walks ≡ length other.walks → IsSquare one → IsSquare other → AreLeastWalks one → AreLeastWalks other → one ≡ other
+one-matrix one other entries pulls rules count square square' least least' =
     let width : (a : ℕ) → a < length one.walks → length (get_or one.walks a []) ≡ length one.walks = λ a h. square a [] h in
     let width' : (a : ℕ) → a < length one.walks
     → length (get_or other.walks a []) ≡ length one.walks = λ a h. square' a [] (omega (arith, h, count)) ∙ sym count in
@@ -108,4 +111,4 @@ one-matrix one other entries pulls count square square' least least' =
     one-walk one.entries a b (walk one a b) (walk other a b) (least a b a_in b_one)
     (subst (λ (es : List Entry). IsLeastWalk es a b (walk other a b)) (sym entries)
     (least' a b (omega (arith, a_in, count)) (omega (arith, b_one, count)))))) in
-    λ i. record { entries = entries i; walks = rows i; pulls = pulls i }
+    λ i. record { entries = entries i; walks = rows i; pulls = pulls i; rules = rules i }

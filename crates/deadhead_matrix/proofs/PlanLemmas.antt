@@ -5,15 +5,15 @@ use Rattle.trip_model.specs.Blocking.{IsLeast}
 use Rattle.trip_model.specs.Links.{blocks_along}
 use Rattle.trip_model.specs.Order.{minute_left, by_departure}
 use Rattle.trip_model.specs.Plain.{move_at, move_of_slot, trip_moves}
-use Rattle.trip_model.specs.Timetable.{TimetableView, IsTimetable}
+use Rattle.trip_model.specs.Timetable.{TimetableView, slot_names, IsTimetable}
 use Rattle.trip_model.proofs.OrderLemmas.{StandsOnce-by_departure}
 use Rattle.trip_model.proofs.PlainLemmas.{AreMoves-trips}
-use Rattle.deadhead_matrix.specs.Fitting.{deadhead_network, network_of}
+use Rattle.deadhead_matrix.specs.Fitting.{network_of}
 use Rattle.deadhead_matrix.specs.Matrix.{MatrixView}
 use Rattle.assignment_model.specs.Prices.{Plan}
 use Rattle.deadhead_matrix.specs.Plans.{IsPlanFor}
 use Rattle.deadhead_matrix.specs.Pulls.{IsPull}
-use Rattle.deadhead_matrix.proofs.Days.{AreDepartures-deadhead, IsDay-deadhead}
+use Rattle.deadhead_matrix.proofs.Days.{AreDepartures-ruled, IsDay-ruled}
 use Rattle.assignment_model.proofs.Duality.{IsLeast-certified}
 
 pub IsLeast-plan : (t : TimetableView) (matrix : MatrixView) (plan : Plan) → IsTimetable t → All IsPull matrix.pulls
@@ -23,7 +23,7 @@ IsLeast-plan t matrix plan valid pulls proved =
     let moves = trip_moves t.slots in
     let are = AreMoves-trips t valid in
     let size = length-map t.slots move_of_slot in
-    IsLeast-certified (deadhead_network moves matrix) (length moves) plan (λ s. minute_left (move_at moves s))
-    (IsDay-deadhead (length t.places) moves matrix are pulls (omega (arith, size, valid.slots)))
-    (proved.slots ∙ sym size) proved.certified (AreDepartures-deadhead (length t.places) moves matrix are) (by_departure moves)
+    IsLeast-certified (network_of t matrix) (length moves) plan (λ s. minute_left (move_at moves s))
+    (IsDay-ruled (length t.places) (slot_names t) moves matrix are pulls (omega (arith, size, valid.slots)))
+    (proved.slots ∙ sym size) proved.certified (AreDepartures-ruled (length t.places) (slot_names t) moves matrix are) (by_departure moves)
     (StandsOnce-by_departure moves)

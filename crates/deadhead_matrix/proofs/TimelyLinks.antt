@@ -5,7 +5,8 @@ use Rattle.std.proofs.lemmas.Bool.{false≢true, le-leb, leb-true}
 use Rattle.trip_model.specs.declared.trip.Move.{Move}
 use Rattle.trip_model.specs.Links.{AreLinks}
 use Rattle.trip_model.specs.Plain.{is_in_time, move_at, timely_network}
-use Rattle.deadhead_matrix.specs.Fitting.{deadhead_network, empty_between, in_time}
+use Rattle.deadhead_matrix.specs.Fitting.{deadhead_network, empty_between, in_time, ruled_network}
+use Rattle.deadhead_matrix.proofs.Ruled.{allowed-fits}
 use Rattle.deadhead_matrix.specs.Matrix.{MatrixView, walk}
 
 -- a test that has found something is true
@@ -30,9 +31,10 @@ timely walk (Some a) (Some b) is = by (walk a.to b.from) is
         (le-leb a.arrives b.leaves (omega (arith, leb-true (a.arrives + m) b.leaves (found-by (nat_le (a.arrives + m) b.leaves) m is))))
 
 -- links along which vehicles may run empty lead to trips that begin in time
-pub timely-links : (moves : List (Option Move)) (matrix : MatrixView) (links : List (Option ℕ))
-    → AreLinks (deadhead_network moves matrix) links → AreLinks (timely_network moves) links
-timely-links moves matrix links are = record {
-  fits = λ i j next. timely (walk matrix) (move_at moves i) (move_at moves j) (are.fits i j next);
+pub timely-links : (names : List (List ℕ)) (moves : List (Option Move)) (matrix : MatrixView) (links : List (Option ℕ))
+    → AreLinks (ruled_network names moves matrix) links → AreLinks (timely_network moves) links
+timely-links names moves matrix links are = record {
+  fits = λ i j next. timely (walk matrix) (move_at moves i) (move_at moves j)
+      (allowed-fits matrix.rules names (deadhead_network moves matrix) i j (are.fits i j next));
   once = are.once;
 }

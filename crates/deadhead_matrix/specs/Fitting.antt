@@ -1,8 +1,9 @@
 -- Which trips one vehicle can make one after the other where it may run empty in between.
-use Rattle.std.specs.Prelude.{ℕ, ◌+◌, nat_le, List, Option, None, Some, is_some, if◌then◌else◌}
+use Rattle.std.specs.Prelude.{ℕ, ◌+◌, nat_le, List, [], Option, None, Some, is_some, slice_index_or, if◌then◌else◌}
+use Rattle.pair_rules.specs.Rules.{PairRule, allows}
 use Rattle.trip_model.specs.Network.{Network}
 use Rattle.trip_model.specs.Plain.{move_at, trip_moves}
-use Rattle.trip_model.specs.Timetable.{TimetableView}
+use Rattle.trip_model.specs.Timetable.{TimetableView, slot_names}
 use Rattle.trip_model.specs.declared.trip.Move.{Move}
 use Rattle.deadhead_matrix.specs.declared.pulls.Pull.{Pull}
 use Rattle.deadhead_matrix.specs.Matrix.{MatrixView, walk}
@@ -39,7 +40,22 @@ deadhead_network moves matrix = record {
   home = λ s. home_after matrix.pulls (move_at moves s);
 }
 
+-- the name of a slot; past the last one no name
+abbrev pub name_at : List (List ℕ) → ℕ → List ℕ
+name_at names s = slice_index_or names s []
+
+-- rule: which trips fit where rules of pairs forbid some
+-- a network in which a vehicle goes on from a trip only to those that rules allow after it, by the names of their slots
+abbrev pub allowed_network : List PairRule → List (List ℕ) → Network → Network
+allowed_network rules names network = record network {
+  empty = λ i j. if allows rules (name_at names i) (name_at names j) then network.empty i j else None;
+}
+
+-- the network of moves that trips of these names make, with a matrix and its rules
+abbrev pub ruled_network : List (List ℕ) → List (Option Move) → MatrixView → Network
+ruled_network names moves matrix = allowed_network matrix.rules names (deadhead_network moves matrix)
+
 -- rule: the network of a timetable and a matrix
 -- the network of a timetable and a matrix: that of the trips of its slots
 abbrev pub network_of : TimetableView → MatrixView → Network
-network_of timetable matrix = deadhead_network (trip_moves timetable.slots) matrix
+network_of timetable matrix = ruled_network (slot_names timetable) (trip_moves timetable.slots) matrix

@@ -4,7 +4,6 @@ use Rattle.assignment_model.specs.declared.limits.TheConstants.{MOST_DEADHEAD}
 use Rattle.deadhead_matrix.specs.declared.pulls.Pull.{Pull}
 use Rattle.deadhead_matrix.specs.declared.pulls.TheConstants.{NO_PULL}
 
--- word: pull = pull-out and pull-in
 -- neither way takes more than 1,440 minutes
 pub record IsPull (pull : Pull) : Type 0 where
   pub pull_out : pull.pull_out ≤ MOST_DEADHEAD

@@ -1,8 +1,8 @@
 //! Laws of the definitions that the contracts cite. Each is the contract of a function that does nothing.
-ghost use Rattle.std.specs.Prelude.{◌≡◌, ◌≢◌, ◌↔◌, ℕ, ◌<◌, ◌≤◌, List, length, All, Option, None, Ok};
+ghost use Rattle.std.specs.Prelude.{◌≡◌, ◌≢◌, ◌↔◌, ℕ, ◌<◌, ◌≤◌, List, [], length, All, Option, None, Ok};
 ghost use Rattle.deadhead_matrix.specs.declared.entry.Entry.{Entry};
 ghost use Rattle.deadhead_matrix.specs.Deadheads.{deadheads_of};
-ghost use Rattle.deadhead_matrix.specs.Fitting.{deadhead_network, network_of};
+ghost use Rattle.deadhead_matrix.specs.Fitting.{deadhead_network, network_of, ruled_network};
 ghost use Rattle.deadhead_matrix.specs.Matrix.{MatrixView, AreLeastWalks, IsSquare, empty_matrix};
 ghost use Rattle.deadhead_matrix.specs.Posts.{JoinsOneClass};
 ghost use Rattle.assignment_model.specs.Prices.{Plan, IsDay};
@@ -27,18 +27,25 @@ pub fn no_entries_law()
         → deadhead_network moves (empty_matrix places) ≡ plain_network moves }
 {}
 
-/// The network of moves and a matrix is one of one day, and along trips that fit departures rise.
-pub fn deadhead_law()
-    ensures departures { (places : ℕ) (moves : List (Option Move)) (matrix : MatrixView) → AreMoves places moves
-        → AreDepartures (deadhead_network moves matrix) (λ s. minute_left (move_at moves s)) }
-    ensures day { (places : ℕ) (moves : List (Option Move)) (matrix : MatrixView) → AreMoves places moves
-        → All IsPull matrix.pulls → length moves ≤ MOST_SLOTS → IsDay (deadhead_network moves matrix) (length moves) }
+/// Where there are no rules of pairs, the network of a timetable and a matrix is that of the walks and pulls alone.
+pub fn no_rules_law()
+    ensures { (timetable : TimetableView) (matrix : MatrixView) → matrix.rules ≡ []
+        → network_of timetable matrix ≡ deadhead_network (trip_moves timetable.slots) matrix }
 {}
 
-/// Matrices of the same entries, the same pulls and as many places are equal: a least walk takes one number of minutes.
+/// The network of moves and a matrix is one of one day, and along trips that fit departures rise.
+pub fn deadhead_law()
+    ensures departures { (places : ℕ) (names : List (List ℕ)) (moves : List (Option Move)) (matrix : MatrixView) → AreMoves places moves
+        → AreDepartures (ruled_network names moves matrix) (λ s. minute_left (move_at moves s)) }
+    ensures day { (places : ℕ) (names : List (List ℕ)) (moves : List (Option Move)) (matrix : MatrixView) → AreMoves places moves
+        → All IsPull matrix.pulls → length moves ≤ MOST_SLOTS → IsDay (ruled_network names moves matrix) (length moves) }
+{}
+
+/// Matrices of the same entries, the same pulls, the same rules and as many places are equal: a least walk takes one number of
+/// minutes.
 pub fn one_matrix_law()
-    ensures { (one other : MatrixView) → one.entries ≡ other.entries → one.pulls ≡ other.pulls → length one.walks ≡ length other.walks
-        → IsSquare one → IsSquare other → AreLeastWalks one → AreLeastWalks other → one ≡ other }
+    ensures { (one other : MatrixView) → one.entries ≡ other.entries → one.pulls ≡ other.pulls → one.rules ≡ other.rules
+        → length one.walks ≡ length other.walks → IsSquare one → IsSquare other → AreLeastWalks one → AreLeastWalks other → one ≡ other }
 {}
 
 /// The entries of a file lead between places of one class, and so does a walk along such entries. So a vehicle that runs empty

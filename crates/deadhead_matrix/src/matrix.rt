@@ -19,16 +19,18 @@ use crate::pulls::Pulls;
 use crate::walks::Walks;
 use desk_io::{Found, Memory};
 use gtfs_tables::FeedFault;
+use pair_rules::PairRules;
 use std::alloc::Global;
 use std::marker::Model;
 use trip_model::Timetable;
 
 /// For each two places, in how many minutes a vehicle can run empty from the one to the other, along the entries of the
-/// planner. For each place, in how many it comes from the depot and goes back.
+/// planner. For each place, in how many it comes from the depot and goes back. And the rules of pairs of trips.
 pub struct Matrix {
     entries: Vec<Entry>,
     rows: Vec<Distances>,
     pulls: Pulls,
+    rules: PairRules,
 }
 
 impl Drop for Matrix {
@@ -37,6 +39,7 @@ impl Drop for Matrix {
             entries: _,
             rows: _,
             pulls: _,
+            rules: _,
         } = self;
     }
 }
@@ -48,13 +51,13 @@ impl Model for Matrix {
 
     ghost Value = { MatrixView };
 
-    ghost view = { λ m. matrix_from m.entries.items m.rows.items m.pulls };
+    ghost view = { λ m. matrix_from m.entries.items m.rows.items m.pulls m.rules };
 
     ghost invariant = { λ m. AreLeastRows m.entries.items m.rows.items × (length m.pulls ≡ length m.rows.items) };
 }
 
 impl Matrix {
-    /// The matrix of entries between so many places, without pulls. Its minutes are made in a turn of each place.
+    /// The matrix of entries between so many places, without pulls and rules. Its minutes are made in a turn of each place.
     pub fn of(alloc: Global, deadheads: &Deadheads, places: u16) -> Result<Matrix, Memory>
         requires { places ≤ MOST_PLACES }
         ensures entries { IfOk result (λ matrix. matrix.entries ≡ deadheads.now) }
@@ -62,17 +65,19 @@ impl Matrix {
         ensures places { IfOk result (λ matrix. length matrix.walks ≡ places) }
         ensures square { IfOk result IsSquare }
         ensures pulls { IfOk result (λ matrix. matrix.pulls ≡ replicate places NO_PULL) }
+        ensures rules { IfOk result (λ matrix. matrix.rules ≡ []) }
         ensures standing { deadheads.now ≡ [] → IfOk result (λ matrix. matrix ≡ empty_matrix places) }
     {
         Ok(Matrix {
             entries: deadheads.entries(alloc)?,
             rows: deadheads.distances(alloc, places)?,
             pulls: Pulls::none(alloc, places)?,
+            rules: PairRules::none(alloc),
         })
     }
 
     /// The matrix of what was found of `deadheads.csv`, as [`Deadheads::read`] reads it, between all places that the
-    /// timetable has then, without pulls.
+    /// timetable has then, without pulls and rules.
     pub fn read(
         alloc: Global,
         deadheads: &Found,
@@ -83,6 +88,7 @@ impl Matrix {
         ensures least { IfOk result AreLeastWalks }
         ensures places { IfOk result (λ matrix. length matrix.walks ≡ length timetable.new.places) }
         ensures pulls { IfOk result (λ matrix. matrix.pulls ≡ replicate (length timetable.new.places) NO_PULL) }
+        ensures rules { IfOk result (λ matrix. matrix.rules ≡ []) }
         ensures standing { IfOk result (λ matrix. matrix.entries ≡ [] → matrix ≡ empty_matrix (length timetable.new.places)) }
         ensures left { result ≢ Err FeedFault.Memory → timetable.new ≡ timetable_left deadheads.now timetable.old }
         // Also after lack of memory: the timetable is as it was, but for places at the end of its list that records name.
@@ -132,6 +138,20 @@ impl Matrix {
         ensures { self.new ≡ record self.old { pulls = pulls } }
     {
         self.pulls = pulls;
+    }
+
+    /// Takes over the rules of pairs of trips.
+    pub fn set_rules(&mut self, rules: PairRules)
+        ensures { self.new ≡ record self.old { rules = rules } }
+    {
+        self.rules = rules;
+    }
+
+    /// The rules of pairs of trips.
+    pub fn rules(&self) -> &PairRules
+        ensures { result.now ≡ self.now.rules }
+    {
+        &self.rules
     }
 
     /// In how many minutes a vehicle runs empty from the depot to a place before its first trip.

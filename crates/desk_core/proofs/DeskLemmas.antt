@@ -19,6 +19,7 @@ use Rattle.edit_script.specs.declared.edit.Edit.TheVariants.{Shift, Cancel, Rest
 use Rattle.edit_script.specs.declared.fault.EditFault.{EditFault}
 use Rattle.edit_script.specs.declared.fault.EditFault.TheVariants as fault
 use Rattle.pair_graph.specs.Pairs.{PairsView, pairs_of, pairs_network}
+use Rattle.pair_graph.proofs.PairsLemmas.{pairs-with_trip}
 use Rattle.plan_history.specs.History.{HistoryView, IsReplaced}
 use Rattle.price_repair.specs.Without.{IsCertifiedWith, IsCertifiedWithout}
 use Rattle.price_repair.proofs.EditLemmas.{IsCertifiedWith-left_out, IsCertifiedWith-cancelled, IsCertifiedWithout-replaced}
@@ -211,15 +212,6 @@ edited-trip s next number Redo trips e = absurd trips
 edited-trip s next number Show trips e = absurd trips
 edited-trip s next number edit trips e = edited-any s next number (edited s.timetable edit) e
 
--- without the trip in a slot the pairs are the same with another trip in it
-pairs-replaced : (t : TimetableView) (m : MatrixView) (s : ℕ) (trip : Trip)
-    → pairs_of (with_trip t s trip) m (Some s) ≡ pairs_of t m (Some s)
-pairs-replaced t m s trip =
-    let slot : Slot = record (slot_at t s) { trip = trip } in
-    let moves : set (trip_moves (set t.slots s slot)) s None ≡ set (trip_moves t.slots) s None =
-    ap (λ moves. set moves s None) (map-set move_of_slot t.slots s slot) ∙ set-set (trip_moves t.slots) s (move_of_slot slot) None in
-    λ i. record { moves = moves i; matrix = m }
-
 -- one slot more makes as many links, and a slot that is there no more
 with_slot-there : (links : List (Option ℕ)) (s : ℕ) → s < length links → length (with_slot links s) ≡ length links
 with_slot-there links s within =
@@ -243,7 +235,7 @@ module _ (s next : ScriptView) (m : MatrixView) (plan : Plan) (number slot : ℕ
   may-shift trip by told e =
       let to = stepped-shift s next number trip by slot (sym told.1) e in
       let moved = shifted (slot_at s.timetable slot).trip by in
-      let rest = pairs-replaced s.timetable m slot moved in
+      let rest = pairs-with_trip s.timetable m slot moved in
       subst (λ (n : ScriptView). MayRepair (Shift trip by) slot n.timetable m plan) (sym to.1) (
         record {
           slot = omega (arith, told.0, length-put moved);

@@ -15,7 +15,8 @@ use Rattle.feed_read.specs.Base.{base_of, timetable_of}
 use Rattle.feed_read.specs.FeedTrips.{feed_trips_in}
 use Rattle.feed_read.specs.Trips.{trips_in}
 use Rattle.trip_model.specs.Timetable.{TimetableView}
-use Rattle.desk_feed.specs.Feed.{FeedView, deadheads_in, lines_in, pulls_in, said_by, said_with, selection_in, settings_in, timetable_in}
+use Rattle.desk_feed.specs.Feed.{FeedView, deadheads_in, lines_in, pulls_in, rules_in, said_by, said_with, selection_in, settings_in}
+use Rattle.desk_feed.specs.Feed.{timetable_in}
 use Rattle.desk_feed.specs.First.{IsFirst, RefusedAt}
 
 both : {A B C : Type 0} → A ↔ B → B ↔ C → A ↔ C
@@ -100,22 +101,25 @@ module _ (found : Paper → Found) (refused : FeedFault) where
   -- what is read behind the timetable
   abbrev read_behind : SettingsView → TimetableView → Result FeedView FeedFault
   read_behind settings timetable = deadheads_in found timetable >>= λ deadheads. pulls_in found deadheads.0 >>= λ pulls.
-      lines_in found >>= λ lines. Ok (said_with settings deadheads.0 deadheads.1 pulls lines)
+      rules_in found >>= λ rules. lines_in found >>= λ lines. Ok (said_with settings deadheads.0 deadheads.1 pulls rules lines)
 
   abbrev IsBehind : TimetableView → Type 0
   IsBehind timetable = RefusedAt (deadheads_in found timetable) refused λ deadheads.
-      RefusedAt (pulls_in found deadheads.0) refused λ pulls. lines_in found ≡ Err refused
+      RefusedAt (pulls_in found deadheads.0) refused λ pulls. RefusedAt (rules_in found) refused λ rules. lines_in found ≡ Err refused
 
   refused-behind : (settings : SettingsView) (timetable : TimetableView)
       → (read_behind settings timetable ≡ Err refused) ↔ IsBehind timetable
   refused-behind settings timetable =
       both (parted (deadheads_in found timetable) (λ deadheads. pulls_in found deadheads.0 >>= λ pulls.
-      lines_in found >>= λ lines. Ok (said_with settings deadheads.0 deadheads.1 pulls lines)) refused)
+      rules_in found >>= λ rules. lines_in found >>= λ lines. Ok (said_with settings deadheads.0 deadheads.1 pulls rules lines)) refused)
       (later (deadheads_in found timetable) refused λ deadheads.
       both (parted (pulls_in found deadheads.0) (λ pulls.
-      lines_in found >>= λ lines. Ok (said_with settings deadheads.0 deadheads.1 pulls lines)) refused)
+      rules_in found >>= λ rules. lines_in found >>= λ lines. Ok (said_with settings deadheads.0 deadheads.1 pulls rules lines)) refused)
       (later (pulls_in found deadheads.0) refused λ pulls.
-      last (lines_in found) (λ lines. said_with settings deadheads.0 deadheads.1 pulls lines) refused))
+      both (parted (rules_in found) (λ rules.
+      lines_in found >>= λ lines. Ok (said_with settings deadheads.0 deadheads.1 pulls rules lines)) refused)
+      (later (rules_in found) refused λ rules.
+      last (lines_in found) (λ lines. said_with settings deadheads.0 deadheads.1 pulls rules lines) refused)))
 
   -- the timetable and what is read behind it
   abbrev IsTimetableRefused : SettingsView → Type 0

@@ -36,7 +36,7 @@ given-of asks read said says (Ok outcome) given = record {
 pub text-given : {E : Type 0} (asks : TextAsked) (said : Said) (edited : Edited) → IsEdited said.timetable said.lines.now edited
     → (result : Result OutcomeView E)
     → IfOk result (PutsBehind asks edited.refused edited.ending
-    (stands_with edited.script.timetable said.deadheads.now said.pulls))
+    (stands_with edited.script.timetable said.deadheads.now said.pulls said.rules))
     → IfOk result (IsGivenOf (showing asks) said.read.now (said_to said))
 text-given asks lent edited is (Err e) put = tt
 text-given asks lent edited is (Ok outcome) put =
@@ -46,7 +46,7 @@ text-given asks lent edited is (Ok outcome) put =
     record {
       gives = record {
         text = put.text;
-        shown = subst (λ (t : TimetableView). asks.Shows (stands_with t said.entries said.pulls) put.text) is.timetable
+        shown = subst (λ (t : TimetableView). asks.Shows (stands_with t said.entries said.pulls said.rules) put.text) is.timetable
             put.shown;
         alone = here;
       };

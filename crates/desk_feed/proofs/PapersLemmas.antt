@@ -7,7 +7,7 @@ use Rattle.desk_run.specs.declared.reading.Page.{Page}
 use Rattle.desk_feed.specs.Feed.{HasPapers, feed_papers}
 
 among-first : (further : List Paper) → AllByRecursion (IsAmong (feed_papers ++ further)) feed_papers
-among-first further = (refl, (refl, (refl, (refl, (refl, (refl, (refl, (refl, (refl, (refl, tt))))))))))
+among-first further = (refl, (refl, (refl, (refl, (refl, (refl, (refl, (refl, (refl, (refl, (refl, tt)))))))))))
 
 pub has-papers : (further : List Paper) (pages : List Page) → papers_of pages ≡ feed_papers ++ further → HasPapers pages
 has-papers further pages read =

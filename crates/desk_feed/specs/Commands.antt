@@ -6,8 +6,8 @@ use Rattle.desk_feed.specs.declared.command.Stands.{Stands}
 
 -- what an accepted feed says
 abbrev pub said_to : Said → FeedView
-said_to said = said_with said.settings.now said.timetable said.deadheads.now said.pulls said.lines.now
+said_to said = said_with said.settings.now said.timetable said.deadheads.now said.pulls said.rules said.lines.now
 
 -- what stands after its script
 abbrev pub stands_for : Stands → EditedView
-stands_for stands = stands_with stands.timetable.now stands.deadheads.now stands.pulls
+stands_for stands = stands_with stands.timetable.now stands.deadheads.now stands.pulls stands.rules

@@ -1,4 +1,5 @@
--- From the papers of a feed to its settings, its timetable, its deadheads, its depot and its script, or the first refusal.
+-- From the papers of a feed to its settings, its timetable, its deadheads, its depot, its rules of pairs and its script, or the first
+-- refusal.
 use Rattle.std.specs.Prelude.{◌≡◌, ℕ, List, [], ◌∷◌, length, Option, None, Some, Result, Ok}
 use Rattle.std.specs.List.{AllByRecursion}
 use Rattle.desk_io.specs.declared.shelf.Found.{Found}
@@ -11,6 +12,8 @@ use Rattle.service_days.specs.Services.{services_running}
 use Rattle.edit_script.specs.Forms.{script_of}
 use Rattle.edit_script.specs.declared.edit.Line.{Line}
 use Rattle.trip_model.specs.Timetable.{TimetableView}
+use Rattle.pair_rules.specs.Reading.{rules_of}
+use Rattle.pair_rules.specs.Rules.{PairRule}
 use Rattle.feed_read.specs.Base.{base_of}
 use Rattle.deadhead_matrix.specs.declared.entry.Entry.{Entry}
 use Rattle.deadhead_matrix.specs.declared.pulls.Pull.{Pull}
@@ -25,16 +28,17 @@ use Rattle.desk_feed.specs.declared.feed.Feed.{Feed}
 -- the papers of a feed, in the order in which they are read and judged
 abbrev pub feed_papers : List Paper
 feed_papers = paper.Settings ∷ paper.Terminals ∷ paper.Tolerances ∷ paper.Calendar ∷ paper.CalendarDates ∷ paper.Trips ∷ paper.StopTimes
-    ∷ paper.Deadheads ∷ paper.Depot ∷ paper.Edits ∷ []
+    ∷ paper.Deadheads ∷ paper.Depot ∷ paper.Pairs ∷ paper.Edits ∷ []
 
 -- what the papers of a feed say. The settings, where there is a date with the services alone that run on it. The base
--- timetable, the lines of the script, the entries of the deadheads, and the pulls of each place
+-- timetable, the lines of the script, the entries of the deadheads, the pulls of each place, and the rules of pairs
 pub record FeedView : Type 0 where
   pub settings : SettingsView
   pub base : TimetableView
   pub lines : List Line
   pub entries : List Entry
   pub pulls : List Pull
+  pub rules : List PairRule
 
 -- rule: the services of a date in the settings
 -- the settings where there is no date; where there is one, those in which the services are kept that run on it
@@ -58,6 +62,9 @@ deadheads_in found timetable = deadheads_of (found paper.Deadheads) timetable
 abbrev pub pulls_in : (Paper → Found) → TimetableView → Result (List Pull) FeedFault
 pulls_in found timetable = pulls_of (found paper.Depot) timetable
 
+abbrev pub rules_in : (Paper → Found) → Result (List PairRule) FeedFault
+rules_in found = rules_of (found paper.Pairs)
+
 -- the lines of the script, none where there is no file of edits
 abbrev pub lines_by : Found → Result (List Line) FeedFault
 lines_by found = optional_in paper.Edits [] (script_of paper.Edits) found
@@ -66,9 +73,9 @@ abbrev pub lines_in : (Paper → Found) → Result (List Line) FeedFault
 lines_in found = lines_by (found paper.Edits)
 
 -- what holds of these parts
-abbrev pub said_with : SettingsView → TimetableView → List Entry → List Pull → List Line → FeedView
-said_with settings base entries pulls lines =
-    record { settings = settings; base = base; lines = lines; entries = entries; pulls = pulls }
+abbrev pub said_with : SettingsView → TimetableView → List Entry → List Pull → List PairRule → List Line → FeedView
+said_with settings base entries pulls rules lines =
+    record { settings = settings; base = base; lines = lines; entries = entries; pulls = pulls; rules = rules }
 
 -- the timetable that stands after all records of the script
 abbrev pub standing : FeedView → TimetableView
@@ -82,12 +89,13 @@ said_by found = do
   timetable ← timetable_in found settings
   deadheads ← deadheads_in found timetable
   pulls ← pulls_in found deadheads.0
+  rules ← rules_in found
   lines ← lines_in found
-  Ok (said_with settings deadheads.0 deadheads.1 pulls lines)
+  Ok (said_with settings deadheads.0 deadheads.1 pulls rules lines)
 
 -- what a feed says
 abbrev pub said_of : Feed → FeedView
-said_of feed = said_with feed.settings feed.timetable feed.deadheads feed.pulls feed.lines.items
+said_of feed = said_with feed.settings feed.timetable feed.deadheads feed.pulls feed.rules feed.lines.items
 
 -- all papers of a feed were read
 abbrev pub HasPapers : List Page → Type 0

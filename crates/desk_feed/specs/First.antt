@@ -11,7 +11,7 @@ use Rattle.desk_settings.specs.Tolerances.{tolerances_of}
 use Rattle.feed_read.specs.Base.{timetable_of}
 use Rattle.feed_read.specs.FeedTrips.{feed_trips_in}
 use Rattle.feed_read.specs.Trips.{trips_in}
-use Rattle.desk_feed.specs.Feed.{deadheads_in, lines_in, pulls_in, selection_in}
+use Rattle.desk_feed.specs.Feed.{deadheads_in, lines_in, pulls_in, rules_in, selection_in}
 
 -- A refusal is that of this file; or this file is accepted, and of what it says a later part of the feed is refused so.
 abbrev pub RefusedAt : {A : Type 0} → Result A FeedFault → FeedFault → (A → Type 0) → Type 0
@@ -31,4 +31,5 @@ IsFirst found refused =
     RefusedAt (timetable_of settings feed_trips) refused λ timetable.
     RefusedAt (deadheads_in found timetable) refused λ deadheads.
     RefusedAt (pulls_in found deadheads.0) refused λ pulls.
+    RefusedAt (rules_in found) refused λ rules.
     lines_in found ≡ Err refused

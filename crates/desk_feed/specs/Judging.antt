@@ -22,7 +22,6 @@ said_in read = said_by (found_of read.pages)
 abbrev pub refusing : FeedFault → OutcomeView
 refusing refused = putting (feed_line_of refused) ending.FeedRefused
 
--- word: judge = look for the first refusal or fault
 -- an accepted feed says what was read; a refused one has the outcome of the first refusal
 abbrev pub Judges : ReadView → Judged → Type 0
 Judges read (Accepted feed) = (said_in read ≡ Ok (said_of feed)) × HavePulls feed × IsScript feed.lines.items

@@ -1,6 +1,7 @@
 -- What a command asks that puts a text of the timetable after the script.
 use Rattle.std.specs.Prelude.{◌≡◌, ℕ, List}
 use Rattle.trip_model.specs.Timetable.{TimetableView}
+use Rattle.pair_rules.specs.Rules.{PairRule}
 use Rattle.deadhead_matrix.specs.declared.entry.Entry.{Entry}
 use Rattle.deadhead_matrix.specs.declared.pulls.Pull.{Pull}
 use Rattle.desk_run.specs.Outcome.{OutcomeView}
@@ -14,12 +15,13 @@ pub record EditedView : Type 0 where
   pub timetable : TimetableView
   pub entries : List Entry
   pub pulls : List Pull
+  pub rules : List PairRule
 
-abbrev pub stands_with : TimetableView → List Entry → List Pull → EditedView
-stands_with timetable entries pulls = record { timetable = timetable; entries = entries; pulls = pulls }
+abbrev pub stands_with : TimetableView → List Entry → List Pull → List PairRule → EditedView
+stands_with timetable entries pulls rules = record { timetable = timetable; entries = entries; pulls = pulls; rules = rules }
 
 abbrev pub stands_after : FeedView → EditedView
-stands_after said = stands_with (standing said) said.entries said.pulls
+stands_after said = stands_with (standing said) said.entries said.pulls said.rules
 
 -- which texts a command may put of that, and how many steps it may count
 pub record TextAsked : Type 1 where

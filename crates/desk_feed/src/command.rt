@@ -15,6 +15,7 @@ use desk_run::{Command, Outcome, Read};
 use desk_settings::Settings;
 use edit_script::Line;
 use gtfs_tables::Paper;
+use pair_rules::PairRules;
 use std::alloc::Global;
 use std::marker::Model;
 use std::sync::ledger::Ledger;
@@ -32,6 +33,8 @@ pub struct Said<'a, 'f> {
     pub deadheads: &'f Deadheads,
     /// The pulls of the depot.
     pub pulls: Pulls,
+    /// The rules of pairs.
+    pub rules: PairRules,
     /// The lines of the script.
     pub lines: &'f [Line],
 }
@@ -82,6 +85,7 @@ fn outcome_of<'a, C: FeedCommand, L: Ledger>(
         timetable,
         deadheads,
         pulls,
+        rules,
         lines,
     } = feed;
     let said = Said {
@@ -91,6 +95,7 @@ fn outcome_of<'a, C: FeedCommand, L: Ledger>(
         timetable,
         deadheads: &deadheads,
         pulls,
+        rules,
         lines: &lines,
     };
     command.outcome(said, steps)
@@ -187,7 +192,7 @@ impl<'a, C: FeedCommand> Command for OnFeed<'a, C> {
     }
 }
 
-/// What a command has of what stands after the script of a feed, of which nothing but the pulls is used up.
+/// What a command has of what stands after the script of a feed, of which nothing but the pulls and the rules is used up.
 #[derive(Drop)]
 pub struct Stands<'a> {
     pub alloc: Global,
@@ -196,6 +201,8 @@ pub struct Stands<'a> {
     pub deadheads: &'a Deadheads,
     /// The pulls of the depot.
     pub pulls: Pulls,
+    /// The rules of pairs.
+    pub rules: PairRules,
 }
 
 /// What a command brings that puts a text of the timetable after the script of a feed.
@@ -251,6 +258,7 @@ impl<C: TextCommand> FeedCommand for AfterScript<C> {
             timetable,
             deadheads: said.deadheads,
             pulls: said.pulls,
+            rules: said.rules,
         };
         put_edited(&self.0, stands, &edited, steps)
     }

@@ -9,18 +9,20 @@ use desk_run::Read;
 use desk_settings::Settings;
 use edit_script::{Line, read_script};
 use gtfs_tables::{FeedFault, Paper, optional_bytes};
+use pair_rules::PairRules;
 use service_days::running;
 use std::alloc::Global;
 use trip_model::Timetable;
 
 /// What a feed says. The settings of the desk, where they have a date with the services alone that run on it. The timetable
-/// before its script, the deadheads between its places, their pulls, and the lines of its script.
+/// before its script, the deadheads between its places, their pulls, the rules of pairs, and the lines of its script.
 #[derive(Drop)]
 pub struct Feed {
     pub settings: Settings,
     pub timetable: Timetable,
     pub deadheads: Deadheads,
     pub pulls: Pulls,
+    pub rules: PairRules,
     pub lines: Vec<Line>,
 }
 
@@ -79,6 +81,13 @@ fn read_pulls(alloc: Global, timetable: &Timetable, read: &Read) -> Result<Pulls
     Pulls::read(alloc, read.found(Paper::Depot), timetable)
 }
 
+fn read_rules(alloc: Global, read: &Read) -> Result<PairRules, FeedFault>
+    requires { spec.HasPapers read.now.pages }
+    ensures { Gives (λ rules. rules) result (spec.rules_in (found_of read.now.pages)) }
+{
+    PairRules::read(alloc, read.found(Paper::Pairs))
+}
+
 // The lines of the script, none where there is no file of edits.
 fn read_lines(alloc: Global, read: &Read) -> Result<Vec<Line>, FeedFault>
     requires { spec.HasPapers read.now.pages }
@@ -91,8 +100,8 @@ fn read_lines(alloc: Global, read: &Read) -> Result<Vec<Line>, FeedFault>
     }
 }
 
-/// The settings, the timetable, the deadheads, the pulls and the script of a feed. Or the first refusal in the order in which
-/// its papers are judged.
+/// The settings, the timetable, the deadheads, the pulls, the rules of pairs and the script of a feed. Or the first refusal in
+/// the order in which its papers are judged.
 #[tactic(auto, unfolding(crate::specs::Feed::said_by))]
 pub(crate) fn read_feed(alloc: Global, read: &Read) -> Result<Feed, FeedFault>
     requires { spec.HasPapers read.now.pages }
@@ -104,12 +113,14 @@ pub(crate) fn read_feed(alloc: Global, read: &Read) -> Result<Feed, FeedFault>
     let mut timetable = read_timetable(alloc, &settings, read)?;
     let deadheads = read_deadheads(alloc, &mut timetable, read)?;
     let pulls = read_pulls(alloc, &timetable, read)?;
+    let rules = read_rules(alloc, read)?;
     let lines = read_lines(alloc, read)?;
     Ok(Feed {
         settings,
         timetable,
         deadheads,
         pulls,
+        rules,
         lines,
     })
 }

@@ -22,6 +22,7 @@ macro_rules! feed_papers {
             Paper::StopTimes,
             Paper::Deadheads,
             Paper::Depot,
+            Paper::Pairs,
             Paper::Edits,
             $($further),*
         ]
@@ -29,7 +30,7 @@ macro_rules! feed_papers {
 }
 
 /// The papers of a feed, in the order in which they are read and judged.
-pub const FEED_PAPERS: [Paper; 10] = feed_papers!();
+pub const FEED_PAPERS: [Paper; 11] = feed_papers!();
 
 /// What a feed says, or what is done where it is refused.
 #[derive(Drop)]

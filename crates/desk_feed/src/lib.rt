@@ -8,7 +8,7 @@
 //! What such commands need besides:
 //!
 //! - [`after_script`] is the timetable after the script.
-//! - [`matrix_of`] is the matrix of its places.
+//! - [`matrix_of`] is the matrix of its places, with the pulls and the rules of pairs.
 //! - [`putting_after`] puts a text behind the lines of refused records.
 //! - [`push_numbers_line`] is the line of the three numbers of a timetable.
 //! - [`refuse`] puts a refusal.

@@ -72,6 +72,7 @@ abbrev pub in_place : List ℕ → List ℕ → List ℕ → Option Refusal → 
 in_place folder name bytes why =
     Look (path_join folder name) false None ∷ Create (path_join folder name) None ∷ Write bytes why ∷ []
 
+-- rule: how a file is written: beside the old one and renamed, or in place
 -- what is asked to write a file, by what is answered
 abbrev pub AsksToWrite : List ℕ → List ℕ → List ℕ → Result (Unit {0}) Refusal → List Asked → List Asked → Type 0
 AsksToWrite folder name bytes (Ok done) before after =

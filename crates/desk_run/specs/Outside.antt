@@ -6,7 +6,6 @@ use Rattle.desk_io.specs.Sink.{SinkState}
 use Rattle.desk_keeper.specs.Keeper.{KeeperState}
 use Rattle.desk_run.specs.World.{World, world}
 
--- word: history = the calls that came to a shelf, a sink or a keeper, in their order
 -- the calls that came to the shelf, to the sink and to the keeper, each in their order
 pub record Histories : Type 0 where
   pub shelf : List Call

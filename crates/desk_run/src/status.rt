@@ -7,16 +7,16 @@ pub const DONE: u8 = 0;
 /// All is done, but that at least one edit was refused.
 pub const EDITS_REFUSED: u8 = 1;
 
-/// The words are of no form, and the usage line was put.
+/// The words name no command, and the usage line was printed.
 pub const USAGE: u8 = 2;
 
-/// The feed is refused, and the line of its first refusal was put.
+/// The feed is refused, and the line of its first refusal was printed.
 pub const FEED_REFUSED: u8 = 3;
 
-/// What was to be judged is not what it claims to be.
+/// What was judged does not hold.
 pub const NO: u8 = 4;
 
-/// A read failed: nothing was written, appended or put.
+/// A read failed: nothing was written, appended or printed.
 pub const READ_FAULT: u8 = 5;
 
 /// A write failed, or standard output did.
@@ -25,7 +25,7 @@ pub const WRITE_FAULT: u8 = 6;
 /// The journal could not be loaded or appended to. It is as it was.
 pub const KEEPER_FAULT: u8 = 7;
 
-/// No memory was found: nothing was appended or put.
+/// No memory was found: nothing was appended or printed.
 pub const NO_MEMORY: u8 = 8;
 
 /// How a run ends that comes to its end.
@@ -37,7 +37,7 @@ pub enum Ending {
     EditsRefused,
     /// The feed is refused.
     FeedRefused,
-    /// What was to be judged is not what it claims to be.
+    /// What was judged does not hold.
     No,
 }
 

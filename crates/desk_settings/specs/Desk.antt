@@ -110,6 +110,7 @@ abbrev pub Ascend : Members → Type 0
 Ascend no_members = ⊤
 Ascend (member key value rest) = (is_before key rest ≡ true) × Ascend rest
 
+-- rule: the keys of `desk.toml`, and which values they take
 -- what the desk says with this key and its value; nothing where the key is unknown or its value of another form
 unfoldable pub with_key : DeskTable → Name → Data → Option DeskTable
 with_key desk key value =

@@ -46,6 +46,7 @@ abbrev pub preferences_from : List Preference → Items → Option (List Prefere
 preferences_from before no_items = Some before
 preferences_from before (item value rest) = option_and_then (λ more. preferences_from more rest) (with_preference before value)
 
+-- rule: which values `prefer` takes
 -- a value that is such a list
 abbrev pub preferences_in : Data → Option (List Preference)
 preferences_in value = option_and_then (preferences_from []) (as_array value)

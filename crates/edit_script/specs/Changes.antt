@@ -75,6 +75,7 @@ abbrev pub extra_from : TimetableView → List ℕ → List ℕ → ℕ → ℕ 
 extra_from t name to departs arrives None = Err (fault.UnknownPlace side.From)
 extra_from t name to departs arrives (Some from) = extra_to t name departs arrives from (number_of (place_names t) to)
 
+-- rule: two trips of one name
 -- an extra trip, where no slot has its name
 abbrev pub extra_new : TimetableView → List ℕ → List ℕ → List ℕ → ℕ → ℕ → Option ℕ → Result TimetableView EditFault
 extra_new t name from to departs arrives (Some s) = Err fault.TripExists

@@ -33,6 +33,7 @@ no_deadhead = record {
   entries = [];
   walks = (Some 0 ∷ None ∷ []) ∷ (None ∷ Some 0 ∷ []) ∷ [];
   pulls = record { pull_out = 0; pull_in = 0 } ∷ record { pull_out = 0; pull_in = 0 } ∷ [];
+  rules = [];
 }
 
 -- the feed states T1 with T3 and T2 with T4, and T1 and T4 are of one line, as T2 and T3 are

@@ -29,6 +29,7 @@ one_deadhead = record {
   entries = record { from = 1; to = 2; minutes = 20 } ∷ [];
   walks = (Some 0 ∷ None ∷ None ∷ []) ∷ (None ∷ Some 0 ∷ Some 20 ∷ []) ∷ (None ∷ None ∷ Some 0 ∷ []) ∷ [];
   pulls = record { pull_out = 10; pull_in = 15 } ∷ record { pull_out = 0; pull_in = 0 } ∷ record { pull_out = 7; pull_in = 0 } ∷ [];
+  rules = [];
 }
 
 -- the plan for them: the second trip follows the first, and leaving the first has the price of their link

@@ -21,8 +21,8 @@ pub fn a_refusal()
         ≡ codes "feed refused: stop_times.txt record 4: bad arrival_time" ++ 10 ∷ [] }
 {}
 
-/// What the four files of `examples/depot` say: the standard settings, the two trips, one deadhead, the pulls of each place, and no
-/// script.
+/// What the four files of `examples/depot` say: the standard settings, the two trips, one deadhead, the pulls of each place, no rules of
+/// pairs, and no script.
 pub fn a_feed()
-    ensures { said_by depot ≡ Ok (said_with (settings_with standard_desk [] []) two_trips one_deadhead.entries one_deadhead.pulls []) }
+    ensures { said_by depot ≡ Ok (said_with (settings_with standard_desk [] []) two_trips one_deadhead.entries one_deadhead.pulls [] []) }
 {}

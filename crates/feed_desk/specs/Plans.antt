@@ -26,7 +26,8 @@ use Rattle.desk_feed.specs.Script.{gathered, line_at, refusal_in, standing_at, s
 abbrev pub fixed_number : TimetableView → ℕ
 fixed_number timetable = unsigned_abs (sum_of_maxima (deficit (live_moves timetable.slots)) (length timetable.places))
 
--- The sum of the maxima of the deficits: as many blocks has one without deadheads, and none of those has fewer.
+-- The sum of the maxima of the deficits: as many blocks has one without deadheads, and none of those has fewer. Deficits see no
+-- rules of pairs, so blocks that follow rules may be more.
 pub record IsFixed (timetable : TimetableView) (fixed : ℕ) : Type 0 where
   pub maxima : pos fixed ≡ sum_of_maxima (deficit (live_moves timetable.slots)) (length timetable.places)
   pub blocks : List (List ℕ)
@@ -57,10 +58,10 @@ module _ (base : TimetableView) (lines : List Line) (matrix : MatrixView) (likin
   plan_at m = (plans_at m).plan
 
 -- What holds of the plan at each moment of a script. A moment is after so many of its records. The timetable that stands then is
--- valid. The prices of its plan prove it, and its blocks are least over all blockings. The fewest vehicles without deadheads are
--- the sum of the maxima. Of the base timetable no least blocking is liked more. Where the same edits stand the plans are equal, prices
--- included. A refused record leaves the plan as it is. The edit of a trip changes links along the paths of its repair alone. The
--- edits that stand are each accepted over those before.
+-- valid. The prices of its plan prove it, and its blocks are least over all blockings. The fewest vehicles without deadheads,
+-- and without rules of pairs, are the sum of the maxima. Of the base timetable no least blocking is liked more. Where the same edits
+-- stand the plans are equal, prices included. A refused record leaves the plan as it is. The edit of a trip changes links along the
+-- paths of its repair alone. The edits that stand are each accepted over those before.
 pub record ArePlanned (base : TimetableView) (lines : List Line) (matrix : MatrixView) (likings : LikingsView) : Type 0 where
   pub valid : (m : ℕ) → m ≤ length lines → IsTimetable (standing_at base lines m)
   pub scheduled : (m : ℕ) → m ≤ length lines → let plan = plan_at base lines matrix likings m in
@@ -73,7 +74,8 @@ pub record ArePlanned (base : TimetableView) (lines : List Line) (matrix : Matri
       → plan_at base lines matrix likings (suc n) ≡ plan_at base lines matrix likings n
   pub folds : (m : ℕ) → m ≤ length lines → Folds base (state_at base lines m).standing
   pub repaired : (n : ℕ) → n < length lines
-      → AreRelinked (line_at lines n) (refusal_in (step_at base lines n)) (standing_at base lines n) (plan_at base lines matrix likings n).next
+      → AreRelinked (line_at lines n) (refusal_in (step_at base lines n)) (standing_at base lines n)
+      (plan_at base lines matrix likings n).next
       (plan_at base lines matrix likings (suc n)).next
 
 -- the most steps of a record, with so many slots after it: none where it is refused

@@ -39,7 +39,8 @@ use Rattle.deadhead_matrix.specs.Deadheads.{with_place, with_places, with_unplac
 use Rattle.deadhead_matrix.specs.Posts.{Class, classes_of, place_for}
 use Rattle.block_build.specs.Names.{IsName}
 use Rattle.claim_files.proofs.EachRecord.{each-keeps, provided-parts, read-parts, same_Ok}
-use Rattle.desk_feed.specs.Feed.{FeedView, deadheads_in, lines_in, pulls_in, said_by, said_with, settings_in, standing, timetable_in}
+use Rattle.desk_feed.specs.Feed.{FeedView, deadheads_in, lines_in, pulls_in, rules_in, said_by, said_with, settings_in}
+use Rattle.desk_feed.specs.Feed.{standing, timetable_in}
 use Rattle.feed_names.proofs.NamesStanding.{lines-named, standing-named}
 
 -- a text that was read is text
@@ -268,8 +269,9 @@ said-names found said e =
     let base = read-parts (timetable_in found settings.0) _ said settings.2 in
     let entries = read-parts (deadheads_in found base.0) _ said base.2 in
     let pulls = read-parts (pulls_in found entries.0.0) _ said entries.2 in
-    let lines = read-parts (lines_in found) _ said pulls.2 in
-    let given = said_with settings.0 entries.0.0 entries.0.1 pulls.0 lines.0 in
+    let rules = read-parts (rules_in found) _ said pulls.2 in
+    let lines = read-parts (lines_in found) _ said rules.2 in
+    let given = said_with settings.0 entries.0.0 entries.0.1 pulls.0 rules.0 lines.0 in
     let slots = deadheads-slots (found paper.Deadheads) base.0 entries.0 entries.1 in
     let before = subst (All (λ (slot : Slot). IsName slot.name)) slots
     (base-named settings.0 (found paper.Trips) (found paper.StopTimes) base.0 base.1) in

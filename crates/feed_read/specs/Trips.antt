@@ -54,6 +54,7 @@ abbrev pub selected_with : Selected → Name → Name → Selected
 selected_with before name class = record { names = before.names ++ name ∷ []; classes = before.classes ++ class ∷ [] }
 
 -- rule: too many trips
+-- rule: two trips of one name
 -- the selected trips, and that of a selected record with its class. Its name is not empty and no selected record before has it,
 -- and it is at most the 4,096th
 unfoldable pub with_selected : ℕ → Selected → Name → Name → Result Selected FeedFault

@@ -36,6 +36,10 @@ pub enum FeedFault {
     BadSettings(Text),
     /// The record of a deadhead has one terminal twice.
     SameTerminal(u32),
+    /// The record of a rule has one trip twice.
+    SameTrip(u32),
+    /// The rule of the record is neither of the two that there are.
+    BadRule(u32),
     /// The record of `trips.txt` is selected when there are as many trips as there may be.
     TooManyTrips(u32),
     /// A place is met in the file when there are as many as there may be.
@@ -108,6 +112,10 @@ fn fault_text(alloc: Global, fault: &FeedFault) -> Result<String, AllocError>
         FeedFault::SameTerminal(number) => {
             record_text(alloc, Paper::Deadheads, *number, "same terminal", "")
         }
+        FeedFault::SameTrip(number) => {
+            record_text(alloc, Paper::Pairs, *number, "same trip", "")
+        }
+        FeedFault::BadRule(number) => record_text(alloc, Paper::Pairs, *number, "bad rule", ""),
         FeedFault::TooManyTrips(number) => {
             record_text(alloc, Paper::Trips, *number, "too many trips", "")
         }

@@ -1,5 +1,5 @@
 -- What `joined` asks, and what it writes and puts of a feed.
-use Rattle.std.specs.Prelude.{◌≡◌, ℕ, ◌+◌, ◌*◌, List, [], ◌∷◌, ◌++◌, length, None, codes, pos}
+use Rattle.std.specs.Prelude.{◌≡◌, ℕ, ◌+◌, ◌*◌, ◌≤ℤ◌, ℤ, List, [], ◌∷◌, ◌++◌, length, None, codes, pos}
 use Rattle.trip_model.specs.Deficit.{deficit, live_moves}
 use Rattle.trip_model.specs.Maximum.{sum_of_maxima}
 use Rattle.trip_model.specs.Timetable.{TimetableView, place_names}
@@ -37,7 +37,12 @@ boards_outcome refused end names timetable matrix blocks = record {
   ending = end;
 }
 
--- it is done of the blocks of the plan after the script of a feed, and the maxima add up to their number
+-- the sum of the maxima of the deficits of all moves of blocks
+abbrev pub joined_sum_of : TimetableView → MatrixView → List (List ℕ) → ℤ
+joined_sum_of timetable matrix blocks = sum_of_maxima (deficit (joined_moves timetable matrix blocks)) (length timetable.places)
+
+-- It is done of the blocks of the plan after the script of a feed, and the maxima add up to no more than their number. Where there are
+-- no rules of pairs, they add up to it. Deficits see no rules, and blocks that follow rules may be more.
 pub record IsJoined (likings : LikingsView) (naming : NamingView) (said : FeedView) (outcome : OutcomeView) : Type 0 where
   pub matrix : MatrixView
   pub matrix_is : IsMatrixFor said matrix
@@ -45,7 +50,8 @@ pub record IsJoined (likings : LikingsView) (naming : NamingView) (said : FeedVi
   pub blocks : List (List ℕ)
   pub drawn : IsDrawn said.base said.lines matrix likings plan blocks
   pub done : outcome ≡ boards_outcome (refused_of said) (ending_of said) (names_of naming blocks) (standing said) matrix blocks
-  pub sum : sum_of_maxima (deficit (joined_moves (standing said) matrix blocks)) (length (standing said).places) ≡ pos (length blocks)
+  pub most : joined_sum_of (standing said) matrix blocks ≤ℤ pos (length blocks)
+  pub sum : said.rules ≡ [] → joined_sum_of (standing said) matrix blocks ≡ pos (length blocks)
 
 -- the most steps: those of the plans of the script, and of the deficits of as many moves as there may be
 abbrev pub joined_named : NamingAsked

@@ -90,7 +90,8 @@ impl NamingCommand for WriteBoards {
         entries_law();
         joined_law();
         let pulls = said.pulls;
-        let matrix = matrix_of(said.alloc, &said.timetable, said.deadheads, pulls)?;
+        let rules = said.rules;
+        let matrix = matrix_of(said.alloc, &said.timetable, said.deadheads, pulls, rules)?;
         let likings = read_likings(said.alloc, said.settings, said.read, &said.timetable)?;
         let drawn = draw_after(
             said.alloc,
@@ -104,8 +105,9 @@ impl NamingCommand for WriteBoards {
     }
 }
 
-/// The command `joined`: the deficits with the deadheads of least blocks put in. Their maxima add up to the number of blocks.
-/// `boards.csv` has the running board of each vehicle. It answers the status.
+/// The command `joined`: the deficits with the deadheads of least blocks put in. Their maxima add up to the number of blocks, or
+/// where rules of pairs forbid some pairs perhaps to fewer. `boards.csv` has the running board of each vehicle. It answers the
+/// status.
 #[tactic(auto, unfolding(crate::specs::Joined::joined_asked))]
 pub fn run_joined<S: Shelf, O: Sink, K: Keeper, L: Ledger>(
     alloc: Global,

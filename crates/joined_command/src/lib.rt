@@ -3,8 +3,9 @@
 //! [`run_joined`] is a whole run over any shelf, sink and keeper, of a `NamingCommand` of `feed_naming`. It takes the plan after
 //! the script. It puts the deficits of trips and deadheads together beside those of the trips alone.
 //!
-//! The contract that the crates above use: a run performs what `joined` asks (`joined_asked`). The maxima of the joined deficits add
-//! up to the number of the blocks, which are least over all blockings.
+//! The contract that the crates above use: a run performs what `joined` asks (`joined_asked`). The blocks are least over all
+//! blockings. Where there are no rules of pairs, the maxima of the joined deficits add up to the number of the blocks. Where there
+//! are, they add up to no more.
 //!
 //! `run` of `desk_program` calls it.
 //!

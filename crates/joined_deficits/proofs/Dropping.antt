@@ -175,7 +175,7 @@ IsBlockOrNone network [] = ⊤
 IsBlockOrNone network (i ∷ js) = Follow network i js
 
 module _ (t : TimetableView) (matrix : MatrixView) (valid : IsTimetable t) (least : AreLeastWalks matrix)
-    (count : length matrix.walks ≡ length t.places) (legs : List Leg) (are : All (IsLeg t matrix) legs) where
+    (count : length matrix.walks ≡ length t.places) (free : matrix.rules ≡ []) (legs : List Leg) (are : All (IsLeg t matrix) legs) where
   -- after a trip a vehicle is where that has ended
   there-itself : (i : ℕ) (way : Move) → IsMadeBy t matrix (Some i) way → IsThere t matrix i way.to way.arrives
   there-itself i way made =
@@ -212,13 +212,13 @@ module _ (t : TimetableView) (matrix : MatrixView) (valid : IsTimetable t) (leas
         in_time = omega (arith, on.2, is.in_time, made.2);
       }
 
-  -- and it reaches the trip that begins there then
+  -- and it reaches the trip that begins there then, as no rules forbid the pair
   there-fits : (i j : ℕ) (way : Move) → IsMadeBy t matrix (Some j) way → IsThere t matrix i way.from way.leaves
       → Fits (network_of t matrix) i j
   there-fits i j way made is =
       let place : way.from ≡ (slot_at t j).trip.from = ap (λ (m : Move). m.from) made.1 in
       let minute : way.leaves ≡ (slot_at t j).trip.departs = ap (λ (m : Move). m.leaves) made.1 in
-      fits-reached t matrix i j is.minutes (record {
+      fits-reached t matrix i j is.minutes free (record {
         first = is.live;
         second = made.0;
         walks = ap (λ p. walk matrix (slot_at t i).trip.to p) (sym place) ∙ is.walks;

@@ -14,12 +14,13 @@ use Rattle.trip_model.specs.declared.trip.Trip.{Trip}
 use Rattle.trip_model.specs.Blocking.{Follow, IsBlock, StandsOnce, slots_in, IsBlocking}
 use Rattle.trip_model.specs.Network.{Fits}
 use Rattle.trip_model.specs.Plain.{move_at, move_of_slot, trip_moves, IsMove}
-use Rattle.trip_model.specs.Timetable.{TimetableView, IsTimetable, slot_at}
+use Rattle.trip_model.specs.Timetable.{TimetableView, IsTimetable, slot_at, slot_names}
 use Rattle.trip_model.specs.Trip.{IsValidTrip, move_of}
 use Rattle.trip_model.proofs.Counting.{sum_by-standing, StandsOnce-filter_range, length-ones, runs-within}
 use Rattle.trip_model.proofs.OrderLemmas.{slot-move, slot-live}
 use Rattle.trip_model.proofs.PlainLemmas.{IsMove-trip}
-use Rattle.deadhead_matrix.specs.Fitting.{in_time, empty_between, network_of}
+use Rattle.deadhead_matrix.specs.Fitting.{in_time, empty_between, allowed_network, deadhead_network, network_of}
+use Rattle.deadhead_matrix.proofs.Ruled.{allowed-fits}
 use Rattle.deadhead_matrix.specs.Matrix.{MatrixView, walk}
 use Rattle.block_build.proofs.CostLemmas.{block-live}
 use Rattle.joined_deficits.specs.declared.legs.Leg.{Leg}
@@ -60,7 +61,8 @@ reaches t matrix i j fits =
     let a = (slot_at t i).trip in
     let b = (slot_at t j).trip in
     let found = between matrix a b a.live b.live
-    ((λ k. is_some (empty_between (walk matrix) (sym (slot-move t i) k) (sym (slot-move t j) k))) ∙ fits) in
+    ((λ k. is_some (empty_between (walk matrix) (sym (slot-move t i) k) (sym (slot-move t j) k)))
+    ∙ allowed-fits matrix.rules (slot_names t) (deadhead_network (trip_moves t.slots) matrix) i j fits) in
     (found.0, record { first = found.1; second = found.2; walks = found.3; in_time = found.4 })
 
 -- in the minutes of the walk
@@ -83,13 +85,15 @@ arrives-in_day t matrix i j minutes a b a_is b_is valid fits found =
     let departs : b.departs ≡ (slot_at t j).trip.departs = ap (λ (trip : Trip). trip.departs) b_is in
     omega (arith, reached, ends, departs, move.forward, move.in_day)
 
--- and the other way round
-pub fits-reached : (t : TimetableView) (matrix : MatrixView) (i j minutes : ℕ) → Reaches t matrix i j minutes
+-- and the other way round, where no rules forbid a pair
+pub fits-reached : (t : TimetableView) (matrix : MatrixView) (i j minutes : ℕ) → matrix.rules ≡ [] → Reaches t matrix i j minutes
     → Fits (network_of t matrix) i j
-fits-reached t matrix i j minutes r =
+fits-reached t matrix i j minutes free r =
     let a = (slot_at t i).trip in
     let b = (slot_at t j).trip in
-    (λ k. is_some (empty_between (walk matrix) (slot-move t i k) (slot-move t j k)))
+    let network = deadhead_network (trip_moves t.slots) matrix in
+    ap (λ rules. is_some ((allowed_network rules (slot_names t) network).empty i j)) free
+    ∙ (λ k. is_some (empty_between (walk matrix) (slot-move t i k) (slot-move t j k)))
     ∙ (λ k. is_some (empty_between (walk matrix) (if r.first k then Some (move_of a) else None)
     (if r.second k then Some (move_of b) else None)))
     ∙ (λ k. is_some (in_time (move_of a) (move_of b) (r.walks k)))

@@ -1,5 +1,5 @@
 -- The theorem of joined moves: of fewest blocks, the sum of the maxima with the deadheads put in is their number.
-use Rattle.std.proofs.Common.{◌≡◌, ℕ, ◌≤◌, List, length, map, Some, sym, ap, subst, ◌∙◌, arith}
+use Rattle.std.proofs.Common.{◌≡◌, ℕ, ◌≤◌, List, [], length, map, Some, sym, ap, subst, ◌∙◌, arith}
 use Rattle.std.specs.Prelude.{All, pos, ◌≤ℤ◌}
 use Rattle.std.proofs.lemmas.Int.{ints}
 use Rattle.trip_model.specs.declared.trip.Move.{Move}
@@ -22,19 +22,20 @@ PlainBlocks = (places : ℕ) (moves : List Move) → All (IsMove places) moves
     → (blocks : List (List ℕ)) × IsFewest (plain_network (map Some moves)) blocks
     × (pos (length blocks) ≡ sum_of_maxima (deficit moves) places)
 
--- the deadheads dropped, a blocking without deadheads of the joined moves is a blocking with no more blocks
+-- the deadheads dropped, a blocking without deadheads of the joined moves is a blocking with no more blocks, where no rules forbid
+-- a pair
 pub dropped-blocking : (t : TimetableView) (matrix : MatrixView) (blocks others : List (List ℕ)) → IsTimetable t → AreLeastWalks matrix
-    → length matrix.walks ≡ length t.places
+    → length matrix.walks ≡ length t.places → matrix.rules ≡ []
     → IsBlocking (network_of t matrix) blocks → IsBlocking (plain_network (map Some (joined_moves t matrix blocks))) others
     → (trips : List (List ℕ)) × IsBlocking (network_of t matrix) trips × (length trips ≤ length others)
 unfolding joined_moves
-dropped-blocking t matrix blocks others valid least count blocking plain =
+dropped-blocking t matrix blocks others valid least count free blocking plain =
     let legs = legs_in t matrix blocks in
     let are = all-in t matrix (IsLeg t matrix) (legs-are t matrix valid) blocks blocking.each (blocks-run t matrix blocks blocking) in (
       dropped legs others,
       record {
         stands = record { once = λ s. times-dropped legs s others plain ∙ legs-times t matrix s blocks ∙ blocking.stands.once s };
-        each = each-dropped t matrix valid least count legs are others plain.each;
+        each = each-dropped t matrix valid least count free legs are others plain.each;
       },
       length-dropped legs others,
     )
@@ -51,15 +52,15 @@ sum-at-most plain_blocks t matrix blocks valid least count lasting blocking =
     let same = joined.2 in
     subst (λ sum. sum ≤ℤ pos (length blocks)) plain.2 (omega (arith, ints, few, same))
 
--- and of fewest blocks it is their number
+-- and of fewest blocks it is their number, where no rules forbid a pair
 pub sum-of-fewest : PlainBlocks → (t : TimetableView) (matrix : MatrixView) (blocks : List (List ℕ)) → IsTimetable t → AreLeastWalks matrix
     → length matrix.walks ≡ length t.places
-    → TakeTime matrix.entries → IsFewest (network_of t matrix) blocks
+    → TakeTime matrix.entries → matrix.rules ≡ [] → IsFewest (network_of t matrix) blocks
     → sum_of_maxima (deficit (joined_moves t matrix blocks)) (length t.places) ≡ pos (length blocks)
-sum-of-fewest plain_blocks t matrix blocks valid least count lasting fewest =
+sum-of-fewest plain_blocks t matrix blocks valid least count lasting free fewest =
     let plain = plain_blocks (length t.places) (joined_moves t matrix blocks) (joined-move t matrix blocks valid fewest.blocking) in
     let joined = joined-blocking t matrix blocks valid least count lasting fewest.blocking in
-    let trips = dropped-blocking t matrix blocks plain.0 valid least count fewest.blocking plain.1.blocking in
+    let trips = dropped-blocking t matrix blocks plain.0 valid least count free fewest.blocking plain.1.blocking in
     let same : length plain.0 ≡ length blocks =
     omega (arith, plain.1.fewest joined.0 joined.1, joined.2, fewest.fewest trips.0 trips.1, trips.2) in
     sym plain.2 ∙ ap pos same

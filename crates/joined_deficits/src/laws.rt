@@ -1,6 +1,6 @@
 //! The theorem of joined moves, and laws of the definitions that the contracts cite. Each is the contract of a function that
 //! does nothing.
-ghost use Rattle.std.specs.Prelude.{◌≡◌, ℕ, ℤ, pos, ◌≤ℤ◌, ◌≤◌, List, length, All, Ok};
+ghost use Rattle.std.specs.Prelude.{◌≡◌, ℕ, ℤ, pos, ◌≤ℤ◌, ◌≤◌, List, [], length, All, Ok};
 ghost use Rattle.trip_model.specs.declared.trip.Move.{Move};
 ghost use Rattle.trip_model.specs.Blocking.{IsBlocking, IsFewest, IsLeast};
 ghost use Rattle.trip_model.specs.Deficit.{deficit};
@@ -23,19 +23,20 @@ use fixed_fleet::laws::plain_blocks_law;
 
 /// The theorem of joined moves. The matrix has the least walks of entries that take time, between the places of the timetable.
 /// Each block with its deadheads is a block without deadheads of the joined moves. So the sum of their maxima is at most the
-/// number of blocks. Of the fewest blocks it is their number. For blocks without deadheads of the joined moves are blocks of
-/// the trips, once the deadheads are dropped.
+/// number of blocks. Without rules of pairs it is the number of the fewest blocks. For blocks without deadheads of the joined
+/// moves are then blocks of the trips, once the deadheads are dropped. A deficit counts the trips at a place and cannot see which
+/// trip follows which, so with rules the fewest blocks may be more than the sum.
 pub fn joined_law()
     ensures most { (timetable : TimetableView) (matrix : MatrixView) (blocks : List (List ℕ)) → IsTimetable timetable
         → AreLeastWalks matrix → length matrix.walks ≡ length timetable.places → TakeTime matrix.entries
         → IsBlocking (network_of timetable matrix) blocks
         → sum_of_maxima (deficit (joined_moves timetable matrix blocks)) (length timetable.places) ≤ℤ pos (length blocks) }
     ensures fewest { (timetable : TimetableView) (matrix : MatrixView) (blocks : List (List ℕ)) → IsTimetable timetable
-        → AreLeastWalks matrix → length matrix.walks ≡ length timetable.places → TakeTime matrix.entries
+        → AreLeastWalks matrix → length matrix.walks ≡ length timetable.places → TakeTime matrix.entries → matrix.rules ≡ []
         → IsFewest (network_of timetable matrix) blocks
         → sum_of_maxima (deficit (joined_moves timetable matrix blocks)) (length timetable.places) ≡ pos (length blocks) }
     ensures least { (timetable : TimetableView) (matrix : MatrixView) (blocks : List (List ℕ)) → IsTimetable timetable
-        → AreLeastWalks matrix → length matrix.walks ≡ length timetable.places → TakeTime matrix.entries
+        → AreLeastWalks matrix → length matrix.walks ≡ length timetable.places → TakeTime matrix.entries → matrix.rules ≡ []
         → IsLeast (network_of timetable matrix) blocks
         → sum_of_maxima (deficit (joined_moves timetable matrix blocks)) (length timetable.places) ≡ pos (length blocks) }
 {

@@ -9,6 +9,7 @@ use edit_script::{MOST_SHIFT, MOST_SHOWS};
 use feed_sample::MOST_SAMPLE;
 use gtfs_tables::{LAST_SECOND, MOST_BYTES, MOST_RECORDS};
 use joined_deficits::MOST_MOVES;
+use pair_rules::MOST_RULES;
 use planner_desk::MOST_PLANNER_EDITS;
 use price_check::MOST_PRICE;
 use terminal_maxima::{LEAVES, MOST_CHANGE};
@@ -48,6 +49,8 @@ pub struct Limits {
     pub deadhead: u16,
     /// The minutes of a least walk over all places.
     pub walk: u32,
+    /// The rules of pairs of trips.
+    pub rules: u16,
     /// The minutes of a shift.
     pub shift: u16,
     /// The shows of a script.
@@ -93,6 +96,7 @@ pub fn all_limits() -> Limits
       leaves = 8192;
       deadhead = 1440;
       walk = 735840;
+      rules = 32768;
       shift = 120;
       shows = 64;
       undos = 256;
@@ -123,6 +127,7 @@ pub fn all_limits() -> Limits
         leaves: LEAVES,
         deadhead: MOST_DEADHEAD,
         walk: LONGEST_WALK,
+        rules: MOST_RULES,
         shift: MOST_SHIFT,
         shows: MOST_SHOWS,
         undos: UNDO_DEPTH,

@@ -49,7 +49,7 @@ pub record IsChainsText (timetable : TimetableView) (matrix : MatrixView) (moves
 -- those of the trips that run
 pub record IsChains (stands : EditedView) (text : List ℕ) : Type 0 where
   pub matrix : MatrixView
-  pub matrix_is : IsMatrixOf stands.entries stands.pulls (length stands.timetable.places) matrix
+  pub matrix_is : IsMatrixOf stands.entries stands.pulls stands.rules (length stands.timetable.places) matrix
   pub chains : IsChainsText stands.timetable matrix (live_moves stands.timetable.slots) 0 text
 
 -- no more chains than trips, since each of them takes a vehicle

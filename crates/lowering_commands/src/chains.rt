@@ -104,7 +104,13 @@ impl TextCommand for ShowChains {
     fn text<L: Ledger>(&self, stands: Stands, steps: &mut Steps<L>) -> Result<Text, Memory> {
         let timetable = stands.timetable;
         let alloc = stands.alloc;
-        let matrix = matrix_of(alloc, timetable, stands.deadheads, stands.pulls)?;
+        let matrix = matrix_of(
+            alloc,
+            timetable,
+            stands.deadheads,
+            stands.pulls,
+            stands.rules,
+        )?;
         let mut deficits = deficits_of(alloc, timetable, steps)?;
         chains_text(alloc, timetable, &matrix, &mut deficits, steps)
     }

@@ -1,2 +1,3 @@
 pub mod PairsLemmas
+pub mod RuleLemmas
 pub mod ShareLemmas

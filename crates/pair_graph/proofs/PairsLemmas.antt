@@ -1,13 +1,15 @@
 -- The moves of the pairs of a timetable are valid, and there are as many as slots.
-use Rattle.std.proofs.Common.{◌≡◌, ◌≢◌, ℕ, ◌<◌, List, length, Option, None, Some, refl, sym, ap, subst, ◌∙◌, inl, inr, ◌⊎◌, arith}
+use Rattle.std.proofs.Common.{◌≡◌, ◌≢◌, ℕ, ◌<◌, List, [], length, set, Option, None, Some, refl, sym, ap, subst, ◌∙◌, inl, inr, ◌⊎◌, arith}
 use Rattle.std.specs.Prelude.{IfSome}
 use Rattle.std.proofs.lemmas.Bool.{cases_eq}
-use Rattle.std.proofs.lemmas.List.{get_or-set_same, get_or-set_other, length-map, length-set}
+use Rattle.std.proofs.Math.ListN.{get_or-map}
+use Rattle.std.proofs.lemmas.List.{get_or-set_same, get_or-set_other, length-map, length-set, map-set, set-get_or, set-set}
 use Rattle.std.proofs.lemmas.Option.{none-some, IfSome_then}
 use Rattle.deadhead_matrix.specs.Matrix.{MatrixView}
 use Rattle.trip_model.specs.declared.trip.Move.{Move}
 use Rattle.trip_model.specs.Plain.{move_at, move_of_slot, trip_moves, IsMove, AreMoves}
-use Rattle.trip_model.specs.Timetable.{TimetableView, IsTimetable}
+use Rattle.trip_model.specs.Timetable.{Slot, TimetableView, slot_at, slot_names, with_trip, IsTimetable}
+use Rattle.trip_model.specs.declared.trip.Trip.{Trip}
 use Rattle.trip_model.proofs.PlainLemmas.{AreMoves-trips}
 use Rattle.pair_graph.specs.Pairs.{moves_without, pairs_of}
 
@@ -39,3 +41,21 @@ AreMoves-pairs t matrix without valid places within =
     subst (λ n. AreMoves n (pairs_of t matrix without).moves) places
     (AreMoves-without (length t.places) (trip_moves t.slots) without (AreMoves-trips t valid)
     (IfSome_then without within (λ slot lt. omega (arith, lt, length-map t.slots move_of_slot))))
+
+-- another trip in a slot leaves the names as they are
+pub names-with_trip : (t : TimetableView) (s : ℕ) (trip : Trip) → slot_names (with_trip t s trip) ≡ slot_names t
+names-with_trip t s trip =
+    let slot : Slot = record (slot_at t s) { trip = trip } in
+    let name : Slot → List ℕ = λ slot. slot.name in
+    map-set name t.slots s slot
+    ∙ ap (set (slot_names t) s) (sym (get_or-map name t.slots s (slot_at (record t { slots = [] }) 0)))
+    ∙ set-get_or (slot_names t) s []
+
+-- so the pairs are the same with another trip in a slot that does not run
+pub pairs-with_trip : (t : TimetableView) (matrix : MatrixView) (s : ℕ) (trip : Trip)
+    → pairs_of (with_trip t s trip) matrix (Some s) ≡ pairs_of t matrix (Some s)
+pairs-with_trip t matrix s trip =
+    let slot : Slot = record (slot_at t s) { trip = trip } in
+    let moves : set (trip_moves (with_trip t s trip).slots) s None ≡ set (trip_moves t.slots) s None =
+    ap (λ moves. set moves s None) (map-set move_of_slot t.slots s slot) ∙ set-set (trip_moves t.slots) s (move_of_slot slot) None in
+    λ i. record { names = names-with_trip t s trip i; moves = moves i; matrix = matrix }

@@ -17,6 +17,7 @@ saved_along share pull (Some walk) minute = if nat_le (share.ready + walk) minut
 -- what the pairs of each slot with one share: its move, when that leaves, seen backward, and a vehicle's weight with the pull-out
 -- to where it begins
 pub record IsColumn (pairs : PairsView) (slot : ℕ) (after : Move) (share : Share) : Type 0 where
+  pub within : slot < length pairs.moves
   pub made : move_at pairs.moves slot ≡ Some after
   pub begins : after.from < length pairs.matrix.walks
   pub leaves : after.leaves ≤ LAST_MINUTE

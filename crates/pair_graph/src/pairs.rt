@@ -1,21 +1,25 @@
 ghost use Rattle.std.specs.Prelude.{◌≡◌, ◌+◌, ◌<◌, ◌≤◌, length, None, Some, IfSome, is_some};
+ghost use Rattle.pair_rules.specs.Marks.{marks_of};
+ghost use Rattle.deadhead_matrix.specs.Fitting.{name_at};
 ghost use Rattle.assignment_model.specs.Prices.{weight, IsDay};
 ghost use Rattle.assignment_model.specs.declared.limits.TheConstants.{MOST_DEADHEAD};
 ghost use Rattle.trip_model.specs.declared.limits.TheConstants.{MOST_PLACES, MOST_SLOTS};
 ghost use Rattle.trip_model.specs.Network.{AreDepartures};
 ghost use Rattle.trip_model.specs.Order.{minute_left};
 ghost use Rattle.trip_model.specs.Plain.{move_at, AreMoves, IsMove};
-ghost use Rattle.pair_graph.specs.Pairs.{pairs_of, pairs_network, pairs_pull};
+ghost use Rattle.pair_rules.specs.Rules.{allows};
+ghost use Rattle.pair_graph.specs.Pairs.{is_kept, is_ruled, pairs_of, pairs_network, pairs_pull};
 
 use crate::{Column, Row, Share};
 use assignment_model::VEHICLE_WEIGHT;
 use deadhead_matrix::Matrix;
 use desk_io::Steps;
+use pair_rules::Marks;
 use std::marker::Model;
 use std::sync::ledger::Ledger;
 use trip_model::{LAST_MINUTE, Move, Timetable};
 
-/// The pairs of trips of a timetable, with the least walks of a matrix between their places.
+/// The pairs of trips of a timetable, with the least walks of a matrix between their places and its rules of pairs.
 #[derive(Drop)]
 pub struct Pairs<'a> {
     pub(crate) timetable: &'a Timetable,
@@ -147,6 +151,46 @@ impl<'a> Pairs<'a> {
         } else {
             self.matrix.pull_out(place)
         }
+    }
+
+    // What the rules have of the trip of a slot.
+    fn marks(&self, slot: u16) -> Marks
+        requires { slot < length self.now.moves }
+        ensures { result ≡ marks_of self.now.matrix.rules (name_at self.now.names slot) }
+    {
+        self.matrix.rules().marks(self.timetable.name(slot))
+    }
+
+    /// Whether a rule has the trip of a slot as its first. Seen backward, as its second.
+    pub fn is_ruled(&self, turned: bool, slot: u16) -> bool
+        requires { slot < length self.now.moves }
+        ensures { result ≡ is_ruled self.now turned slot }
+    {
+        let marks = self.marks(slot);
+        if turned { marks.second } else { marks.first }
+    }
+
+    /// Whether a keep has the trip of a slot as its second. Seen backward, as its first.
+    pub fn is_kept(&self, turned: bool, slot: u16) -> bool
+        requires { slot < length self.now.moves }
+        ensures { result ≡ is_kept self.now turned slot }
+    {
+        let marks = self.marks(slot);
+        if turned {
+            marks.keeps_first
+        } else {
+            marks.keeps_second
+        }
+    }
+
+    /// Whether the rules allow the trip of `j` next after that of `i`.
+    pub fn allows(&self, i: u16, j: u16) -> bool
+        requires i { i < length self.now.moves }
+        requires j { j < length self.now.moves }
+        ensures { result ≡ allows self.now.matrix.rules (name_at self.now.names i) (name_at self.now.names j) }
+    {
+        let names = self.timetable;
+        self.matrix.rules().allows(names.name(i), names.name(j))
     }
 
     /// What it saves to make the trip of `j` next after that of `i`, where one vehicle can. It is 67,108,864 for a vehicle,

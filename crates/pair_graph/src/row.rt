@@ -3,7 +3,9 @@ ghost use Rattle.assignment_model.specs.Prices.{weight};
 ghost use Rattle.assignment_model.specs.declared.limits.TheConstants.{MOST_DEADHEAD, VEHICLE_WEIGHT};
 ghost use Rattle.deadhead_matrix.specs.Pulls.{pull_at};
 ghost use Rattle.deadhead_matrix.specs.declared.limits.TheConstants.{LONGEST_WALK};
-ghost use Rattle.pair_graph.specs.Pairs.{pairs_network};
+ghost use Rattle.deadhead_matrix.specs.Fitting.{name_at};
+ghost use Rattle.pair_rules.specs.Rules.{allows};
+ghost use Rattle.pair_graph.specs.Pairs.{pairs_network, walks_network};
 ghost use Rattle.pair_graph.specs.Shares.{saved_along};
 ghost use Rattle.trip_model.specs.Plain.{move_at};
 ghost use Rattle.trip_model.specs.declared.trip.Move.{Move};
@@ -43,6 +45,18 @@ impl<'a> Row<'a> {
         ensures counted { steps.new ≡ steps.old + 1 }
     {
         steps.tick();
+        let weight = self.walk_weight(j)?;
+        if !self.allows(j) {
+            return None;
+        }
+        Some(weight)
+    }
+
+    /// The same where no rules forbid a pair. It is not counted.
+    pub fn walk_weight(&self, j: u16) -> Option<u64>
+        requires { j < length self.now.pairs.moves }
+        ensures { result ≡ weight (walks_network self.now.pairs) self.now.slot j }
+    {
         let pairs = self.pairs;
         let after = pairs.move_at(j)?;
         let spare = u32::from(after.leaves.checked_sub(self.before.arrives)?);
@@ -52,6 +66,15 @@ impl<'a> Row<'a> {
         }
         let out = pairs.matrix.pull_out(after.from);
         Some(self.share.saved + u64::from(out) - u64::from(minutes))
+    }
+
+    /// Whether the rules allow the trip of `j` next after that of the row's slot.
+    pub fn allows(&self, j: u16) -> bool
+        requires { j < length self.now.pairs.moves }
+        ensures { result ≡ allows self.now.pairs.matrix.rules (name_at self.now.pairs.names self.now.slot)
+            (name_at self.now.pairs.names j) }
+    {
+        self.pairs.allows(self.slot, j)
     }
 
     /// What the pairs of the row's slot share.
@@ -64,11 +87,11 @@ impl<'a> Row<'a> {
     }
 
     /// In how many minutes a vehicle runs empty from where the trip of the row's slot ends to a place. This tells what it saves to
-    /// make a trip next that begins there. The caller counts the pairs that it then reads.
+    /// make a trip next that begins there, where no rules forbid a pair. The caller counts the pairs that it then reads.
     pub fn walk(&self, place: u16) -> Option<u32>
         requires { place < length self.now.pairs.matrix.walks }
         ensures weights { (j : ℕ) (m : Move) → move_at self.now.pairs.moves j ≡ Some m → m.from ≡ place
-            → weight (pairs_network self.now.pairs) self.now.slot j
+            → weight (walks_network self.now.pairs) self.now.slot j
             ≡ saved_along self.now.share (pull_at self.now.pairs.matrix.pulls place).pull_out result m.leaves }
         ensures bound { IfSome result (λ minutes. minutes ≤ LONGEST_WALK) }
     {

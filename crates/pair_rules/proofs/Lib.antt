@@ -1,4 +1,4 @@
-mod Allowed
+pub mod Allowed
 mod Entries
 mod Names
 mod Numbers

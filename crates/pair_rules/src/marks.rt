@@ -10,11 +10,15 @@ use indexmap::IndexMap;
 
 /// What the rules have of a name.
 #[derive(Clone, Copy)]
-pub(crate) struct Marks {
-    pub(crate) first: bool,
-    pub(crate) second: bool,
-    pub(crate) keeps_first: bool,
-    pub(crate) keeps_second: bool,
+pub struct Marks {
+    /// A rule has the trip as its first.
+    pub first: bool,
+    /// A rule has the trip as its second.
+    pub second: bool,
+    /// A keep has the trip as its first.
+    pub keeps_first: bool,
+    /// A keep has the trip as its second.
+    pub keeps_second: bool,
 }
 
 impl Marks {

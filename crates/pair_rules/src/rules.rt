@@ -1,7 +1,7 @@
-ghost use Rattle.std.specs.Prelude.{◌≡◌, ◌≢◌, ◌<◌, ◌==◌, ℕ, [], ◌∷◌, ◌++◌, false, List, length, nat_lt, slice_get, Some, IfOk, OnOk, OnErr};
+ghost use Rattle.std.specs.Prelude.{◌≡◌, ◌≢◌, ◌<◌, ℕ, [], ◌∷◌, ◌++◌, true, false, List, length, nat_lt, OnOk, OnErr};
 
-use crate::marks::{Marks, mark};
-use crate::{MOST_RULES, RuleKind};
+use crate::marks::mark;
+use crate::{MOST_RULES, Marks, RuleKind};
 use desk_io::Memory;
 use indexmap::IndexMap;
 use std::alloc::Global;
@@ -57,7 +57,8 @@ impl PairRules {
 
     /// Whether there are no rules.
     pub fn is_empty(&self) -> bool
-        ensures { result ≡ (length self.now == 0) }
+        ensures none { result ≡ true → self.now ≡ [] }
+        ensures some { result ≡ false → self.now ≢ [] }
     {
         self.len() == 0
     }
@@ -69,28 +70,16 @@ impl PairRules {
         self.len() < usize::from(MOST_RULES)
     }
 
-    /// The rule of that number, from 0: its first trip, its second, and what it says of them.
-    pub fn rule(&self, number: usize) -> (&str, &str, RuleKind)
-        requires { number < length self.now }
-        ensures { slice_get self.now number
-            ≡ Some (record { before = result.0.now; after = result.1.now; kind = result.2 }) }
-    {
-        let ((first, second), kind) = self.rules.get_index(number).unwrap();
-        let (before, _) = self.names.get_index(usize::from(*first)).unwrap();
-        let (after, _) = self.names.get_index(usize::from(*second)).unwrap();
-        (before.as_str(), after.as_str(), *kind)
-    }
-
-    /// The number of a name, if a rule has it.
-    pub fn number(&self, name: &str) -> Option<u16>
+    // The number of a name, if a rule has it.
+    fn number(&self, name: &str) -> Option<u16>
         ensures { result ≡ number_of self.now name.now }
     {
         let number = self.names.get_index_of(name)?;
         Some(number as u16)
     }
 
-    // What the rules have of the name of that number.
-    fn marks(&self, number: Option<u16>) -> Marks
+    // What the rules have of the name of that number; nothing of a name that has none.
+    fn marks_at(&self, number: Option<u16>) -> Marks
         ensures { (name : List ℕ) → number_of self.now name ≡ number → result ≡ marks_of self.now name }
     {
         match number {
@@ -102,32 +91,14 @@ impl PairRules {
         }
     }
 
-    /// Whether a rule has the trip of that number as its first.
-    pub fn names_first(&self, number: Option<u16>) -> bool
-        ensures { (name : List ℕ) → number_of self.now name ≡ number → result ≡ spec.names_first self.now name }
+    /// What the rules have of a trip.
+    pub fn marks(&self, name: &str) -> Marks
+        ensures { result ≡ marks_of self.now name.now }
     {
-        self.marks(number).first
-    }
-
-    /// Whether a rule has the trip of that number as its second.
-    pub fn names_second(&self, number: Option<u16>) -> bool
-        ensures { (name : List ℕ) → number_of self.now name ≡ number → result ≡ spec.names_second self.now name }
-    {
-        self.marks(number).second
-    }
-
-    /// Whether a keep has the trip of that number as its first.
-    pub fn keeps_first(&self, number: Option<u16>) -> bool
-        ensures { (name : List ℕ) → number_of self.now name ≡ number → result ≡ spec.keeps_first self.now name }
-    {
-        self.marks(number).keeps_first
-    }
-
-    /// Whether a keep has the trip of that number as its second.
-    pub fn keeps_second(&self, number: Option<u16>) -> bool
-        ensures { (name : List ℕ) → number_of self.now name ≡ number → result ≡ spec.keeps_second self.now name }
-    {
-        self.marks(number).keeps_second
+        if self.is_empty() {
+            return Marks::none();
+        }
+        self.marks_at(self.number(name))
     }
 
     // What the rule of two trips says of them, by their numbers.
@@ -140,16 +111,26 @@ impl PairRules {
         Some(*kind)
     }
 
-    /// Whether a vehicle may make the trip of the second number straight after that of the first.
-    pub fn allows(&self, first: Option<u16>, second: Option<u16>) -> bool
+    // Whether a vehicle may make the trip of the second number straight after that of the first.
+    fn allows_at(&self, first: Option<u16>, second: Option<u16>) -> bool
         ensures { (a b : List ℕ) → number_of self.now a ≡ first → number_of self.now b ≡ second
             → result ≡ spec.allows self.now a b }
     {
         match self.kind(first, second) {
             Some(RuleKind::Keep) => true,
             Some(RuleKind::Never) => false,
-            None => !self.keeps_first(first) && !self.keeps_second(second),
+            None => !self.marks_at(first).keeps_first && !self.marks_at(second).keeps_second,
         }
+    }
+
+    /// Whether a vehicle may make the second trip straight after the first.
+    pub fn allows(&self, before: &str, after: &str) -> bool
+        ensures { result ≡ spec.allows self.now before.now after.now }
+    {
+        if self.is_empty() {
+            return true;
+        }
+        self.allows_at(self.number(before), self.number(after))
     }
 
     /// Whether a rule would clash with one of these.
@@ -159,7 +140,8 @@ impl PairRules {
         let first = self.number(before);
         let second = self.number(after);
         self.kind(first, second).is_some()
-            || (kind.is_keep() && (self.keeps_first(first) || self.keeps_second(second)))
+            || (kind.is_keep()
+                && (self.marks_at(first).keeps_first || self.marks_at(second).keeps_second))
     }
 
     /// Adds a rule of two trips, which clashes with none.
@@ -181,17 +163,5 @@ impl PairRules {
         let second = mark(&mut self.names, second, Marks::after(kind));
         self.rules.insert((first, second), kind)?;
         Ok(())
-    }
-
-    /// The same rules.
-    pub fn copy(&self, alloc: Global) -> Result<PairRules, Memory>
-        ensures { IfOk result (λ copy. copy ≡ self.now) }
-    {
-        let mut copy = PairRules::none(alloc);
-        for number in 0..self.len() {
-            let (before, after, kind) = self.rule(number);
-            copy.add(before, after, kind)?;
-        }
-        Ok(copy)
     }
 }

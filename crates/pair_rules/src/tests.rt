@@ -32,7 +32,7 @@ fn rules(alloc: Global) -> Result<PairRules, Memory> {
             rules.add(before, after, *kind)?;
         }
     }
-    rules.copy(alloc)
+    Ok(rules)
 }
 
 // How many rules there are, and whether all pairs are allowed as the table says.
@@ -40,14 +40,14 @@ fn tried(alloc: Global) -> Result<(usize, bool), Memory> {
     let rules = rules(alloc)?;
     let mut right = true;
     for (before, after, allowed) in PAIRS {
-        if rules.allows(rules.number(before), rules.number(after)) != *allowed {
+        if rules.allows(before, after) != *allowed {
             right = false;
         }
     }
     Ok((rules.len(), right))
 }
 
-/// Where there is memory, rules are added and copied.
+/// Where there is memory, rules are added.
 #[test]
 fn rules_are_added(rt: HostRuntime) -> Result<(), Fail> {
     assert!(rt; matches!(tried(rt.alloc()), Ok((2, true))));

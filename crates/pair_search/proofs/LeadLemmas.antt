@@ -1,7 +1,7 @@
 -- A row that stands at a post no sooner than another one weighs no more with any column. So it brings nothing nearer where it is
 -- no nearer itself.
 use Rattle.std.proofs.Common.{◌≡◌, ◌≢◌, ℕ, ◌+◌, ◌-◌, ◌<◌, ◌≤◌, nat_le, Bool, true, false, cond, List, length, set, replicate, Option}
-use Rattle.std.proofs.Common.{None, Some, refl, sym, ap, subst, ◌∙◌, ⊎_elim, arith}
+use Rattle.std.proofs.Common.{None, Some, if◌then◌else◌, refl, sym, ap, subst, ◌∙◌, ⊎_elim, arith}
 use Rattle.std.specs.Option.{option_map}
 use Rattle.std.proofs.lemmas.Bool.{cases_eq, cases_lt, le-leb, lt-leb}
 use Rattle.std.proofs.lemmas.List.{get_or-replicate, get_or_past, get_or-set_same, get_or-set_other, length-replicate}
@@ -9,7 +9,11 @@ use Rattle.std.proofs.lemmas.Option.{none-some, same_Some}
 use Rattle.deadhead_matrix.specs.Fitting.{in_time, empty_between, home_after, out_before}
 use Rattle.deadhead_matrix.specs.Matrix.{walk}
 use Rattle.deadhead_matrix.specs.Pulls.{pull_at}
-use Rattle.pair_graph.specs.Pairs.{PairsView}
+use Rattle.deadhead_matrix.specs.Fitting.{name_at}
+use Rattle.deadhead_matrix.proofs.Ruled.{allowed-weight, fit-weight}
+use Rattle.pair_rules.proofs.Allowed.{allows-unnamed_first, allows-unnamed_second}
+use Rattle.assignment_model.specs.Prices.{weight}
+use Rattle.pair_graph.specs.Pairs.{PairsView, is_ruled, walks_network}
 use Rattle.trip_model.specs.Plain.{move_at, AreMoves}
 use Rattle.trip_model.specs.declared.trip.Move.{Move}
 use Rattle.pair_search.specs.declared.leads.Lead.{Lead}
@@ -79,29 +83,56 @@ enters-later pairs m m' (Some n) k here later is =
     subst (λ p. option_map (f p) (in_time n m (walk pairs.matrix n.to p)) ≡ Some k) here
     (in-time-moves n n m m' (walk pairs.matrix n.to m'.from) (f m'.from) k (omega arith) later is)
 
+-- the weights of all pairs without the rules, from the side
+abbrev walk_weights : PairsView → Bool → ℕ → ℕ → Option ℕ
+walk_weights pairs turned i j = if turned then weight (walks_network pairs) j i else weight (walks_network pairs) i j
+
 -- of two rows that stand at one post the one that is ready no later fits all that the other fits, and weighs the same
-weighs-as : (pairs : PairsView) (turned : Bool) (i i' j k : ℕ) (m m' : Move) → move_at pairs.moves i ≡ Some m
+walks-as : (pairs : PairsView) (turned : Bool) (i i' j k : ℕ) (m m' : Move) → move_at pairs.moves i ≡ Some m
     → move_at pairs.moves i' ≡ Some m' → m'.leaves ≤ 8191
     → (stand_of turned m').post ≡ (stand_of turned m).post → (stand_of turned m).ready ≤ (stand_of turned m').ready
-    → all_weights pairs turned i' j ≡ Some k → all_weights pairs turned i j ≡ Some k
-weighs-as pairs true i i' j k m m' is is' day here sooner w =
+    → walk_weights pairs turned i' j ≡ Some k → walk_weights pairs turned i j ≡ Some k
+walks-as pairs true i i' j k m m' is is' day here sooner w =
     subst (λ o. saved pairs (move_at pairs.moves j) o ≡ Some k) (sym is)
     (enters-later pairs m m' (move_at pairs.moves j) k here (omega (arith, sooner, day))
     (subst (λ o. saved pairs (move_at pairs.moves j) o ≡ Some k) is' w))
-weighs-as pairs false i i' j k m m' is is' day there sooner w =
+walks-as pairs false i i' j k m m' is is' day there sooner w =
     subst (λ o. saved pairs o (move_at pairs.moves j) ≡ Some k) (sym is)
     (leaves-sooner pairs m m' (move_at pairs.moves j) k there sooner
     (subst (λ o. saved pairs o (move_at pairs.moves j) ≡ Some k) is' w))
 
+-- the same with the rules, where none names a row
+weighs-as : (pairs : PairsView) (turned : Bool) (i i' j k : ℕ) → is_ruled pairs turned i ≡ false → is_ruled pairs turned i' ≡ false
+    → (walk_weights pairs turned i' j ≡ Some k → walk_weights pairs turned i j ≡ Some k)
+    → all_weights pairs turned i' j ≡ Some k → all_weights pairs turned i j ≡ Some k
+weighs-as pairs true i i' j k free free' walks w =
+    let rules = pairs.matrix.rules in
+    let names = pairs.names in
+    let fit = fit-weight rules names (walks_network pairs) j i' k w in
+    allowed-weight rules names (walks_network pairs) j i
+    (allows-unnamed_second rules (name_at names j) (name_at names i) free
+    ∙ sym (allows-unnamed_second rules (name_at names j) (name_at names i') free') ∙ fit.0)
+    ∙ walks fit.1
+weighs-as pairs false i i' j k free free' walks w =
+    let rules = pairs.matrix.rules in
+    let names = pairs.names in
+    let fit = fit-weight rules names (walks_network pairs) i' j k w in
+    allowed-weight rules names (walks_network pairs) i j
+    (allows-unnamed_first rules (name_at names i) (name_at names j) free
+    ∙ sym (allows-unnamed_first rules (name_at names i') (name_at names j) free') ∙ fit.0)
+    ∙ walks fit.1
+
 -- the same where a column may be left out
-side-weighs-as : (side : SideView) (i i' j k : ℕ) (m m' : Move) → move_at side.pairs.moves i ≡ Some m
+side-weighs-as : (side : SideView) (i i' j k : ℕ) (m m' : Move) → is_ruled side.pairs side.turned i ≡ false
+    → is_ruled side.pairs side.turned i' ≡ false → move_at side.pairs.moves i ≡ Some m
     → move_at side.pairs.moves i' ≡ Some m' → m'.leaves ≤ 8191
     → (stand_of side.turned m').post ≡ (stand_of side.turned m).post → (stand_of side.turned m).ready ≤ (stand_of side.turned m').ready
     → side_weight side i' j ≡ Some k → side_weight side i j ≡ Some k
-side-weighs-as side i i' j k m m' is is' day here sooner w =
+side-weighs-as side i i' j k m m' free free' is is' day here sooner w =
     let without = IsWithout-side side in
     without.all i j k (λ left. none-some k (sym (without.none i' j left) ∙ w))
-    (weighs-as side.pairs side.turned i i' j k m m' is is' day here sooner (without.some i' j k w))
+    (weighs-as side.pairs side.turned i i' j k free free'
+    (walks-as side.pairs side.turned i i' j k m m' is is' day here sooner) (without.some i' j k w))
 
 -- a row whose trip does not run weighs nothing
 pub idle-row : (side : SideView) (i j : ℕ) → move_at side.pairs.moves i ≡ None → place_weight side i j ≡ None
@@ -122,14 +153,14 @@ idle-row side i j none = by (place_weight side i j) refl
 pub AreLed-nearer : (side : SideView) (enter : List ℕ) (done done' : List Bool) (dist dist' : List ℕ) (leads : List Lead)
     → ((j : ℕ) → at dist' j ≤ at dist j) → ((j : ℕ) → is_done done' j ≡ false → is_done done j ≡ false)
     → AreLed side enter done dist leads → AreLed side enter done' dist' leads
-AreLed-nearer side enter done done' dist dist' leads nearer more led = λ i j k m is ready lt undone w.
-    omega (arith, led i j k m is ready lt (more j undone) w, nearer j)
+AreLed-nearer side enter done done' dist dist' leads nearer more led = λ i j k m free is ready lt undone w.
+    omega (arith, led i j k m free is ready lt (more j undone) w, nearer j)
 
 -- before a search no row is led
 pub AreLed-none : (side : SideView) (enter : List ℕ) (done : List Bool) (dist : List ℕ) (leads : List Lead) (posts : ℕ)
     → AreMoves (length side.pairs.matrix.walks) side.pairs.moves → leads ≡ replicate posts (record { ready = 65535; start = 0 })
     → AreLed side enter done dist leads
-AreLed-none side enter done dist leads posts are none = λ i j k m is ready lt undone w.
+AreLed-none side enter done dist leads posts are none = λ i j k m free is ready lt undone w.
     let move = are.each i m is in
     absurd (omega (
       arith,
@@ -153,13 +184,14 @@ AreLed-none side enter done dist leads posts are none = λ i j k m is ready lt u
 
 -- a row from which all columns were looked at leads those that stand at its post no sooner
 pub AreLed-more : (side : SideView) (enter : List ℕ) (was now : Columns) (leads : List Lead) (row from start : ℕ) (made : Move)
-    → AreMoves (length side.pairs.matrix.walks) side.pairs.moves → move_at side.pairs.moves row ≡ Some made
+    → AreMoves (length side.pairs.matrix.walks) side.pairs.moves → is_ruled side.pairs side.turned row ≡ false
+    → move_at side.pairs.moves row ≡ Some made
     → (stand_of side.turned made).post < length leads
     → AreLooked (place_weight side row) (side_slots side) from start enter was now
     → AreLed side enter now.done now.dist leads
     → AreLed side enter now.done now.dist
     (set leads (stand_of side.turned made).post (record { ready = (stand_of side.turned made).ready; start = start }))
-AreLed-more side enter was now leads row from start made are made-is within looked led = λ i j k m is. ⊎_elim
+AreLed-more side enter was now leads row from start made are plain made-is within looked led = λ i j k m free is. ⊎_elim
     (λ (here : (stand_of side.turned m).post ≡ post) ready lt undone w.
     let move = are.each i m is in
     let same = at-post here in
@@ -167,7 +199,7 @@ AreLed-more side enter was now leads row from start made are made-is within look
       arith,
       ap (λ (l : Lead). l.start) same,
       looked.covered j k lt (ap (λ xs. is_done xs j) (sym looked.done) ∙ undone)
-          (side-weighs-as side row i (side_slot side j) k made m made-is is (omega (arith, move.forward, move.in_day)) here
+          (side-weighs-as side row i (side_slot side j) k made m plain free made-is is (omega (arith, move.forward, move.in_day)) here
           (omega (arith, ready, ap (λ (l : Lead). l.ready) same)) w),
     ))
     (λ (elsewhere : (stand_of side.turned m).post ≢ post) ready lt undone w.
@@ -175,7 +207,7 @@ AreLed-more side enter was now leads row from start made are made-is within look
     omega (
       arith,
       ap (λ (l : Lead). l.start) same,
-      led i j k m is (omega (arith, ready, ap (λ (l : Lead). l.ready) same)) lt undone w,
+      led i j k m free is (omega (arith, ready, ap (λ (l : Lead). l.ready) same)) lt undone w,
     ))
     (cases_eq (stand_of side.turned m).post post)
   where

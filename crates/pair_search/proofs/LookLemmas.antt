@@ -1,7 +1,8 @@
 -- Columns that are looked at from a place of the tree, group by group.
-use Rattle.std.proofs.Common.{◌≡◌, ℕ, ◌+◌, ◌<◌, ◌≤◌, Bool, false, List, Option, None, Some, refl, sym, ap, subst, ◌∙◌}
+use Rattle.std.proofs.Common.{◌≡◌, ◌≢◌, ℕ, ◌+◌, ◌<◌, ◌≤◌, Bool, false, List, length, set, Option, None, Some, refl, sym, ap, subst, ◌∙◌}
 use Rattle.std.proofs.Common.{⊎_elim, arith}
-use Rattle.std.proofs.lemmas.Bool.{cases_lt}
+use Rattle.std.proofs.lemmas.Bool.{cases_eq, cases_lt}
+use Rattle.std.proofs.lemmas.List.{get_or-set_same, get_or-set_other}
 use Rattle.std.proofs.lemmas.Option.{none-some}
 use Rattle.pair_search.specs.Groups.{AreApproached}
 use Rattle.pair_search.specs.Search.{at, is_done, as_columns, AreLooked, Columns}
@@ -113,3 +114,38 @@ AreApproached-same first upto from cost near enter done done1 dist dist1 parent 
     (subst (λ xs. AreApproached first upto from cost enter (as_columns dist1 parent1 done1) (as_columns xs parent' done1) near) (sym dists')
     (subst (λ xs. AreApproached first upto from cost enter (as_columns dist1 parent1 done1) (as_columns dist1' xs done1) near)
     (sym parents') a))))
+
+-- one column is approached, and comes nearer
+pub AreApproached-one : (column from cost along : ℕ) (enter : List ℕ) (done : List Bool) (dist parent : List ℕ)
+    → is_done done column ≡ false → along + 4503599627370496 ≡ cost + at enter column → along < at dist column
+    → column < length dist → column < length parent
+    → AreApproached column (column + 1) from cost enter (as_columns dist parent done)
+    (as_columns (set dist column along) (set parent column from) done) along
+AreApproached-one column from cost along enter done dist parent undone exact near inside inside' = record {
+  covered = λ j le lt open-column. let e : column ≡ j = omega (arith, le, lt) in omega (arith, here j e, exact, ap (at enter) e);
+  nearer = λ j. ⊎_elim
+      (λ (e : column ≡ j). omega (arith, here j e, near, ap (at dist) e))
+      (λ (ne : column ≡ j → ⊥). omega (arith, other j ne))
+      (cases_eq column j);
+  same = λ j le. ⊎_elim
+      (λ (e : column ≡ j). absurd (omega (arith, here j e, near, ap (at dist) e, le)))
+      (λ (ne : column ≡ j → ⊥). get_or-set_other parent column j from 0 (λ e. ne (sym e)))
+      (cases_eq column j);
+  between = λ j lt. let e = moved j lt in (omega (arith, e), omega (arith, e));
+  undone = λ j lt. ap (is_done done) (sym (moved j lt)) ∙ undone;
+  by = λ j lt. ap (at (set parent column from)) (sym (moved j lt)) ∙ get_or-set_same parent column from 0 inside';
+  exact = λ j lt. let e = moved j lt in omega (arith, here j e, exact, ap (at enter) e);
+  least = λ j lt. omega (arith, here j (moved j lt));
+}
+  where
+    here : (j : ℕ) → column ≡ j → at (set dist column along) j ≡ along
+    here j e = ap (at (set dist column along)) (sym e) ∙ get_or-set_same dist column along 0 inside
+
+    other : (j : ℕ) → column ≢ j → at (set dist column along) j ≡ at dist j
+    other j ne = get_or-set_other dist column j along 0 (λ e. ne (sym e))
+
+    moved : (j : ℕ) → at (set dist column along) j < at dist j → column ≡ j
+    moved j lt = ⊎_elim
+        (λ (e : column ≡ j). e)
+        (λ (ne : column ≡ j → ⊥). absurd (omega (arith, other j ne, lt)))
+        (cases_eq column j)

@@ -82,6 +82,19 @@ abbrev pub IsSpent : LineView → Group → ℕ → List ℕ → Columns → Typ
 IsSpent line group start enter now = (j k : ℕ) → group.from ≤ j → j < group.to → is_done now.done j ≡ false → line_weight line j ≡ Some k
     → at now.dist j + k ≤ start + at enter j
 
+-- a row brings a column nearer that is not done: so far it is by what they weigh
+pub record IsNearerBy (line : LineView) (column start : ℕ) (enter : List ℕ) (now : Columns) (along : ℕ) : Type 0 where
+  pub undone : is_done now.done column ≡ false
+  pub weight : ℕ
+  pub fits : line_weight line column ≡ Some weight
+  pub exact : along + weight ≡ start + at enter column
+  pub nearer : along < at now.dist column
+
+-- a column that is not done comes no nearer by a row
+abbrev pub IsNoNearerBy : LineView → ℕ → ℕ → List ℕ → Columns → Type 0
+IsNoNearerBy line column start enter now = (k : ℕ) → is_done now.done column ≡ false → line_weight line column ≡ Some k
+    → at now.dist column + k ≤ start + at enter column
+
 -- Columns between two places were approached at a cost from a place of the tree. Each that is not done is no farther than
 -- before and than the cost with its price. If it is nearer than before, it was reached so. None of these is nearer than `near`.
 pub record AreApproached (first upto from cost : ℕ) (enter : List ℕ) (was now : Columns) (near : ℕ) : Type 0 where

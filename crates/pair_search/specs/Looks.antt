@@ -2,7 +2,7 @@
 use Rattle.std.specs.Prelude.{◌≡◌, ℕ, ◌==◌, cond, List, refl}
 use Rattle.std.specs.Coded.{Coded, code_by, coded×, coded_ℕ, coded_list}
 use Rattle.pair_search.specs.declared.look.Look.{Look}
-use Rattle.pair_search.specs.declared.look.Look.TheVariants.{Visited, Passed, Led}
+use Rattle.pair_search.specs.declared.look.Look.TheVariants.{Visited, Tried, Passed, Led}
 
 -- how the logic stores a look: its kind, and what it is of
 abbrev Stored : Type 0
@@ -10,14 +10,17 @@ Stored = ℕ × (ℕ × ℕ)
 
 abbrev stored : Look → Stored
 stored (Visited row place) = (0, (row, place))
-stored (Passed row group) = (1, (row, group))
-stored (Led row) = (2, (row, 0))
+stored (Tried row place) = (1, (row, place))
+stored (Passed row group) = (2, (row, group))
+stored (Led row) = (3, (row, 0))
 
 abbrev look_at : Stored → Look
-look_at (kind, (row, at)) = cond (kind == 0) (Visited row at) (cond (kind == 1) (Passed row at) (Led row))
+look_at (kind, (row, at)) =
+    cond (kind == 0) (Visited row at) (cond (kind == 1) (Tried row at) (cond (kind == 2) (Passed row at) (Led row)))
 
 pub look_at-stored : (look : Look) → look_at (stored look) ≡ look
 look_at-stored (Visited row place) = refl
+look_at-stored (Tried row place) = refl
 look_at-stored (Passed row group) = refl
 look_at-stored (Led row) = refl
 

@@ -12,10 +12,11 @@ column_minute turned None = 0
 column_minute turned (Some m) = if turned then LAST_MINUTE - m.arrives else m.leaves
 
 -- the place of the column of a slot: that at which its trip begins, or, seen from the entering side, ends. None where no trip
--- runs, and where the slot is left out
-abbrev pub column_post : Bool → Option ℕ → ℕ → Option Move → Option ℕ
-column_post turned without slot None = None
-column_post turned without slot (Some m) = if leads_to slot without then None else Some (if turned then m.to else m.from)
+-- runs, where the slot is left out, and where a keep has the trip there
+abbrev pub column_post : Bool → Option ℕ → Bool → ℕ → Option Move → Option ℕ
+column_post turned without kept slot None = None
+column_post turned without kept slot (Some m) =
+    if kept then None else (if leads_to slot without then None else Some (if turned then m.to else m.from))
 
 -- a column past the last of so many
 abbrev pub no_column : ℕ → Column

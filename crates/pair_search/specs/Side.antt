@@ -6,7 +6,9 @@ use Rattle.deadhead_matrix.specs.declared.limits.TheConstants.{LONGEST_WALK}
 use Rattle.assignment_model.specs.Prices.{weight}
 use Rattle.trip_model.specs.Links.{leads_to}
 use Rattle.trip_model.specs.Plain.{move_at}
-use Rattle.pair_graph.specs.Pairs.{PairsView, RowView, pairs_network, pairs_pull}
+use Rattle.deadhead_matrix.specs.Fitting.{name_at}
+use Rattle.pair_rules.specs.Rules.{allows}
+use Rattle.pair_graph.specs.Pairs.{PairsView, RowView, is_kept, is_ruled, pairs_network, pairs_pull, walks_network}
 use Rattle.pair_search.specs.declared.order.Column.{Column}
 use Rattle.pair_search.specs.declared.groups.Group.{Group}
 use Rattle.pair_graph.specs.declared.share.Share.{Share}
@@ -47,6 +49,18 @@ side_weight side i j =
     if leads_to j side.without then None
     else (if side.turned then weight (pairs_network side.pairs) j i else weight (pairs_network side.pairs) i j)
 
+-- the same where no rules forbid a pair
+abbrev pub side_walk_weight : SideView → ℕ → ℕ → Option ℕ
+side_walk_weight side i j =
+    if leads_to j side.without then None
+    else (if side.turned then weight (walks_network side.pairs) j i else weight (walks_network side.pairs) i j)
+
+-- whether the rules allow the pair of a row and a column
+abbrev pub side_allows : SideView → ℕ → ℕ → Bool
+side_allows side i j =
+    if side.turned then allows side.pairs.matrix.rules (name_at side.pairs.names j) (name_at side.pairs.names i)
+    else allows side.pairs.matrix.rules (name_at side.pairs.names i) (name_at side.pairs.names j)
+
 -- the slot of the column at a place
 abbrev pub side_slot : SideView → ℕ → ℕ
 side_slot side = slot_at (side_slots side) side.columns
@@ -61,7 +75,7 @@ pairs_minute pairs turned j = column_minute turned (move_at pairs.moves j)
 
 -- where columns are
 abbrev pub pairs_post : PairsView → Bool → Option ℕ → ℕ → Option ℕ
-pairs_post pairs turned without j = column_post turned without j (move_at pairs.moves j)
+pairs_post pairs turned without j = column_post turned without (is_kept pairs turned j) j (move_at pairs.moves j)
 
 -- what a row and the column at a place weigh, where they fit
 abbrev pub place_weight : SideView → ℕ → ℕ → Option ℕ
@@ -77,6 +91,10 @@ pub record LineView : Type 0 where
   pub side : SideView
   pub row : ℕ
   pub share : Share
+
+-- no rule has the row's trip as its first or, seen backward, as its second
+abbrev pub IsFree : LineView → Type 0
+IsFree line = is_ruled line.side.pairs line.side.turned line.row ≡ false
 
 -- what it weighs with the column at a place
 abbrev pub line_weight : LineView → ℕ → Option ℕ

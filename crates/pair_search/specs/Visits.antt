@@ -1,10 +1,10 @@
 -- The looks of a search: each is at what it may be at, none is taken twice, and each is a step.
-use Rattle.std.specs.Prelude.{◌≡◌, ◌≢◌, ℕ, zero, suc, ◌+◌, ◌<◌, ◌≤◌, Bool, List, [], ◌∷◌, ◌++◌, length, Option, None}
+use Rattle.std.specs.Prelude.{◌≡◌, ◌≢◌, ℕ, zero, suc, ◌+◌, ◌<◌, ◌≤◌, Bool, true, List, [], ◌∷◌, ◌++◌, length, Option, None}
 use Rattle.std.specs.List.{All}
 use Rattle.pair_search.specs.declared.groups.Group.{Group}
 use Rattle.pair_search.specs.declared.look.Look.{Look}
-use Rattle.pair_search.specs.declared.look.Look.TheVariants.{Visited, Passed, Led}
-use Rattle.pair_graph.specs.Pairs.{PairsView}
+use Rattle.pair_search.specs.declared.look.Look.TheVariants.{Visited, Tried, Passed, Led}
+use Rattle.pair_graph.specs.Pairs.{PairsView, is_ruled}
 use Rattle.pair_search.specs.Arranged.{arranged, slots_of}
 use Rattle.pair_search.specs.Groups.{group_at, AreGroups}
 use Rattle.pair_search.specs.Order.{IsOrder}
@@ -13,18 +13,22 @@ use Rattle.pair_search.specs.Side.{SideView, pairs_minute, pairs_post, side_slot
 -- the row of a look
 abbrev pub row_of : Look → ℕ
 row_of (Visited row place) = row
+row_of (Tried row place) = row
 row_of (Passed row group) = row
 row_of (Led row) = row
 
 -- the place at which a look begins
 abbrev pub place_of : List Group → Look → ℕ
 place_of groups (Visited row place) = place
+place_of groups (Tried row place) = place
 place_of groups (Passed row group) = (group_at groups group).from
 place_of groups (Led row) = 0
 
--- A look is at a row and a column that fit, at a row and a group of the side, or at a row alone.
+-- A look is at a row and a column that fit, at a row that a rule names and a column, at a row and a group of the side, or at a row
+-- alone.
 abbrev pub IsLook : SideView → Look → Type 0
 IsLook side (Visited row place) = (row < side_slots side) × (place < side_slots side) × (place_weight side row place ≢ None)
+IsLook side (Tried row place) = (row < side_slots side) × (place < side_slots side) × (is_ruled side.pairs side.turned row ≡ true)
 IsLook side (Passed row group) = (row < side_slots side) × (group < side.count)
 IsLook side (Led row) = row < side_slots side
 

@@ -3,7 +3,7 @@ ghost use Rattle.deadhead_matrix.specs.declared.limits.TheConstants.{LONGEST_WAL
 ghost use Rattle.pair_graph.specs.Pairs.{pairs_pull};
 ghost use Rattle.pair_graph.specs.Shares.{saved_along};
 ghost use Rattle.pair_search.specs.Groups.{group_at};
-ghost use Rattle.pair_search.specs.Side.{side_slots, line_weight, IsFirstFit, IsReachOf};
+ghost use Rattle.pair_search.specs.Side.{side_slot, side_slots, side_walk_weight, line_weight, IsFirstFit, IsFree, IsReachOf};
 ghost use Rattle.pair_search.specs.Order.{no_column};
 
 use crate::order::first_from;
@@ -40,10 +40,29 @@ impl<'a> Model for Line<'a> {
 }
 
 impl<'a> Line<'a> {
-    // The walk between the row and a post, where there is one.
+    /// What the row weighs with the column at a place where no rules forbid a pair.
+    pub(crate) fn walk_weight(&self, place: u16) -> Option<u64>
+        requires { place < side_slots self.now.side }
+        ensures { result ≡ side_walk_weight self.now.side self.now.row (side_slot self.now.side place) }
+    {
+        let side = self.side;
+        let slot = side.slot(place);
+        if side.without == Some(slot) {
+            return None;
+        }
+        if let Some(row) = &self.leaving {
+            return row.walk_weight(slot);
+        }
+        let Some(column) = &self.entering else {
+            return None;
+        };
+        column.walk_weight(slot)
+    }
+
+    // The walk between the row and a post, where there is one. It tells what the row weighs, where no rule names it.
     fn walk(&self, post: u16) -> Option<u32>
         requires { post < length self.now.side.pairs.matrix.walks }
-        ensures weights { (k : ℕ) → k < side_slots self.now.side
+        ensures weights { (k : ℕ) → IsFree self.now → k < side_slots self.now.side
             → (slice_index_or self.now.side.columns k (no_column (side_slots self.now.side))).post ≡ Some post
             → line_weight self.now k ≡ saved_along self.now.share (pairs_pull self.now.side.pairs self.now.side.turned post) result
             (slice_index_or self.now.side.columns k (no_column (side_slots self.now.side))).minute }
@@ -63,7 +82,8 @@ impl<'a> Line<'a> {
 
     /// How the row comes to the columns of a group, where it is in time for any.
     pub(crate) fn reach_of(&self, group: usize) -> Option<Reach>
-        requires { group < self.now.side.count }
+        requires group { group < self.now.side.count }
+        requires free { IsFree self.now }
         ensures { IsReachOf self.now (group_at self.now.side.groups group) result }
     {
         let side = self.side;

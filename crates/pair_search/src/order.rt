@@ -76,14 +76,20 @@ fn column_minute(turned: bool, made: Option<Move>) -> u16
     }
 }
 
-// The post of this trip's column, unless its slot is left out.
-fn column_post(turned: bool, without: Option<u16>, slot: u16, made: Option<Move>) -> Option<u16>
-    ensures { result ≡ spec.column_post turned without slot made }
+// The post of this trip's column, unless its slot is left out or a keep has it.
+fn column_post(
+    turned: bool,
+    without: Option<u16>,
+    kept: bool,
+    slot: u16,
+    made: Option<Move>,
+) -> Option<u16>
+    ensures { result ≡ spec.column_post turned without kept slot made }
 {
-    if without == Some(slot) {
+    let made = made?;
+    if kept || without == Some(slot) {
         return None;
     }
-    let made = made?;
     Some(if turned { made.to } else { made.from })
 }
 
@@ -131,6 +137,20 @@ fn set_slots(columns: &mut Vec<Column>, places: &mut Vec<u16>, slots: usize)
     }
 }
 
+// The rank of the column of a slot.
+fn slot_rank(pairs: &Pairs<'_>, turned: bool, without: Option<u16>, slot: u16) -> u64
+    requires { slot < length pairs.now.moves }
+    ensures within { IsRank result }
+    ensures column { column_of result
+        ≡ record { post = pairs_post pairs.now turned without slot; minute = pairs_minute pairs.now turned slot; slot = slot } }
+{
+    let made = pairs.move_at(slot);
+    let kept = pairs.is_kept(turned, slot);
+    let post = column_post(turned, without, kept, slot, made);
+    let minute = column_minute(turned, made);
+    column_rank(post, minute, slot)
+}
+
 // The ranks of columns, which stand in some order.
 fn list_ranks(
     pairs: &Pairs<'_>,
@@ -148,11 +168,7 @@ fn list_ranks(
         ≡ record { post = pairs_post pairs.now turned without j; minute = pairs_minute pairs.now turned j; slot = j } }
 {
     for place in 0..columns.len() {
-        let slot = columns[place].slot;
-        let made = pairs.move_at(slot);
-        let post = column_post(turned, without, slot, made);
-        let minute = column_minute(turned, made);
-        ranks[place] = column_rank(post, minute, slot);
+        ranks[place] = slot_rank(pairs, turned, without, columns[place].slot);
     }
 }
 

@@ -1,9 +1,12 @@
-ghost use Rattle.std.specs.Prelude.{◌≡◌, ℕ, ◌+◌, ◌-◌, ◌*◌, ◌<◌, ◌≤◌, ◌⊎◌, true, false, List, ◌++◌, map, length, vec_len, Some, IfSome, IfNone};
+ghost use Rattle.std.specs.Prelude.{◌≡◌, ℕ, ◌+◌, ◌-◌, ◌*◌, ◌<◌, ◌≤◌, ◌⊎◌, true, false, not, List, ◌++◌, map, length, vec_len, Some};
+ghost use Rattle.std.specs.Prelude.{IfSome, IfNone};
 ghost use Rattle.std.specs.List.{range_with_len};
 ghost use Rattle.pair_search.specs.Determined.{first_nearest};
-ghost use Rattle.pair_search.specs.Groups.{group_at, AreApproached, AreNear, AreReached, IsNearer, IsSeen, IsSpent};
+ghost use Rattle.pair_search.specs.Groups.{group_at, AreApproached, AreNear, AreReached, IsNearer, IsNearerBy, IsNoNearerBy, IsSeen};
+ghost use Rattle.pair_search.specs.Groups.{IsSpent};
 ghost use Rattle.pair_search.specs.Search.{at, is_done, as_columns, columns_of, AreLooked, Columns, IsNearest};
-ghost use Rattle.pair_search.specs.Side.{side_slots, line_weight, place_weight};
+ghost use Rattle.pair_graph.specs.Pairs.{is_kept, is_ruled};
+ghost use Rattle.pair_search.specs.Side.{side_slots, line_weight, place_weight, IsFree};
 ghost use Rattle.pair_search.specs.Visits.{RowLooks, Takes};
 ghost use Rattle.pair_search.specs.declared.look.Look.TheVariants.{Visited, Passed};
 
@@ -175,6 +178,7 @@ impl Tree {
     // Whether no column of a group comes nearer by a row that is so far with its price. Most are told by two comparisons: the row
     // is in time for none, or all that it is in time for were reached at no more.
     fn is_spent(&self, line: &Line<'_>, group: usize, start: u64) -> bool
+        requires free { IsFree line.now }
         requires group { group < line.now.side.count }
         requires room { line.now.side.count ≤ length self.now.seen.items }
         requires start { start ≤ 2 * GREATEST_PRICE }
@@ -198,6 +202,7 @@ impl Tree {
         looks: &mut Looks,
         steps: &mut Steps<L>,
     ) -> usize
+        requires free { IsFree line.now }
         requires group { group ≤ line.now.side.count }
         requires room { line.now.side.count ≤ length self.now.seen.items }
         requires start { start ≤ 2 * GREATEST_PRICE }
@@ -230,6 +235,7 @@ impl Tree {
         looks: &mut Looks,
         steps: &mut Steps<L>,
     )
+        requires free { IsFree line.now }
         requires slots { vec_len self.old.dist ≡ side_slots line.now.side }
         requires enter { length enter.now ≡ side_slots line.now.side }
         requires group { group < line.now.side.count }
@@ -278,7 +284,7 @@ impl Tree {
         self.seen[group] = renewed(was, found, cost, first, missed);
     }
 
-    // Looks at all columns from a place of the tree, which is so far with the price of its row.
+    // Looks at all columns, group by group, from a place of the tree, which is so far with the price of its row.
     fn look_along<L: Ledger>(
         &mut self,
         line: &Line<'_>,
@@ -288,6 +294,7 @@ impl Tree {
         looks: &mut Looks,
         steps: &mut Steps<L>,
     )
+        requires free { IsFree line.now }
         requires slots { vec_len self.old.dist ≡ side_slots line.now.side }
         requires enter { length enter.now ≡ side_slots line.now.side }
         requires seen { IsSeen line.now.side enter.now self.old }
@@ -313,8 +320,163 @@ impl Tree {
         }
     }
 
-    // Looks at all columns from a place of the tree, where a row is that is so far with its price. Where another row stands at
-    // the same post, no later, and is no farther, the row brings nothing nearer: that is a step.
+    // How far a column is by a row, where it is not done and comes nearer by that.
+    fn nearer_by(&self, line: &Line<'_>, column: u16, start: u64, enter: &[u64]) -> Option<u64>
+        requires slots { vec_len self.now.dist ≡ side_slots line.now.side }
+        requires enter { length enter.now ≡ side_slots line.now.side }
+        requires within { column < side_slots line.now.side }
+        requires start { start ≤ 2 * GREATEST_PRICE }
+        requires low { (j k : ℕ) → line_weight line.now j ≡ Some k → at enter.now j ≤ GREATEST_PRICE }
+        requires covers { (j k : ℕ) → line_weight line.now j ≡ Some k → k ≤ start + at enter.now j }
+        ensures some { IfSome result (IsNearerBy line.now column start enter.now (columns_of self.now)) }
+        ensures none { IfNone result (IsNoNearerBy line.now column start enter.now (columns_of self.now)) }
+    {
+        let place = column as usize;
+        if self.done[place] {
+            return None;
+        }
+        let weight = line.walk_weight(column)?;
+        let along = start.saturating_add(enter[place]).saturating_sub(weight);
+        if along >= self.dist[place] {
+            return None;
+        }
+        if !line.side.allows(line.row, column) {
+            return None;
+        }
+        Some(along)
+    }
+
+    // Tries a column of a group from a place of the tree, which is so far with the price of its row. A rule names that row, so it
+    // may weigh something else with each column, or nothing.
+    fn try_column<L: Ledger>(
+        &mut self,
+        line: &Line<'_>,
+        group: usize,
+        column: u16,
+        from: u16,
+        start: u64,
+        enter: &[u64],
+        looks: &mut Looks,
+        steps: &mut Steps<L>,
+    )
+        requires ruled { is_ruled line.now.side.pairs line.now.side.turned line.now.row ≡ true }
+        requires slots { vec_len self.old.dist ≡ side_slots line.now.side }
+        requires enter { length enter.now ≡ side_slots line.now.side }
+        requires group { group < line.now.side.count }
+        requires after { (group_at line.now.side.groups group).from ≤ column }
+        requires before { column < (group_at line.now.side.groups group).to }
+        requires within { column < side_slots line.now.side }
+        requires seen { IsSeen line.now.side enter.now self.old }
+        requires start { start ≤ 2 * GREATEST_PRICE }
+        requires low { (j k : ℕ) → line_weight line.now j ≡ Some k → at enter.now j ≤ GREATEST_PRICE }
+        requires covers { (j k : ℕ) → line_weight line.now j ≡ Some k → k ≤ start + at enter.now j }
+        ensures slots { vec_len self.new.dist ≡ vec_len self.old.dist }
+        ensures rows { (self.new.rows.items ≡ self.old.rows.items) × (self.new.far.items ≡ self.old.far.items) }
+        ensures leads { self.new.leads.items ≡ self.old.leads.items }
+        ensures looked { (was : Columns) → AreLooked (line_weight line.now) column from start enter.now was (columns_of self.old)
+            → AreLooked (line_weight line.now) (column + 1) from start enter.now was (columns_of self.new) }
+        ensures seen { IsSeen line.now.side enter.now self.new }
+        ensures visited { Takes (RowLooks line.now.side line.now.row column (column + 1)) looks.old.list looks.new.list steps.old
+            steps.new }
+    {
+        // Its clause says how columns stand in groups.
+        let _groups = line.side.groups();
+        looks.take(Look::Tried(line.row, column), steps);
+        let Some(along) = self.nearer_by(line, column, start, enter) else {
+            return;
+        };
+        self.dist[column as usize] = along;
+        self.parent[column as usize] = from;
+        let was = self.seen[group];
+        self.seen[group] = Seen {
+            near: was.near.min(along),
+            ..was
+        };
+    }
+
+    // Tries each column of a group. A row that a keep has fits only a column that one has too, and that stands at no post.
+    fn try_group<L: Ledger>(
+        &mut self,
+        line: &Line<'_>,
+        group: usize,
+        keeping: bool,
+        from: u16,
+        start: u64,
+        enter: &[u64],
+        looks: &mut Looks,
+        steps: &mut Steps<L>,
+    )
+        requires ruled { is_ruled line.now.side.pairs line.now.side.turned line.now.row ≡ true }
+        requires keeping { keeping ≡ is_kept line.now.side.pairs (not line.now.side.turned) line.now.row }
+        requires slots { vec_len self.old.dist ≡ side_slots line.now.side }
+        requires enter { length enter.now ≡ side_slots line.now.side }
+        requires group { group < line.now.side.count }
+        requires columns { (group_at line.now.side.groups group).from < (group_at line.now.side.groups group).to }
+        requires within { (group_at line.now.side.groups group).to ≤ side_slots line.now.side }
+        requires seen { IsSeen line.now.side enter.now self.old }
+        requires start { start ≤ 2 * GREATEST_PRICE }
+        requires low { (j k : ℕ) → line_weight line.now j ≡ Some k → at enter.now j ≤ GREATEST_PRICE }
+        requires covers { (j k : ℕ) → line_weight line.now j ≡ Some k → k ≤ start + at enter.now j }
+        ensures slots { vec_len self.new.dist ≡ vec_len self.old.dist }
+        ensures rows { (self.new.rows.items ≡ self.old.rows.items) × (self.new.far.items ≡ self.old.far.items) }
+        ensures leads { self.new.leads.items ≡ self.old.leads.items }
+        ensures looked { (was : Columns)
+            → AreLooked (line_weight line.now) (group_at line.now.side.groups group).from from start enter.now was (columns_of self.old)
+            → AreLooked (line_weight line.now) (group_at line.now.side.groups group).to from start enter.now was (columns_of self.new) }
+        ensures seen { IsSeen line.now.side enter.now self.new }
+        ensures visited { Takes (RowLooks line.now.side line.now.row (group_at line.now.side.groups group).from
+            (group_at line.now.side.groups group).to) looks.old.list looks.new.list steps.old steps.new }
+    {
+        let side = line.side;
+        // It says that columns are in order, and its clause that moves are of one day.
+        let _columns = side.columns;
+        let _slots = side.slots();
+        let columns = side.group(group);
+        if keeping && columns.post.is_some() {
+            looks.take(Look::Passed(line.row, group), steps);
+            return;
+        }
+        for column in columns.from..columns.to {
+            self.try_column(line, group, column, from, start, enter, looks, steps);
+        }
+    }
+
+    // Tries each column from a place of the tree, which is so far with the price of its row, that a rule names.
+    fn try_each<L: Ledger>(
+        &mut self,
+        line: &Line<'_>,
+        from: u16,
+        start: u64,
+        enter: &[u64],
+        looks: &mut Looks,
+        steps: &mut Steps<L>,
+    )
+        requires ruled { is_ruled line.now.side.pairs line.now.side.turned line.now.row ≡ true }
+        requires slots { vec_len self.old.dist ≡ side_slots line.now.side }
+        requires enter { length enter.now ≡ side_slots line.now.side }
+        requires seen { IsSeen line.now.side enter.now self.old }
+        requires start { start ≤ 2 * GREATEST_PRICE }
+        requires low { (j k : ℕ) → line_weight line.now j ≡ Some k → at enter.now j ≤ GREATEST_PRICE }
+        requires covers { (j k : ℕ) → line_weight line.now j ≡ Some k → k ≤ start + at enter.now j }
+        ensures slots { vec_len self.new.dist ≡ vec_len self.old.dist }
+        ensures rows { (self.new.rows.items ≡ self.old.rows.items) × (self.new.far.items ≡ self.old.far.items) }
+        ensures leads { self.new.leads.items ≡ self.old.leads.items }
+        ensures looked { AreLooked (line_weight line.now) (side_slots line.now.side) from start enter.now (columns_of self.old)
+            (columns_of self.new) }
+        ensures seen { IsSeen line.now.side enter.now self.new }
+        ensures visited { Takes (RowLooks line.now.side line.now.row 0 (side_slots line.now.side)) looks.old.list looks.new.list
+            steps.old steps.new }
+        ensures counted { steps.new ≤ steps.old + side_slots line.now.side }
+    {
+        let side = line.side;
+        let keeping = side.is_keeping(line.row);
+        for group in 0..side.groups() {
+            self.try_group(line, group, keeping, from, start, enter, looks, steps);
+        }
+    }
+
+    // Looks at all columns from a place of the tree, where a row is that is so far with its price. A row that a rule names tries each.
+    // Where another row stands at the same post, no later, and is no farther, the row brings nothing nearer: that is a step.
     pub(crate) fn look_from<L: Ledger>(
         &mut self,
         side: &Side<'_>,
@@ -346,6 +508,10 @@ impl Tree {
             looks.take(Look::Led(row), steps);
             return;
         };
+        if side.is_ruled(row) {
+            self.try_each(&side.line(row), from, start, enter, looks, steps);
+            return;
+        }
         let lead = self.leads[stand.post as usize];
         if start >= lead.start && stand.ready >= lead.ready {
             looks.take(Look::Led(row), steps);

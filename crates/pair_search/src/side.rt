@@ -1,4 +1,4 @@
-ghost use Rattle.std.specs.Prelude.{◌≡◌, ℕ, ◌<◌, ◌≤◌, length, slice_index_or, IfSome};
+ghost use Rattle.std.specs.Prelude.{◌≡◌, ℕ, ◌<◌, ◌≤◌, not, length, slice_index_or, IfSome};
 ghost use Rattle.std.specs.Option.{option_map};
 ghost use Rattle.assignment_model.specs.declared.limits.TheConstants.{MOST_DEADHEAD};
 ghost use Rattle.pair_search.specs.Arranged.{arranged, slots_of};
@@ -6,7 +6,8 @@ ghost use Rattle.pair_search.specs.Assignment.{AreWeights};
 ghost use Rattle.pair_search.specs.Groups.{group_at, group_pull, AreGroups, IsOrderOf};
 ghost use Rattle.pair_search.specs.Leads.{stand_of};
 ghost use Rattle.pair_search.specs.Order.{IsOrder, IsRenaming};
-ghost use Rattle.pair_search.specs.Side.{pairs_minute, pairs_post, side_slots, side_slot, side_place, side_weight, IsSideOf};
+ghost use Rattle.pair_graph.specs.Pairs.{is_kept, is_ruled};
+ghost use Rattle.pair_search.specs.Side.{pairs_minute, pairs_post, side_allows, side_slots, side_slot, side_place, side_weight, IsSideOf};
 ghost use Rattle.trip_model.specs.Plain.{move_at, AreMoves};
 ghost use Rattle.trip_model.specs.declared.limits.TheConstants.{MOST_PLACES, MOST_SLOTS};
 
@@ -65,8 +66,8 @@ impl<'a> Side<'a> {
     ) -> Side<'a>
         requires { IsOrderOf pairs.now turned without order.now }
         ensures pairs { IsSideOf pairs.now turned without result }
-        ensures columns { IsOrder (length pairs.now.moves) (pairs_minute pairs.now turned) (pairs_post pairs.now turned without) result.columns
-            result.places }
+        ensures columns { IsOrder (length pairs.now.moves) (pairs_minute pairs.now turned) (pairs_post pairs.now turned without)
+            result.columns result.places }
         ensures slots { slots_of result.columns ≡ arranged pairs.now turned without }
         ensures groups { AreGroups (side_slots result) result.columns result.count result.groups }
     {
@@ -175,6 +176,36 @@ impl<'a> Side<'a> {
         let pairs = self.pairs;
         let made = pairs.move_at(row)?;
         Some(stand_of(self.turned, made))
+    }
+
+    /// Whether a rule has the trip of a row as its first. Seen backward, as its second.
+    pub(crate) fn is_ruled(&self, row: u16) -> bool
+        requires { row < side_slots self.now }
+        ensures { result ≡ is_ruled self.now.pairs self.now.turned row }
+    {
+        self.pairs.is_ruled(self.turned, row)
+    }
+
+    /// Whether a keep has the trip of a row as its first. Seen backward, as its second.
+    pub(crate) fn is_keeping(&self, row: u16) -> bool
+        requires { row < side_slots self.now }
+        ensures { result ≡ is_kept self.now.pairs (not self.now.turned) row }
+    {
+        self.pairs.is_kept(!self.turned, row)
+    }
+
+    /// Whether the rules allow the pair of a row and the column at a place.
+    pub(crate) fn allows(&self, row: u16, place: u16) -> bool
+        requires row { row < side_slots self.now }
+        requires place { place < side_slots self.now }
+        ensures { result ≡ side_allows self.now row (side_slot self.now place) }
+    {
+        let slot = self.slot(place);
+        if self.turned {
+            self.pairs.allows(slot, row)
+        } else {
+            self.pairs.allows(row, slot)
+        }
     }
 
     /// A row with each column.

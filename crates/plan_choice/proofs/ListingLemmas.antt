@@ -1,22 +1,18 @@
 -- The row of a slot, pair by pair.
-use Rattle.std.proofs.Common.{◌≡◌, ℕ, ◌+◌, ◌-◌, ◌<◌, ◌≤◌, List, [], ◌∷◌, ◌++◌, length, get_or, Option, None, Some}
+use Rattle.std.proofs.Common.{◌≡◌, ℕ, ◌+◌, ◌<◌, ◌≤◌, List, [], ◌∷◌, ◌++◌, length, get_or, Option, None, Some}
 use Rattle.std.proofs.Common.{refl, sym, ap, ◌∙◌, subst, ⊎_elim, arith}
 use Rattle.std.proofs.lemmas.Bool.{cases_eq, cases_lt}
 use Rattle.std.proofs.lemmas.List.{get_or_append_left, get_or_past, get_or_push, length_push}
-use Rattle.std.specs.Option.{option_map}
 use Rattle.assignment_model.specs.Choice.{worth_of}
 use Rattle.assignment_model.specs.Prices.{Plan}
-use Rattle.deadhead_matrix.specs.Fitting.{empty_between}
-use Rattle.deadhead_matrix.specs.Matrix.{walk}
 use Rattle.list_search.specs.Lists.{ListsView, listed, value_of, behind}
 use Rattle.list_search.specs.declared.lists.Pair.{Pair}
 use Rattle.list_search.proofs.ListLemmas.{value-new, value-other, behind-push}
-use Rattle.pair_graph.specs.Pairs.{PairsView, pairs_network}
+use Rattle.pair_graph.specs.Pairs.{PairsView}
+use Rattle.pair_search.proofs.FitLemmas.{idle}
 use Rattle.plan_choice.specs.Chosen.{pair_liking}
 use Rattle.plan_choice.specs.Likings.{LikingsView}
 use Rattle.plan_choice.specs.Listing.{pair_worths, with_value, IsListed, AreListed}
-use Rattle.trip_model.specs.Plain.{move_at}
-use Rattle.trip_model.specs.declared.trip.Move.{Move}
 
 -- a row that lists nothing yet
 pub IsListed-none : (w : ℕ → Option ℕ) (row : List Pair) → row ≡ [] → IsListed w 0 row
@@ -86,30 +82,16 @@ AreListed-row w slots i lists lists' row are is past same rows begun = record {
         (λ (le : slots ≤ j). is.past j le ∙ sym (past j le))
         (cases_lt j slots)
 
--- a pair that does not fit is worth nothing
-unfit : (pairs : PairsView) (likings : LikingsView) (plan : Plan) (i j : ℕ) → (pairs_network pairs).empty i j ≡ None
-    → pair_worths pairs likings plan i j ≡ None
-unfit pairs likings plan i j none =
-    ap (worth_of plan (pair_liking pairs likings i j) i j)
-    (ap (option_map (λ minutes. 67108864 + (pairs_network pairs).home i + (pairs_network pairs).out j - minutes)) none)
-
 -- past the last slot no pair is worth anything
 pub worths-past : (pairs : PairsView) (likings : LikingsView) (plan : Plan) (i j : ℕ) → length pairs.moves ≤ j
     → pair_worths pairs likings plan i j ≡ None
 worths-past pairs likings plan i j past =
-    unfit pairs likings plan i j
-    (ap (empty_between (walk pairs.matrix) (move_at pairs.moves i)) (get_or_past pairs.moves j None past)
-    ∙ by (move_at pairs.moves i))
-  where
-    by : (m : Option Move) → empty_between (walk pairs.matrix) m None ≡ None
-    by None = refl
-    by (Some a) = refl
+    ap (worth_of plan (pair_liking pairs likings i j) i j) (idle pairs j i (get_or_past pairs.moves j None past)).1
 
 worths-behind : (pairs : PairsView) (likings : LikingsView) (plan : Plan) (i j : ℕ) → length pairs.moves ≤ i
     → pair_worths pairs likings plan i j ≡ None
 worths-behind pairs likings plan i j past =
-    unfit pairs likings plan i j
-    (ap (λ m. empty_between (walk pairs.matrix) m (move_at pairs.moves j)) (get_or_past pairs.moves i None past))
+    ap (worth_of plan (pair_liking pairs likings i j) i j) (idle pairs i j (get_or_past pairs.moves i None past)).0
 
 -- so the rows of all slots list what all pairs are worth
 pub listed-all : (pairs : PairsView) (likings : LikingsView) (plan : Plan) (lists : ListsView)

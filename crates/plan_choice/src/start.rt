@@ -60,6 +60,7 @@ pub(crate) fn saved_to<L: Ledger>(
 ) -> Option<u64>
     requires moves { AreMoves (length row.now.pairs.matrix.walks) row.now.pairs.moves }
     requires before { move_at row.now.pairs.moves row.now.slot ≡ Some before }
+    requires j { j < length row.now.pairs.moves }
     requires start { start ≡ start_at row.now.pairs j }
     ensures saved { result ≡ weight (pairs_network row.now.pairs) row.now.slot j }
     ensures counted { steps.new ≤ steps.old + 1 }
@@ -71,6 +72,9 @@ pub(crate) fn saved_to<L: Ledger>(
     let walk = row.walk(start.place)?;
     let share = row.share();
     if u32::from(share.ready) + walk > u32::from(start.leaves) {
+        return None;
+    }
+    if !row.allows(j) {
         return None;
     }
     Some(share.saved + u64::from(start.out) - u64::from(walk))

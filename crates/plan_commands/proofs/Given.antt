@@ -45,6 +45,7 @@ module _ (read : ReadView) (said : FeedView) (timetable : TimetableView) (matrix
               (subst (Proves timetable matrix) claim_is proved);
         };
         ends = λ other other_is. ap (λ (o : OutcomeView). o.ending)
-            (here ∙ ap (checked read said) (matrix-same said.entries said.pulls (length said.base.places) matrix other is other_is));
+            (here ∙ ap (checked read said) (matrix-same said.entries said.pulls said.rules
+            (length said.base.places) matrix other is other_is));
         unkept = λ _. ap (λ (o : OutcomeView). o.lines) here ∙ (put-alone (refused_of said) (standing said) matrix (claim_in read said)).1;
       }

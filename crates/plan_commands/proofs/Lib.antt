@@ -1,3 +1,4 @@
 pub mod Charted
 pub mod ClaimPapers
 pub mod Given
+pub mod ProvedLemmas

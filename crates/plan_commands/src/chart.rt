@@ -51,7 +51,8 @@ impl NamingCommand for ShowChart {
         steps: &mut Steps<L>,
     ) -> Result<Outcome<'a>, Memory> {
         let pulls = said.pulls;
-        let matrix = matrix_of(said.alloc, &said.timetable, said.deadheads, pulls)?;
+        let rules = said.rules;
+        let matrix = matrix_of(said.alloc, &said.timetable, said.deadheads, pulls, rules)?;
         let likings = read_likings(said.alloc, said.settings, said.read, &said.timetable)?;
         let drawn = draw_after(
             said.alloc,

@@ -81,7 +81,8 @@ impl FeedCommand for CheckClaim {
         let prices = said.read.found(Paper::Prices);
         let alloc = said.alloc;
         let pulls = said.pulls;
-        let matrix = matrix_of(alloc, &said.timetable, said.deadheads, pulls)?;
+        let rules = said.rules;
+        let matrix = matrix_of(alloc, &said.timetable, said.deadheads, pulls, rules)?;
         let edited = after_script(alloc, said.timetable, said.lines)?;
         let timetable = edited.script.timetable();
         checked(alloc, &edited.refused, timetable, &matrix, blocks, prices)

@@ -4,7 +4,7 @@ use Rattle.std.specs.Prelude.{All, IfOk}
 use Rattle.std.proofs.lemmas.Result.{IfOk-at_ok}
 use Rattle.deadhead_matrix.specs.Matrix.{MatrixView}
 use Rattle.deadhead_matrix.specs.Pulls.{IsPull}
-use Rattle.desk_feed.specs.Feed.{FeedView, deadheads_in, lines_in, pulls_in, said_by, settings_in, timetable_in}
+use Rattle.desk_feed.specs.Feed.{FeedView, deadheads_in, lines_in, pulls_in, rules_in, said_by, settings_in, timetable_in}
 use Rattle.desk_feed.specs.Schedule.{IsMatrixFor}
 use Rattle.desk_feed.specs.Script.{IsScript}
 use Rattle.desk_io.specs.declared.shelf.Found.{Found}
@@ -16,12 +16,14 @@ use Rattle.gtfs_tables.specs.Table.{TableView}
 use Rattle.gtfs_tables.specs.declared.fault.FeedFault.{FeedFault}
 use Rattle.gtfs_tables.specs.declared.paper.Paper.{Paper}
 use Rattle.gtfs_tables.specs.declared.paper.Paper.TheVariants as paper
+use Rattle.pair_rules.specs.Rules.{ArePairRules}
 use Rattle.trip_model.specs.Timetable.{IsTimetable}
 use Rattle.planned_laws.specs.Laws.{AreLikings, IsValidFeed, MayPlan, likings_found}
 use Rattle.planned_laws.proofs.FormLemmas.{script-read}
 use Rattle.planned_laws.proofs.MetLemmas.{base-read}
 use Rattle.planned_laws.proofs.PullLemmas.{ArePulls, deadheads-read, pulls-read}
 use Rattle.planned_laws.proofs.ReadLemmas.{read-next}
+use Rattle.planned_laws.proofs.RuleLemmas.{rules-read}
 use Rattle.planned_laws.proofs.SettingsLemmas.{AreSettings, settings-read}
 
 -- it is accepted, and no preference is there twice
@@ -39,11 +41,12 @@ all-read found =
     (deadheads-read (found paper.Deadheads) timetable valid)
     (λ deadheads now. read-next (ArePulls deadheads.0.places) IsRead (pulls_in found deadheads.0) _
     (pulls-read (found paper.Depot) deadheads.0)
-    (λ pulls are. read-next IsScript IsRead (lines_in found) _ (script-read (found paper.Edits))
+    (λ pulls are. read-next ArePairRules IsRead (rules_in found) _ (rules-read (found paper.Pairs))
+    (λ rules valid_rules. read-next IsScript IsRead (lines_in found) _ (script-read (found paper.Edits))
     (λ lines script. record {
-      accepted = record { base = now; script = script; pulls = are.each; count = are.count };
+      accepted = record { base = now; script = script; pulls = are.each; count = are.count; rules = valid_rules };
       once = set.prefer;
-    })))))
+    }))))))
 
 module _ (found : Paper → Found) (said : FeedView) (is : said_by found ≡ Ok said) where
   read : IsRead said

@@ -14,6 +14,7 @@ pub mod PlannedLemmas
 pub mod PullLemmas
 pub mod ReadLemmas
 pub mod RepairLemmas
+pub mod RuleLemmas
 pub mod SearchLemmas
 pub mod SettingsLemmas
 pub mod StepLemmas

@@ -6,7 +6,7 @@ use Rattle.assignment_model.specs.Paths.{IsLeftPath, IsRightPath}
 use Rattle.assignment_model.specs.Prices.{Plan, IsCertified, IsDay, IsLoose, weight}
 use Rattle.deadhead_matrix.specs.Matrix.{MatrixView}
 use Rattle.deadhead_matrix.specs.Pulls.{IsPull}
-use Rattle.deadhead_matrix.proofs.Days.{AreDepartures-deadhead, IsDay-deadhead}
+use Rattle.deadhead_matrix.proofs.Days.{AreDepartures-ruled, IsDay-ruled}
 use Rattle.pair_graph.specs.Pairs.{PairsView, pairs_network, pairs_of}
 use Rattle.pair_graph.proofs.PairsLemmas.{AreMoves-pairs, length-pairs}
 use Rattle.pair_search.specs.Arranged.{all_found, arranged, departing, found_by, turned_plan}
@@ -52,10 +52,10 @@ ArePairs-of t m without valid places pulls within = record {
 
 module _ (pairs : PairsView) (are : ArePairs pairs) where
   pub day-pairs : IsDay (pairs_network pairs) (length pairs.moves)
-  day-pairs = IsDay-deadhead (length pairs.matrix.walks) pairs.moves pairs.matrix are.moves are.pulls are.few
+  day-pairs = IsDay-ruled (length pairs.matrix.walks) pairs.names pairs.moves pairs.matrix are.moves are.pulls are.few
 
   pub clock-pairs : AreDepartures (pairs_network pairs) (λ s. minute_left (move_at pairs.moves s))
-  clock-pairs = AreDepartures-deadhead (length pairs.matrix.walks) pairs.moves pairs.matrix are.moves
+  clock-pairs = AreDepartures-ruled (length pairs.matrix.walks) pairs.names pairs.moves pairs.matrix are.moves
 
   pub weights-pairs : AreWeights (weight (pairs_network pairs)) (length pairs.moves)
   weights-pairs = AreWeights-network (pairs_network pairs) (length pairs.moves) (λ s. minute_left (move_at pairs.moves s)) day-pairs

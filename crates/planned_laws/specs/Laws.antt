@@ -24,6 +24,7 @@ use Rattle.gtfs_tables.specs.declared.paper.Paper.{Paper}
 use Rattle.gtfs_tables.specs.declared.paper.Paper.TheVariants as paper
 use Rattle.pair_graph.specs.Pairs.{PairsView}
 use Rattle.plan_choice.specs.Likings.{LikingsView}
+use Rattle.pair_rules.specs.Rules.{ArePairRules}
 use Rattle.trip_model.specs.Links.{next_of, before_of}
 use Rattle.trip_model.specs.Plain.{AreMoves}
 use Rattle.trip_model.specs.Timetable.{TimetableView, IsTimetable}
@@ -95,12 +96,14 @@ abbrev pub AreEachPlanned : Type 0
 AreEachPlanned = (base : TimetableView) (lines : List Line) (matrix : MatrixView) (likings : LikingsView) → MayPlan base matrix likings
     → IsScript lines → ArePlanned base lines matrix likings
 
--- What a feed says is valid: its timetable, its script, and for each place a pull that is no longer than one may be.
+-- What a feed says is valid: its timetable, its script, its rules of pairs, and for each place a pull that is no longer than one may
+-- be.
 pub record IsValidFeed (said : FeedView) : Type 0 where
   pub base : IsTimetable said.base
   pub script : IsScript said.lines
   pub pulls : All IsPull said.pulls
   pub count : length said.pulls ≡ length said.base.places
+  pub rules : ArePairRules said.rules
 
 -- how links are liked by the settings of a feed and by what was found of its trips
 abbrev pub likings_found : (Paper → Found) → FeedView → LikingsView

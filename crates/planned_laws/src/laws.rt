@@ -1,5 +1,12 @@
 //! Laws of plans as they are computed. Each is the contract of a function that does nothing, or that calls laws alone.
+ghost use Rattle.std.specs.Prelude.{◌≡◌, []};
+ghost use Rattle.deadhead_matrix.specs.Fitting.{allowed_network, deadhead_network, network_of};
+ghost use Rattle.deadhead_matrix.specs.Matrix.{MatrixView};
+ghost use Rattle.desk_feed.specs.Feed.{FeedView, standing};
+ghost use Rattle.desk_feed.specs.Schedule.{IsMatrixFor};
 ghost use Rattle.planned_laws.specs.Laws as spec;
+ghost use Rattle.trip_model.specs.Plain.{trip_moves};
+ghost use Rattle.trip_model.specs.Timetable.{slot_names};
 
 use deadhead_matrix::laws::plan_law;
 use desk_core::laws::same_edits_law;
@@ -22,11 +29,20 @@ pub fn repaired_law()
     ensures { spec.AreAllRepaired }
 {}
 
-/// What an accepted feed says is valid, by the definitions of what its files say: its timetable, its script and its pulls. So there
-/// may be plans of its timetable, with its matrix and its likings.
+/// What an accepted feed says is valid, by the definitions of what its files say: its timetable, its script, its pulls and its
+/// rules of pairs. So there may be plans of its timetable, with its matrix and its likings.
 pub fn accepted_law()
     ensures said { spec.AreAllAccepted }
     ensures may { spec.MayAllPlan }
+{}
+
+/// After the script of a feed those trips fit that a vehicle reaches in time, as far as the rules of pairs allow them by their
+/// names. Where a feed has no rules, they are those that it reaches in time.
+pub fn ruled_law()
+    ensures allowed { (said : FeedView) (matrix : MatrixView) → IsMatrixFor said matrix → network_of (standing said) matrix
+        ≡ allowed_network said.rules (slot_names (standing said)) (deadhead_network (trip_moves (standing said).slots) matrix) }
+    ensures none { (said : FeedView) (matrix : MatrixView) → IsMatrixFor said matrix → said.rules ≡ []
+        → network_of (standing said) matrix ≡ deadhead_network (trip_moves (standing said).slots) matrix }
 {}
 
 /// The plans of each script are planned, for every feed that is accepted and without any run. So they are least also where a run

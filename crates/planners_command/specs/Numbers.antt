@@ -12,7 +12,7 @@ use Rattle.desk_feed.specs.Numbers.{numbers_line}
 use Rattle.deadhead_matrix.specs.Plans.{IsScheduled}
 
 -- They are those of a timetable. The blocks of a plan are least over all blockings. Blocks without deadheads are fewest among
--- such blocks, and as many as the sum of the maxima of the deficits.
+-- such blocks, and as many as the sum of the maxima of the deficits. They follow no rules of pairs.
 pub record IsNumbered (timetable : TimetableView) (matrix : MatrixView) (numbers : List ℕ) : Type 0 where
   pub plan : Plan
   pub blocks : List (List ℕ)

@@ -78,7 +78,8 @@ fn planned_on<L: Ledger>(
     undo_law();
     folding_law();
     let pulls = said.pulls;
-    let matrix = matrix_of(said.alloc, &said.timetable, said.deadheads, pulls)?;
+    let rules = said.rules;
+    let matrix = matrix_of(said.alloc, &said.timetable, said.deadheads, pulls, rules)?;
     let edited = after_script(said.alloc, said.timetable, said.lines)?;
     planned(said.alloc, &edited, &matrix, lines, steps)
 }

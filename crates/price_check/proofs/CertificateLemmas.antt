@@ -13,11 +13,11 @@ use Rattle.trip_model.specs.Blocking.{StandsOnce}
 use Rattle.trip_model.specs.Network.{Network, AreDepartures}
 use Rattle.trip_model.specs.Order.{minute_left}
 use Rattle.trip_model.specs.Plain.{move_at, move_of_slot, trip_moves}
-use Rattle.trip_model.specs.Timetable.{TimetableView, IsTimetable, slot_at}
+use Rattle.trip_model.specs.Timetable.{TimetableView, IsTimetable, slot_at, slot_names}
 use Rattle.trip_model.proofs.Counting.{runs-within}
 use Rattle.trip_model.proofs.PlainLemmas.{AreMoves-trips}
 use Rattle.deadhead_matrix.specs.Matrix.{MatrixView}
-use Rattle.deadhead_matrix.proofs.Days.{AreDepartures-deadhead}
+use Rattle.deadhead_matrix.proofs.Days.{AreDepartures-ruled}
 use Rattle.deadhead_matrix.specs.Fitting.{network_of}
 use Rattle.price_check.specs.declared.claim.BlockRow.{BlockRow}
 use Rattle.price_check.specs.declared.claim.PriceRow.{PriceRow}
@@ -44,7 +44,7 @@ and-not a false is e = absurd (false≢true (sym e ∙ ap (λ a. a && true) is))
 -- departures rise along the network, and its live slots are those of the timetable
 pub network-departures : (t : TimetableView) (m : MatrixView) → IsTimetable t
     → AreDepartures (network_of t m) (λ s. minute_left (move_at (trip_moves t.slots) s))
-network-departures t m valid = AreDepartures-deadhead (length t.places) (trip_moves t.slots) m (AreMoves-trips t valid)
+network-departures t m valid = AreDepartures-ruled (length t.places) (slot_names t) (trip_moves t.slots) m (AreMoves-trips t valid)
 
 pub network-within : (t : TimetableView) (m : MatrixView) (s : ℕ) → (network_of t m).live s ≡ true → s < length t.slots
 network-within t m s live = omega (arith, runs-within (trip_moves t.slots) s live, length-map t.slots move_of_slot)

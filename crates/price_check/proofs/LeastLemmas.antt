@@ -11,12 +11,12 @@ use Rattle.std.proofs.lemmas.Option.{none-some}
 use Rattle.trip_model.specs.Blocking.{times, slots_in, IsLeast}
 use Rattle.trip_model.specs.Order.{minute_left}
 use Rattle.trip_model.specs.Plain.{move_at, move_of_slot, trip_moves}
-use Rattle.trip_model.specs.Timetable.{TimetableView, IsTimetable}
+use Rattle.trip_model.specs.Timetable.{TimetableView, IsTimetable, slot_names}
 use Rattle.trip_model.proofs.PlainLemmas.{AreMoves-trips}
 use Rattle.deadhead_matrix.specs.Matrix.{MatrixView}
 use Rattle.assignment_model.specs.Prices.{IsDay}
 use Rattle.deadhead_matrix.specs.Pulls.{IsPull}
-use Rattle.deadhead_matrix.proofs.Days.{IsDay-deadhead}
+use Rattle.deadhead_matrix.proofs.Days.{IsDay-ruled}
 use Rattle.assignment_model.proofs.Duality.{IsLeast-certified}
 use Rattle.deadhead_matrix.specs.Fitting.{network_of}
 use Rattle.trip_model.specs.Links.{next_of, leads_to, is_first, along, block_from, blocks_along}
@@ -306,7 +306,7 @@ certificate-least t m claimed valid pulls few proved =
     let moves = trip_moves t.slots in
     let size = length-map t.slots move_of_slot in
     let day = subst (IsDay network) size
-    (IsDay-deadhead (length t.places) moves m (AreMoves-trips t valid) pulls (omega (arith, size, valid.slots))) in
+    (IsDay-ruled (length t.places) (slot_names t) moves m (AreMoves-trips t valid) pulls (omega (arith, size, valid.slots))) in
     subst (IsLeast network) (blocks-along network.live (length t.slots) claimed.blocks (network-within t m) proved.blocks few)
     (IsLeast-certified network (length t.slots) (plan_of (length t.slots) claimed) (λ s. minute_left (move_at moves s)) day
     (length-map-range_with_len (next_in claimed.blocks) 0 (length t.slots)) proved.certified (network-departures t m valid)

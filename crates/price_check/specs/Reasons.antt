@@ -42,6 +42,7 @@ unknown paper slots at = then_some (is_none (named slots at)) (UnknownTrip paper
 abbrev pub repeats : List (Option ℕ) → ℕ → Bool
 repeats slots at = option_map_or (stands (take at slots)) (named slots at) false
 
+-- rule: two trips of one name
 -- 2: the record names a slot that an earlier record of the file names
 abbrev pub twice : Paper → List (Option ℕ) → ℕ → Option Reason
 twice paper slots at = then_some (repeats slots at) (TripTwice paper (at + 1))
@@ -142,7 +143,6 @@ verdict_by network rows None = Yes (length (blocks_in rows)) (empty_minutes netw
 verdict_by network rows (Some reason) = No reason
 
 -- rule: the verdict on a claim
--- word: verdict = result of the verification of a submitted schedule
 -- the verdict on a claim
 abbrev pub verdict_of : TimetableView → MatrixView → ClaimedView → Verdict
 verdict_of timetable matrix claimed = verdict_by (network_of timetable matrix) claimed.blocks (reason_of timetable matrix claimed)

@@ -1,8 +1,11 @@
 ghost use Rattle.std.specs.Prelude.{◌≡◌, ◌+◌, ◌*◌, ◌≤◌, length, IfSome};
+ghost use Rattle.pair_rules.specs.Rules as rules;
 ghost use Rattle.deadhead_matrix.specs.declared.limits.TheConstants.{LONGEST_WALK};
 ghost use Rattle.assignment_model.specs.declared.limits.TheConstants.{MOST_DEADHEAD, VEHICLE_WEIGHT};
 ghost use Rattle.assignment_model.specs.Prices.{weight};
-ghost use Rattle.deadhead_matrix.specs.Fitting.{network_of};
+ghost use Rattle.deadhead_matrix.specs.Fitting.{deadhead_network, name_at, network_of};
+ghost use Rattle.trip_model.specs.Plain.{trip_moves};
+ghost use Rattle.trip_model.specs.Timetable.{slot_names};
 ghost use Rattle.price_check.specs.Claim.{Runs};
 
 use assignment_model::VEHICLE_WEIGHT;
@@ -56,16 +59,42 @@ impl<'a> Onward<'a> {
         self.slot
     }
 
-    /// In how many minutes a vehicle runs empty to the trip of a slot, which runs, where it arrives in time.
-    pub fn empty_to(&self, slot: u16) -> Option<u32>
+    // In how many minutes a vehicle runs empty to the trip of a slot, which runs, where it arrives in time.
+    fn minutes_to(&self, slot: u16) -> Option<u32>
         requires { Runs self.now.timetable slot }
-        ensures minutes { result ≡ (network_of self.now.timetable self.now.matrix).empty self.now.slot slot }
+        ensures minutes { result
+            ≡ (deadhead_network (trip_moves self.now.timetable.slots) self.now.matrix).empty self.now.slot slot }
         ensures bound { IfSome result (λ minutes. minutes ≤ LONGEST_WALK) }
     {
         let next = self.timetable.trip(slot);
         let spare = u32::from(next.departs.checked_sub(self.ends)?);
         let minutes = self.walks.to(next.from)?;
         if minutes <= spare {
+            Some(minutes)
+        } else {
+            None
+        }
+    }
+
+    // Whether the rules of pairs allow the trip of a slot, which runs, next.
+    fn is_allowed(&self, slot: u16) -> bool
+        requires { Runs self.now.timetable slot }
+        ensures { let names = slot_names self.now.timetable in
+            result ≡ rules.allows self.now.matrix.rules (name_at names self.now.slot) (name_at names slot) }
+    {
+        let (first, second) = (self.timetable.name(self.slot), self.timetable.name(slot));
+        self.matrix.rules().allows(first, second)
+    }
+
+    /// In how many minutes a vehicle runs empty to the trip of a slot, which runs, where it arrives in time and the rules of
+    /// pairs allow it. They are asked of a trip that it reaches in time alone.
+    pub fn empty_to(&self, slot: u16) -> Option<u32>
+        requires { Runs self.now.timetable slot }
+        ensures minutes { result ≡ (network_of self.now.timetable self.now.matrix).empty self.now.slot slot }
+        ensures bound { IfSome result (λ minutes. minutes ≤ LONGEST_WALK) }
+    {
+        let minutes = self.minutes_to(slot)?;
+        if self.is_allowed(slot) {
             Some(minutes)
         } else {
             None

@@ -14,7 +14,7 @@ use Rattle.trip_model.proofs.BeforeLemmas.{next-before}
 use Rattle.trip_model.proofs.Counting.{runs-within}
 use Rattle.assignment_model.specs.Paths.{IsLeftPath, IsRightPath, IsAlone, with_slot, IsAdded}
 use Rattle.assignment_model.specs.Prices.{Plan, price, weight_to, IsLoose}
-use Rattle.deadhead_matrix.proofs.Days.{AreDepartures-deadhead}
+use Rattle.deadhead_matrix.proofs.Days.{AreDepartures-ruled}
 use Rattle.assignment_model.proofs.Looseness.{IsLoose-certified}
 use Rattle.pair_graph.specs.Pairs.{PairsView, pairs_network}
 use Rattle.pair_graph.proofs.PairsLemmas.{AreMoves-without}
@@ -117,7 +117,7 @@ IsLoose-more whole rest departs after old new s n clock clock' lacks live loose 
 rest-clock : (pairs : PairsView) (s : ℕ) → AreMoves (length pairs.matrix.walks) pairs.moves → (pairs_network pairs).live s ≡ true
     → AreDepartures (pairs_network (pairs_without pairs s)) (λ t. minute_left (move_at (pairs_without pairs s).moves t))
 rest-clock pairs s valid live =
-    AreDepartures-deadhead (length pairs.matrix.walks) (pairs_without pairs s).moves pairs.matrix
+    AreDepartures-ruled (length pairs.matrix.walks) pairs.names (pairs_without pairs s).moves pairs.matrix
     (AreMoves-without (length pairs.matrix.walks) pairs.moves (Some s) valid (runs-within pairs.moves s live))
 
 -- a slot more is no slot less

@@ -13,7 +13,7 @@ use Rattle.trip_model.proofs.BeforeLemmas.{next-before, before-next}
 use Rattle.trip_model.proofs.Counting.{runs-within}
 use Rattle.assignment_model.specs.Paths.{without_link, cut_at, AreAlike, IsLeftFrom, IsRightFrom, IsTaken}
 use Rattle.assignment_model.specs.Prices.{Plan, price, weight_to, IsCertified, IsLoose}
-use Rattle.deadhead_matrix.proofs.Days.{AreDepartures-deadhead}
+use Rattle.deadhead_matrix.proofs.Days.{AreDepartures-ruled}
 use Rattle.assignment_model.proofs.Looseness.{IsLoose-certified}
 use Rattle.pair_graph.specs.Pairs.{PairsView, pairs_network}
 use Rattle.pair_search.proofs.LooseLemmas.{weight-fits}
@@ -174,7 +174,7 @@ pub IsLoose-taken : (pairs : PairsView) (after : ℕ → ℕ) (s : ℕ) (plan cu
 IsLoose-taken pairs after s plan cut a b clock slots w is before next =
     let network = pairs_network w.whole in
     let departs : ℕ → ℕ = λ t. minute_left (move_at w.whole.moves t) in
-    let whole = AreDepartures-deadhead (length w.whole.matrix.walks) w.whole.moves w.whole.matrix w.valid in
+    let whole = AreDepartures-ruled (length w.whole.matrix.walks) w.whole.names w.whole.moves w.whole.matrix w.valid in
     let loose = IsLoose-certified network departs plan whole (within-whole pairs s plan w slots) w.certified in
     let rest = subst (λ p. AreDepartures (pairs_network p) after) (sym w.rest) clock in
     let done = subst (λ p. IsLoose (pairs_network p) (plan_without plan s) (before_of plan.next s) (next_of plan.next s)) w.rest
@@ -189,7 +189,7 @@ pub AreAlike-taken : (pairs : PairsView) (after : ℕ → ℕ) (s : ℕ) (old ne
     → length new.next ≡ length pairs.moves → IsCertified (pairs_network pairs) new → AreAlike old.next new.next
 AreAlike-taken pairs after s old new clock slots w same proved =
     let departs : ℕ → ℕ = λ t. minute_left (move_at w.whole.moves t) in
-    let whole = AreDepartures-deadhead (length w.whole.matrix.walks) w.whole.moves w.whole.matrix w.valid in
+    let whole = AreDepartures-ruled (length w.whole.matrix.walks) w.whole.names w.whole.moves w.whole.matrix w.valid in
     record {
       before = AreNextTrips-links (pairs_network w.whole) departs old.next whole (within-whole pairs s old w slots) w.certified.links;
       after = AreNextTrips-links (pairs_network pairs) after new.next clock (λ t live. omega (arith, runs-within pairs.moves t live, same))

@@ -9,13 +9,13 @@ use Rattle.std.proofs.lemmas.List.{map-append, map-set, set-get_or, set-set}
 use Rattle.trip_model.specs.declared.trip.Move.{Move}
 use Rattle.trip_model.specs.declared.trip.Trip.{Trip}
 use Rattle.trip_model.specs.Plain.{move_at, move_of_slot, trip_moves}
-use Rattle.trip_model.specs.Timetable.{Slot, TimetableView, slot_at, with_trip, IsTimetable}
+use Rattle.trip_model.specs.Timetable.{Slot, TimetableView, slot_at, slot_names, with_trip, IsTimetable}
 use Rattle.trip_model.specs.Trip.{move_of}
 use Rattle.deadhead_matrix.specs.Matrix.{MatrixView}
 use Rattle.assignment_model.specs.Prices.{Plan, IsCertified}
-use Rattle.deadhead_matrix.specs.Fitting.{network_of}
+use Rattle.deadhead_matrix.specs.Fitting.{name_at, network_of}
 use Rattle.pair_graph.specs.Pairs.{PairsView, pairs_of, pairs_network}
-use Rattle.pair_graph.proofs.PairsLemmas.{AreMoves-pairs}
+use Rattle.pair_graph.proofs.PairsLemmas.{AreMoves-pairs, names-with_trip, pairs-with_trip}
 use Rattle.price_repair.specs.Without.{IsCertifiedWith, IsCertifiedWithout}
 use Rattle.price_repair.proofs.WithoutLemmas.{network-without}
 
@@ -33,14 +33,7 @@ IsCertifiedWith-left_out t matrix plan s valid places proved = record {
 no-move : (slot : Slot) → slot.trip.live ≡ false → move_of_slot slot ≡ None
 no-move slot dead = ap (λ runs. cond runs (Some (move_of slot.trip)) None) dead
 
--- the moves but for a slot are the same with another trip in it
-moves-replaced : (t : TimetableView) (s : ℕ) (trip : Trip)
-    → set (trip_moves (with_trip t s trip).slots) s None ≡ set (trip_moves t.slots) s None
-moves-replaced t s trip =
-    let slot : Slot = record (slot_at t s) { trip = trip } in
-    ap (λ moves. set moves s None) (map-set move_of_slot t.slots s slot) ∙ set-set (trip_moves t.slots) s (move_of_slot slot) None
-
--- and they are all moves with a trip in it that does not run
+-- the moves but for a slot are all moves with a trip in it that does not run
 moves-cancelled : (t : TimetableView) (s : ℕ) (trip : Trip) → trip.live ≡ false
     → set (trip_moves t.slots) s None ≡ trip_moves (with_trip t s trip).slots
 moves-cancelled t s trip dead =
@@ -54,17 +47,17 @@ moves-idle t s dead =
     ∙ no-move (slot_at t s) dead in
     sym (ap (set (trip_moves t.slots) s) none) ∙ set-get_or (trip_moves t.slots) s None
 
-with_moves : MatrixView → List (Option Move) → PairsView
-with_moves matrix moves = record { moves = moves; matrix = matrix }
+with_parts : MatrixView → List (List ℕ) → List (Option Move) → PairsView
+with_parts matrix names moves = record { names = names; moves = moves; matrix = matrix }
 
 pub IsCertifiedWith-cancelled : (t : TimetableView) (matrix : MatrixView) (plan : Plan) (s : ℕ) (trip : Trip) → IsTimetable t
     → length t.places ≡ length matrix.walks → trip.live ≡ false
     → IsCertified (network_of t matrix) plan → IsCertifiedWith (pairs_of (with_trip t s trip) matrix None) s plan
-unfolding with_moves
+unfolding with_parts
 IsCertifiedWith-cancelled t matrix plan s trip valid places dead proved = record {
   whole = pairs_of t matrix None;
   valid = AreMoves-pairs t matrix None valid places tt;
-  rest = ap (with_moves matrix) (moves-cancelled t s trip dead);
+  rest = λ i. with_parts matrix (sym (names-with_trip t s trip) i) (moves-cancelled t s trip dead i);
   certified = proved;
 }
 
@@ -80,19 +73,19 @@ live-replaced t matrix s trip within runs =
 pub IsCertifiedWithout-replaced : (t : TimetableView) (matrix : MatrixView) (plan : Plan) (s : ℕ) (trip : Trip) → s < length t.slots
     → trip.live ≡ true
     → IsCertified (pairs_network (pairs_of t matrix (Some s))) plan → IsCertifiedWithout (pairs_of (with_trip t s trip) matrix None) s plan
-unfolding with_moves
+unfolding with_parts
 IsCertifiedWithout-replaced t matrix plan s trip within runs proved = record {
   runs = live-replaced t matrix s trip within runs;
-  certified = subst (λ p. IsCertified (pairs_network p) plan) (sym (ap (with_moves matrix) (moves-replaced t s trip))) proved;
+  certified = subst (λ p. IsCertified (pairs_network p) plan) (sym (pairs-with_trip t matrix s trip)) proved;
 }
 
 pub IsCertifiedWithout-restored : (t : TimetableView) (matrix : MatrixView) (plan : Plan) (s : ℕ) (trip : Trip) → s < length t.slots
     → (slot_at t s).trip.live ≡ false → trip.live ≡ true
     → IsCertified (network_of t matrix) plan → IsCertifiedWithout (pairs_of (with_trip t s trip) matrix None) s plan
-unfolding with_moves
+unfolding with_parts
 IsCertifiedWithout-restored t matrix plan s trip within dead runs proved =
     IsCertifiedWithout-replaced t matrix plan s trip within runs
-    (subst (λ p. IsCertified (pairs_network p) plan) (sym (ap (with_moves matrix) (moves-idle t s dead))) proved)
+    (subst (λ p. IsCertified (pairs_network p) plan) (sym (ap (with_parts matrix (slot_names t)) (moves-idle t s dead))) proved)
 
 pub IsCertifiedWithout-appended : (t : TimetableView) (matrix : MatrixView) (plan : Plan) (slot : Slot) → slot.trip.live ≡ true
     → IsCertified (network_of t matrix) plan
@@ -104,7 +97,7 @@ IsCertifiedWithout-appended t matrix plan slot runs proved =
           ∙ ap (λ live. is_some (cond live (Some (move_of slot.trip)) None)) runs;
       certified = subst (λ network. IsCertified network plan)
           (sym (network-without longer (pairs_of t matrix None) (length t.slots) refl
-          (get_or_past (trip_moves t.slots) (length t.slots) None (omega (arith, length-map t.slots move_of_slot))) others)) proved;
+          (get_or_past (trip_moves t.slots) (length t.slots) None (omega (arith, length-map t.slots move_of_slot))) others names)) proved;
     }
   where
     split : trip_moves (t.slots ++ slot ∷ []) ≡ trip_moves t.slots ++ move_of_slot slot ∷ []
@@ -127,3 +120,18 @@ IsCertifiedWithout-appended t matrix plan slot runs proved =
         (omega (arith, h, other, length-append (trip_moves t.slots) (move_of_slot slot ∷ []), length-map t.slots move_of_slot))))
         (cases_lt i (length t.slots))
         ∙ ap (λ moves. move_at moves i) (sym split)
+
+    name : Slot → List ℕ
+    name slot = slot.name
+
+    names : (i : ℕ) → i ≢ length t.slots → name_at (slot_names t) i ≡ name_at (slot_names (record t { slots = t.slots ++ slot ∷ [] })) i
+    names i other =
+        ⊎_elim
+        (λ (h : i < length t.slots). sym (get_or_append_left (slot_names t) (slot.name ∷ []) [] i
+        (omega (arith, h, length-map t.slots name))))
+        (λ (h : length t.slots ≤ i).
+        get_or_past (slot_names t) i [] (omega (arith, h, length-map t.slots name))
+        ∙ sym (get_or_past (slot_names t ++ slot.name ∷ []) i []
+        (omega (arith, h, other, length-append (slot_names t) (slot.name ∷ []), length-map t.slots name))))
+        (cases_lt i (length t.slots))
+        ∙ ap (λ names. name_at names i) (sym (map-append name t.slots (slot ∷ [])))

@@ -6,7 +6,7 @@ use Rattle.trip_model.specs.Plain.{AreMoves}
 
 -- the same pairs but that the trip of a slot does not run
 abbrev pub pairs_without : PairsView → ℕ → PairsView
-pairs_without pairs s = record { moves = moves_without pairs.moves (Some s); matrix = pairs.matrix }
+pairs_without pairs s = record pairs { moves = moves_without pairs.moves (Some s) }
 
 -- a plan that is certified for other pairs, of valid moves, which without the trip of a slot are these
 pub record IsCertifiedWith (pairs : PairsView) (s : ℕ) (plan : Plan) : Type 0 where

@@ -75,7 +75,8 @@ chains-determined : IsDetermined chains_asked
 unfolding chains_asked
 chains-determined =
     determined-text chains_shown (λ stands one other is is'.
-    let same = matrix-same stands.entries stands.pulls (length stands.timetable.places) is.matrix is'.matrix is.matrix_is is'.matrix_is in
+    let same = matrix-same stands.entries stands.pulls stands.rules
+    (length stands.timetable.places) is.matrix is'.matrix is.matrix_is is'.matrix_is in
     let are = subst (λ matrix. AreChains matrix (live_moves stands.timetable.slots) is'.chains.chains) (sym same) is'.chains.are in
     is.chains.printed ∙ one-text stands.timetable is.matrix (live_moves stands.timetable.slots) 0 is.chains.chains is'.chains.chains
     is.chains.are are ∙ sym is'.chains.printed)
@@ -91,7 +92,8 @@ unfolding check_asked
 check-determined =
     determined-feed check_does (λ read said one other is is'.
     is.done ∙ ap (checked read said)
-    (matrix-same said.entries said.pulls (length said.base.places) is.matrix is'.matrix is.matrix_is is'.matrix_is) ∙ sym is'.done)
+    (matrix-same said.entries said.pulls said.rules (length said.base.places) is.matrix is'.matrix is.matrix_is is'.matrix_is)
+    ∙ sym is'.done)
 
 keep-determined : IsDetermined keep_asked
 unfolding keep_asked
@@ -113,7 +115,7 @@ one-numbers timetable matrix one other is is' =
 one-planners : (said : FeedView) (lines : Result (List PlannerLine) FeedFault) (one other : OutcomeView) → GivesBy said lines one
     → GivesBy said lines other → one ≡ other
 one-planners said (Ok lines) one other is is' =
-    let same = matrix-same said.entries said.pulls (length said.base.places) is.matrix is'.matrix is.matrix_is is'.matrix_is in
+    let same = matrix-same said.entries said.pulls said.rules (length said.base.places) is.matrix is'.matrix is.matrix_is is'.matrix_is in
     let numbered = subst (λ matrix. IsNumbered (timetable_after (standing said) lines) matrix is'.planned.numbers) (sym same)
     is'.planned.numbered in
     let numbers = one-numbers (timetable_after (standing said) lines) is.matrix is.planned.numbers is'.planned.numbers is.planned.numbered
@@ -158,7 +160,8 @@ one-audit said (Ok trips) one other (inl is) (inl is') =
 one-audit said (Ok trips) one other (inl is) (inr is') = absurd (is.first.bad (is'.0 is.record_before is.first.within is.first.selected))
 one-audit said (Ok trips) one other (inr is) (inl is') = absurd (is'.first.bad (is.0 is'.record_before is'.first.within is'.first.selected))
 one-audit said (Ok trips) one other (inr is) (inr is') =
-    let same = matrix-same said.entries said.pulls (length said.base.places) is.1.matrix is'.1.matrix is.1.matrix_is is'.1.matrix_is in
+    let same = matrix-same said.entries said.pulls said.rules
+    (length said.base.places) is.1.matrix is'.1.matrix is.1.matrix_is is'.1.matrix_is in
     let judged = subst (λ matrix. JudgesStated (refused_of said) (ending_of said) (standing said) matrix (stated_of said trips)
     (misfits_in (standing said) matrix (stated_of said trips)) other) (sym same) is'.1.judged in
     one-cost (refused_of said) (ending_of said) (standing said) is.1.matrix (stated_of said trips)
@@ -171,8 +174,9 @@ audit-determined = determined-feed audit_does (λ read said one other. one-audit
 sample-determined : (trips : ℕ) → IsDetermined (sample_asked trips)
 sample-determined trips = λ read one other given given'.
     one-given (summary_does trips) (λ read said one other is is'.
-    let same = matrix-same said.entries said.pulls (length said.base.places) is.matrix is'.matrix is.matrix_is is'.matrix_is in
-    let summary = subst (λ matrix. HasSummary (standing said) matrix (numbered_by said.settings) is'.fixed is'.vehicles is'.minutes) (sym same)
+    let same = matrix-same said.entries said.pulls said.rules (length said.base.places) is.matrix is'.matrix is.matrix_is is'.matrix_is in
+    let summary = subst (λ matrix. HasSummary (standing said) matrix (numbered_by said.settings) is'.fixed is'.vehicles is'.minutes)
+    (sym same)
     is'.summary in
     let network = network_of (standing said) is.matrix in
     let fixed : is.fixed ≡ is'.fixed = omega (arith, ints, is.summary.fixed_is, summary.fixed_is) in
@@ -197,7 +201,8 @@ unfolding chart_asked
 chart-determined =
     determined-named chart_named (λ read naming said one other is is'.
     let matrix = one-matrix said is.matrix is'.matrix is.matrix_is is'.matrix_is in
-    let blocks = one-list (likings_in read said.settings said.base) said is.matrix is'.matrix is.plan is'.plan is.blocks is'.blocks is.matrix_is is'.matrix_is is.drawn is'.drawn in
+    let blocks = one-list (likings_in read said.settings said.base) said is.matrix is'.matrix is.plan is'.plan is.blocks is'.blocks
+    is.matrix_is is'.matrix_is is.drawn is'.drawn in
     is.done ∙ (λ i. refusing_first (refused_of said) (chart_text (standing said) (matrix i) (names_of naming (blocks i)) (blocks i))
     (ending_of said)) ∙ sym is'.done)
 
@@ -206,16 +211,19 @@ unfolding joined_asked
 joined-determined =
     determined-named joined_named (λ read naming said one other is is'.
     let matrix = one-matrix said is.matrix is'.matrix is.matrix_is is'.matrix_is in
-    let blocks = one-list (likings_in read said.settings said.base) said is.matrix is'.matrix is.plan is'.plan is.blocks is'.blocks is.matrix_is is'.matrix_is is.drawn is'.drawn in
+    let blocks = one-list (likings_in read said.settings said.base) said is.matrix is'.matrix is.plan is'.plan is.blocks is'.blocks
+    is.matrix_is is'.matrix_is is.drawn is'.drawn in
     is.done ∙ (λ i. boards_outcome (refused_of said) (ending_of said) (names_of naming (blocks i)) (standing said) (matrix i)
     (blocks i))
     ∙ sym is'.done)
 
 -- what is written of two papers that are tables of texts
-one-written : (likings : LikingsView) (naming : NamingView) (said : FeedView) (trips stop_times : TableView) (one other : OutcomeView) → IsWritten likings naming said trips stop_times one
+one-written : (likings : LikingsView) (naming : NamingView) (said : FeedView) (trips stop_times : TableView) (one other : OutcomeView)
+    → IsWritten likings naming said trips stop_times one
     → IsWritten likings naming said trips stop_times other → one ≡ other
 one-written likings naming said trips stop_times one other is is' =
-    let blocks = one-list likings said is.matrix is'.matrix is.plan is'.plan is.blocks is'.blocks is.matrix_is is'.matrix_is is.drawn is'.drawn in
+    let blocks = one-list likings said is.matrix is'.matrix is.plan is'.plan is.blocks is'.blocks is.matrix_is is'.matrix_is is.drawn
+    is'.drawn in
     is.done
     ∙ (λ i. record {
       writes = feed_files naming said trips stop_times (blocks i);
@@ -226,7 +234,8 @@ one-written likings naming said trips stop_times one other is is' =
     ∙ sym is'.done
 
 -- and where one of them is refused
-one-write : (likings : LikingsView) (naming : NamingView) (said : FeedView) (trips stop_times : Result TableView FeedFault) (one other : OutcomeView)
+one-write : (likings : LikingsView) (naming : NamingView) (said : FeedView) (trips stop_times : Result TableView FeedFault)
+    (one other : OutcomeView)
     → WritesBy likings naming said trips stop_times one → WritesBy likings naming said trips stop_times other → one ≡ other
 one-write likings naming said trips stop_times one other (inl is) (inl is') =
     is.done ∙ ap refusing (one-paper paper.Trips (trip_columns said.settings) trips is.refused is'.refused is.for is'.for) ∙ sym is'.done

@@ -13,7 +13,7 @@ use Rattle.same_runs.specs.Blocks.{blocks_after}
 
 -- a feed has one matrix
 pub one-matrix : (said : FeedView) (one other : MatrixView) → IsMatrixFor said one → IsMatrixFor said other → one ≡ other
-one-matrix said one other is is' = matrix-same said.entries said.pulls (length said.base.places) one other is is'
+one-matrix said one other is is' = matrix-same said.entries said.pulls said.rules (length said.base.places) one other is is'
 
 -- blocks that are drawn are those of its plan
 pub drawn-are : (likings : LikingsView) (said : FeedView) (matrix : MatrixView) (plan : Plan) (blocks : List (List ℕ))
@@ -21,7 +21,8 @@ pub drawn-are : (likings : LikingsView) (said : FeedView) (matrix : MatrixView) 
 drawn-are likings said matrix plan blocks drawn = drawn.along ∙ ap (blocks_in (standing_after said.base said.lines)) drawn.last
 
 -- so they are the same ones, whoever draws them
-pub one-list : (likings : LikingsView) (said : FeedView) (one other : MatrixView) (plan plan' : Plan) (blocks blocks' : List (List ℕ)) → IsMatrixFor said one
+pub one-list : (likings : LikingsView) (said : FeedView) (one other : MatrixView) (plan plan' : Plan) (blocks blocks' : List (List ℕ))
+    → IsMatrixFor said one
     → IsMatrixFor said other
     → IsDrawn said.base said.lines one likings plan blocks → IsDrawn said.base said.lines other likings plan' blocks' → blocks ≡ blocks'
 one-list likings said one other plan plan' blocks blocks' is is' drawn drawn' =

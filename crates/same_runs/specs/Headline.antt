@@ -59,8 +59,8 @@ abbrev pub likes_by : (Paper → Found) → FeedView → MatrixView → ℕ → 
 likes_by found said matrix =
     likes said.base matrix (likings_by said.settings said.base (table_in paper.Trips (found paper.Trips)))
 
--- What was found of each paper, and what is done. The feed is accepted, and its blocks are named in one way. A moment m is after so many records of its script, and has
--- one plan.
+-- What was found of each paper, and what is done. The feed is accepted, and its blocks are named in one way. A moment m is after so
+-- many records of its script, and has one plan.
 pub record Headline (found : Paper → Found) (outcome : OutcomeView) : Type 0 where
   pub said : FeedView
   pub accepted : said_by found ≡ Ok said
@@ -74,7 +74,7 @@ pub record Headline (found : Paper → Found) (outcome : OutcomeView) : Type 0 w
       → IsPartOf (line_after said matrix plan (suc n)) outcome.text
   -- and last those of the plan after all records
   pub last : (front : List ℕ) × (outcome.text ≡ front ++ numbers_after said matrix plan (length said.lines))
-  -- no blocking without deadheads has fewer vehicles than the first number
+  -- no blocking without deadheads has fewer vehicles than the first number, whatever the rules of pairs
   pub without : (m : ℕ) → m ≤ length said.lines → (plain : List (List ℕ))
       × IsFewest (plain_network (trip_moves (timetable_after said m).slots)) plain
       × (length plain ≡ fixed_number (timetable_after said m))

@@ -157,7 +157,8 @@ impl FeedCommand for Summarize {
         let prefix = Text::of(alloc, said.settings.prefix())?;
         let naming = Naming::of(prefix, Vec::new(alloc));
         let pulls = said.pulls;
-        let matrix = matrix_of(alloc, &said.timetable, said.deadheads, pulls)?;
+        let rules = said.rules;
+        let matrix = matrix_of(alloc, &said.timetable, said.deadheads, pulls, rules)?;
         let edited = after_script(alloc, said.timetable, said.lines)?;
         summed(alloc, self.trips, &naming, &edited, &matrix, steps)
     }

@@ -28,7 +28,6 @@ abbrev pub leads_to : ℕ → Option ℕ → Bool
 leads_to s None = false
 leads_to s (Some j) = j == s
 
--- word: trip before = predecessor
 -- the trip before that of s: the first slot whose next trip is that of s
 abbrev pub before_of : List (Option ℕ) → ℕ → Option ℕ
 before_of links s = position (leads_to s) links

@@ -42,7 +42,6 @@ shifted trip by = record trip {
 }
 
 -- rule: a shift within the tolerances
--- word: shift; tolerance; offset = departure-time shift; its window; minutes off the published time
 -- the trip may be moved by so many minutes: then its offset is within its tolerances, and it departs at midnight or later
 pub record MayShift (trip : Trip) (by : ℤ) : Type 0 where
   pub not_too_early : neg_ℤ (pos trip.early) ≤ℤ (trip.offset +ℤ by)

@@ -18,6 +18,7 @@ use Rattle.trip_model.specs.Timetable.{TimetableView, IsTimetable}
 use Rattle.edit_script.specs.declared.edit.Line.{Line}
 use Rattle.edit_script.specs.Machine.{machine, timetable_at}
 use Rattle.feed_read.specs.Base.{base_of}
+use Rattle.pair_rules.specs.Rules.{PairRule}
 use Rattle.deadhead_matrix.specs.declared.entry.Entry.{Entry}
 use Rattle.deadhead_matrix.specs.declared.pulls.Pull.{Pull}
 use Rattle.deadhead_matrix.specs.Matrix.{MatrixView}
@@ -104,12 +105,14 @@ stated-plan states settings trips_bytes stop_times_bytes trips stop_times read n
 
 -- A feed whose timetable was read, between the places of another that knows more, and what was written of it after its script.
 module _ (states : WrittenFeedStatesPlan) (settings : SettingsView) (read more : TimetableView) (entries : List Entry) (pulls : List Pull)
-    (lines : List Line) (trips_bytes stop_times_bytes : List ℕ) (trips stop_times : TableView) (outcome : OutcomeView)
+    (rules : List PairRule) (lines : List Line) (trips_bytes stop_times_bytes : List ℕ) (trips stop_times : TableView)
+    (outcome : OutcomeView)
     (feed : IsFeed settings trips_bytes stop_times_bytes trips stop_times read) (likings : LikingsView) (naming : NamingView)
-    (written : IsWritten likings naming (said_with settings (with_slots read.slots more) entries pulls lines) trips stop_times outcome)
-    (whole : IsWholeAfter (said_with settings (with_slots read.slots more) entries pulls lines) stop_times) where
+    (written : IsWritten likings naming (said_with settings (with_slots read.slots more) entries pulls rules lines) trips stop_times
+    outcome)
+    (whole : IsWholeAfter (said_with settings (with_slots read.slots more) entries pulls rules lines) stop_times) where
   abbrev said : FeedView
-  said = said_with settings (with_slots read.slots more) entries pulls lines
+  said = said_with settings (with_slots read.slots more) entries pulls rules lines
 
   abbrev now : TimetableView
   now = standing said
@@ -135,7 +138,7 @@ module _ (states : WrittenFeedStatesPlan) (settings : SettingsView) (read more :
   base_again = with_slots again.slots more
 
   abbrev said_again : FeedView
-  said_again = said_with settings base_again entries pulls []
+  said_again = said_with settings base_again entries pulls rules []
 
   valid : IsTimetable now
   valid = drawn-valid said.base lines written.matrix likings written.plan written.blocks written.drawn
@@ -192,7 +195,8 @@ module _ (states : WrittenFeedStatesPlan) (settings : SettingsView) (read more :
 
     plan : StatesPlan table again (chosen_in settings table) written.matrix names written.blocks
     plan =
-        stated-plan states settings trips_bytes stop_times_bytes trips stop_times read now written.matrix written.plan.next names written.blocks
+        stated-plan states settings trips_bytes stop_times_bytes trips stop_times read now written.matrix written.plan.next names
+        written.blocks
         scheduled.along feed valid is_whole
         (record { times = whole.times; trips_unmarked = trips_unmarked; stop_times_unmarked = stop_times_unmarked })
         scheduled.least written.named table again table_again read_again
@@ -202,7 +206,7 @@ module _ (states : WrittenFeedStatesPlan) (settings : SettingsView) (read more :
         let chosen = chosen_in settings table in
         let stated = stated_in table base_again chosen in
         let network : network_of base_again written.matrix ≡ network_of base_again audited.matrix =
-        ap (network_of base_again) (matrix-same entries pulls (length more.places) written.matrix audited.matrix written.matrix_is
+        ap (network_of base_again) (matrix-same entries pulls rules (length more.places) written.matrix audited.matrix written.matrix_is
         audited.matrix_is) in
         let least = subst (λ network. IsLeast network (slots_by stated)) network plan.stated.least in
         let quiet =

@@ -13,6 +13,7 @@ use Rattle.gtfs_tables.specs.declared.paper.Paper.{Paper}
 use Rattle.gtfs_tables.specs.declared.paper.Paper.TheVariants as paper
 use Rattle.gtfs_tables.specs.declared.paper.TheConstants.{MOST_BYTES}
 use Rattle.desk_settings.specs.Settings.{settings_of}
+use Rattle.pair_rules.specs.Reading.{rules_of}
 use Rattle.feed_read.specs.Base.{base_of}
 use Rattle.deadhead_matrix.specs.Deadheads.{deadheads_of}
 use Rattle.deadhead_matrix.specs.Depot.{pulls_of}
@@ -55,13 +56,13 @@ said_same : (one other : Paper → Found) → one paper.Settings ≡ other paper
     → one paper.Tolerances ≡ other paper.Tolerances
     → one paper.Calendar ≡ other paper.Calendar → one paper.CalendarDates ≡ other paper.CalendarDates → one paper.Trips ≡ other paper.Trips
     → one paper.StopTimes ≡ other paper.StopTimes → one paper.Deadheads ≡ other paper.Deadheads → one paper.Depot ≡ other paper.Depot
-    → one paper.Edits ≡ other paper.Edits
+    → one paper.Pairs ≡ other paper.Pairs → one paper.Edits ≡ other paper.Edits
     → said_by one ≡ said_by other
 unfolding said_by
-said_same one other settings terminals tolerances calendar dates trips stop_times deadheads depot edits = λ i.
+said_same one other settings terminals tolerances calendar dates trips stop_times deadheads depot pairs edits = λ i.
     (settings_of (settings i) (terminals i) (tolerances i) >>= λ s. kept_on (calendar i) (dates i) s s.date) >>= λ s. base_of s (trips i)
     (stop_times i) >>= λ t. deadheads_of (deadheads i) t >>= λ d. pulls_of (depot i) d.0
-    >>= λ p. lines_by (edits i) >>= λ lines. Ok (said_with s d.0 d.1 p lines)
+    >>= λ p. rules_of (pairs i) >>= λ r. lines_by (edits i) >>= λ lines. Ok (said_with s d.0 d.1 p r lines)
 
 -- what is found in them
 module _ (files : Files) (blocks prices : List ℕ) where
@@ -84,7 +85,8 @@ module _ (files : Files) (blocks prices : List ℕ) where
       (kept (file_name_of paper.Tolerances) refl refl) (kept (file_name_of paper.Calendar) refl refl)
       (kept (file_name_of paper.CalendarDates) refl refl) (kept (file_name_of paper.Trips) refl refl)
       (kept (file_name_of paper.StopTimes) refl refl) (kept (file_name_of paper.Deadheads) refl refl)
-      (kept (file_name_of paper.Depot) refl refl) (kept (file_name_of paper.Edits) refl refl)
+      (kept (file_name_of paper.Depot) refl refl) (kept (file_name_of paper.Pairs) refl refl)
+      (kept (file_name_of paper.Edits) refl refl)
 
   -- the two files are found as they were written, where they are not too long
   pub blocks_read : IsShort (written files blocks prices) paper.Blocks
@@ -207,7 +209,7 @@ module _ (seen again : Option ReadView) (before left later after : World) (first
     yes =
         judged.done
         ∙ ap (checked two.chosen.read said)
-        (matrix-same said.entries said.pulls (length said.base.places) judged.matrix plan.matrix judged.matrix_is plan.matrix_is)
+        (matrix-same said.entries said.pulls said.rules (length said.base.places) judged.matrix plan.matrix judged.matrix_is plan.matrix_is)
         ∙ ap (claim_outcome (refused_of said) (standing said) plan.matrix) claim
         ∙ ap (verdict_outcome (refused_of said) (standing said) accepted.0) accepted.2
 

@@ -25,6 +25,8 @@ use Rattle.deadhead_matrix.specs.declared.entry.Entry.{Entry}
 use Rattle.deadhead_matrix.specs.declared.pulls.Pull.{Pull}
 use Rattle.deadhead_matrix.specs.Deadheads.{deadheads_of}
 use Rattle.deadhead_matrix.specs.Depot.{pulls_of}
+use Rattle.pair_rules.specs.Reading.{rules_of}
+use Rattle.pair_rules.specs.Rules.{PairRule}
 use Rattle.claim_files.proofs.EachRecord.{read-parts, same_Ok}
 use Rattle.claim_files.proofs.FieldsBack.{then as and_then}
 use Rattle.plan_choice.specs.Likings.{LikingsView}
@@ -33,8 +35,8 @@ use Rattle.desk_run.specs.Commands.{IsGiven}
 use Rattle.desk_run.specs.Outcome.{OutcomeView, status_of}
 use Rattle.desk_run.specs.Reading.{ReadView, found_of, pages_in}
 use Rattle.desk_run.specs.declared.status.TheConstants.{EDITS_REFUSED}
-use Rattle.desk_feed.specs.Feed.{FeedView, deadheads_in, feed_papers, kept_on, lines_by, lines_in, pulls_in, said_by, said_with}
-use Rattle.desk_feed.specs.Feed.{settings_in, timetable_in}
+use Rattle.desk_feed.specs.Feed.{FeedView, deadheads_in, feed_papers, kept_on, lines_by, lines_in, pulls_in, rules_in, said_by}
+use Rattle.desk_feed.specs.Feed.{said_with, settings_in, timetable_in}
 use Rattle.desk_feed.specs.Judging.{Does, refusing, said_in}
 use Rattle.block_names.specs.Names.{NamingView}
 use Rattle.feed_likings.specs.Likings.{likings_in}
@@ -95,12 +97,14 @@ pub record HasParts (found : Paper → Found) (said : FeedView) : Type 0 where
   pub more : TimetableView
   pub entries : List Entry
   pub pulls : List Pull
+  pub rules : List PairRule
   pub lines : List Line
   pub settings_are : settings_in found ≡ Ok settings
   pub read_is : timetable_in found settings ≡ Ok read
   pub deadheads_are : deadheads_in found read ≡ Ok (with_slots read.slots more, entries)
   pub pulls_are : pulls_in found more ≡ Ok pulls
-  pub said_is : said ≡ said_with settings (with_slots read.slots more) entries pulls lines
+  pub rules_are : rules_in found ≡ Ok rules
+  pub said_is : said ≡ said_with settings (with_slots read.slots more) entries pulls rules lines
 
 pub has-parts : (found : Paper → Found) (said : FeedView) → said_by found ≡ Ok said → HasParts found said
 unfolding said_by
@@ -109,7 +113,8 @@ has-parts found said e =
     let read = read-parts (timetable_in found settings.0) _ said settings.2 in
     let deadheads = read-parts (deadheads_in found read.0) _ said read.2 in
     let pulls = read-parts (pulls_in found deadheads.0.0) _ said deadheads.2 in
-    let lines = read-parts (lines_in found) _ said pulls.2 in
+    let rules = read-parts (rules_in found) _ said pulls.2 in
+    let lines = read-parts (lines_in found) _ said rules.2 in
     let kept = slots-kept (found paper.Deadheads) read.0 deadheads.0 deadheads.1 in
     record {
       settings = settings.0;
@@ -117,12 +122,14 @@ has-parts found said e =
       more = deadheads.0.0;
       entries = deadheads.0.1;
       pulls = pulls.0;
+      rules = rules.0;
       lines = lines.0;
       settings_are = settings.1;
       read_is = read.1;
       deadheads_are = deadheads.1 ∙ ap (λ t. Ok (t, deadheads.0.1)) kept;
       pulls_are = pulls.1;
-      said_is = sym (same_Ok _ said lines.2) ∙ ap (λ t. said_with settings.0 t deadheads.0.1 pulls.0 lines.0) kept;
+      rules_are = rules.1;
+      said_is = sym (same_Ok _ said lines.2) ∙ ap (λ t. said_with settings.0 t deadheads.0.1 pulls.0 rules.0 lines.0) kept;
     }
 
 -- the papers beside the trips, the stop times and the script are found as before
@@ -134,12 +141,13 @@ pub record AreFoundAlike (one other : Paper → Found) : Type 0 where
   pub dates : one paper.CalendarDates ≡ other paper.CalendarDates
   pub deadheads : one paper.Deadheads ≡ other paper.Deadheads
   pub depot : one paper.Depot ≡ other paper.Depot
+  pub pairs : one paper.Pairs ≡ other paper.Pairs
 
 -- papers found so, with a timetable of other trips and without a script, say this
 pub says-again : (one other : Paper → Found) (said : FeedView) → AreFoundAlike one other
     → (parts : HasParts other said) (again : TimetableView) → timetable_in one parts.settings ≡ Ok again
     → again ≡ with_slots again.slots parts.read → one paper.Edits ≡ Missing
-    → said_by one ≡ Ok (said_with parts.settings (with_slots again.slots parts.more) parts.entries parts.pulls [])
+    → said_by one ≡ Ok (said_with parts.settings (with_slots again.slots parts.more) parts.entries parts.pulls parts.rules [])
 unfolding said_by
 says-again one other said alike parts again read is no_script =
     and_then (settings_in one) parts.settings _ _
@@ -152,7 +160,8 @@ says-again one other said alike parts again read is no_script =
     parts.deadheads_are)
     (and_then (pulls_in one (with_slots again.slots parts.more)) parts.pulls _ _
     (ap (λ depot. pulls_of depot parts.more) alike.depot ∙ parts.pulls_are)
-    (and_then (lines_in one) [] _ _ (ap lines_by no_script) refl))))
+    (and_then (rules_in one) parts.rules _ _ (ap rules_of alike.pairs ∙ parts.rules_are)
+    (and_then (lines_in one) [] _ _ (ap lines_by no_script) refl)))))
 
 -- what a run of `write` has written that has done all, how it likes links, and how blocks are named
 pub record HasWritten (said : FeedView) (trips stop_times : Result TableView FeedFault) (outcome : OutcomeView) : Type 0 where
@@ -167,13 +176,15 @@ pub record HasWritten (said : FeedView) (trips stop_times : Result TableView Fee
 refused-high : (outcome : OutcomeView) (refused : FeedFault) → status_of outcome.ending ≤ EDITS_REFUSED → outcome ≡ refusing refused → ⊥
 refused-high outcome refused low done = omega (arith, low, ap (λ (o : OutcomeView). status_of o.ending) done)
 
-has-written : (likings : LikingsView) (naming : NamingView) (said : FeedView) (trips stop_times : Result TableView FeedFault) (outcome : OutcomeView)
+has-written : (likings : LikingsView) (naming : NamingView) (said : FeedView) (trips stop_times : Result TableView FeedFault)
+    (outcome : OutcomeView)
     → status_of outcome.ending ≤ EDITS_REFUSED → WritesBy likings naming said trips stop_times outcome
     → HasWritten said trips stop_times outcome
 has-written likings naming said trips stop_times outcome low (inl bad) = absurd (refused-high outcome bad.refused low bad.done)
 has-written likings naming said (Err due) stop_times outcome low (inr (inl none)) = absurd none
 has-written likings naming said (Err due) stop_times outcome low (inr (inr none)) = absurd none
-has-written likings naming said (Ok first) stop_times outcome low (inr (inl bad)) = absurd (refused-high outcome bad.1.refused low bad.1.done)
+has-written likings naming said (Ok first) stop_times outcome low (inr (inl bad)) = absurd
+    (refused-high outcome bad.1.refused low bad.1.done)
 has-written likings naming said (Ok first) (Err due) outcome low (inr (inr does)) = absurd does.1
 has-written likings naming said (Ok first) (Ok second) outcome low (inr (inr does)) =
     record { first = first; second = second; first_is = refl; second_is = refl; likings = likings; naming = naming; written = does.1.1 }
@@ -233,4 +244,5 @@ module _ (files : Files) (trips stop_times : List ℕ) where
     dates = ap (found_as MOST_BYTES) (is.others.1.1.1.1.0 ∙ kept (file_name_of paper.CalendarDates) refl refl);
     deadheads = ap (found_as MOST_BYTES) (is.others.1.1.1.1.1.0 ∙ kept (file_name_of paper.Deadheads) refl refl);
     depot = ap (found_as MOST_BYTES) (is.others.1.1.1.1.1.1.0 ∙ kept (file_name_of paper.Depot) refl refl);
+    pairs = ap (found_as MOST_BYTES) (is.others.1.1.1.1.1.1.1.0 ∙ kept (file_name_of paper.Pairs) refl refl);
   }

@@ -67,7 +67,8 @@ module _ (states : WrittenFeedStatesPlan) (files laid : Files) (first second : T
   -- of a feed by its parts
   tells-parts : (said : FeedView) → (parts : HasParts before said) → table_in paper.Trips (before paper.Trips) ≡ Ok first
       → table_in paper.StopTimes (before paper.StopTimes) ≡ Ok second
-      → TellsOf (said_with parts.settings (record parts.more { slots = parts.read.slots }) parts.entries parts.pulls parts.lines)
+      → TellsOf (said_with parts.settings (record parts.more { slots = parts.read.slots }) parts.entries parts.pulls parts.rules
+      parts.lines)
   tells-parts said parts first_is second_is likings naming written whole is trips_readable stop_times_readable does =
       let trips = file-of paper.Trips (before paper.Trips) first first_is in
       let stop_times = file-of paper.StopTimes (before paper.StopTimes) second second_is in
@@ -79,7 +80,8 @@ module _ (states : WrittenFeedStatesPlan) (files laid : Files) (first second : T
             (found-fits (get files (file_name_of paper.StopTimes)) stop_times.bytes stop_times.is);
         read = (λ i. base_of parts.settings (sym trips.is i) (sym stop_times.is i)) ∙ parts.read_is;
       } in
-      let now = said_with parts.settings (record parts.more { slots = parts.read.slots }) parts.entries parts.pulls parts.lines in
+      let now = said_with parts.settings (record parts.more { slots = parts.read.slots }) parts.entries parts.pulls parts.rules
+      parts.lines in
       let trips_text = trips_of naming now first written.blocks in
       let stop_times_text = stop_times_of now second in
       let both = with_both files trips_text stop_times_text in
@@ -91,11 +93,13 @@ module _ (states : WrittenFeedStatesPlan) (files laid : Files) (first second : T
       ∙ found-readable both trips_name trips_text trips_stand trips_readable in
       let stop_times_found : after paper.StopTimes ≡ File stop_times_text = ap (found_as MOST_BYTES) is.stop_times
       ∙ found-readable both stop_times_name stop_times_text stop_times_stand stop_times_readable in
-      let read = read_again states parts.settings parts.read parts.more parts.entries parts.pulls parts.lines trips.bytes stop_times.bytes
+      let read = read_again states parts.settings parts.read parts.more parts.entries parts.pulls parts.rules parts.lines trips.bytes
+      stop_times.bytes
       first second outcome feed likings naming written whole trips_unmarked stop_times_unmarked in
-      let table = table_again states parts.settings parts.read parts.more parts.entries parts.pulls parts.lines trips.bytes
+      let table = table_again states parts.settings parts.read parts.more parts.entries parts.pulls parts.rules parts.lines trips.bytes
       stop_times.bytes first second outcome feed likings naming written whole trips_unmarked stop_times_unmarked in
-      finds-least states parts.settings parts.read parts.more parts.entries parts.pulls parts.lines trips.bytes stop_times.bytes first
+      finds-least states parts.settings parts.read parts.more parts.entries parts.pulls parts.rules parts.lines trips.bytes
+      stop_times.bytes first
       second outcome feed likings naming written whole trips_unmarked stop_times_unmarked after
       (says-again after before said (laid-alike files trips_text stop_times_text laid is) parts _
       ((λ i. base_of parts.settings (trips_found i) (stop_times_found i)) ∙ read) refl (ap (found_as MOST_BYTES) is.edits))
@@ -159,7 +163,8 @@ module _ (states : WrittenFeedStatesPlan) (seen heard : Option ReadView) (before
         let first_is = sym (ap (λ pages. table_in paper.Trips (found_of pages paper.Trips)) read_first) ∙ has.first_is in
         let second_is = sym (ap (λ pages. table_in paper.StopTimes (found_of pages paper.StopTimes)) read_first) ∙ has.second_is in
         let told =
-        tells states files laid has.first has.second one.chosen.outcome two.chosen.outcome said.0 says first_is second_is has.likings has.naming has.written
+        tells states files laid has.first has.second one.chosen.outcome two.chosen.outcome said.0 says first_is second_is has.likings
+        has.naming has.written
         (can.whole said.0 has.second says second_is)
         (subst (λ written. IsLaid written laid) both is) (subst (λ written. IsReadable written trips_name) both can.trips)
         (subst (λ written. IsReadable written stop_times_name) both can.stop_times) audited in

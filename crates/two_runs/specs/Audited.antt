@@ -28,7 +28,7 @@ use Rattle.audit_command.specs.Lines.{cost_line}
 -- the papers of a feed beside its trips, its stop times and its script
 abbrev pub other_papers : List Paper
 other_papers = paper.Settings ∷ paper.Terminals ∷ paper.Tolerances ∷ paper.Calendar ∷ paper.CalendarDates ∷ paper.Deadheads ∷ paper.Depot
-    ∷ []
+    ∷ paper.Pairs ∷ []
 
 -- The written feed is laid. What was written has the names of the trips and of the stop times. There is no script, and every
 -- other paper is as it was.

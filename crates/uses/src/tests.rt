@@ -60,9 +60,10 @@ fn followed<L: Ledger>(
         timetable,
         deadheads,
         pulls,
+        rules,
         lines,
     } = feed;
-    let matrix = matrix_of(alloc, &timetable, &deadheads, pulls)?;
+    let matrix = matrix_of(alloc, &timetable, &deadheads, pulls, rules)?;
     let likings = read_likings(alloc, &settings, read, &timetable)?;
     Ok(Some(draw_after(alloc, timetable, &lines, matrix, &likings, steps)?))
 }

@@ -125,7 +125,8 @@ fn written_of<'a, L: Ledger>(
     let slots = said.timetable.slots();
     let alloc = said.alloc;
     let pulls = said.pulls;
-    let matrix = matrix_of(alloc, &said.timetable, said.deadheads, pulls)?;
+    let rules = said.rules;
+    let matrix = matrix_of(alloc, &said.timetable, said.deadheads, pulls, rules)?;
     let likings = read_likings(alloc, said.settings, said.read, &said.timetable)?;
     let drawn = draw_after(alloc, said.timetable, said.lines, matrix, &likings, steps)?;
     let stands = drawn.desk.timetable();

@@ -1,7 +1,7 @@
 -- What is read of the written feed states the blocks of the plan.
 use Rattle.std.proofs.Common.{◌≡◌, ℕ, ◌<◌, Bool, false, List, [], length, get_or, map, Result, Ok, refl, sym, ap, subst, ◌∙◌, arith}
 use Rattle.std.specs.List.{range_with_len}
-use Rattle.std.proofs.lemmas.List.{get_or-map, length-map, take_all}
+use Rattle.std.proofs.lemmas.List.{get_or-map}
 use Rattle.std.proofs.lemmas.List.Elements.{All-from_get_or}
 use Rattle.std.proofs.lemmas.List.FromFn.{get_or-map-range_with_len, get_or-range_with_len, length-range_with_len}
 use Rattle.desk_io.specs.declared.shelf.Found.TheVariants.{File}
@@ -14,13 +14,12 @@ use Rattle.desk_settings.specs.Settings.{SettingsView}
 use Rattle.trip_model.specs.Links.{blocks_along}
 use Rattle.trip_model.specs.Order.{by_departure}
 use Rattle.trip_model.specs.Plain.{trip_moves}
-use Rattle.trip_model.specs.Timetable.{TimetableView, Slot, slot_names}
+use Rattle.trip_model.specs.Timetable.{TimetableView}
 use Rattle.deadhead_matrix.specs.Matrix.{MatrixView}
 use Rattle.block_writer.specs.Trips.{header_written, trips_rows, with_blocks}
 use Rattle.block_writer.proofs.ReadAgain as writer
 use Rattle.block_audit.specs.Stated.{blocks_by, block_field, stated_in}
 use Rattle.claim_files.proofs.EachRecord.{same_Ok}
-use Rattle.written_laws.specs.Follows.{IsEditedFrom}
 use Rattle.written_laws.specs.Written.{as_written}
 use Rattle.written_laws.proofs.Edits.{standing-follows}
 use Rattle.written_laws.proofs.ReadBack.{base-forward, written-back}
@@ -30,6 +29,7 @@ use Rattle.written_laws.specs.PlanLaws as spec
 use Rattle.written_laws.specs.Planned.{NameSlots}
 use Rattle.written_laws.proofs.Chosen.{HasServices, feed-names-slots, feed-services, of-feed, place-asked, service_field}
 use Rattle.written_laws.proofs.Grouped.{filter-same}
+use Rattle.written_laws.proofs.Moves.{names-kept}
 use Rattle.written_laws.proofs.Named.{count-rows, row_written}
 use Rattle.written_laws.proofs.Stated.{Clock, least-are-stated}
 
@@ -94,13 +94,6 @@ module _ (trips : TableView) (standing : TimetableView) (chosen : List Bool) (bl
 
 same-table : (x y : TableView) → ◌≡◌ {A = Result TableView TableFault} (Ok x) (Ok y) → x ≡ y
 same-table x y e = cc
-
--- a timetable without extras has the names of the one that it follows
-names-kept : (base standing : TimetableView) → IsEditedFrom base standing → length standing.slots ≡ length base.slots
-    → slot_names base ≡ slot_names standing
-names-kept base standing follows count =
-    sym follows.names ∙ take_all (length base.slots) (slot_names standing)
-    (omega (arith, count, length-map standing.slots (λ (s : Slot). s.name)))
 
 -- a plan that a table states is stated also where the same records are selected
 said-again : (trips : TableView) (timetable : TimetableView) (chosen again : List Bool) (matrix : MatrixView)

@@ -1,13 +1,13 @@
--- The trips of the timetable that is written make the moves of those that stand.
-use Rattle.std.proofs.Common.{◌≡◌, ℕ, zero, suc, ◌+◌, ◌<◌, true, List, [], ◌∷◌, length, get_or, cond, None, refl, sym, ap, subst, ◌∙◌}
+-- The trips of the timetable that is written make the moves of those that stand, under their names.
+use Rattle.std.proofs.Common.{◌≡◌, ℕ, zero, suc, ◌+◌, ◌<◌, true, List, [], ◌∷◌, length, map, get_or, cond, None, refl, sym, ap, subst, ◌∙◌}
 use Rattle.std.proofs.Common.{arith}
-use Rattle.std.proofs.lemmas.List.{ext_get_or, length-map}
+use Rattle.std.proofs.lemmas.List.{ext_get_or, length-map, take_all}
 use Rattle.trip_model.specs.Blocking.{IsLeast}
 use Rattle.trip_model.specs.Plain.{move_of_slot, trip_moves}
-use Rattle.trip_model.specs.Timetable.{TimetableView, Slot, slot_at}
+use Rattle.trip_model.specs.Timetable.{TimetableView, Slot, slot_at, slot_names}
 use Rattle.trip_model.proofs.OrderLemmas.{slot-move}
-use Rattle.deadhead_matrix.specs.Fitting.{deadhead_network}
-use Rattle.written_laws.specs.Follows.{IsSameTrip}
+use Rattle.deadhead_matrix.specs.Fitting.{ruled_network}
+use Rattle.written_laws.specs.Follows.{IsEditedFrom, IsSameTrip}
 use Rattle.written_laws.specs.Written.{as_written, slots_written, trip_written}
 use Rattle.written_laws.specs.PlanLaws as spec
 
@@ -68,6 +68,21 @@ same-moves base standing published whole =
         (whole.runs s _ (omega (arith, inside, whole.no_extras))) (whole.follows.trips s inside)
         ∙ sym (slot-move standing s)
 
+-- a timetable without extras has the names of the one that it follows
+pub names-kept : (base standing : TimetableView) → IsEditedFrom base standing → length standing.slots ≡ length base.slots
+    → slot_names base ≡ slot_names standing
+names-kept base standing follows count =
+    sym follows.names ∙ take_all (length base.slots) (slot_names standing)
+    (omega (arith, count, length-map standing.slots (λ (s : Slot). s.name)))
+
+-- and so has the one that is written
+names-written : (standing : TimetableView) (s : ℕ) (slots : List Slot)
+    → map (λ (slot : Slot). slot.name) (slots_written standing s slots) ≡ map (λ (slot : Slot). slot.name) slots
+names-written standing s [] = refl
+names-written standing s (slot ∷ slots) = ap (λ names. slot.name ∷ names) (names-written standing (s + 1) slots)
+
 pub least-again : spec.LeastAgain
 least-again base standing matrix blocks published whole least =
-    subst (λ moves. IsLeast (deadhead_network moves matrix) blocks) (sym (same-moves base standing published whole)) least
+    let moves = same-moves base standing published whole in
+    let names = names-written standing 0 base.slots ∙ names-kept base standing whole.follows whole.no_extras in
+    subst (λ network. IsLeast network blocks) (λ k. ruled_network (sym names k) (sym moves k) matrix) least

@@ -21,8 +21,8 @@ pub fn early_law()
     ensures { spec.EarlyTimesAreWritable }
 {}
 
-/// Where no trip is cancelled and there are no extras, the trips of the written feed make the moves that were planned. So
-/// blocks are least of the one where they are of the other.
+/// Where no trip is cancelled and there are no extras, the trips of the written feed make the moves that were planned, under
+/// the names that they have there. So blocks are least of the one where they are of the other, under any rules of pairs.
 pub fn moves_law()
     ensures same { plan.SameMoves }
     ensures least { plan.LeastAgain }

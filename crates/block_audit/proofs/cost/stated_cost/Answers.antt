@@ -2,7 +2,7 @@ use Rattle.std.proofs.Common.{◌<◌, ℕ, List, [], get_or, length, sym, ap, s
 use Rattle.std.proofs.lemmas.List.{length-map}
 use Rattle.trip_model.specs.Blocking.{IsBlock, block_minutes}
 use Rattle.trip_model.specs.Plain.{trip_moves, move_of_slot}
-use Rattle.trip_model.specs.Timetable.{slot_at}
+use Rattle.trip_model.specs.Timetable.{slot_at, slot_names}
 use Rattle.trip_model.proofs.OrderLemmas.{slot-live}
 use Rattle.deadhead_matrix.specs.Fitting.{network_of}
 use Rattle.block_build.proofs.CostLemmas.{block-live, block-made, minutes-few, minutes-from}
@@ -38,7 +38,7 @@ block_minutes-minutes-requires-clause-few c =
     let network = network_of t c.args.matrix.now in
     let blocks = slots_by c.args.stated.now in
     let count = length-map c.args.stated.now (λ (b : NamedBlock). b.slots) in
-    let day = c.deadhead_law.ensures.day (length t.places) moves c.args.matrix.now
+    let day = c.deadhead_law.ensures.day (length t.places) (slot_names t) moves c.args.matrix.now
     (c.plain_law.ensures.moves t c.slots-slots.ensures.valid) c.places-places.ensures.valid
     (omega (arith, length-map t.slots move_of_slot, c.slots-slots.ensures.valid.slots)) in
     omega (
@@ -56,7 +56,7 @@ overflow_add-minutes c =
     let network = network_of t c.args.matrix.now in
     let blocks = slots_by c.args.stated.now in
     let count = length-map c.args.stated.now (λ (b : NamedBlock). b.slots) in
-    let day = c.deadhead_law.ensures.day (length t.places) moves c.args.matrix.now
+    let day = c.deadhead_law.ensures.day (length t.places) (slot_names t) moves c.args.matrix.now
     (c.plain_law.ensures.moves t c.slots-slots.ensures.valid) c.places-places.ensures.valid
     (omega (arith, length-map t.slots move_of_slot, c.slots-slots.ensures.valid.slots)) in
     omega (

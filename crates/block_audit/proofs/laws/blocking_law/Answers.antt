@@ -1,4 +1,4 @@
-use Rattle.block_audit.proofs.Lateness.{are-late}
+use Rattle.block_audit.proofs.Lateness.{are-forbidden, are-late}
 use Rattle.block_audit.proofs.StatedLemmas.{each-stands, are-blocking, have-no-misfit}
 use Rattle.block_audit.proofs.laws.blocking_law.Goals as goal
 
@@ -13,3 +13,6 @@ returns-clause-fitting c = have-no-misfit
 
 pub returns-clause-late : goal.returns-clause-late
 returns-clause-late c = are-late
+
+pub returns-clause-forbidden : goal.returns-clause-forbidden
+returns-clause-forbidden c = are-forbidden

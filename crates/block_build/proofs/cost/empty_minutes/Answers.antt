@@ -1,9 +1,9 @@
 use Rattle.std.proofs.Common.{◌<◌, ℕ, List, [], get_or, length, sym, ap, ◌∙◌, arith}
 use Rattle.std.proofs.lemmas.List.{length-map}
-use Rattle.deadhead_matrix.specs.Fitting.{deadhead_network, network_of}
+use Rattle.deadhead_matrix.specs.Fitting.{network_of}
 use Rattle.trip_model.specs.Blocking.{block_minutes}
 use Rattle.trip_model.specs.Plain.{trip_moves, move_of_slot}
-use Rattle.trip_model.specs.Timetable.{slot_at}
+use Rattle.trip_model.specs.Timetable.{slot_at, slot_names}
 use Rattle.trip_model.proofs.OrderLemmas.{slot-live}
 use Rattle.block_build.proofs.CostLemmas.{block-live, minutes-few, minutes-from}
 use Rattle.block_build.proofs.cost.empty_minutes.Goals as goal
@@ -22,9 +22,9 @@ pub block_minutes-minutes-requires-clause-few : goal.block_minutes-minutes-requi
 block_minutes-minutes-requires-clause-few c =
     let t = c.args.timetable.now in
     let moves = trip_moves t.slots in
-    let network = deadhead_network moves c.args.matrix.now in
+    let network = network_of t c.args.matrix.now in
     let n = c.loop-number.number in
-    let day = c.deadhead_law.ensures.day (length t.places) moves c.args.matrix.now
+    let day = c.deadhead_law.ensures.day (length t.places) (slot_names t) moves c.args.matrix.now
     (c.plain_law.ensures.moves t c.slots-slots.ensures.valid) c.places-places.ensures.valid
     (omega (arith, length-map t.slots move_of_slot, c.slots-slots.ensures.valid.slots)) in
     omega (
@@ -40,9 +40,9 @@ pub overflow_add-minutes : goal.overflow_add-minutes
 overflow_add-minutes c =
     let t = c.args.timetable.now in
     let moves = trip_moves t.slots in
-    let network = deadhead_network moves c.args.matrix.now in
+    let network = network_of t c.args.matrix.now in
     let n = c.loop-number.number in
-    let day = c.deadhead_law.ensures.day (length t.places) moves c.args.matrix.now
+    let day = c.deadhead_law.ensures.day (length t.places) (slot_names t) moves c.args.matrix.now
     (c.plain_law.ensures.moves t c.slots-slots.ensures.valid) c.places-places.ensures.valid
     (omega (arith, length-map t.slots move_of_slot, c.slots-slots.ensures.valid.slots)) in
     omega (

@@ -5,6 +5,7 @@ use Rattle.trip_model.specs.Blocking.{IsLeast}
 use Rattle.trip_model.specs.Links.{AreLinks, blocks_along}
 use Rattle.trip_model.specs.Order.{by_departure}
 use Rattle.trip_model.specs.Plain.{move_of_slot, timely_network, trip_moves}
+use Rattle.trip_model.specs.Timetable.{slot_names}
 use Rattle.deadhead_matrix.specs.Fitting.{network_of}
 use Rattle.deadhead_matrix.specs.Plans.{IsPlanFor}
 use Rattle.deadhead_matrix.proofs.TimelyLinks.{timely-links}
@@ -16,7 +17,7 @@ blocks_of-requires-clause-links g c =
     let moves = trip_moves c.args.timetable.now.slots in
     let certified = subst (λ (p : PairsView). IsCertified (pairs_network p) c.solve.new.self) c.of.ensures c.solve.ensures.certified in
     subst (AreLinks (timely_network moves)) (sym (c.links.ensures ∙ ap (λ (plan : Plan). plan.next) c.plan.ensures))
-    (timely-links moves c.args.matrix.now c.solve.new.self.next certified.links)
+    (timely-links (slot_names c.args.timetable.now) moves c.args.matrix.now c.solve.new.self.next certified.links)
 
 pub returns-clause-scheduled : goal.returns-clause-scheduled
 returns-clause-scheduled g c =

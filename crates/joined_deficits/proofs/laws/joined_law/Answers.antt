@@ -8,5 +8,5 @@ pub returns-clause-fewest : goal.returns-clause-fewest
 returns-clause-fewest c = sum-of-fewest c.plain_blocks_law.ensures.theorem
 
 pub returns-clause-least : goal.returns-clause-least
-returns-clause-least c = λ t matrix blocks valid least count lasting is. sum-of-fewest c.plain_blocks_law.ensures.theorem t matrix blocks
-    valid least count lasting is.fewest
+returns-clause-least c = λ t matrix blocks valid least count lasting free is. sum-of-fewest c.plain_blocks_law.ensures.theorem t matrix
+    blocks valid least count lasting free is.fewest

@@ -3,6 +3,7 @@ use Rattle.std.proofs.lemmas.Result.{IfOk-weaker}
 use Rattle.desk_run.specs.declared.status.Ending.TheVariants as ending
 use Rattle.desk_feed.specs.Edited.{refusing_first}
 use Rattle.plan_commands.specs.Check.{claim_outcome, verdict_outcome}
+use Rattle.plan_commands.proofs.ProvedLemmas.{proves}
 use Rattle.plan_commands.proofs.check.checked.Goals as goal
 
 pub reason_line-requires : goal.reason_line-requires
@@ -19,3 +20,33 @@ returns-in-Yes-clause-done c =
     is ∙ ap (λ line. refusing_first refused line ending.Done) line
     ∙ sym (ap (claim_outcome refused c.args.timetable.now c.args.matrix.now) c.in-Ok.ensures.gives
     ∙ ap (verdict_outcome refused c.args.timetable.now c.in-Ok.claimed) verdict)) c.putting_after-in-Yes.ensures
+
+pub returns-in-Err-Memory-clause-proved : goal.returns-in-Err-Memory-clause-proved
+returns-in-Err-Memory-clause-proved c =
+    proves c.certificate_law.ensures.certificate c.certificate_law.ensures.reasonless c.least_law.ensures c.rows_law.ensures.blocks
+    c.rows_law.ensures.prices c.args.timetable.now c.args.matrix.now c.args.blocks.now c.args.prices.now c.slots-slots.ensures.valid
+    c.places-places.ensures.valid
+
+pub returns-in_err-line-in-Yes-clause-proved : goal.returns-in_err-line-in-Yes-clause-proved
+returns-in_err-line-in-Yes-clause-proved c =
+    proves c.certificate_law.ensures.certificate c.certificate_law.ensures.reasonless c.least_law.ensures c.rows_law.ensures.blocks
+    c.rows_law.ensures.prices c.args.timetable.now c.args.matrix.now c.args.blocks.now c.args.prices.now c.slots-slots.ensures.valid
+    c.places-places.ensures.valid
+
+pub returns-in-Yes-clause-proved : goal.returns-in-Yes-clause-proved
+returns-in-Yes-clause-proved c =
+    proves c.certificate_law.ensures.certificate c.certificate_law.ensures.reasonless c.least_law.ensures c.rows_law.ensures.blocks
+    c.rows_law.ensures.prices c.args.timetable.now c.args.matrix.now c.args.blocks.now c.args.prices.now c.slots-slots.ensures.valid
+    c.places-places.ensures.valid
+
+pub returns-in_err-line-in-No-clause-proved : goal.returns-in_err-line-in-No-clause-proved
+returns-in_err-line-in-No-clause-proved c =
+    proves c.certificate_law.ensures.certificate c.certificate_law.ensures.reasonless c.least_law.ensures c.rows_law.ensures.blocks
+    c.rows_law.ensures.prices c.args.timetable.now c.args.matrix.now c.args.blocks.now c.args.prices.now c.slots-slots.ensures.valid
+    c.places-places.ensures.valid
+
+pub returns-clause-proved : goal.returns-clause-proved
+returns-clause-proved c =
+    proves c.certificate_law.ensures.certificate c.certificate_law.ensures.reasonless c.least_law.ensures c.rows_law.ensures.blocks
+    c.rows_law.ensures.prices c.args.timetable.now c.args.matrix.now c.args.blocks.now c.args.prices.now c.slots-slots.ensures.valid
+    c.places-places.ensures.valid

@@ -11,5 +11,5 @@ returns-clause-places c = length-map-range_with_len (found_at c.index.result.now
 pub returns-clause-least : goal.returns-clause-least
 returns-clause-least c = λ b b_in.
     let inside = c.self.inside in
-    subst AreLeastWalks c.self.view_is (AreLeastWalks-from inside.entries.items inside.rows.items inside.pulls c.self.invariant.0) c.args.a
-    b c.requires b_in
+    subst AreLeastWalks c.self.view_is
+    (AreLeastWalks-from inside.entries.items inside.rows.items inside.pulls inside.rules c.self.invariant.0) c.args.a b c.requires b_in

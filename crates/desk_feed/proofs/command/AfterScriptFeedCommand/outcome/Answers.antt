@@ -17,7 +17,7 @@ returns-clause-given g c =
     let edited = c.in_ok-edited.edited in
     text-given asks said edited c.in_ok-edited.ensures.edited c.put_edited.result
     (subst (λ (t : TimetableView). IfOk c.put_edited.result
-    (PutsBehind asks edited.refused edited.ending (stands_with t said.deadheads.now said.pulls)))
+    (PutsBehind asks edited.refused edited.ending (stands_with t said.deadheads.now said.pulls said.rules)))
     c.timetable-timetable.ensures c.put_edited.ensures.put)
 
 pub returns-clause-counted : goal.returns-clause-counted

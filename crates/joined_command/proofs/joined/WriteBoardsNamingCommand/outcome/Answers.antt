@@ -9,6 +9,8 @@ boarded-requires-clause-blocking g c =
 
 pub returns-clause-given : goal.returns-clause-given
 returns-clause-given g c =
-    joined-given c.args.said.read.now c.args.naming.now (said_to c.args.said) c.in_ok-matrix.matrix c.in_ok-likings.likings c.in_ok-drawn.drawn
-    c.joined_law.ensures.least c.entries_law.ensures c.requires.says c.in_ok-matrix.ensures c.in_ok-drawn.ensures.drawn
+    joined-given c.args.said.read.now c.args.naming.now (said_to c.args.said) c.in_ok-matrix.matrix c.in_ok-likings.likings
+    c.in_ok-drawn.drawn
+    c.joined_law.ensures.most c.joined_law.ensures.least c.entries_law.ensures c.requires.says c.in_ok-matrix.ensures
+    c.in_ok-drawn.ensures.drawn
     c.in_ok-likings.ensures c.boarded.result c.boarded.ensures.boarded

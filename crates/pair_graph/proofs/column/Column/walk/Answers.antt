@@ -4,7 +4,7 @@ use Rattle.deadhead_matrix.specs.Fitting.{empty_between, home_after, out_before}
 use Rattle.deadhead_matrix.specs.Matrix.{walk}
 use Rattle.deadhead_matrix.specs.Pulls.{pull_at}
 use Rattle.assignment_model.specs.Prices.{weight}
-use Rattle.pair_graph.specs.Pairs.{PairsView, RowView, pairs_network}
+use Rattle.pair_graph.specs.Pairs.{PairsView, RowView, walks_network}
 use Rattle.pair_graph.specs.Shares.{saved_along}
 use Rattle.trip_model.specs.Plain.{move_at}
 use Rattle.trip_model.specs.declared.trip.Move.{Move}
@@ -14,7 +14,7 @@ use Rattle.pair_graph.proofs.column.Column.walk.Goals as goal
 -- what is said of a column as it is seen
 abbrev Weighs : ℕ → Option ℕ → RowView → Type 0
 Weighs place result column = (i : ℕ) (m : Move) → move_at column.pairs.moves i ≡ Some m → m.to ≡ place → m.arrives ≤ 8191
-    → weight (pairs_network column.pairs) i column.slot
+    → weight (walks_network column.pairs) i column.slot
     ≡ saved_along column.share (pull_at column.pairs.matrix.pulls place).pull_in result (8191 - m.arrives)
 
 pub returns-clause-weights : goal.returns-clause-weights

@@ -2,7 +2,7 @@ use Rattle.std.proofs.Common.{◌≡◌, length, sym, ap, subst, ◌∙◌, arit
 use Rattle.std.specs.Prelude.{All}
 use Rattle.assignment_model.specs.Prices.{IsDay}
 use Rattle.deadhead_matrix.specs.Pulls.{IsPull}
-use Rattle.deadhead_matrix.proofs.Days.{AreDepartures-deadhead, IsDay-deadhead}
+use Rattle.deadhead_matrix.proofs.Days.{AreDepartures-ruled, IsDay-ruled}
 use Rattle.trip_model.specs.Plain.{AreMoves}
 use Rattle.pair_graph.specs.Pairs.{PairsView, pairs_network}
 use Rattle.pair_graph.proofs.PairsLemmas.{length-pairs, AreMoves-pairs}
@@ -25,11 +25,11 @@ pub returns-clause-day : goal.returns-clause-day
 returns-clause-day c =
     let pairs = c.args.self.now in
     subst (λ n. IsDay (pairs_network pairs) n) (sym (count c))
-    (IsDay-deadhead (length pairs.matrix.walks) pairs.moves pairs.matrix (returns-clause-valid c)
+    (IsDay-ruled (length pairs.matrix.walks) pairs.names pairs.moves pairs.matrix (returns-clause-valid c)
     (subst (λ (p : PairsView). All IsPull p.matrix.pulls) c.self.view_is c.places-places.ensures.valid)
     (omega (arith, count c, c.slots.ensures.count, c.slots.ensures.valid.slots)))
 
 pub returns-clause-departures : goal.returns-clause-departures
 returns-clause-departures c =
     let pairs = c.args.self.now in
-    AreDepartures-deadhead (length pairs.matrix.walks) pairs.moves pairs.matrix (returns-clause-valid c)
+    AreDepartures-ruled (length pairs.matrix.walks) pairs.names pairs.moves pairs.matrix (returns-clause-valid c)

@@ -16,7 +16,7 @@ returns-in_err-group c =
     let group : group_at line.side.groups c.args.group ≡ c.group-group.result =
     ap (λ (l : LineView). group_at l.side.groups c.args.group) (sym c.self.view_is) ∙ sym c.group-group.ensures.group in
     subst (λ (o : Option Reach). IsReachOf line (group_at line.side.groups c.args.group) o) (sym c.from_residual.ensures)
-    (IsReachOf-nowhere line arranged c.args.group c.requires (ap (λ (x : Group). x.post) group ∙ c.in_err-group.was))
+    (IsReachOf-nowhere line arranged c.args.group c.requires.group c.requires.free (ap (λ (x : Group). x.post) group ∙ c.in_err-group.was))
 
 pub walk-requires : goal.walk-requires
 walk-requires c =
@@ -26,7 +26,7 @@ walk-requires c =
     (record { order = c.side.invariant.0; groups = c.side.invariant.1; moves = c.slots-slots.ensures.valid }) in
     let group : group_at line.side.groups c.args.group ≡ c.group-group.result =
     ap (λ (l : LineView). group_at l.side.groups c.args.group) (sym c.self.view_is) ∙ sym c.group-group.ensures.group in
-    post-there line arranged c.args.group c.requires c.in_ok-group.field-0 (ap (λ (x : Group). x.post) group ∙ c.in_ok-group.was)
+    post-there line arranged c.args.group c.requires.group c.in_ok-group.field-0 (ap (λ (x : Group). x.post) group ∙ c.in_ok-group.was)
 
 pub returns-in_err-walk : goal.returns-in_err-walk
 returns-in_err-walk c =
@@ -38,7 +38,7 @@ returns-in_err-walk c =
     ap (λ (l : LineView). group_at l.side.groups c.args.group) (sym c.self.view_is) ∙ sym c.group-group.ensures.group in
     let post = c.in_ok-group.field-0 in
     subst (λ (o : Option Reach). IsReachOf line (group_at line.side.groups c.args.group) o) (sym c.from_residual-in_err-walk.ensures)
-    (IsReachOf-apart line arranged c.args.group c.requires post (ap (λ (x : Group). x.post) group ∙ c.in_ok-group.was)
+    (IsReachOf-apart line arranged c.args.group c.requires.group c.requires.free post (ap (λ (x : Group). x.post) group ∙ c.in_ok-group.was)
     (subst (λ o. AreSaved line arranged post o) c.in_err-walk.was c.walk.ensures.weights))
 
 pub returns-then-minute-from : goal.returns-then-minute-from
@@ -50,8 +50,8 @@ returns-then-minute-from c =
     let group : group_at line.side.groups c.args.group ≡ c.group-group.result =
     ap (λ (l : LineView). group_at l.side.groups c.args.group) (sym c.self.view_is) ∙ sym c.group-group.ensures.group in
     let post = c.in_ok-group.field-0 in
-    IsReachOf-late line arranged c.args.group c.requires post (ap (λ (x : Group). x.post) group ∙ c.in_ok-group.was) c.in_ok-walk.walk
-    c.in_ok-walk.ensures.weights
+    IsReachOf-late line arranged c.args.group c.requires.group c.requires.free post
+    (ap (λ (x : Group). x.post) group ∙ c.in_ok-group.was) c.in_ok-walk.walk c.in_ok-walk.ensures.weights
     (omega (
       arith,
       c.if-minute-from.true,
@@ -70,6 +70,7 @@ returns c =
     let group : group_at line.side.groups c.args.group ≡ c.group-group.result =
     ap (λ (l : LineView). group_at l.side.groups c.args.group) (sym c.self.view_is) ∙ sym c.group-group.ensures.group in
     let post = c.in_ok-group.field-0 in
-    IsReachOf-found line arranged c.args.group c.requires post (ap (λ (x : Group). x.post) group ∙ c.in_ok-group.was) _
-    c.in_ok-walk.ensures.weights (omega (arith, c.from.ensures, ap (λ (l : LineView). l.share.ready) c.self.view_is))
+    IsReachOf-found line arranged c.args.group c.requires.group c.requires.free post
+    (ap (λ (x : Group). x.post) group ∙ c.in_ok-group.was) _ c.in_ok-walk.ensures.weights
+    (omega (arith, c.from.ensures, ap (λ (l : LineView). l.share.ready) c.self.view_is))
     c.in_ok-walk.ensures.bound

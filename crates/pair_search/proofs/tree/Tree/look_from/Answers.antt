@@ -7,7 +7,7 @@ use Rattle.pair_search.specs.declared.leads.Stand.{Stand}
 use Rattle.pair_search.specs.Groups.{IsSeen}
 use Rattle.pair_search.specs.Leads.{stand_of, lead_at, AreLed}
 use Rattle.pair_search.specs.Search.{columns_of, AreLooked}
-use Rattle.pair_search.specs.Side.{LineView, line_weight, place_weight, side_slots}
+use Rattle.pair_search.specs.Side.{LineView, line_weight, place_weight, side_slots, IsFree}
 use Rattle.pair_search.proofs.LeadLemmas.{a-move, idle-row, no-move, AreLed-more}
 use Rattle.pair_search.proofs.LookLemmas.{AreLooked-same}
 use Rattle.pair_search.proofs.VisitLemmas.{Takes-one}
@@ -37,7 +37,7 @@ returns-then-stand-lead-clause-looked g c =
     AreLooked-same (place_weight side c.args.row) (side_slots side) c.args.from c.args.start c.args.enter.now (columns_of was)
     (λ j k lt undone is. omega (
       arith,
-      c.requires.seen.led c.args.row j k m.made m.is
+      c.requires.seen.led c.args.row j k m.made (sym c.is_ruled.ensures ∙ c.if-is_ruled.false) m.is
           (omega (arith, c.if-stand-lead.true, ready, ap (λ (l : Lead). l.ready) same)) lt undone is,
       c.if-start-lead.true,
       ap (λ (l : Lead). l.start) same,
@@ -45,7 +45,7 @@ returns-then-stand-lead-clause-looked g c =
 
 pub look_along-requires-clause-seen : goal.look_along-requires-clause-seen
 look_along-requires-clause-seen g c =
-    subst (λ (line : LineView). IsSeen line.side c.args.enter.now c.args.self.now) (sym c.line.ensures) c.requires.seen
+    subst (λ (line : LineView). IsSeen line.side c.args.enter.now c.args.self.now) (sym c.line-2.ensures) c.requires.seen
 
 pub returns-clause-seen : goal.returns-clause-seen
 returns-clause-seen g c =
@@ -53,11 +53,11 @@ returns-clause-seen g c =
     let enter = c.args.enter.now in
     let was = c.args.self.now in
     let now = c.look_along.new.self in
-    let seen : IsSeen side enter now = subst (λ (line : LineView). IsSeen line.side enter now) c.line.ensures c.look_along.ensures.seen in
+    let seen : IsSeen side enter now = subst (λ (line : LineView). IsSeen line.side enter now) c.line-2.ensures c.look_along.ensures.seen in
     let looked : AreLooked (place_weight side c.args.row) (side_slots side) c.args.from c.args.start enter (columns_of was)
     (columns_of now) =
     subst (λ (line : LineView). AreLooked (line_weight line) (side_slots line.side) c.args.from c.args.start enter (columns_of was)
-    (columns_of now)) c.line.ensures c.look_along.ensures.looked in
+    (columns_of now)) c.line-2.ensures c.look_along.ensures.looked in
     let m = a-move side.turned (move_at side.pairs.moves c.args.row) c.in-Some.stand c.in-Some.ensures.stand in
     let within : (stand_of side.turned m.made).post < length now.leads.items =
     omega (arith, c.in-Some.ensures.within, seen.posts, ap (λ (s : Stand). s.post) m.stands) in
@@ -75,7 +75,7 @@ returns-clause-seen g c =
           subst (λ (s : Stand). AreLed side enter now.done.items now.dist.items
           (set now.leads.items s.post (record { ready = s.ready; start = c.args.start }))) m.stands
           (AreLed-more side enter (columns_of was) (columns_of now) now.leads.items c.args.row c.args.from c.args.start m.made
-          c.slots-slots.ensures.moves m.is within looked seen.led);
+          c.slots-slots.ensures.moves (sym c.is_ruled.ensures ∙ c.if-is_ruled.false) m.is within looked seen.led);
     }
 
 pub returns-in_default-clause-visited : goal.returns-in_default-clause-visited
@@ -96,4 +96,8 @@ returns-then-stand-lead-clause-visited g c =
 pub returns-clause-visited : goal.returns-clause-visited
 returns-clause-visited g c =
     subst (λ (line : LineView). Takes (RowLooks line.side line.row 0 (side_slots line.side)) c.args.looks.now.list
-    c.look_along.new.looks.list c.args.steps.now c.look_along.new.steps) c.line.ensures c.look_along.ensures.visited
+    c.look_along.new.looks.list c.args.steps.now c.look_along.new.steps) c.line-2.ensures c.look_along.ensures.visited
+
+pub look_along-requires-clause-free : goal.look_along-requires-clause-free
+look_along-requires-clause-free g c =
+    subst (λ (line : LineView). IsFree line) (sym c.line-2.ensures) (sym c.is_ruled.ensures ∙ c.if-is_ruled.false)
