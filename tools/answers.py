@@ -39,7 +39,7 @@ FAULTS = {5: b"blockdesk: read fault\n", 6: b"blockdesk: write fault\n", 7: b"bl
 NUMBERS = rb"fixed \d+, vehicles \d+, minutes \d+"
 LAST = {"deficits": rb"sum \d+", "fixed": rb"fixed \d+", "blocks": NUMBERS, "check": rb"yes, vehicles \d+, minutes \d+",
         "write": rb"wrote trips_blocks\.txt, stop_times_blocks\.txt", "chart": rb".*", "chains": rb"chains \d+, sum \d+",
-        "shifts": rb"shifts \d+, sum \d+", "joined": rb"sum (\d+), blocks \1", "planners": NUMBERS,
+        "shifts": rb"shifts \d+, sum \d+", "joined": rb"sum \d+, blocks \d+", "planners": NUMBERS,
         "audit": rb"least|above by \d+ (vehicles|minutes)", "keep": rb"kept \d+ records", "kept": rb"kept \d+ records"}
 
 Standing = dict[str, Any]
@@ -256,12 +256,14 @@ def wrong_files(folder: pathlib.Path, numbers: list[int]) -> list[str]:
     return wrong
 
 
-def wrong_sums(told: dict[str, Answer]) -> list[str]:
-    """What is wrong with the last lines of commands that were run on a folder whose feed is accepted."""
+def wrong_sums(told: dict[str, Answer], has_rules: bool) -> list[str]:
+    """What is wrong with the last lines of commands that were run on a folder whose feed is accepted. With rules of pairs the joined
+    maxima may be fewer than the blocks."""
     fixed, vehicles, minutes = told["blocks"].numbers()
     lines = {command: answer.numbers() for command, answer in told.items() if answer.status in (0, 1)}
+    joined = min(vehicles, *lines.get("joined", [])) if has_rules else vehicles
     wrong = [f"{command} says {told[command].last()!r}" for command, wanted in
-             {"check": [vehicles, minutes], "fixed": [fixed], "deficits": [fixed], "joined": [vehicles, vehicles]}.items()
+             {"check": [vehicles, minutes], "fixed": [fixed], "deficits": [fixed], "joined": [joined, vehicles]}.items()
              if lines.get(command) != wanted]
     for command in ("chains", "shifts"):
         many, left = lines.get(command, [0, -1])
@@ -324,5 +326,5 @@ def disagreements(words: list, folder: pathlib.Path, room: pathlib.Path) -> list
         wrong += [f"{command}: it does not refuse what blocks refuses" for command, answer in told.items()
                   if (answer.status, answer.text) != (blocks.status, blocks.text)]
     elif not wrong:
-        wrong += wrong_files(folder, blocks.numbers()[-3:]) + wrong_sums(told) + wrong_copies(words, folder, room, told)
+        wrong += wrong_files(folder, blocks.numbers()[-3:]) + wrong_sums(told, (folder / "pairs.csv").exists()) + wrong_copies(words, folder, room, told)
     return wrong

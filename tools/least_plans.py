@@ -1,12 +1,15 @@
 """The least plans of a small feed, found by trying every blocking, how much each is liked, and the names of its blocks. tools/hostile
 asks.
 
-It knows feeds without dates, whose trips have two rows each, the first before the last; those whose plan is tried have no script.
-A plan is liked by the key `prefer` of desk.toml, and its blocks are named by `block_names`, as docs/FORMATS.md says.
+It knows feeds without dates, whose trips have two rows each, the first before the last. A plan is liked by the key `prefer` of
+desk.toml, and its blocks are named by `block_names`, as docs/FORMATS.md says. After a script only vehicles and minutes are told, since
+a repaired plan is not chosen anew.
 """
 import csv
 import pathlib
+import re
 import tomllib
+from collections import Counter
 from collections.abc import Iterator
 from itertools import count, pairwise, product
 from typing import NamedTuple
@@ -66,6 +69,11 @@ class Day:
         places = {trip.start for trip in self.trips} | {trip.end for trip in self.trips}
         self.walks = least_walks(rows_of(folder / "deadheads.csv"), places)
         self.pulls = {row["terminal"]: (int(row["pull_out"]), int(row["pull_in"])) for row in rows_of(folder / "depot.csv")}
+        rules = [(row["before"], row["after"], row["rule"].strip(" ")) for row in rows_of(folder / "pairs.csv")]
+        self.never = {(before, after) for before, after, rule in rules if rule == "never"}
+        self.kept_after = {before: after for before, after, rule in rules if rule == "keep"}
+        self.kept_before = {after: before for before, after, rule in rules if rule == "keep"}
+        self.layover = lambda place: desk.get("layovers", {}).get(place, desk.get("layover", 0))
         self.stated = self._stated()
 
     def _stated(self) -> set[tuple[int, int]]:
@@ -78,6 +86,9 @@ class Day:
         """The minutes that a vehicle waits between two trips; None where it cannot make the second after the first."""
         one, other = self.trips[first], self.trips[second]
         walk = self.walks.get((one.end, other.start))
+        if (one.name, other.name) in self.never or self.kept_after.get(one.name, other.name) != other.name or (
+                self.kept_before.get(other.name, one.name) != one.name):
+            return None
         if walk is None or one.vehicles != other.vehicles or one.ends + walk > other.departs:
             return None
         return other.departs - one.ends - walk
@@ -115,6 +126,32 @@ class Day:
         return [liked[name] for name in self.prefer]
 
 
+    def follow(self, records: list[list[str]], accepted: set[int]) -> None:
+        """Makes the edits of a script, of whose records the program has accepted those of these numbers."""
+        done: list[list[str]] = []
+        undone: list[list[str]] = []
+        for number, fields in enumerate(records, 1):
+            if number in accepted and fields[0] == "undo":
+                undone.append(done.pop())
+            elif number in accepted and fields[0] == "redo":
+                done.append(undone.pop())
+            elif number in accepted and fields[0] != "show":
+                done.append(fields)
+                undone.clear()
+        shifts: Counter[str] = Counter()
+        cancelled: set[str] = set()
+        for word, name, *rest in done:
+            if word == "shift":
+                shifts[name] += int(rest[0])
+            elif word == "extra":
+                departs, arrives = (seconds(f"{time}:00") // 60 for time in rest[2:])
+                self.trips.append(Trip(name, "", "", "", rest[0], departs, rest[1], arrives + self.layover(rest[1])))
+            else:
+                (cancelled.add if word == "cancel" else cancelled.discard)(name)
+        self.trips = [trip._replace(departs=trip.departs + shifts[trip.name], ends=trip.ends + shifts[trip.name])
+                      for trip in self.trips if trip.name not in cancelled]
+
+
 def least_walks(ways: list[dict[str, str]], places: set[str]) -> dict[tuple[str, str], int]:
     """The least minutes from each place to each to which a way leads."""
     found = {(row["from"], row["to"]): int(row["minutes"]) for row in ways}
@@ -143,6 +180,19 @@ def wrong_choice(folder: pathlib.Path) -> list[str]:
         return [f"blocks.csv has {day.cost(blocks)} vehicles and minutes, and {least} are enough"]
     most, own = [-it for it in liked], day.liking(blocks)
     return [] if own == most else [f"a least plan is liked {most} by {day.prefer}, and that of blocks.csv {own}"]
+
+
+def wrong_numbers(folder: pathlib.Path, text: str, most: int) -> list[str]:
+    """What is wrong with the vehicles and the minutes in the last line of `blocks` on a folder with a script, among all blockings.
+    Where more than so many trips run then, they are not tried."""
+    day = Day(folder)
+    with open(folder / "edits.csv", newline="", encoding="utf-8") as file:
+        day.follow(list(csv.reader(file)), {int(number) for number in re.findall("^record ([0-9]+): ok", text, re.MULTILINE)})
+    if len(day.trips) > most:
+        return []
+    *_, vehicles, minutes = map(int, re.findall("[0-9]+", text.splitlines()[-1]))
+    least = min(map(day.cost, day.blockings()))
+    return [] if (vehicles, minutes) == least else [f"blocks says {vehicles, minutes} after the script, and least are {least}"]
 
 
 def names_wanted(folder: pathlib.Path, blocks: list[list[str]]) -> list[str]:
