@@ -19,10 +19,10 @@ from desk.pipes import refuse_pipes
 from desk.terminal import shown_on_terminals
 from desk.town import town_above
 from desk.versions import version
-from desk import adopt, boards, compare, days, figures, new, notes, page, part, plan, program_words, publish, saved, take
+from desk import adopt, boards, compare, days, figures, new, notes, page, part, plan, program_words, publish, rules, saved, take
 from desk import open as open_day
 
-COMMANDS: tuple[ModuleType, ...] = (new, days, plan, part, notes, page, open_day, boards, figures, publish, adopt, compare, saved,
+COMMANDS: tuple[ModuleType, ...] = (new, days, plan, part, notes, rules, page, open_day, boards, figures, publish, adopt, compare, saved,
                                    take, program_words)
 """The modules of the commands, in the order of the help.
 

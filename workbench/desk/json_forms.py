@@ -33,7 +33,7 @@ Deficits = TypedDict("Deficits", {"refused": list[Refused], "places": list[Place
 """The deficits, and the sum of their maxima."""
 
 Joined = TypedDict("Joined", {"refused": list[Refused], "places": list[JoinedPlace], "sum": int, "blocks": int})
-"""The joined deficits, the sum of their maxima, and the number of blocks."""
+"""The joined deficits, the sum of their maxima, and the number of blocks, which is more only with rules of pairs."""
 
 Trip = TypedDict("Trip", {"trip": str, "deadhead": int, "departs": str, "ends": str})
 """A trip in a block, with the empty minutes from the trip before it. It ends after its layover."""
@@ -102,8 +102,9 @@ Planners = TypedDict("Planners", {"refused": list[Refused], "records": list[Done
                                   "fixed": int, "vehicles": int, "minutes": int})
 """The records of the planners, the edits in force, and the numbers with them."""
 
-Misfit = TypedDict("Misfit", {"block": str, "first": str, "second": str, "short": int | None})
-"""Two trips of a stated block that do not fit: by how many minutes, or null where no way leads there."""
+Misfit = TypedDict("Misfit", {"block": str, "first": str, "second": str, "short": int | None,
+                              "forbidden": Literal[True, False]})
+"""Two trips of a stated block that do not fit: by how many minutes, or null where no way leads there or `pairs.csv` forbids them."""
 
 Misfits = TypedDict("Misfits", {"refused": list[Refused], "verdict": Literal["no"], "misfits": list[Misfit]})
 """The stated blocks cannot be run."""
@@ -254,8 +255,14 @@ Figures = TypedDict("Figures", {
 """The minutes of a plan in all, by lines, blocks and places. `empty_share` is of the minutes on trips and empty ones together. Of
 the `neighbours` in its blocks `kept_neighbours` are among the `stated_neighbours` of the feed; `line_changes` are of two lines."""
 
+RuleCost = TypedDict("RuleCost", {"record": int, "before": str, "after": str, "rule": Literal["keep", "never"], "without": Plan})
+"""A rule of `pairs.csv`, and the least plan with all rules but this one."""
+
+Rules = TypedDict("Rules", {"all": Plan, "none": Plan, "rules": list[RuleCost]})
+"""The least plans with all rules, with none, and without each one."""
+
 FORMS: dict[str, Any] = {
     "deficits": Deficits, "fixed": Fixed, "blocks": Blocks, "check": Yes | No, "chains": Chains, "shifts": Shifts, "joined": Joined,
     "planners": Planners, "audit": Misfits | Least | Above, "notes": Notes, "compare": Compare | CompareDays | ComparePeriods,
-    "days": Days, "plan": Towns, "figures": Figures}
+    "days": Days, "plan": Towns, "figures": Figures, "rules": Rules}
 """The answers of each command as JSON. Those of the program may also answer with `FeedRefused`."""

@@ -40,6 +40,9 @@ def fitting(town: Town, misfits: list[Json] | None = None) -> Fitting:
             found.layovers[terminal] = min(found.layovers.get(terminal, layover), layover - misfit["short"])
     if found.layovers:
         left = audit(town, with_layovers(town.settings, found.layovers)).get("misfits", [])
+        never = {_pair(misfit) for misfit in found.never}
+        # A rule may forbid a pair that is too late, which is told once it comes in time.
+        found.never += [misfit for misfit in left if misfit["forbidden"] and _pair(misfit) not in never]
         if {_pair(misfit) for misfit in left} != {_pair(misfit) for misfit in found.never}:
             raise DeskError("audit: with other layovers other pairs do not fit than was to be expected")
     return found

@@ -11,3 +11,6 @@ MOST_PLACES = 512
 
 MOST_EMPTY_MINUTES = 1_440
 """The most minutes of a record of `deadheads.csv` and of `depot.csv`."""
+
+MOST_RULES = 32_768
+"""The most records of `pairs.csv`."""

@@ -25,8 +25,9 @@ from desk.town import DAYS, Town
 WORD = "part"
 HELP = "make towns of a town with too many trips: by agency, or by routes that share no terminal"
 
-OF_TRIPS = ("stop_times.txt", "frequencies.txt", "tolerances.csv")
-"""The files whose records name trips, beside `trips.txt`."""
+OF_TRIPS = {"stop_times.txt": ("trip_id",), "frequencies.txt": ("trip_id",), "tolerances.csv": ("trip_id",),
+            "pairs.csv": ("before", "after")}
+"""The files whose records name trips, beside `trips.txt`, with the columns that do. A record stays where one of its trips is."""
 
 LEFT = (*SCRIPTS, *OWN, PLAN)
 """Files that stay in the town alone: its scripts, and what the program has written."""
@@ -96,9 +97,9 @@ def copy_part(source: Path, target: Path, part: Part, left: Collection[str]) -> 
         if not path.is_file() or path.name in left or path.name.startswith("."):
             continue
         if path.name == "trips.txt":
-            copy_records(path, target / path.name, "route_id", part.routes.__contains__)
+            copy_records(path, target / path.name, ("route_id",), part.routes.__contains__)
         elif path.name in OF_TRIPS:
-            copy_records(path, target / path.name, "trip_id", names.__contains__)
+            copy_records(path, target / path.name, OF_TRIPS[path.name], names.__contains__)
         else:
             shutil.copyfile(path, target / path.name)
 

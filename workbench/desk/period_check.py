@@ -115,7 +115,7 @@ def _judge_day(plan: DayPlan, trips: PeriodTrips, folder: Path) -> None:
             if (folder / file).is_file():
                 (room / file).symlink_to(folder / file)
         try:
-            judge_blocks(plan.day, as_planned(plan.day, room, trips.services), plan.unlisted)
+            judge_blocks(plan.day, as_planned(plan.day, room, trips.services, trips.names_on(plan.name)), plan.unlisted)
         except DeskError as error:
             raise DeskError(f"{error} (on {plan.planned.label})") from error
 

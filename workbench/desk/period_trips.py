@@ -62,9 +62,10 @@ class Version:
 
 @dataclass(frozen=True)
 class ExtraTrip:
-    """An extra trip of one day type or several: its name in the feed, its service, its block, and its minutes."""
+    """An extra trip of one day type or several: its name in the feed and in the script, its service, its block, and its minutes."""
 
     name: str
+    planned: str
     service: str
     block: str
     extra: Extra
@@ -87,6 +88,11 @@ class PeriodTrips:
         """Each record that stands beside that of its trip, with the name of the trip."""
         for record, versions in self.versions.items():
             yield from ((self.names[record], version) for version in versions if version.trip != self.names[record])
+
+    def names_on(self, day: str) -> dict[str, str]:
+        """The trips of a day type that are named otherwise in the feed, with their names there."""
+        extras = {extra.planned: extra.name for extra in self.extras if day in extra.days and extra.planned != extra.name}
+        return {name: version.trip for name, version in self.copies() if day in version.days} | extras
 
 
 def day_plan(planned: PlannedDay, day: Day) -> DayPlan:
@@ -168,7 +174,7 @@ def _add_extras(plans: Sequence[DayPlan], made: PeriodTrips, services: _Services
     for (name, extra, block, departs, arrives), days in groups.items():
         own = name if name not in taken else distinct(f"{name}@{days[0].name}", "copy", lambda other: other in taken)
         taken.add(own)
-        made.extras.append(ExtraTrip(own, services.of("extra", days, is_new=True), block, extra, departs, arrives,
+        made.extras.append(ExtraTrip(own, name, services.of("extra", days, is_new=True), block, extra, departs, arrives,
                                      tuple(plan.name for plan in days)))
 
 

@@ -15,6 +15,7 @@ from desk.period import PlannedDay
 from desk.plan_run import left_of
 from desk.shared_trips import SharedTrips
 from desk.town import DAYS, Town
+from desk.written_texts import why_text
 
 Json = dict[str, Any]
 
@@ -145,9 +146,8 @@ def _told(said: Json) -> Iterator[str]:
     yield from said["refused"]
     if said["misfit"]:
         first = said["misfit"]
-        short = "no way" if first["short"] is None else f"short by {first['short']}"
         yield (f"today's blocks cannot be run: {counted(said['misfits'], 'pair')} of trips do not fit, the first {shown(first['first'])} "
-               f"to {shown(first['second'])}, {short}")
+               f"to {shown(first['second'])}, {why_text(first)}")
 
 
 def report_json(towns: Sequence[PlannedTown]) -> str:

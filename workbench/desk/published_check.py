@@ -13,14 +13,17 @@ from desk.errors import DeskError
 from desk.hints.names import shown
 from desk.layovers import with_layovers
 from desk.published_feed import Handover
-from desk.records import open_records
+from desk.records import open_records, record_text
 from desk.times import arrival_minute, departure_minute, format_minute
 from desk.toml import toml_text
 from desk.town import DayTrip, Town
 from desk.unpacking import unpack
 
-PLANNER_FILES = ("terminals.csv", "deadheads.csv", "depot.csv")
+PLANNER_FILES = ("terminals.csv", "deadheads.csv", "depot.csv", "pairs.csv")
 """The planner's files with which the feed is read again."""
+
+PAIRS = "pairs.csv"
+"""The one of them that names trips."""
 
 Run = tuple[str, int, str, int, str]
 """A trip: from where it departs at which minute, where it arrives at which one, and its block."""
@@ -36,15 +39,33 @@ def judge(day: Day, feed: Path, made: Handover) -> None:
         judge_blocks(day, town, made.unlisted)
 
 
-def as_planned(day: Day, folder: Path, services: Iterable[str]) -> Town:
-    """The town of a folder with a feed, which gets the planner's files and settings of a day, and these services beside the listed ones."""
+def as_planned(day: Day, folder: Path, services: Iterable[str], names: Mapping[str, str] | None = None) -> Town:
+    """The town of a folder with a feed, which gets the planner's files and settings of a day, and these services beside the listed ones.
+
+    `names` has the trips that are named otherwise in the feed, which `pairs.csv` then names so too.
+    """
     for file in PLANNER_FILES:
         (folder / file).unlink(missing_ok=True)
         if day.town.has(file):
             (folder / file).symlink_to(day.town.path(file).resolve())
+    if names and day.town.has(PAIRS):
+        (folder / PAIRS).unlink()
+        (folder / PAIRS).write_text(pairs_named(day.town, names), encoding="utf-8", errors="surrogateescape")
     (folder / "desk.toml").unlink(missing_ok=True)
     (folder / "desk.toml").write_text(toml_text(_settings(day, services)), encoding="utf-8")
     return Town(folder)
+
+
+def pairs_named(town: Town, names: Mapping[str, str]) -> str:
+    """The `pairs.csv` of a town with other names of some trips."""
+    with open_records(town.path(PAIRS)) as records:
+        trips = [records.column(column) for column in ("before", "after")]
+        lines = [record_text(records.header)]
+        for _, fields in records:
+            for at in trips:
+                fields[at] = names.get(fields[at], fields[at])
+            lines.append(record_text(fields))
+        return "".join(lines)
 
 
 def _settings(day: Day, services: Iterable[str]) -> dict[str, Any]:

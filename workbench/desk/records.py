@@ -92,13 +92,13 @@ def first_records(path: Path, column: str) -> dict[str, int]:
     return found
 
 
-def copy_records(source: Path, target: Path, column: str, keeps: Callable[[str], bool]) -> None:
-    """Writes a file with those records alone whose field in this column is kept."""
+def copy_records(source: Path, target: Path, columns: Iterable[str], keeps: Callable[[str], bool]) -> None:
+    """Writes a file with those records alone whose field in one of these columns is kept."""
     with open_records(source) as records, open(target, "w", encoding="utf-8", errors="surrogateescape", newline="") as file:
-        at = records.column(column)
+        places = [records.column(column) for column in columns]
         file.write(record_text(records.header))
         for _, fields in records:
-            if keeps(fields[at]):
+            if any(keeps(fields[at]) for at in places):
                 file.write(record_text(fields))
 
 

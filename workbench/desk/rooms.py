@@ -30,7 +30,7 @@ NEW = 60.0
 """For how many seconds a room is left alone, since its run may not hold it yet."""
 
 FEED_FILES = ("desk.toml", "terminals.csv", "tolerances.csv", "calendar.txt", "calendar_dates.txt", "trips.txt",
-              "stop_times.txt", "deadheads.csv", "depot.csv")
+              "stop_times.txt", "deadheads.csv", "depot.csv", "pairs.csv")
 """The files of a feed that the program reads, but for the scripts."""
 
 SCRIPTS = ("edits.csv", "planner_edits.csv")

@@ -39,7 +39,7 @@ JOINED_PLACE = re.compile(f"(.+) max {NUMBER} at {MINUTE}, was {NUMBER}")
 STEP = re.compile(f" {MINUTE} {SIGNED}")
 TRIP = re.compile(f"(.+) {MINUTE} {MINUTE}")
 PRICE = re.compile(f" price (.+) {NUMBER} {NUMBER}")
-MISFIT = re.compile(f"block (.+) (?:short by {ABOVE_0}|no way)")
+MISFIT = re.compile(f"block (.+) (?:short by {ABOVE_0}|no way|(forbidden))")
 DEADHEAD = re.compile(f"(.+?) {MINUTE} to (.+) {MINUTE}")
 PLANNED = re.compile(f"planner {ABOVE_0}: (?:ok|refused(?:, (.+): ({OF_A_TRIP}|held by record {ABOVE_0})"
                      "|: (not an edit|nothing to undo)))")
@@ -54,6 +54,8 @@ class Lines:
         # Which names blocks may have; None where they are numbered, and any name where nothing is known of the feed.
         self.fits: Fits | None = lambda name: True
         self.are_numbered = True
+        # Whether the feed may have rules of pairs.
+        self.may_have_rules = True
         self.lines = text.split("\n")
         self.at = 0
         if self.lines.pop() or not self.lines:
@@ -107,6 +109,7 @@ def as_json(command: str, text: bytes | str, folder: Path | str | None = None, t
         refuse_hidden_ends(command, town, Path(folder))
         lines.fits = fitting_names(command, town, Path(folder))
         lines.are_numbered = lines.fits is None
+        lines.may_have_rules = town.has("pairs.csv")
     parsed = {"feed_refused": found[1]} if found else READERS[command](lines)
     if lines.next() is not None:
         lines.refuse()
@@ -139,9 +142,12 @@ def read_joined(lines: Lines) -> Json:
     """The text of `joined`."""
     refused, places = read_refused(lines), read_places(lines, JOINED_PLACE)
     found = lines.take(f"sum {NUMBER}, blocks {NUMBER}")
-    if int(found[1]) != sum(place["max"] for place in places) or found[1] != found[2]:
+    total, blocks = int(found[1]), int(found[2])
+    if total != sum(place["max"] for place in places):
         lines.refuse("follows on a sum that is not that of the maxima")
-    return {"refused": refused, "places": places, "sum": int(found[1]), "blocks": int(found[2])}
+    if total > blocks or total < blocks and not lines.may_have_rules:
+        lines.refuse("follows on a sum that is not the number of the blocks")
+    return {"refused": refused, "places": places, "sum": total, "blocks": blocks}
 
 
 def read_places(lines: Lines, form: re.Pattern[str]) -> list[Json]:
@@ -303,7 +309,8 @@ def read_misfit(lines: Lines, found: re.Match[str]) -> Json:
         lines.at -= 1
         lines.refuse(f"can be read in {len(ways)} ways, for the names in it")
     block, first, second = ways[0]
-    return {"block": block, "first": first, "second": second, "short": int(found[2]) if found[2] else None}
+    return {"block": block, "first": first, "second": second, "short": int(found[2]) if found[2] else None,
+            "forbidden": bool(found[3])}
 
 
 def read_chains(lines: Lines) -> Json:

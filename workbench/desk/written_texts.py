@@ -92,8 +92,14 @@ def audit_lines(parsed: Json) -> list[str]:
 
 def misfit_line(misfit: Json) -> str:
     """The line of a pair that does not fit."""
-    short = "no way" if misfit["short"] is None else f"short by {misfit['short']}"
-    return f"block {misfit['block']}: {misfit['first']} to {misfit['second']} {short}"
+    return f"block {misfit['block']}: {misfit['first']} to {misfit['second']} {why_text(misfit)}"
+
+
+def why_text(misfit: Json) -> str:
+    """Why a pair does not fit."""
+    if misfit["forbidden"]:
+        return "forbidden"
+    return "no way" if misfit["short"] is None else f"short by {misfit['short']}"
 
 
 def chains_lines(parsed: Json) -> list[str]:

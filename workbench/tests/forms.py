@@ -27,7 +27,7 @@ def is_of(value: Any, form: Any, met: set[str] | None = None) -> bool:
 
 def is_answer(command: str, value: Any, met: set[str] | None = None) -> bool:
     """Whether a value is of the form of a command's answer, or of a refused feed where the command may answer so."""
-    form = FORMS[command] if command in ("notes", "compare", "days", "plan", "figures") else FORMS[command] | FeedRefused
+    form = FORMS[command] if command in ("notes", "compare", "days", "plan", "figures", "rules") else FORMS[command] | FeedRefused
     return is_of(value, form, met)
 
 

@@ -19,6 +19,8 @@ from tests.test_notes import CLEAN
 
 FEED: Feed = {name: text for name, text in CLEAN.items() if name != "edits.csv"}
 
+PAIRS = "before,after,rule\nW1,W2,keep\nW2,S1,never\n"
+
 
 def changed(file: str, right: str, wrong_text: str) -> dict[str, str | bytes]:
     """A file of the feed with another text in one place."""
@@ -145,6 +147,18 @@ REFUSED: list[tuple[str, dict[str, str | bytes], str, str]] = [
      "deadheads.csv record 11: duplicate", '"Station" and "Harbour" stood before, in record 1'),
     ("a way to itself", {"deadheads.csv": FEED["deadheads.csv"] + "Zoo,Zoo,5\n"},
      "deadheads.csv record 11: same terminal", '"Zoo" stands in `from` and in `to`'),
+    ("a pair twice", {"pairs.csv": PAIRS + "W2,S1,keep\n"},
+     "pairs.csv record 3: duplicate", '"W2" and "S1" stood before, in record 2'),
+    ("a trip kept with two", {"pairs.csv": PAIRS + "W1,W3,keep\n"},
+     "pairs.csv record 3: duplicate", 'record 1 keeps "W1" with "W2"'),
+    ("two trips kept with one", {"pairs.csv": PAIRS + "W3,W2,keep\n"},
+     "pairs.csv record 3: duplicate", 'record 1 keeps "W2" with "W1"'),
+    ("a pair of one trip", {"pairs.csv": "before,after,rule\nW1,W1,keep\n"},
+     "pairs.csv record 1: same trip", '"W1" stands in `before` and in `after`'),
+    ("a rule of no form", {"pairs.csv": "before,after,rule\nW1,W2,always\n"},
+     "pairs.csv record 1: bad rule", '"always". It must be `keep` or `never`'),
+    ("more rules than may be", {"pairs.csv": table("before,after,rule", [(number, "x", "never") for number in range(32_769)])},
+     "pairs.csv: too many records", "more than 32,768 records"),
     ("a line of commas alone", {"depot.csv": FEED["depot.csv"] + ",,\n"},
      "depot.csv record 5: empty terminal", "it has commas alone. Take it out"),
     ("a stop twice", {"terminals.csv": FEED["terminals.csv"] + "stn_a,Station\n"},

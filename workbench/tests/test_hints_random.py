@@ -11,7 +11,7 @@ from tests.test_hints import EDITS, refused_line
 from tests.test_notes import CLEAN
 from tests.test_notes_random import INPUTS, SEED, contents
 
-OF_A_RECORD = ("too many fields", "duplicate", "same terminal", "field not UTF-8", "block_id not UTF-8", "too many trips")
+OF_A_RECORD = ("too many fields", "duplicate", "same terminal", "same trip", "field not UTF-8", "block_id not UTF-8", "too many trips")
 OF_A_TRIP = ("has too few stops", "has a sequence twice", "has no time at an end", "not forward")
 
 

@@ -12,7 +12,8 @@ from unittest import mock
 from desk.errors import DeskError
 from desk.new.settings import settings_text
 from desk.program import run
-from tests.feeds import FIRST_DAY, Feed, FolderTest, agency, demonstration, files_of, needs_program, table, write_feed, zip_feed
+from tests.feeds import (FIRST_DAY, Feed, FolderTest, agency, as_agencies_write, demonstration, files_of, needs_program, table, write_feed,
+                         zip_feed)
 
 READ = ("trips.txt", "stop_times.txt", "calendar.txt", "calendar_dates.txt")
 
@@ -274,6 +275,54 @@ class OtherFeeds(NewTest):
         self.assertEqual((512 * 511, {f"Stop {number}" for number in range(512)}), (len(ways), {way[0] for way in ways}))
         self.assertEqual(513, len(self.read("depot.csv").splitlines()))
         self.assertNotIn("is a place there too", text)
+
+
+LINKS = [("4", "weekday_1_0_0300", "weekday_1_1_0320"), (" 4", "weekday_1_0_0300", "weekday_1_1_0320"),
+         ("4", "weekday_1_0_0300", "weekday_1_1_0340"), ("4", "saturday_1_0_0360", "saturday_1_1_0400"),
+         ("4", "weekday_2_0_0300", "saturday_2_1_0360"), ("2", "weekday_1_1_0320", "weekday_1_0_0340"), ("4", "", "weekday_1_0_0340")]
+"""Transfers of the made agency: one twice, one of a trip that another one has, one of a Saturday, one of two days, and two of no link."""
+
+KEPT = "weekday_1_0_0300,weekday_1_1_0320,keep"
+"""The pair of a weekday that is kept."""
+
+
+def with_links(*more: tuple[str, str, str]) -> Feed:
+    """The made agency with transfers that link trips."""
+    return agency() | as_agencies_write({"transfers.txt": table("transfer_type,from_trip_id,to_trip_id", [*LINKS, *more])})
+
+
+class LinkedTrips(NewTest):
+    """Trips that the agency links are kept together."""
+
+    def pairs(self) -> list[str]:
+        """The records of the pairs, in their order, below the header."""
+        header, *records = self.read("pairs.csv").splitlines()
+        self.assertEqual(header, "before,after,rule")
+        return records
+
+    def test_those_of_the_day(self) -> None:
+        text = self.new(with_links())
+        self.assertEqual(self.pairs(), [KEPT])
+        self.assertIn("pairs.csv: 1 pair of trips kept together, which transfer_type 4 of transfers.txt links\n", text)
+        self.assertIn("1 linked pair left out, since one trip runs without the other: weekday_2_0_0300 to saturday_2_1_0360\n", text)
+        self.assertIn("1 linked pair left out, since one trip is kept with another one: weekday_1_0_0300 to weekday_1_1_0340\n", text)
+
+    def test_those_of_all_day_types(self) -> None:
+        self.new(with_links(), "--days", status=1)
+        self.assertEqual(self.pairs(), [KEPT, "saturday_1_0_0360,saturday_1_1_0400,keep"])
+
+    def test_a_planners_own_stay(self) -> None:
+        """What is forbidden is not kept, and a trip that is kept with another one stays with it."""
+        self.new(with_links())
+        write_feed(self.town, {"pairs.csv": "rule,after,before\nnever,weekday_1_1_0320,weekday_1_0_0300\nkeep,b,weekday_2_0_0300\n"})
+        text = self.new(with_links(("4", "weekday_2_0_0300", "weekday_2_1_0320"), ("4", "weekday_2_0_0320", "weekday_2_1_0340")), "--more")
+        self.assertEqual(self.read("pairs.csv").splitlines()[3:],
+                         ["keep,weekday_1_1_0340,weekday_1_0_0300", "keep,weekday_2_1_0340,weekday_2_0_0320"])
+        self.assertIn("pairs.csv: 2 records added behind those that were there\n", text)
+
+    def test_none_are_linked(self) -> None:
+        self.new(agency() | {"transfers.txt": "from_stop_id,to_stop_id,transfer_type\nedge,edge,4\n"})
+        self.assertFalse((self.town / "pairs.csv").exists())
 
 
 BAD = table("trip_id,arrival_time,departure_time,stop_id,stop_sequence,timepoint", [

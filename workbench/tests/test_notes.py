@@ -54,6 +54,7 @@ S1,09:30:00,09:30:00,zoo_1,2
         ("Depot", "Harbour", 9), ("Harbour", "Depot", 9)]),
     "depot.csv": 'terminal,pull_out,pull_in\nStation,4,4\nHarbour,9,9\n"Station, Hospital",8,8\nZoo,7,7\n',
     "tolerances.csv": "trip_id,early,late\nW1,0,2\nS1,5,5\n",
+    "pairs.csv": "before,after,rule\nW3,W1,never\nW2,S1,never\n",
     "edits.csv": "shift,W1,+1\nshow\n",
 }
 """A town that has no notes. A terminal, a layover, a pull and a tolerance are of other days, and the depot is a place on the way."""
@@ -71,6 +72,8 @@ SILENT = {
     "a misspelt name in the depot": ("depot.csv", "Harbour", "Harbuor", "no-such-place"),
     "a platform in the depot": ("depot.csv", "Station,4", "stn_b,4", "no-such-place"),
     "a terminal that the depot forgets": ("depot.csv", "Harbour,9,9\n", "", "no-depot-record"),
+    "a misspelt trip in the pairs": ("pairs.csv", "W2,S1", "W22,S1", "no-such-trip"),
+    "a kept pair in the wrong order": ("pairs.csv", "W3,W1,never", "W3,W1,keep", "kept-pair"),
     "no blocks of today": ("trips.txt", ",block_id", ",other", "no-block-id"),
     "blocks of other days": ("trips.txt", "rest.1", "V1", "blocks-of-other-days"),
 }
@@ -247,6 +250,46 @@ class TestSettings(NotesTest):
         ways, depot = (CLEAN[name].replace("Harbour", "late") for name in ("deadheads.csv", "depot.csv"))
         toml = CLEAN["desk.toml"] + "late = 3\n"
         self.assertEqual(self.notes(terminals__csv=terminals, deadheads__csv=ways, depot__csv=depot, desk__toml=toml), [])
+
+
+class TestPairs(NotesTest):
+    """Notes on rules of pairs, and on the trips that the agency links."""
+
+    def pairs(self, *records: str, kind: str = "kept-pair", **changed: str) -> Note:
+        """The one note of a kind where the pairs have these records."""
+        return self.only(kind, self.notes(pairs__csv="".join(f"{line}\n" for line in ("before,after,rule", *records)), **changed))
+
+    def test_what_a_name_of_no_trip_does(self) -> None:
+        note = self.pairs("W1,W9,keep", kind="no-such-trip")
+        self.assertEqual((note.record, "no trip comes straight after \"W1\"" in note.found), (1, True), note.found)
+        self.assertIn("no trip comes straight before \"W2\"", self.pairs("W8,W2,keep", kind="no-such-trip").found)
+        self.assertIn("the record has no effect", self.pairs("W1,w2,never", kind="no-such-trip").found)
+
+    def test_why_a_kept_pair_does_not_fit(self) -> None:
+        late = CLEAN["desk.toml"].replace("layover = 5", "layover = 20")
+        self.assertEqual(self.pairs("W1,W2,keep", desk__toml=late).found,
+                         '"W1" and "W2" are kept together, and a vehicle comes 11 minutes too late')
+        self.assertIn("no way leads", self.pairs("W1,W3,keep", deadheads__csv="from,to,minutes\n").found)
+        self.assertIn('"W2" does not run, so no trip comes straight after "W1"', self.pairs("W1,W2,keep", edits__csv="cancel,W2\n").found)
+        self.assertIn('"S1" does not run, so no trip comes straight before "W3"', self.pairs("S1,W3,keep").found)
+
+    def test_kept_pairs_that_fit_have_no_note(self) -> None:
+        self.assertEqual(self.notes(pairs__csv="before,after,rule\nW1,W2,keep\nW2,W3,keep\n"), [])
+
+    def test_a_row_of_kept_pairs_that_all_miss(self) -> None:
+        town = self.notes(pairs__csv="before,after,rule\nW1,W2,keep\nW2,W3,keep\n", desk__toml='date = "20260907"\nlayover = 60\n')
+        self.assertEqual([note.record for note in town if note.kind == "kept-pair" and "too late" in note.found], [1, 2])
+
+    def test_an_extra_trip_of_a_rule(self) -> None:
+        notes = self.notes(pairs__csv="before,after,rule\nW1,X1,keep\n", edits__csv="extra,X1,Harbour,Station,06:40,06:50\n")
+        self.assertEqual([note for note in notes if note.file == "pairs.csv"], [])
+
+    def test_blocks_of_today_that_part_linked_trips(self) -> None:
+        linked = "transfer_type,from_trip_id,to_trip_id\n4,W1,W2\n4,W2,W3\n5,W3,W1\n4,W3,S1\n4,W1,\n"
+        note = self.only("linked-trips", self.notes(CLEAN | {"transfers.txt": linked}))
+        self.assertEqual((note.file, note.record), ("transfers.txt", 2))
+        self.assertIn('"W3" is linked to "W2" by transfer_type 4, and the blocks of trips.txt have it in another block', note.found)
+        self.assertIn("`W2,W3,keep`", note.do)
 
 
 class TestFiles(NotesTest):

@@ -28,7 +28,8 @@ def feed() -> Feed:
         "routes.txt": "route_id,agency_id\nred,City Bus\nblue,City Bus\ngreen,Coach\ngrey,Coach\nnight,Coach\n",
         "calendar_dates.txt": "service_id,date,exception_type\nW,20260907,1\nS,20260912,1\n",
         "desk.toml": 'date = "20260907"\nblock_prefix = "V"\n', "tolerances.csv": "trip_id,early,late\nred0,1,1\ngreen0,1,1\n",
-        "depot.csv": "terminal,pull_out,pull_in\na,1,1\n", "edits.csv": "cancel,red0\n", "blocks.csv": "old\n",
+        "depot.csv": "terminal,pull_out,pull_in\na,1,1\n",
+        "pairs.csv": "before,after,rule\nred0,red1,never\ngreen0,green1,keep\nred1,green1,never\n", "edits.csv": "cancel,red0\n", "blocks.csv": "old\n",
         "trips_before_1.txt": "old\n"}
 
 
@@ -74,6 +75,8 @@ class PartsTest(FolderTest):
             self.assertEqual(run(["blocks", part]).status, 0)
         self.assertEqual(sorted(trips), sorted(self.column(self.town / "trips.txt", "trip_id")))
         self.assertEqual(self.column(self.room / "town-Coach" / "tolerances.csv", "trip_id"), ["green0"])
+        self.assertEqual([self.column(self.room / f"town-{name}" / "pairs.csv", "before") for name in ("City_Bus", "Coach")],
+                         [["red0", "red1"], ["green0", "red1"]])
 
     def test_what_the_program_has_beside_a_journal_stays(self) -> None:
         """So does a prefix of blocks with a quote and a mark, and the comment behind it."""

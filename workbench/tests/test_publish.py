@@ -5,11 +5,12 @@ import csv
 import io
 import unittest
 import zipfile
+from itertools import pairwise
 from unittest import mock
 
 from desk.program import run
 from desk.unpacking import unpack
-from tests.feeds import demonstration, needs_program, write_feed, zip_feed
+from tests.feeds import demonstration, needs_program, table, write_feed, zip_feed
 from tests.publishing import PublishingTest
 from tests.small_town import small_town, two_trips
 
@@ -56,6 +57,23 @@ class PublishTest(PublishingTest):
         with zipfile.ZipFile(self.out) as archive:
             self.assertEqual(archive.read("stops.txt"), (self.town / "stops.txt").read_bytes())
             self.assertNotIn("desk.toml", archive.namelist())
+
+    def test_rules_of_pairs_hold_where_it_is_read_again(self) -> None:
+        """A feed without its rules would have a plan with fewer minutes."""
+        small_town(self.town)
+        run(["blocks", self.town])
+        with open(self.town / "blocks.csv", newline="", encoding="utf-8") as file:
+            trips = [(row["trip_id"], row["deadhead"]) for row in csv.DictReader(file)]
+        never = [(before, after) for (before, _), (after, _) in pairwise(trips)]
+        write_feed(self.town, {"pairs.csv": table("before,after,rule", [(*pair, "never") for pair in never[::3]])})
+        status, text, errors = self.publish()
+        self.assertEqual((status, errors), (0, ""))
+        self.assertIn("read again, `audit` says least", text)
+        self.assertEqual(run(["blocks", self.town]).status, 0)
+        with open(self.town / "blocks.csv", newline="", encoding="utf-8") as file:
+            rows = list(csv.DictReader(file))
+        linked = {(one["trip_id"], other["trip_id"]) for one, other in pairwise(rows) if one["block_id"] == other["block_id"]}
+        self.assertEqual(linked.intersection(never[::3]), set())
 
     def test_other_programs_read_it_as_a_feed(self) -> None:
         """`new` makes a town of the zip, whose blocks of today are the plan: with the planner's files they are least."""

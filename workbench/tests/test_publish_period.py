@@ -5,12 +5,13 @@ import csv
 import datetime
 import unittest
 import zipfile
+from itertools import pairwise
 from pathlib import Path
 from unittest import mock
 
 from desk.period_trips import PeriodTrips
 from desk.program import ROOT
-from tests.feeds import Feed, demonstration, needs_program, write_feed, zip_feed
+from tests.feeds import Feed, demonstration, needs_program, table, write_feed, zip_feed
 from tests.gtfs import Gtfs, Run, moved
 from tests.made_periods import with_dates_alone, with_night_and_school
 from tests.publishing import PublishingTest
@@ -122,6 +123,17 @@ class PeriodTest(PublishingTest):
         self.assertEqual(sorted(made.content(friday) - agency.content(friday)), sorted([later, extra]))
         self.assertEqual(made.content(eve) - agency.content(eve), {extra: 1})
         self.assertEqual([row["service_id"] for row in self.rows("trips.txt") if row["trip_id"] == "week_2_0_367"], ["week@mon-thu"])
+
+    def test_rules_of_copied_trips(self) -> None:
+        """A rule names a trip that is copied, and holds for each of its copies."""
+        self.make(with_night_and_school())
+        planned = {day.name: self.planned(f"days/{day.name}") for day in (self.town / "days").iterdir()}
+        pairs = {pair for blocks in planned.values() for trips in blocks.values() for pair in pairwise(trips) if "night" in pair[0] + pair[1]}
+        write_feed(self.town, {"pairs.csv": table("before,after,rule", [(*pair, "never") for pair in sorted(pairs)])})
+        self.desk("plan", self.town)
+        status, text, errors = self.publish()
+        self.assertEqual((status, errors), (0, ""), text)
+        self.assertEqual(self.check_dates(), 75)
 
     def test_files_that_name_copied_trips(self) -> None:
         """A record of two trips stands for each pair of copies with a common date."""

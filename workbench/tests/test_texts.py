@@ -112,10 +112,12 @@ class Values(unittest.TestCase):
         self.assertEqual(parsed["records"][4], {"record": 5, "ok": False, "trip": "U2", "why": "outside tolerance (+2)"})
 
     def test_audit(self) -> None:
-        no = texts.as_json("audit", "block X: U1 to U2 no way\nblock  : U3 to U4 short by 7\nno: 2 pairs do not fit\n")
+        no = texts.as_json("audit", "block X: U1 to U2 no way\nblock  : U3 to U4 short by 7\nblock Y: U5 to U6 forbidden\n"
+                           "no: 3 pairs do not fit\n")
         self.assertEqual(no, {"refused": [], "verdict": "no", "misfits": [
-            {"block": "X", "first": "U1", "second": "U2", "short": None},
-            {"block": " ", "first": "U3", "second": "U4", "short": 7}]})
+            {"block": "X", "first": "U1", "second": "U2", "short": None, "forbidden": False},
+            {"block": " ", "first": "U3", "second": "U4", "short": 7, "forbidden": False},
+            {"block": "Y", "first": "U5", "second": "U6", "short": None, "forbidden": True}]})
         above = texts.as_json("audit", (EXAMPLES / "small_town" / "expected" / "audit.txt").read_bytes())
         self.assertEqual(above, {"refused": [], "verdict": "above", "vehicles": 12, "minutes": 0,
                                  "least": {"vehicles": 11, "minutes": 0}, "above": {"vehicles": 1}})
@@ -141,6 +143,8 @@ class Values(unittest.TestCase):
             {"place": "C", "max": 0, "at": "00:00", "was": 1, "steps": [
                 {"at": "06:50", "deficit": -1}, {"at": "07:00", "deficit": 0}]},
             {"place": "A, b", "max": 1, "at": "100:00", "was": 1, "steps": [{"at": "100:00", "deficit": 1}]}]})
+        fewer = texts.as_json("joined", "A max 1 at 06:00, was 1\n 06:00 1\nsum 1, blocks 2\n")
+        self.assertEqual((fewer["sum"], fewer["blocks"]), (1, 2))
 
     def test_planners(self) -> None:
         text = ('record 1: refused: not an edit\nplanner 1: ok\nplanner 2: refused, U2: held by record 4\nplanner 3: refused: nothing to undo\n'
@@ -183,7 +187,8 @@ class Refusals(FolderTest):
         self.refuse("deficits", "A max 2 at 06:00\n 06:00 1\nsum 2\n", "another maximum")
         self.refuse("deficits", "A max 0 at 00:00\nA max 0 at 00:00\nsum 0\n", "stood before")
         self.refuse("deficits", "A max 1 at 06:00\n 06:00 1\n 05:00 0\nsum 1\n", "order")
-        self.refuse("joined", "A max 1 at 06:00, was 1\n 06:00 1\nsum 1, blocks 2\n", "sum")
+        self.refuse("joined", "A max 1 at 06:00, was 1\n 06:00 1\nsum 1, blocks 0\n", "number of the blocks")
+        self.refuse("joined", "A max 1 at 06:00, was 1\n 06:00 1\nsum 1, blocks 2\n", "number of the blocks", EXAMPLES / "depot")
         self.refuse("fixed", "B1: U1 06:00 06:30\nfixed 2\n", "number")
         self.refuse("fixed", "B1: U1 06:00 06:30; dh 5; U2 07:00 07:30\nfixed 1\n", "ways")
         self.refuse("fixed", "record 2: refused: not an edit\nrecord 1: refused: not an edit\nfixed 0\n", "order")

@@ -37,7 +37,8 @@ def layover_hints(found: Fitting) -> list[str]:
 
 def _told(misfit: Json) -> str:
     """A pair that does not fit, as the first of some."""
-    why = "no way leads there" if misfit["short"] is None else f"{misfit['short']} minutes too late"
+    late = "no way leads there" if misfit["short"] is None else f"{misfit['short']} minutes too late"
+    why = "which pairs.csv forbids" if misfit["forbidden"] else late
     return f"the first is {shown(misfit['first'])} to {shown(misfit['second'])}, {why}"
 
 

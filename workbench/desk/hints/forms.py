@@ -28,6 +28,7 @@ COLUMNS = {
     "stop_times.txt": ("trip_id", "arrival_time", "departure_time", "stop_id", "stop_sequence"),
     "deadheads.csv": ("from", "to", "minutes"),
     "depot.csv": ("terminal", "pull_out", "pull_in"),
+    "pairs.csv": ("before", "after", "rule"),
     "blocks.csv": ("block_id", "trip_id", "deadhead"),
     "prices.csv": ("trip_id", "leave", "enter"),
 }
@@ -36,7 +37,7 @@ COLUMNS = {
 DIFFERENT = {
     "terminals.csv": ("stop_id",), "tolerances.csv": ("trip_id",), "calendar.txt": ("service_id",),
     "calendar_dates.txt": ("service_id", "date"), "trips.txt": ("trip_id",), "deadheads.csv": ("from", "to"),
-    "depot.csv": ("terminal",)}
+    "depot.csv": ("terminal",), "pairs.csv": ("before", "after")}
 """The columns in which no two records of a file may be the same."""
 
 _TIME = "a time with seconds, `06:30:00`, up to `99:59:59`"
@@ -49,7 +50,7 @@ FIELDS = {
     "arrival_time": _TIME, "departure_time": _TIME, "stop_sequence": "a whole number of at most nine digits",
     "start_date": _DATE, "end_date": _DATE, "date": _DATE, "exception_type": "`1` for a service that runs, or `2` for one that does not",
     "minutes": "a whole number of minutes from 1 to 1440, in digits alone", "pull_out": _PULL, "pull_in": _PULL,
-    "early": _TOLERANCE, "late": _TOLERANCE,
+    "early": _TOLERANCE, "late": _TOLERANCE, "rule": "`keep` or `never`",
     **dict.fromkeys(COLUMNS["calendar.txt"][1:8], _MARK)}
 """What a field of a column must be."""
 

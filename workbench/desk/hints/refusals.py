@@ -13,7 +13,7 @@ from desk.hints.stop_times import trip_hints
 from desk.hints.tables import empty_hints, header_hints, length_hints, record_hints
 from desk.hints.toml import toml_hints
 from desk.hints.trips import TripFile
-from desk.limits import MOST_PLACES, MOST_TRIPS
+from desk.limits import MOST_PLACES, MOST_RULES, MOST_TRIPS
 from desk.town import Town
 
 LINE = re.compile(r"([a-z_]+\.[a-z]+)(?: record ([0-9]+))?: (.*)", re.DOTALL)
@@ -66,6 +66,8 @@ def _of_file(town: Town, path: Path, text: str) -> list[str]:
         return _too_many_places(town)
     if text == "too many trips":
         return _too_many_trips(town)
+    if text == "too many records" and path.name == "pairs.csv":
+        return [f"{path.name}: it has more than {MOST_RULES:,} records. Take out those of trips that run no more."]
     found = OF_A_TRIP.fullmatch(text)
     return trip_hints(path, found[1], found[2]) if found else []
 

@@ -20,6 +20,9 @@ KINDS = {
     b"SQLite format 3\0": "it is a database", b"\x1f\x8b": "it is packed by gzip"}
 """How files begin that are no text in UTF-8, and what they are."""
 
+SAME = {"same terminal": ("from", "to"), "same trip": ("before", "after")}
+"""The refusals of records that name one thing twice, with the two columns."""
+
 SEPARATORS = {";": "semicolons", "\t": "tabs", "|": "bars"}
 """What other programs write between fields."""
 
@@ -111,8 +114,9 @@ def record_hints(path: Path, number: int, text: str) -> list[str]:
         return [f"{place}: it has {len(fields)} fields and the header {len(header)}. A field with a comma in it stands in double quotes."]
     if text == "duplicate":
         return _duplicate_hints(path, number, place, header, fields)
-    if text == "same terminal" and "from" in header:
-        return [f"{place}: {shown(fields[header.index('from')])} stands in `from` and in `to`. Take the record out."]
+    for same, (first, second) in SAME.items():
+        if text == same and first in header:
+            return [f"{place}: {shown(fields[header.index(first)])} stands in `{first}` and in `{second}`. Take the record out."]
     what, _, column = text.partition(" ")
     if text.endswith(" not UTF-8"):
         return _bytes_hints(place, header, fields, text.removesuffix(" not UTF-8"))
@@ -145,12 +149,24 @@ def _duplicate_hints(path: Path, number: int, place: str, header: list[str], fie
     """Which record before this one has the same names."""
     places = [header.index(column) for column in DIFFERENT.get(path.name, ()) if column in header]
     key = [fields[at] for at in places]
-    for before, other in numbered(path):
-        if before >= number:
-            break
+    earlier = [(before, other) for before, other in numbered(path) if before < number]
+    for before, other in earlier:
         if places and [other[at] for at in places] == key:
             named = " and ".join(map(shown, key))
             return [f"{place}: {named} stood before, in record {before}. Take one of the two out."]
+    return _kept_hints(place, header, fields, earlier) if path.name == "pairs.csv" else []
+
+
+def _kept_hints(place: str, header: list[str], fields: list[str], earlier: list[tuple[int, list[str]]]) -> list[str]:
+    """Which record of `pairs.csv` before this one keeps one of its trips with another one."""
+    if not header or not set(COLUMNS["pairs.csv"]) <= set(header):
+        return []
+    before, after, rule = (header.index(column) for column in COLUMNS["pairs.csv"])
+    for number, other in earlier:
+        if other[rule].strip(" ") == "keep":
+            for at, there in ((before, after), (after, before)):
+                if other[at] == fields[at]:
+                    return [f"{place}: record {number} keeps {shown(fields[at])} with {shown(other[there])}. Take one of the two out."]
     return []
 
 

@@ -16,6 +16,7 @@ from desk.hints.places import Places
 from desk.hints.refusals import refusal_hints
 from desk.new import additions, steps
 from desk.new.days import NewDays, draft_folders, draft_shared, find_days, tell_left
+from desk.new.pairs import draft_pairs
 from desk.new.report import Report
 from desk.new.room import carry_own, left_as_they_were, settle, town_room
 from desk.new.sound_feed import judge_left_out
@@ -93,6 +94,7 @@ def _make(room: Path, arguments: argparse.Namespace, report: Report) -> None:
         draft_folders(room, days, arguments.replace, report)
     else:
         steps.draft_settings(town, date, terminals, report)
+    draft_pairs(town, days, report)
     steps.judge_limits(town, terminals, report)
     if days:
         report.title = (f"{arguments.town}: {counted(len(days.found.types), 'day type')}, the busiest with "
@@ -119,6 +121,7 @@ def _make_more(room: Path, arguments: argparse.Namespace, report: Report) -> Non
     _judge_left_out(town, days, trips, report)
     terminals = additions.add_places(own, town, trips, report)
     additions.add_running(own, town, terminals, arguments.depot, Pace(arguments.detour, arguments.speed), report)
+    additions.add_pairs(own, town, days, report)
     steps.judge_limits(town, terminals, report)
     report.title = f"{arguments.town}: {counted(len(town.day()), 'trip')}, with what {arguments.feed} needs"
 

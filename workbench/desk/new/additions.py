@@ -13,10 +13,13 @@ from desk.dates import Days, check_date, trips_by_service
 from desk.deadheads import Depot, Pace, draft_pulls, draft_ways, find_depot, readable
 from desk.files import read_bytes, write_whole
 from desk.limits import MOST_PLACES
+from desk.new.days import NewDays
+from desk.new.pairs import chosen_pairs
 from desk.new.report import Report
 from desk.new.settings import with_key
 from desk.new.steps import all_ends, draft_settings
 from desk.notes.deadheads import read_ways
+from desk.pair_rules import COLUMNS, FILE, KEEP, read_rules
 from desk.records import first_records, open_records, record_text
 from desk.refused_trips import SortedTrips
 from desk.stations import Terminal, distinct, draft_terminals
@@ -105,6 +108,12 @@ def _add_pulls(own: Town, town: Town, terminals: Sequence[Terminal], depot: Depo
     if own.has("depot.csv") and missing and not depot:
         report.mend("depot.csv", f"{counted(len(missing), 'terminal')} without a record: {some(missing)}. Say by --depot where the depot "
                     "is, or write them.")
+
+
+def add_pairs(own: Town, town: Town, days: NewDays | None, report: Report) -> None:
+    """Adds the linked pairs that `pairs.csv` lacks, where its rules leave their trips free."""
+    rows = [dict(zip(COLUMNS, (*pair, KEEP))) for pair in chosen_pairs(town, days, report, read_rules(own))]
+    _append(own, town, FILE, COLUMNS, rows, report)
 
 
 def _append(own: Town, town: Town, name: str, columns: Sequence[str], rows: Sequence[Record], report: Report) -> None:

@@ -20,7 +20,7 @@ from desk.locks import locked
 from desk.rooms import own_room
 from desk.town import AGENCY_FILES
 
-PLANNER_FILES = ("desk.toml", "terminals.csv", "deadheads.csv", "depot.csv")
+PLANNER_FILES = ("desk.toml", "terminals.csv", "deadheads.csv", "depot.csv", "pairs.csv")
 """The planner's files that are drafted."""
 
 OTHER_FILES = ("tolerances.csv", "edits.csv", "planner_edits.csv", "extras.csv", "journal.db")

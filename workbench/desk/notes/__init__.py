@@ -14,7 +14,7 @@ from desk.errors import DeskError, one_line
 from desk.files import reason
 from desk.hints.machine import folder_hints
 from desk.hints.toml import toml_hints
-from desk.notes import days, depot, files, minutes, places, refusal, scripts, settings, trips, ways
+from desk.notes import days, depot, files, minutes, pairs, places, refusal, scripts, settings, trips, ways
 from desk.notes.note import Note, View
 from desk.notes.period import notes_of_period
 from desk.period import has_days
@@ -26,7 +26,8 @@ HELP = "what the program refuses in a town, and what looks wrong and it accepts 
 CHECKS: tuple[Callable[[View], Iterator[Note]], ...] = (
     refusal.refusal, files.names, refusal.trips, days.no_trips, days.services, days.all_days, depot.unlisted, settings.layovers,
     settings.classes, trips.repeated, trips.no_block_id, trips.other_days_blocks, trips.tolerances, places.terminals,
-    places.deadheads, depot.names, depot.extras, ways.unreached, ways.slow, ways.one_way, minutes.misses, scripts.journal)
+    places.deadheads, depot.names, depot.extras, ways.unreached, ways.slow, ways.one_way, pairs.names, pairs.kept, pairs.linked,
+    minutes.misses, scripts.journal)
 """What is looked for, in the order of the notes."""
 
 WITHOUT_SETTINGS = CHECKS[:2]

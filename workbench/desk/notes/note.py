@@ -14,6 +14,7 @@ from desk.hints.scripts import edit_of
 from desk.hints.trips import TripFile
 from desk.limits import MOST_TRIPS
 from desk.notes.deadheads import Way, read_ways
+from desk.pair_rules import Rule, read_rules
 from desk.records import first_records
 from desk.rooms import SCRIPTS
 from desk.scripts import fields_of
@@ -96,6 +97,11 @@ class View:
         return self._once("pulls", lambda: first_records(self.town.path("depot.csv"), "terminal"))
 
     @property
+    def rules(self) -> list[Rule]:
+        """The records of `pairs.csv`."""
+        return self._once("rules", lambda: read_rules(self.town))
+
+    @property
     def extras(self) -> list[Extra]:
         """The ends of the extra trips of both scripts."""
         return self._once("extras", lambda: [extra for name in SCRIPTS for extra in read_extras(self.town, name)])
@@ -132,9 +138,9 @@ class View:
     def _asked(self) -> list[str]:
         """The trips that other files name, as far as these can be read."""
         asked: list[str] = []
-        for names in ("tolerances", "repeats"):
+        for names in (lambda: self.tolerances, lambda: self.repeats, lambda: [name for rule in self.rules for name in rule.pair]):
             try:
-                asked += getattr(self, names)
+                asked += names()
             except DeskError:
                 continue
         return asked
