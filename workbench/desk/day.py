@@ -179,9 +179,9 @@ def _blocks(shown: list[Json], published: dict[str, Published], has_classes: boo
     """The blocks as the program shows them."""
     known: dict[str, tuple[Json, Block]] = {}
     if before:
-        same = {name for name, trip in before.published.items() if published.get(name) is trip}
+        others = {name for name, trip in before.published.items() if published.get(name) is not trip}
         known = {block.name: (told, block) for told, block in zip(before.shown, before.blocks)
-                 if same.issuperset(ride.name for ride in block.rides)}
+                 if not others or others.isdisjoint(ride.name for ride in block.rides)}
     blocks = []
     for told in shown:
         was = known.get(told["block"])

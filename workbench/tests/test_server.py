@@ -486,9 +486,9 @@ class SessionTest(FolderTest):
         self.assertTrue(all(one is other for one, other in zip(second.blocks, after.blocks, strict=True)))
 
     def test_parts(self) -> None:
-        """A list in parts has what stands where it stood as slices, and all else as it is."""
+        """A list in parts has what stood in the one before as slices, wherever it stands now, and all else as it is."""
         for before, after, parts in (("abc", "abc", [[0, 3]]), ("abc", "axcd", [[0, 1], "x", [2, 1], "d"]), ("abc", "", []), ("", "a", ["a"]),
-                                     ("abc", "ab", [[0, 2]]), ("abc", "bcd", ["b", "c", "d"])):
+                                     ("abc", "ab", [[0, 2]]), ("abc", "bcd", [[1, 2], "d"]), ("abc", "xabc", ["x", [0, 3]])):
             self.assertEqual(parts_of(list(before), list(after)), parts)
             self.assertEqual(whole_of(list(before), parts), list(after))
 

@@ -5,22 +5,18 @@ import json
 from typing import Any
 
 from desk.boards_page import day_text
-from desk.day import Day, Published
+from desk.day import Day
 from desk.figures import block_figures
 from desk.lines import LineNames
 from desk.notes.days import no_trips
 from desk.notes.note import View
-from desk.plans import Block, Ride
-from desk.records import open_records
+from desk.page.trips import Seen, shown_trips
+from desk.plans import Block
 from desk.scripts import Record, standing
 from desk.texts import Json, minute_of
 from desk.texts_names import keeps_names
-from desk.town import Town
 from desk.unlisted_terminals import told, unlisted
 from desk.written_texts import edit_text, verdict_text
-
-Seen = tuple[Day, Json]
-"""A day and its view."""
 
 LISTS = ("trips", "blocks", "script")
 """The lists of a view that are long, and mostly as they were after an edit."""
@@ -32,8 +28,7 @@ def as_view(day: Day, seen: Seen | None = None) -> Json:
     """All that the page shows of a day. What is as it was seen before, of a day of the same town, is the same object."""
     lines = LineNames(day.town)
     seen = seen if seen and seen[0].town is day.town else None
-    trips = _trips(day, lines, seen)
-    numbers = {trip["id"]: number for number, trip in enumerate(trips)}
+    trips = shown_trips(day, lines, seen)
     done, undone = standing(day.records)
     fixed, vehicles, minutes = day.cost
     return {
@@ -45,7 +40,7 @@ def as_view(day: Day, seen: Seen | None = None) -> Json:
         "numbers": {"vehicles": vehicles, "minutes": minutes, "fixed": fixed},
         "colours": lines.colours,
         "trips": trips,
-        "blocks": _blocks(day, numbers, seen),
+        "blocks": _blocks(day, trips, seen),
         "script": [_record(record) for record in day.records],
         "undo": done[-1].text if done else None,
         "redo": undone[-1].text if undone else None,
@@ -66,12 +61,14 @@ def change_of(before: Json, after: Json) -> Json:
 
 
 def parts_of(before: list[Json], after: list[Json]) -> list[Any]:
-    """A list in parts: `[first, count]` are elements that stand where they stood in the list before, and all else is an element."""
+    """A list in parts: `[first, count]` are elements of the list before, from this place on, and all else is an element."""
+    places = {id(element): place for place, element in enumerate(before)}
     parts: list[Any] = []
-    for place, element in enumerate(after):
-        if place >= len(before) or element is not before[place] and element != before[place]:
+    for at, element in enumerate(after):
+        place = places.get(id(element), at if at < len(before) and element == before[at] else None)
+        if place is None:
             parts.append(element)
-        elif parts and isinstance(parts[-1], list):
+        elif parts and isinstance(parts[-1], list) and sum(parts[-1]) == place:
             parts[-1][1] += 1
         else:
             parts.append([place, 1])
@@ -103,79 +100,33 @@ def _verdict(day: Day, said: Json) -> Json:
     return {"yes": None, "text": text, "words": f"No trip runs. {why or 'The script cancels all of them.'}"}
 
 
-def _trips(day: Day, lines: LineNames, seen: Seen | None) -> list[Json]:
-    """The trips of the files in their order, those that do not run too."""
-    known: dict[str, tuple[Published, Ride | None, Json]] = {}
-    if seen:
-        were = _rides(seen[0])
-        known = {name: (published, were.get(name), shown) for (name, published), shown in zip(seen[0].published.items(), seen[1]["trips"])}
-    tolerances = _tolerances(day.town)
-    early, late = (_number(day.town.settings.get(key)) for key in ("early", "late"))
-    rides, trips = _rides(day), []
-    for name, published in day.published.items():
-        ride, before = rides.get(name), known.get(name)
-        if before and before[0] is published and before[1] is ride and before[2]["line"] == lines.of(published.trip):
-            trips.append(before[2])
-            continue
-        shown = _published(name, published, lines)
-        shown["early"], shown["late"] = tolerances.get(name, (early, late)) if published.trip else (early, late)
-        shown |= {"runs": ride is not None, "shift": ride.shift if ride else 0}
-        if ride:
-            shown |= {"departs": ride.departs, "arrives": ride.arrives, "ends": ride.ends}
-        trips.append(shown)
-    return trips
-
-
-def _rides(day: Day) -> dict[str, Ride]:
-    """The rides of a day by the names of their trips."""
-    return {ride.name: ride for block in day.blocks for ride in block.rides}
-
-
-def _published(name: str, published: Published, lines: LineNames) -> Json:
-    """What the files say of a trip."""
-    trip = published.trip
-    shown: Json = {"id": name, "from": published.start, "to": published.end, "departs": published.departs, "arrives": published.arrives,
-                   "ends": published.arrives, "extra": trip is None, "line": "", "headsign": "", "service": "", "published": None}
-    if trip:
-        shown |= {"line": lines.of(trip), "headsign": trip.headsign, "service": trip.service_id,
-                  "published": [trip.departure, trip.arrival]}
-    return shown
-
-
-def _number(value: object) -> int:
-    """A number of `desk.toml`, 0 without one."""
-    return value if isinstance(value, int) else 0
-
-
-def _tolerances(town: Town) -> dict[str, tuple[int, int]]:
-    """By how many minutes each trip of `tolerances.csv` may be moved earlier and later."""
-    if not town.has("tolerances.csv"):
-        return {}
-    with open_records(town.path("tolerances.csv")) as records:
-        name, early, late = (records.column(column) for column in ("trip_id", "early", "late"))
-        return {fields[name]: (int(fields[early]), int(fields[late])) for _, fields in records}
-
-
 def _stated_names(day: Day) -> set[str]:
     """The names that the feed states for blocks, where blocks keep them."""
     return {published.trip.block_id for published in day.published.values() if published.trip} if keeps_names(day.town) else set()
 
 
-def _blocks(day: Day, numbers: dict[str, int], seen: Seen | None) -> list[Json]:
-    """The blocks: their rides as the numbers of their trips, each with the empty minutes before it. A kept name is one of the feed."""
+def _blocks(day: Day, trips: list[Json], seen: Seen | None) -> list[Json]:
+    """The blocks. A kept name is one of the feed."""
     names = _stated_names(day)
-    known = {block.name: (block, shown["figures"]) for block, shown in zip(seen[0].blocks, seen[1]["blocks"])} if seen else {}
+    known = _known_blocks(trips, seen) if seen else {}
+    numbers = {trip["id"]: number for number, trip in enumerate(trips)}
     shown = []
     for block in day.blocks:
-        was = known.get(block.name)
-        figures = was[1] if was and was[0] is block else block_figures(block)
-        shown.append(_block(block, numbers, block.name in names, figures))
+        is_kept, was = block.name in names, known.get(id(block))
+        shown.append(was if was and was["kept"] == is_kept else _block(block, numbers, is_kept))
     return shown
 
 
-def _block(block: Block, numbers: dict[str, int], is_kept: bool, figures: Json) -> Json:
-    """A block with its figures."""
-    return {"name": block.name, "kept": is_kept, "class": block.vehicle_class, "home": block.home, "figures": figures,
+def _known_blocks(trips: list[Json], seen: Seen) -> dict[int, Json]:
+    """The blocks as they were seen, by their identity; none where trips had other numbers."""
+    before, view = seen
+    is_numbered_so = all(was["id"] == trip["id"] for was, trip in zip(view["trips"], trips))
+    return {id(block): shown for block, shown in zip(before.blocks, view["blocks"])} if is_numbered_so else {}
+
+
+def _block(block: Block, numbers: dict[str, int], is_kept: bool) -> Json:
+    """A block with its figures: its rides as the numbers of their trips, each with the empty minutes before it."""
+    return {"name": block.name, "kept": is_kept, "class": block.vehicle_class, "home": block.home, "figures": block_figures(block),
             "rides": [[numbers[ride.name], ride.empty] for ride in block.rides]}
 
 

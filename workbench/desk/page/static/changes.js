@@ -1,8 +1,8 @@
-/** What has changed of a day: the server sends of its lists what is new, and which elements are as before. */
+/** What has changed of a day: the server sends of its lists what is new, and where in those before the other elements stood. */
 
 const LISTS = ["trips", "blocks", "script"];
 
-/** The view after a change of another one. In its lists `[first, count]` are elements that stand where they stood. */
+/** The view after a change of another one. In its lists `[first, count]` are elements of the list before, from this place on. */
 export function changed(view, change) {
   const lists = LISTS.map((name) => [name, change[name].flatMap((part) => wholeOf(part, view[name]))]);
   return { ...change, ...Object.fromEntries(lists) };
