@@ -520,6 +520,25 @@ class OpenTest(ServedTest):
         self.assertEqual(self.script(), "shift,wd_2_o_0735,+10\nundo\nredo\n")
         self.assertEqual(self.browser.errors(), [])
 
+    def test_rows_that_stay(self) -> None:
+        """An edit draws the rows anew that it changes, and no others; a zoom draws all."""
+        self.browser.click(self.bar("wd_2_o_0735"))
+        block = self.browser.run("return document.activeElement.parentNode.getAttribute('aria-label')")
+        self.drawn_anew()
+        for keys, words in ((("Shift+ArrowRight", "Enter"), "shift wd_2_o_0735 +1: "), (("Control+z",), "undo: ")):
+            self.assertEqual(self.drawn_anew(), [])
+            self.browser.keys(*keys)
+            self.wait_for(words)
+            self.assertEqual(self.drawn_anew(), [block])
+        self.browser.click("#zoom-in")
+        self.assertEqual(len(self.drawn_anew()), 11)
+
+    def drawn_anew(self) -> list[str]:
+        """The rows that were drawn since this was asked last."""
+        return self.browser.run("""const fresh = [...document.querySelectorAll('#panel-Vehicles .sheet > g')].filter((row) => !row.isKnown);
+          fresh.forEach((row) => { row.isKnown = true; });
+          return fresh.map((row) => row.getAttribute('aria-label'))""")
+
     def test_no_trips(self) -> None:
         """A day without trips has neither tick nor cross, and says which dates have trips. When that is mended the tick is back."""
         good = (self.town / "desk.toml").read_text()

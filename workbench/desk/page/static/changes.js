@@ -8,6 +8,11 @@ export function changed(view, change) {
   return { ...change, ...Object.fromEntries(lists) };
 }
 
+/** Whether two lists have the same elements. */
+export function alike(one, other) {
+  return one.length === other.length && one.every((element, at) => element === other[at]);
+}
+
 /** The elements of a part of a list. */
 function wholeOf(part, before) {
   return Array.isArray(part) ? before.slice(part[0], part[0] + part[1]) : [part];

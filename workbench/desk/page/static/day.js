@@ -1,5 +1,6 @@
 /** A day: the program's plan as bars in the rows of its blocks. */
 
+import { byText } from "./order.js";
 import { clock, count, exactClock, signed } from "./times.js";
 
 /** What the bars are called. */
@@ -22,8 +23,8 @@ export class Day {
         }
       }
     }
-    this.lines = sorted(new Set(view.trips.map((trip) => trip.line)));
-    this.terminals = sorted(new Set(view.trips.flatMap((trip) => [trip.from, trip.to])));
+    this.lines = [...new Set(view.trips.map((trip) => trip.line))].sort(byText);
+    this.terminals = [...new Set(view.trips.flatMap((trip) => [trip.from, trip.to]))].sort(byText);
     this.begin = 60 * Math.floor(least(this.blocks.map((block) => block.leaves), 300) / 60);
     this.end = Math.max(60 * Math.ceil(-least(this.blocks.map((block) => -block.returns), -1320) / 60), this.begin + 60);
   }
@@ -68,17 +69,12 @@ function least(numbers, without) {
   return numbers.reduce((one, other) => Math.min(one, other), numbers.length ? Infinity : without);
 }
 
-/** Texts in the order that people expect, `2` before `10`. */
-function sorted(texts) {
-  return [...texts].sort((one, other) => one.localeCompare(other, "en", { numeric: true }));
-}
-
 /** What names a bar on any day: its kind, with its trip or the trip to which or from which it leads. */
 export function nameOf(kind, trip) {
   return `${kind} ${trip}`;
 }
 
-/** A block with its bars in the order of the day, and its ends. */
+/** A block with its bars in the order of the day, and its ends. `source` is what the view has of it: the same object while it is as before. */
 function withBars(block, row, trips) {
   const bars = [];
   const add = (kind, from, until, start, end, beside) => {
@@ -100,7 +96,7 @@ function withBars(block, row, trips) {
     before = trip;
   }
   add("home", before.ends, before.ends + block.home, before.to, "depot", before);
-  return { ...block, row, bars, leaves: bars[0].from, returns: bars.at(-1).until };
+  return { ...block, source: block, row, bars, leaves: bars[0].from, returns: bars.at(-1).until };
 }
 
 /** All of a bar, line by line: a heading, and then what is known of it. */

@@ -2,6 +2,7 @@
 
 An exact name that is searched for comes before names that have it in them: of a trip, of a block, of a line. */
 
+import { alike } from "./changes.js";
 import { byId, html } from "./elements.js";
 import { count, parseClock } from "./times.js";
 
@@ -33,9 +34,12 @@ export class Filters {
 
   /** Offers the lines and terminals of a day. */
   offer(day) {
+    for (const [field, texts] of [["line", day.lines], ["terminal", day.terminals]]) {
+      if (!this.day || !alike(texts, this.day[`${field}s`])) {
+        offer(byId(`filter-${field}`), `all ${field}s`, texts);
+      }
+    }
     this.day = day;
-    offer(byId("filter-line"), "all lines", day.lines);
-    offer(byId("filter-terminal"), "all terminals", day.terminals);
     const name = this.hit?.trip.id;
     this.hits = this.matches();
     this.at = Math.max(this.hits.findIndex((bar) => bar.trip.id === name), 0);

@@ -2,7 +2,7 @@
 
 import { byId } from "./elements.js";
 import { SIZES } from "./bars.js";
-import { changed } from "./changes.js";
+import { alike, changed } from "./changes.js";
 import { Chart } from "./chart.js";
 import { Day } from "./day.js";
 import { showDays } from "./days.js";
@@ -84,14 +84,14 @@ class Page {
 
   /** Shows a day, as it is after an edit of one's own or after those of others. */
   show(view, isOwn = false) {
-    const first = !this.day;
+    const before = this.day;
     const wasHere = this.hand?.isHere(isOwn);
     forgive();
     this.editing?.drop();
-    this.day = new Day(view, this.day);
+    this.day = new Day(view, before);
     this.lines.add(this.day.lines, view.colours);
     this.scale.setHours(this.day.begin, this.day.end);
-    if (first) {
+    if (!before) {
       byId("row-size").value = this.day.blocks.length > MANY ? "middle" : "high";
     }
     this.filters.offer(this.day);
@@ -100,7 +100,9 @@ class Page {
     if (view.days) {
       showDays(view.days, view.tab, (at) => this.choose(at));
     }
-    byId("legend").replaceChildren(...legendOf(this.day.lines, this.lines));
+    if (!before || !alike(before.lines, this.day.lines)) {
+      byId("legend").replaceChildren(...legendOf(this.day.lines, this.lines));
+    }
     if (this.canEdit) {
       this.stale.add("Edits");
     }

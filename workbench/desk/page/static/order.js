@@ -1,18 +1,19 @@
-/** The order of the rows. */
+/** The order of texts, and that of the rows. */
 
 import { byId, html } from "./elements.js";
 
-const text = (one, other) => one.localeCompare(other, "en", { numeric: true });
+/** How two texts stand to each other in the order that people expect, `2` before `10`. */
+export const byText = new Intl.Collator("en", { numeric: true }).compare;
 
 /** Each order by what it goes: a name, and how two blocks stand to each other. */
 const ORDERS = {
   block: () => 0,
-  line: (one, other) => text(lineOf(one), lineOf(other)) || one.leaves - other.leaves,
+  line: (one, other) => byText(lineOf(one), lineOf(other)) || one.leaves - other.leaves,
   start: (one, other) => one.leaves - other.leaves,
   end: (one, other) => one.returns - other.returns,
   "span, longest first": (one, other) => other.figures.span - one.figures.span,
   "waiting, longest first": (one, other) => other.figures.waiting - one.figures.waiting,
-  "name, kept ones first": (one, other) => other.kept - one.kept || text(one.name, other.name),
+  "name, kept ones first": (one, other) => other.kept - one.kept || byText(one.name, other.name),
 };
 
 /** Offers the orders, and calls `changed` when another one is chosen. */

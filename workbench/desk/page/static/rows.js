@@ -1,5 +1,6 @@
-/** Rows over the hours of the day. Only those in view are drawn. The hours and the names stay while the rows scroll. */
+/** Rows over the hours of the day. Only those in view are drawn, and anew only where they are others. Hours and names stay while they scroll. */
 
+import { alike } from "./changes.js";
 import { html, svg } from "./elements.js";
 import { drawHours } from "./scale.js";
 
@@ -7,7 +8,8 @@ const MORE = 6;
 const HOURS = 26;
 
 export class Rows {
-  /** `source` has `day`, once there is one, and `count()`, `height()`, `draw(row)` and `name(row)`.
+  /** `source` has `day`, once there is one, and `count()`, `height()`, `draw(row)` and `name(row)`. A row is drawn from what `grounds(row)`
+  lists: while that and the scale are the same, it stays as it is.
 
   What it draws above the rows is as high as its `top`, and comes from `drawTop()`. */
   constructor(host, scale, source, left) {
@@ -27,12 +29,17 @@ export class Rows {
     this.frame.style.setProperty("--left", `${left}px`);
   }
 
+  /** Whether something else is in front. */
+  get isHidden() {
+    return this.frame.closest("[hidden]") !== null;
+  }
+
   /** How wide the hours of the day may be without scrolling. */
   get room() {
     return this.frame.clientWidth - this.left - 2;
   }
 
-  /** Draws all anew, as after a zoom or with another day. Where the whole day is shown, it fills the room beside the bar that scrolls.
+  /** Draws what is others, as after a zoom or with another day. Where the whole day is shown, it fills the room.
 
   `aim` scrolls to what is to be in view, before anything is drawn. */
   redraw(aim = () => {}) {
@@ -41,18 +48,15 @@ export class Rows {
     }
     const kept = this.day === this.source.day ? document.activeElement : null;
     this.day = this.source.day;
-    this.drawn.clear();
-    this.names.replaceChildren();
-    this.sheet.replaceChildren();
     const height = Math.max(this.source.count() * this.source.height(), 1);
     setSize(this.names, this.left, height);
-    if (this.scale.fitted && this.frame.clientWidth > 0) {
-      setSize(this.sheet, 1, height);
+    if (this.scale.fitted && !this.isHidden) {
       this.scale.fit(this.room);
     }
     const width = this.scale.width;
     setSize(this.head, width, HOURS + this.topHeight);
     setSize(this.sheet, width, height);
+    this.clear();
     this.corner.style.height = `${HOURS + this.topHeight}px`;
     this.sheet.style.backgroundSize = `${60 * this.scale.perMinute}px 100%`;
     this.head.replaceChildren(drawHours(this.scale, HOURS));
@@ -64,6 +68,26 @@ export class Rows {
     aim();
     this.render();
     this.refocus(kept);
+  }
+
+  /** Takes away the rows that are drawn from something else than they would be now. */
+  clear() {
+    for (const [row, { grounds }] of this.drawn) {
+      if (row >= this.source.count() || !alike(grounds, this.groundsOf(row))) {
+        this.takeAway(row);
+      }
+    }
+  }
+
+  /** All from which a row is drawn. */
+  groundsOf(row) {
+    return [this.scale.begin, this.scale.perMinute, this.scale.width, ...this.source.grounds(row)];
+  }
+
+  /** Takes a row away. */
+  takeAway(row) {
+    this.drawn.get(row).parts.forEach((part) => part.remove());
+    this.drawn.delete(row);
   }
 
   /** Gives the focus back to the bar that had it before the same day was drawn anew. On another day another bar may stand there. */
@@ -86,10 +110,9 @@ export class Rows {
     const height = this.source.height();
     const first = Math.max(Math.floor(this.frame.scrollTop / height) - MORE, 0);
     const last = Math.min(Math.ceil((this.frame.scrollTop + this.frame.clientHeight) / height) + MORE, this.source.count()) - 1;
-    for (const [row, parts] of this.drawn) {
+    for (const row of this.drawn.keys()) {
       if ((row < first || row > last) && row !== this.pinned) {
-        parts.forEach((part) => part.remove());
-        this.drawn.delete(row);
+        this.takeAway(row);
       }
     }
     for (let row = first; row <= last; row += 1) {
@@ -110,7 +133,7 @@ export class Rows {
     const next = [...this.sheet.children].find((other) => other.position > row);
     this.sheet.insertBefore(group, next ?? null);
     this.names.append(name);
-    this.drawn.set(row, [group, name]);
+    this.drawn.set(row, { parts: [group, name], grounds: this.groundsOf(row) });
   }
 
   /** The element of a bar, where it is drawn. */
@@ -142,8 +165,11 @@ export class Rows {
   }
 }
 
-/** Gives a drawing its size. */
+/** Gives a drawing its size, where it has another one. */
 function setSize(drawing, width, height) {
-  drawing.setAttribute("width", width);
-  drawing.setAttribute("height", height);
+  for (const [name, value] of [["width", width], ["height", height]]) {
+    if (drawing.getAttribute(name) !== String(value)) {
+      drawing.setAttribute(name, value);
+    }
+  }
 }

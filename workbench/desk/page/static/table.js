@@ -1,6 +1,7 @@
 /** The table of blocks, which is sorted by any of its columns. */
 
 import { button, html } from "./elements.js";
+import { byText } from "./order.js";
 import { hours } from "./times.js";
 
 /** The columns: a heading, the text of a block, and the number by which blocks are sorted. */
@@ -77,5 +78,5 @@ export class BlockTable {
 
 /** The order of two numbers or texts. */
 function compare(one, other) {
-  return typeof one === "number" ? one - other : one.localeCompare(other, "en", { numeric: true });
+  return typeof one === "number" ? one - other : byText(one, other);
 }

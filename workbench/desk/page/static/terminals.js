@@ -34,6 +34,11 @@ export class Terminals {
     return HEIGHT;
   }
 
+  /** From what the row at a position is drawn. */
+  grounds(position) {
+    return [this.shown[position]];
+  }
+
   /** The steps of the terminal at a position. */
   draw(position) {
     const place = this.shown[position];

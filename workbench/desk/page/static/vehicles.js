@@ -28,7 +28,7 @@ export class Vehicles {
     this.positions = new Map(shown.map((row, position) => [row, position]));
     this.rows.pinned = null;
     const position = this.positions.get(bar?.row);
-    const isSeen = position !== undefined && this.rows.frame.clientHeight > 0;
+    const isSeen = position !== undefined && !this.rows.isHidden;
     this.rows.redraw(() => isSeen && this.rows.scrollTo(position, bar.from, bar.until));
   }
 
@@ -38,6 +38,12 @@ export class Vehicles {
 
   height() {
     return this.size.row;
+  }
+
+  /** From what the row at a position is drawn: its block and trips, and how these are shown. */
+  grounds(position) {
+    const block = this.day.blocks[this.shown[position]];
+    return [this.size, block.row, block.source, ...block.bars.flatMap((bar) => [bar.trip, this.look.statesOf(bar).join(" ")])];
   }
 
   /** The row at a position. */
