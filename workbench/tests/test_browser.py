@@ -4,6 +4,7 @@ from __future__ import annotations
 import random
 import re
 import shutil
+from itertools import pairwise
 from pathlib import Path
 
 from desk.open.session import Session
@@ -432,6 +433,26 @@ class LookTest(BrowserTest):
         page = self.browser.run("""return [...document.styleSheets].flatMap((sheet) => [...sheet.cssRules])
           .flatMap((rule) => [...(rule.cssRules ?? [])]).find((rule) => rule instanceof CSSPageRule).cssText""")
         self.assertIn("counter(page)", page)
+
+    def test_times_on_paper_are_apart(self) -> None:
+        """Where a trip leaves in the minute in which the one before it arrives, their times stand apart on paper."""
+        self.day = made_day(40)
+        view = as_view(self.day)
+        follows = [(before, after) for block in view["blocks"] for (before, _), (after, empty) in pairwise(block["rides"]) if not empty]
+        for before, after in follows:
+            view["trips"][before]["arrives"] = view["trips"][before]["ends"] = view["trips"][after]["departs"]
+        path = self.room / "follows.html"
+        path.write_text(static_page(as_text(view)))
+        self.browser.open(path.as_uri())
+        self.choose("#filter-block", view["blocks"][0]["name"])
+        self.browser.command("Emulation.setEmulatedMedia", media="print")
+        self.browser.resize(1060, 800)
+        self.browser.run("dispatchEvent(new Event('beforeprint'))")
+        gaps = self.browser.run("""return [...document.querySelectorAll('#paper .sheet-of-paper:nth-of-type(1) tbody tr')].flatMap((row) => {
+          const boxes = [...row.querySelectorAll('.paper-time')].map((one) => one.getBoundingClientRect());
+          return boxes.sort((one, other) => one.left - other.left).slice(1).map((box, at) => box.left - boxes[at].right); })""")
+        self.assertGreater(len(gaps), 2)
+        self.assertGreater(min(gaps), 1)
 
 
 class ServedTest(BrowserTest):

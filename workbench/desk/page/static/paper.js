@@ -160,7 +160,8 @@ class Sheet {
   times(block) {
     const trips = block.bars.filter((bar) => bar.kind === "trip").map((bar) => bar.trip);
     const wide = (from, until) => ((this.share(until) - this.share(from)) / 100) * WIDTH - 2;
-    const at = (minute, anchor, text) => svg("text", { class: "paper-time", x: this.at(minute), y: this.size.top - 3, "text-anchor": anchor }, text);
+    const at = (minute, anchor, text) => svg("text", {
+      class: "paper-time", x: this.at(minute), dx: anchor === "end" ? -1 : 1, y: this.size.top - 3, "text-anchor": anchor }, text);
     return trips.flatMap((trip, place) => {
       const [departs, arrives] = [clock(trip.departs), clock(trip.arrives)];
       const room = wide(trip.departs, trips[place + 1]?.departs ?? Infinity);
