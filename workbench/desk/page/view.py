@@ -64,14 +64,18 @@ def parts_of(before: list[Json], after: list[Json]) -> list[Any]:
     """A list in parts: `[first, count]` are elements of the list before, from this place on, and all else is an element."""
     places = {id(element): place for place, element in enumerate(before)}
     parts: list[Any] = []
+    following = None
     for at, element in enumerate(after):
-        place = places.get(id(element), at if at < len(before) and element == before[at] else None)
+        place = places.get(id(element))
+        if place is None and at < len(before) and element == before[at]:
+            place = at
         if place is None:
             parts.append(element)
-        elif parts and isinstance(parts[-1], list) and sum(parts[-1]) == place:
+        elif place == following:
             parts[-1][1] += 1
         else:
             parts.append([place, 1])
+        following = None if place is None else place + 1
     return parts
 
 
