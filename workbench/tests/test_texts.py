@@ -253,9 +253,11 @@ class Refusals(FolderTest):
         self.refuse("fixed", "fixed 0\n", "desk.toml", four)
 
     def test_any_bytes_are_read_or_refused_in_words(self) -> None:
+        """What is read of a damaged text is all of it: it is written again byte for byte."""
         chance = random.Random(57)
-        sources = [(command, text) for _, command, text in example_texts() if len(text) < 2000]
-        for _ in range(3000):
+        texts_of_cases = [(command, text.encode("utf-8", "surrogateescape")) for _, command, text in case_texts()]
+        sources = [(command, text) for _, command, text in example_texts() if len(text) < 2000] + texts_of_cases
+        for _ in range(20_000):
             command, text = chance.choice(sources)
             damaged = bytearray(text)
             for _ in range(chance.randint(1, 4)):
