@@ -15,7 +15,7 @@ from desk.errors import DeskError
 from desk.files import read_bytes
 from desk.hints.refusals import refusal_hints
 from desk.plans import Block, Ride
-from desk.rooms import Scripts, room_of, scripts_of, state_of
+from desk.rooms import SCRIPTS, Scripts, room_of, scripts_of, state_of
 from desk.scripts import Record, fields_of, judged, refuse_open_quote, with_edits, with_show
 from desk.texts import Json, minute_of
 from desk.times import arrival_minute, departure_minute, parse_minute
@@ -107,7 +107,8 @@ def plan_day(town: Town, scripts: Scripts | None = None, with_planners: bool = F
     planners = read_planners(town, scripts) if with_planners else None
     if planners:
         script = with_edits(script, planners.standing)
-    with room_of(town, {"edits.csv": with_show(script)}) as room:
+    tried = {name: content for name, content in scripts.items() if name not in SCRIPTS}
+    with room_of(town, tried | {"edits.csv": with_show(script)}) as room:
         told = ask_in(room, town, "blocks")
         claim = {name: read_bytes(room / name) for name in CLAIM}
     records = judged("edits.csv", with_show(script), told["records"])

@@ -5,6 +5,7 @@ A script is written under another name, synced, and renamed. So at any time it i
 from __future__ import annotations
 
 import os
+import re
 from collections.abc import Iterator
 from contextlib import contextmanager
 from pathlib import Path
@@ -12,6 +13,7 @@ from pathlib import Path
 from desk.errors import UsageError
 from desk.files import read_bytes, sync_folder, write_whole
 from desk.locks import WAIT, locked
+from desk.pair_rules import FILE
 from desk.records import record_text
 from desk.rooms import SCRIPTS
 from desk.scripts import with_record
@@ -19,6 +21,9 @@ from desk.texts import Json
 
 NEXT, TAKEN = ".next-", ".taken-"
 """The prefixes of two scripts' names while what stands in one goes into the other: for the other as it will be, for the one."""
+
+LEFT = re.compile(rf"\.({re.escape(NEXT)})?({'|'.join(map(re.escape, (*SCRIPTS, FILE)))})\.[a-z0-9_]{{8}}")
+"""What a killed writer leaves beside these files. What an editor keeps there has other names, as `.edits.csv.swp`."""
 
 FORMS: dict[str, tuple[tuple[str, type], ...]] = {
     "shift": (("trip", str), ("shift", int)),
@@ -63,9 +68,8 @@ class Script:
 def writing(path: Path, wait: float = WAIT) -> Iterator[Script]:
     """A script of a town. Inside the block no other writer writes a script of it. What a killed writer has left is gone."""
     with locked(path.parent, wait):
-        parts = tuple(f".{kind}{script}." for script in SCRIPTS for kind in ("", NEXT))
         for left in path.parent.glob(".*"):
-            if left.name.startswith(parts):
+            if LEFT.fullmatch(left.name):
                 left.unlink()
         finish_taking(path.parent)
         yield Script(path)

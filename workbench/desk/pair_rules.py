@@ -1,18 +1,19 @@
 """Rules of pairs of trips: those of `pairs.csv`, and the trips that the agency's `transfers.txt` links."""
 from __future__ import annotations
 
-from collections.abc import Iterable
+from collections.abc import Collection, Iterable, Sequence
 from typing import NamedTuple
 
+from desk.errors import DeskError
 from desk.neighbours import Pair
-from desk.records import open_records, record_text
+from desk.records import Records, open_records, record_text, records_of, with_rows, without_records
 from desk.town import Town
 
 FILE, COLUMNS = "pairs.csv", ("before", "after", "rule")
 """The file and its columns."""
 
-KEEP = "keep"
-"""The rule of two trips that a vehicle makes one straight after the other."""
+KEEP, NEVER = "keep", "never"
+"""The rules of two trips that a vehicle makes one straight after the other, and that none makes so."""
 
 TRANSFERS, IN_SEAT = "transfers.txt", "4"
 """The agency's file of transfers, and the `transfer_type` of two trips that a rider makes without a change of vehicle."""
@@ -42,8 +43,36 @@ def read_rules(town: Town) -> list[Rule]:
     if not town.has(FILE):
         return []
     with open_records(town.path(FILE)) as records:
-        before, after, rule = (records.column(column) for column in COLUMNS)
-        return [Rule(number, fields[before], fields[after], fields[rule].strip(" ")) for number, fields in records]
+        return _rules_of(records)
+
+
+def _rules_of(records: Records) -> list[Rule]:
+    """The rules of records."""
+    before, after, rule = (records.column(column) for column in COLUMNS)
+    return [Rule(number, fields[before], fields[after], fields[rule].strip(" ")) for number, fields in records]
+
+
+def in_the_way(rules: Iterable[Rule], fresh: Collection[Rule]) -> list[Rule]:
+    """The rules beside which the program refuses one of these."""
+    return [rule for rule in rules if any(_clash(rule, other) for other in fresh)]
+
+
+def _clash(one: Rule, other: Rule) -> bool:
+    """Whether two rules are of the same two trips, or keep one trip on the same side with two."""
+    return one.pair == other.pair or one.keeps and other.keeps and (one.before == other.before or one.after == other.after)
+
+
+def rewritten(content: bytes, taken: Collection[Rule], added: Sequence[Rule]) -> bytes:
+    """The bytes of a `pairs.csv` without the records of some rules, and with other rules behind it. All other records stay as they are.
+
+    A file that is empty, since it is not there, gets its header.
+    """
+    left = without_records(content or record_text(COLUMNS).encode(), {rule.record for rule in taken})
+    written = with_rows(left, [dict(zip(COLUMNS, rule[1:])) for rule in added])
+    was, now = (_rules_of(records_of(FILE, text.decode("utf-8", "surrogateescape"))) for text in (left, written))
+    if [rule[1:] for rule in now] != [rule[1:] for rule in (*was, *added)]:
+        raise DeskError(f"{FILE}: a quote is not closed, and takes in all that stands behind it")
+    return written
 
 
 def rules_text(rules: Iterable[Rule]) -> str:

@@ -7,8 +7,9 @@ from __future__ import annotations
 
 import csv
 import io
+import itertools
 import re
-from collections.abc import Callable, Iterable, Iterator, Mapping, Sequence
+from collections.abc import Callable, Collection, Iterable, Iterator, Mapping, Sequence
 from contextlib import contextmanager
 from pathlib import Path
 from typing import TextIO
@@ -112,6 +113,34 @@ def _decoded(file: io.BufferedReader) -> TextIO:
     if file.peek(3)[:3] == b"\xef\xbb\xbf":
         file.read(3)
     return io.TextIOWrapper(file, encoding="utf-8", errors="surrogateescape", newline="")
+
+
+def with_rows(content: bytes, rows: Iterable[Mapping[str, str]]) -> bytes:
+    """The bytes of a file with records behind its own, in the order of its columns."""
+    header = records_of("", content.decode("utf-8", "surrogateescape")).header
+    more = "".join(row_text(header, row) for row in rows)
+    ended = not more or content.endswith((b"\n", b"\r"))
+    return content + (b"" if ended else b"\n") + more.encode("utf-8", "surrogateescape")
+
+
+def without_records(content: bytes, numbers: Collection[int]) -> bytes:
+    """The bytes of a file without the records of these numbers. All else stays as it is, blank lines too."""
+    text = content.decode("utf-8", "surrogateescape")
+    mark = "\ufeff" if text.startswith("\ufeff") else ""
+    read: list[str] = []
+    records = Records("", _noted(io.StringIO(text.removeprefix(mark), newline=""), read))
+    left = [mark]
+    for number, _ in itertools.chain([(0, [])], records):
+        left += itertools.takewhile(lambda line: not line.strip("\r\n"), read) if number in numbers else read
+        read.clear()
+    return "".join(left + read).encode("utf-8", "surrogateescape")
+
+
+def _noted(lines: Iterable[str], read: list[str]) -> Iterator[str]:
+    """Lines, each of which is put into a list once it is asked for."""
+    for line in lines:
+        read.append(line)
+        yield line
 
 
 def is_utf8(text: str) -> bool:

@@ -38,7 +38,7 @@ SCRIPTS = ("edits.csv", "planner_edits.csv")
 
 
 Scripts = dict[str, bytes]
-"""The scripts of a town by the names of their files."""
+"""The scripts of a town by the names of their files, and other files that are tried in place of the town's."""
 
 
 @contextmanager
@@ -90,13 +90,14 @@ def scripts_of(town: Town) -> Scripts:
 
 @contextmanager
 def room_of(town: Town, scripts: Mapping[str, bytes], of_today: bool = False) -> Iterator[Path]:
-    """A folder with the feed of the town and with these scripts alone, which is gone behind the block.
+    """A folder with the feed of the town and with these scripts alone, which is gone behind the block. A file of the feed that is
+    among them stands in place of the town's.
 
     The blocks that it states are those of today, or where a day type states others these.
     """
     with own_room() as room:
         for file in FEED_FILES:
-            if town.path(file).exists():
+            if file not in scripts and town.path(file).exists():
                 (room / file).symlink_to(town.path(file).resolve())
         lay_settings(town, room)
         if not of_today:

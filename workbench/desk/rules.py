@@ -61,10 +61,8 @@ def _others(rules: list[Rule], rule: Rule) -> list[Rule]:
 
 def plan_with(town: Town, rules: Iterable[Rule] | None = None) -> Json:
     """The vehicles and minutes that the program says of a town after its script: with these rules, or else with its own."""
-    with room_of(town, scripts_of(town)) as room:
-        if rules is not None:
-            (room / FILE).unlink()
-            (room / FILE).write_text(rules_text(rules), encoding="utf-8", errors="surrogateescape")
+    tried = {} if rules is None else {FILE: rules_text(rules).encode("utf-8", "surrogateescape")}
+    with room_of(town, scripts_of(town) | tried) as room:
         told = ask_in(room, town, "blocks")
     return {"vehicles": told["vehicles"], "minutes": told["minutes"]}
 

@@ -3,9 +3,8 @@ from __future__ import annotations
 
 import datetime
 import re
-from collections.abc import Iterable, Mapping, Sequence
+from collections.abc import Mapping, Sequence
 from dataclasses import replace
-from pathlib import Path
 
 from desk.calendars import format_date
 from desk.counts import counted, some
@@ -20,7 +19,7 @@ from desk.new.settings import with_key
 from desk.new.steps import all_ends, draft_settings
 from desk.notes.deadheads import read_ways
 from desk.pair_rules import COLUMNS, FILE, KEEP, read_rules
-from desk.records import first_records, open_records, record_text
+from desk.records import first_records, record_text, with_rows
 from desk.refused_trips import SortedTrips
 from desk.stations import Terminal, distinct, draft_terminals
 from desk.town import Town
@@ -119,18 +118,8 @@ def add_pairs(own: Town, town: Town, days: NewDays | None, report: Report) -> No
 def _append(own: Town, town: Town, name: str, columns: Sequence[str], rows: Sequence[Record], report: Report) -> None:
     """Writes a planner's file with records behind its own, or a new file where there is none."""
     if own.has(name):
-        write_whole(town.path(name), appended(own.path(name), rows))
+        write_whole(town.path(name), with_rows(read_bytes(own.path(name)), rows))
         report.draft(name, f"{counted(len(rows), 'record')} added behind those that were there" if rows else "as it was")
     elif rows:
         write_whole(town.path(name), record_text(columns) + "".join(record_text([row[column] for column in columns]) for row in rows))
         report.draft(name, f"{counted(len(rows), 'record')}, drafted")
-
-
-def appended(path: Path, rows: Iterable[Record]) -> bytes:
-    """The bytes of a file with records behind its own, in the order of its columns."""
-    content = read_bytes(path)
-    with open_records(path) as records:
-        header = records.header
-    more = "".join(record_text([row.get(column, "") for column in header]) for row in rows)
-    ended = not more or content.endswith((b"\n", b"\r"))
-    return content + (b"" if ended else b"\n") + more.encode("utf-8", "surrogateescape")

@@ -47,7 +47,7 @@ def kept(view: View) -> Iterator[Note]:
         misfits = misfits_of(view.town, room, [rule.pair for rule in alone if running.issuperset(rule.pair)])
     for rule in alone:
         before, after = map(shown, rule.pair)
-        yield Note("kept-pair", FILE, rule.record, f"{before} and {after} are kept together, and {_why(rule, running, misfits)}",
+        yield Note("kept-pair", FILE, rule.record, f"{before} and {after} are kept together, and {why_apart(rule, running, misfits)}",
                    "Mend times, layovers or deadheads, or take the record out; until then it may cost a vehicle")
 
 
@@ -70,7 +70,7 @@ def misfits_of(town: Town, room: Path, pairs: Sequence[Pair]) -> dict[Pair, Json
     return found
 
 
-def _why(rule: Rule, running: Collection[str], misfits: dict[Pair, Json]) -> str:
+def why_apart(rule: Rule, running: Collection[str], misfits: dict[Pair, Json]) -> str:
     """Why no vehicle makes the second trip of a kept pair straight after the first."""
     for name, other, side in ((rule.before, rule.after, "before"), (rule.after, rule.before, "after")):
         if name not in running:

@@ -1,13 +1,15 @@
-"""What `desk open` does to a town: it reads the day, writes edits that the program accepts, and asks for suggestions.
+"""What `desk open` does to a town: it reads the day, writes edits and wishes that the program follows, and asks for suggestions.
 
 An edit is one run of the program. The page asks for the proof of the plan once it has drawn it.
 """
 from __future__ import annotations
 
 import threading
-from collections.abc import Callable
+from collections.abc import Callable, Sequence
 from dataclasses import replace
+from functools import partial
 from pathlib import Path
+from typing import NamedTuple
 
 from desk.answers import tell
 from desk.day import CLAIM, Day, ask_in, plan_day
@@ -18,7 +20,9 @@ from desk.hints.scripts import script_hints
 from desk.keeping import keep
 from desk.open.marks import marks
 from desk.open.suggestions import SUGGESTED, offers
+from desk.open.wish_trials import cost_without, told, try_wish
 from desk.page.view import as_view, change_of, proof_view
+from desk.pair_rules import FILE, read_rules
 from desk.pipes import refuse_pipes
 from desk.plans import read_plan
 from desk.proof import proved
@@ -36,6 +40,15 @@ MOST_SECONDS = 10.0
 """For how many seconds an edit is waited for when the page ends."""
 
 CHANGED = "Another program has changed the folder. It is read again, and nothing was written: look, and then edit again."
+
+
+class Attempt(NamedTuple):
+    """The day after a change that was tried, what is said of it, and what writes it; None where it is refused, with hints."""
+
+    day: Day
+    said: str
+    write: Callable[[], None] | None
+    hints: Sequence[str] = ()
 
 
 class Session:
@@ -77,22 +90,45 @@ class Session:
     def edit(self, asked: Json) -> Json:
         """Writes an edit behind the script where the program accepts it, and says what that changes."""
         record = record_of(asked, self.planner)
-        with self.guard, writing(self.folder / self.script_name) as script:
-            before = self._read()
-            if asked.get("state") != before.state:
-                return {"done": False, "said": CHANGED, "day": self._view(before)}
+
+        def attempt(before: Day, script: Script) -> Attempt:
             after = self._tried(before, script, record)
-            if state_of(before.town) != before.state:
-                return {"done": False, "said": CHANGED, "day": self._view(self._read())}
             told = self._records(after)[-1]
-            if not told.ok:
-                holder = after.planners.holder(told.said) if after.planners else ""
-                hints = script_hints(before.town, told.said, {self.script_name: with_record(script.content, record)})
-                return {"done": False, "said": told.said + (f" ({holder})" if holder else ""), "hints": hints}
-            script.append(record)
-            seen = self._view(before)
-            self._day = replace(after, state=state_of(after.town))
-            return {"done": True, "said": told.said, "marks": marks(before, after), "change": change_of(seen, self._view(self._day))}
+            if told.ok:
+                return Attempt(after, told.said, partial(script.append, record))
+            holder = after.planners.holder(told.said) if after.planners else ""
+            hints = script_hints(before.town, told.said, {self.script_name: with_record(script.content, record)})
+            return Attempt(after, told.said + (f" ({holder})" if holder else ""), None, hints)
+
+        return self._change(asked, attempt)
+
+    def wish(self, asked: Json) -> Json:
+        """Says what a wish would do to the plan. Nothing is written."""
+        self._refuse_planner()
+        with self.guard:
+            day = self._read()
+            if asked.get("state") != day.state:
+                return {"said": CHANGED, "day": self._view(day)}
+        return {"wish": told(day, try_wish(day, asked))}
+
+    def take(self, asked: Json) -> Json:
+        """Writes a wish into `pairs.csv` where the program follows it, and says what that changes."""
+        self._refuse_planner()
+
+        def attempt(before: Day, _: Script) -> Attempt:
+            trial = try_wish(before, asked)
+            write = partial(write_whole, self.folder / FILE, trial.content, replace=True)
+            return Attempt(trial.day, trial.misfit or trial.wish.words, None if trial.misfit else write)
+
+        return self._change(asked, attempt)
+
+    def cost(self, asked: Json) -> Json:
+        """What the plan of this state is without some records of `pairs.csv`; None where another one stands."""
+        self._refuse_planner()
+        with self.guard:
+            day = self._read()
+        found = cost_without(day, asked.get("without")) if asked.get("state") == day.state else None
+        return {"plan": found if state_of(day.town) == day.state else None}
 
     def suggest(self, asked: Json) -> Json:
         """What the program suggests for the day and what helps it, or what it says of the blocks of today."""
@@ -140,6 +176,27 @@ class Session:
         """Waits for what is being written. Nothing is written behind it."""
         self.guard.acquire(timeout=MOST_SECONDS)
 
+    def _change(self, asked: Json, attempt: Callable[[Day, Script], Attempt]) -> Json:
+        """The one door to the folder: writes what was attempted, where the page has seen the folder as it stands, and says what changes."""
+        with self.guard, writing(self.folder / self.script_name) as script:
+            before = self._read()
+            if asked.get("state") != before.state:
+                return {"done": False, "said": CHANGED, "day": self._view(before)}
+            after, said, write, hints = attempt(before, script)
+            if state_of(before.town) != before.state:
+                return {"done": False, "said": CHANGED, "day": self._view(self._read())}
+            if write is None:
+                return {"done": False, "said": said, "hints": hints}
+            write()
+            seen = self._view(before)
+            self._day = replace(after, state=state_of(after.town))
+            return {"done": True, "said": said, "marks": marks(before, after), "change": change_of(seen, self._view(self._day))}
+
+    def _refuse_planner(self) -> None:
+        """A UsageError where a planner edits: `pairs.csv` is of the town."""
+        if self.planner is not None:
+            raise UsageError("wishes are of the town, and not of one planner")
+
     def _read(self) -> Day:
         """The day, which is read again where the folder has changed."""
         town = self._current_town()
@@ -168,7 +225,8 @@ class Session:
         """The day as the page reads it, with who edits."""
         if self._seen is None or self._seen[0] is not day:
             view = as_view(day, self._seen)
-            self._seen = day, view | {"planner": self.planner} | (self.beside(view) if self.beside else {})
+            wishes = [] if self.planner is not None else [rule._asdict() for rule in read_rules(day.town)]
+            self._seen = day, view | {"planner": self.planner, "wishes": wishes} | (self.beside(view) if self.beside else {})
         return self._seen[1]
 
 

@@ -70,7 +70,8 @@ class WebServer(ThreadingHTTPServer):
         for visit, session in zip(self.visits, self.sessions):
             self.asked |= {visit + "day": session.day, visit + "state": session.state}
             self.told |= {visit + "edit": session.edit, visit + "proof": session.proof, visit + "suggest": session.suggest,
-                          visit + "keep": session.keep, visit + "export": session.export}
+                          visit + "keep": session.keep, visit + "export": session.export, visit + "wish": session.wish,
+                          visit + "take": session.take, visit + "cost": session.cost}
         super().__init__(("127.0.0.1", port), Handler)
 
     def get_request(self) -> tuple[socket.socket, Any]:

@@ -18,7 +18,7 @@ from desk.texts_names import keeps_names
 from desk.unlisted_terminals import told, unlisted
 from desk.written_texts import edit_text, verdict_text
 
-LISTS = ("trips", "blocks", "script")
+LISTS = ("trips", "blocks", "script", "wishes")
 """The lists of a view that are long, and mostly as they were after an edit."""
 
 PROVED = "No plan has fewer vehicles, and none with as many has fewer empty minutes: checked by prices."

@@ -1,6 +1,6 @@
 /** What has changed of a day: the server sends of its lists what is new, and where in those before the other elements stood. */
 
-const LISTS = ["trips", "blocks", "script"];
+const LISTS = ["trips", "blocks", "script", "wishes"];
 
 /** The view after a change of another one. In its lists `[first, count]` are elements of the list before, from this place on. */
 export function changed(view, change) {
