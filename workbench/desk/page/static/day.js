@@ -47,6 +47,12 @@ export class Day {
     this.places = proof?.places ?? this.places;
   }
 
+  /** The name of the trip that follows on one in its block; undefined where none does. */
+  following(name) {
+    const bar = this.bars.get(name);
+    return bar && this.blocks[bar.row].bars.find((other) => other.kind === "trip" && other.at > bar.at)?.trip.id;
+  }
+
   /** The trips that do not run. */
   cancelled() {
     return this.trips.filter((trip) => !trip.runs);

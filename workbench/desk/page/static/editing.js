@@ -1,4 +1,6 @@
-/** Edits by hand: a trip is dragged, or shifted and cancelled by keys. Each edit is one record of the script. */
+/** Edits by hand: a trip is dragged, or shifted and cancelled by keys. Each edit is one record of the script.
+
+A trip that is dragged to another row is wished onto the bus of that row. */
 
 import { byId, svg } from "./elements.js";
 import { room } from "./day.js";
@@ -7,9 +9,10 @@ import { clock, signed } from "./times.js";
 const NEAR = 4;
 
 export class Editing {
-  /** `send` takes an edit with the element at which its answer is shown. Until it has its answer, `isBusy` says so. */
-  constructor(chart, tip, send, isBusy) {
-    Object.assign(this, { chart, tip, send, isBusy });
+  /** `send` takes an edit with the element at which its answer is shown. Until it has its answer, `isBusy` says so. `wishes` asks what
+  a wish costs. */
+  constructor(chart, tip, send, wishes, isBusy) {
+    Object.assign(this, { chart, tip, send, wishes, isBusy });
     this.held = null;
     const sheet = chart.vehicles.rows.sheet;
     sheet.addEventListener("pointerdown", (event) => this.take(event));
@@ -24,14 +27,14 @@ export class Editing {
   take(event) {
     const bar = this.chart.barOf(event.target);
     if (event.button === 0 && event.pointerType !== "touch" && bar?.kind === "trip" && !this.isBusy()) {
-      this.hold(bar, event.clientX, false);
+      this.hold(bar, event, false);
     }
   }
 
-  /** Holds a trip, from where its shift is counted. */
-  hold(bar, x, keys) {
+  /** Holds a trip, from where its way is counted. */
+  hold(bar, { clientX, clientY }, keys) {
     this.drop();
-    this.held = { bar, x, keys, shift: 0, group: this.chart.vehicles.element(bar), moved: false };
+    this.held = { bar, x: clientX, y: clientY, keys, shift: 0, group: this.chart.vehicles.element(bar), moved: false };
   }
 
   /** The mouse moves. Where its button came up elsewhere, the trip is let go. */
@@ -44,15 +47,51 @@ export class Editing {
       this.drop();
       return;
     }
-    const far = event.clientX - held.x;
-    if (!held.moved && Math.abs(far) < NEAR) {
+    const [far, down] = [event.clientX - held.x, event.clientY - held.y];
+    if (!held.moved && Math.max(Math.abs(far), Math.abs(down)) < NEAR) {
       return;
     }
     if (!held.moved) {
       held.moved = true;
       held.group.ownerSVGElement.setPointerCapture(event.pointerId);
     }
-    this.draw(Math.round(far / this.chart.scale.perMinute));
+    held.target?.mark.remove();
+    held.target = Math.abs(down) > Math.abs(far) ? this.targetAt(event.clientY) : null;
+    if (held.target) {
+      this.drawTarget(down);
+    } else {
+      this.draw(Math.round(far / this.chart.scale.perMinute));
+    }
+  }
+
+  /** The row of another bus at a height of the window, with its block; null where there is none or no wish can be made. */
+  targetAt(y) {
+    const { vehicles } = this.chart;
+    const position = vehicles.positionAt(y);
+    const block = vehicles.day.blocks[vehicles.shown[position]];
+    return block && block.row !== this.held.bar.row && this.wishes.areOpen ? { block, mark: this.markOf(position) } : null;
+  }
+
+  /** Marks the row at a position, and where the held trip would be in it. */
+  markOf(position) {
+    const { vehicles, scale } = this.chart;
+    const { bar } = this.held;
+    const y = position * vehicles.size.row;
+    const mark = svg("g", { class: "target" }, svg("rect", { y, width: scale.width, height: vehicles.size.row }), svg("rect", {
+      class: "place-of-trip", x: scale.x(bar.from), y: y + vehicles.size.top, width: scale.x(bar.until) - scale.x(bar.from), height: vehicles.size.bar }));
+    vehicles.rows.sheet.append(mark);
+    return mark;
+  }
+
+  /** Draws the held trip on its way to the row of another bus. */
+  drawTarget(down) {
+    const { bar, group, target, room: drawn } = this.held;
+    this.held.shift = 0;
+    this.chart.quiet = true;
+    drawn?.remove();
+    group.classList.add("held");
+    group.setAttribute("transform", `translate(0 ${down})`);
+    this.tip.show([`${bar.trip.id} on block ${target.block.name}`, "Let go: the program says what it costs."], target.mark.lastChild.getBoundingClientRect());
   }
 
   /** Draws the held trip so many minutes later, within its tolerances. */
@@ -88,11 +127,13 @@ export class Editing {
     }
   }
 
-  /** Sends the shift of the held trip. */
+  /** Sends the shift of the held trip, or asks for the bus on which it was put. */
   finish() {
-    const { bar, shift, group } = this.held;
+    const { bar, shift, group, target } = this.held;
     this.drop();
-    if (shift) {
+    if (target) {
+      this.wishes.ask({ wish: "put", trip: bar.trip.id, block: target.block.name }, group);
+    } else if (shift) {
       this.send({ edit: "shift", trip: bar.trip.id, shift }, group);
     }
   }
@@ -104,6 +145,7 @@ export class Editing {
     this.chart.quiet = false;
     if (held) {
       held.room?.remove();
+      held.target?.mark.remove();
       held.group?.classList.remove("held");
       held.group?.removeAttribute("transform");
       this.tip.hide();
@@ -122,7 +164,7 @@ export class Editing {
     }
     if (isShift) {
       if (this.held?.bar !== bar) {
-        this.hold(bar, 0, true);
+        this.hold(bar, event, true);
       }
       this.draw(this.held.shift + (event.key === "ArrowRight" ? 1 : -1));
     } else if (event.key === "Enter" && this.held) {

@@ -33,7 +33,7 @@ export class Hand {
 
   /** Tells of the bar beside the vehicles, with what can be done to it. */
   tell() {
-    showSide(this.bar, this.page.day.view, this.send, () => this.page.folds.turn("side", false));
+    showSide(this.bar, this.page.day.view, this.send, this.page.wishes, () => this.page.folds.turn("side", false));
   }
 
   /** In a small window what stands beside the vehicles comes with a trip that is clicked, in place of the words beside its bar. */

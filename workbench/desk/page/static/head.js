@@ -16,6 +16,7 @@ const EDIT_KEYS = [
   ["Shift and ← →", "shift a trip by a minute"],
   ["Enter, Escape", "write that shift, or leave it"],
   ["Delete", "cancel a trip"],
+  ["Drag to another row", "ask what it costs to put a trip on that bus"],
   ["Ctrl Z, Ctrl Y", "undo, redo"],
 ];
 

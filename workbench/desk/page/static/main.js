@@ -25,6 +25,8 @@ import { Terminals } from "./terminals.js";
 import { signed } from "./times.js";
 import { Tip } from "./tip.js";
 import { Vehicles } from "./vehicles.js";
+import { WishList } from "./wish_list.js";
+import { Wishes } from "./wishes.js";
 
 const EVERY = 2000;
 const SOON = 300;
@@ -40,7 +42,7 @@ class Page {
     this.lines = new LineStyles();
     this.scale = new Scale();
     this.tip = new Tip();
-    const panels = makeTabs(canEdit ? [...VIEWS, "Edits"] : VIEWS, () => this.turn());
+    const panels = makeTabs(canEdit ? [...VIEWS, "Edits", "Wishes"] : VIEWS, () => this.turn());
     this.vehicles = new Vehicles(panels[0], this.scale, this);
     this.terminals = new Terminals(panels[1], this.scale);
     this.table = new BlockTable(panels[2], (block) => this.go(block.bars[0]));
@@ -54,14 +56,16 @@ class Page {
     byId("help").addEventListener("click", (event) => toggleKeys(event.target, canEdit));
     window.addEventListener("beforeprint", () => layPaper(this.day, this.shown, this.lines, paperTitle(this.day.view)));
     if (canEdit) {
-      this.listenToEdits(panels[3]);
+      this.listenToEdits(panels[3], panels[4]);
     }
   }
 
   /** Makes what changes the day. */
-  listenToEdits(panel) {
+  listenToEdits(panel, wishPanel) {
     this.sending = (edit, element) => this.send(edit, element);
-    this.editing = new Editing(this.chart, this.tip, this.sending, () => this.busy);
+    this.wishes = new Wishes(this);
+    this.editing = new Editing(this.chart, this.tip, this.sending, this.wishes, () => this.busy);
+    this.wishList = new WishList(wishPanel, (wish, element) => this.wishes.take(wish, element), (bar) => this.go(bar), () => this.stale.add("Wishes"));
     const go = (trip) => this.go(this.day.bars.get(trip));
     this.script = new ScriptPanel(panel, this.sending, (name, body) => this.tell(name, body), go);
     this.hand = new Hand(this, this.sending);
@@ -72,9 +76,15 @@ class Page {
     document.addEventListener("keydown", (event) => event.key === "Escape" && forgive());
   }
 
+  /** Takes away what was said or offered beside a bar. */
+  forget() {
+    forgive();
+    this.wishes?.forget();
+  }
+
   /** Another tab has come to the front. */
   turn() {
-    forgive();
+    this.forget();
     this.chart?.resize();
     if (this.day) {
       this.drawFront();
@@ -86,7 +96,7 @@ class Page {
   show(view, isOwn = false) {
     const before = this.day;
     const wasHere = this.hand?.isHere(isOwn);
-    forgive();
+    this.forget();
     this.editing?.drop();
     this.day = new Day(view, before);
     this.lines.add(this.day.lines, view.colours);
@@ -104,7 +114,7 @@ class Page {
       byId("legend").replaceChildren(...legendOf(this.day.lines, this.lines));
     }
     if (this.canEdit) {
-      this.stale.add("Edits");
+      this.stale.add("Edits").add("Wishes");
     }
     this.draw(isOwn || wasHere ? this.hand.bar : null);
     if (this.canEdit) {
@@ -165,6 +175,7 @@ class Page {
       Terminals: () => this.terminals.show(this.day, this.filters.value("terminal")),
       Blocks: () => this.table.show(this.day, this.shown),
       Edits: () => this.script.show(this.day),
+      Wishes: () => this.wishList.show(this.day),
     };
     const front = [...this.stale].find((name) => !byId(`panel-${name}`).hidden);
     if (this.stale.delete(front)) {
@@ -252,6 +263,21 @@ class Page {
     }
     this.say(`${words}: ${changeWords(this.before, this.day.view.numbers, answer.marks)}`);
     return true;
+  }
+
+  /** Asks for a wish or takes it, and gives the answer. Where it cannot be, that is shown where the hand is. */
+  async wish(name, wish, element) {
+    this.forget();
+    this.say("");
+    this.hand.take(wish.trip);
+    const answer = await this.tell(name, { ...wish, state: this.day.view.state });
+    if (answer.done) {
+      this.say(`${answer.said}: ${changeWords(this.before, this.day.view.numbers, answer.marks)}`);
+    } else if (answer.wish?.misfit || !answer.wish) {
+      refuse(answer.wish?.title ?? "This wish", answer.wish?.misfit ?? answer.error ?? answer.said, answer.hints ?? [], this.placeOf(wish.trip, element));
+      return null;
+    }
+    return answer;
   }
 
   /** Says something for a while. */

@@ -4,12 +4,13 @@ import { button, byId, html } from "./elements.js";
 import { room, tell } from "./day.js";
 import { signed } from "./times.js";
 
-/** Shows a bar of a day. `send` takes an edit with the element at which its answer is shown, and `close` folds all of this. */
-export function showSide(bar, view, send, close) {
+/** Shows a bar of a day. `send` takes an edit with the element at which its answer is shown, `wishes` has what can be wished of a trip,
+and `close` folds all of this. */
+export function showSide(bar, view, send, wishes, close) {
   const side = byId("side");
   const closing = button("×", close, { "aria-label": "close", class: "close" });
   if (!bar) {
-    side.replaceChildren(closing, html("p", {}, "Choose a trip to shift or to cancel it: click it, or go to it with the arrow keys."));
+    side.replaceChildren(closing, html("p", {}, "Choose a trip to shift it, to cancel it or to put it on another bus: click it, or go to it with the arrow keys."));
     return;
   }
   const [title, ...lines] = tell(bar);
@@ -18,7 +19,7 @@ export function showSide(bar, view, send, close) {
       lines.push(`${edit.planner}: ${edit.text}`);
     }
   }
-  const actions = bar.trip ? [shiftForm(bar.trip, send), cancelButton(bar.trip, send)] : [];
+  const actions = bar.trip ? [shiftForm(bar.trip, send), cancelButton(bar.trip, send), ...wishes.forms(bar)] : [];
   side.replaceChildren(closing, html("h2", {}, title), ...lines.map((line) => html("p", {}, line)), ...actions);
 }
 

@@ -85,6 +85,12 @@ export class Vehicles {
     }
   }
 
+  /** The position of the row at a height of the window; undefined where there is none. */
+  positionAt(y) {
+    const position = Math.floor((y - this.rows.sheet.getBoundingClientRect().top) / this.size.row);
+    return position in this.shown ? position : undefined;
+  }
+
   /** The element of a bar, where it is drawn. */
   element(bar) {
     return this.rows.bar(bar.row, bar.at);
