@@ -142,17 +142,17 @@ class Browser:
             actions += [{"type": "keyUp", "value": key} for key in reversed(pressed)]
         self._tell("/actions", {"actions": [{"type": "key", "id": "keys", "actions": actions}]})
 
-    def drag(self, selector: str, pixels: int) -> None:
-        """Drags an element to the right, or to the left."""
-        self.hold(selector, pixels)
+    def drag(self, selector: str, right: int, down: int = 0) -> None:
+        """Drags an element to the right and down, or to the left and up."""
+        self.hold(selector, right, down)
         self.let_go()
 
-    def hold(self, selector: str, pixels: int) -> None:
-        """Takes an element by the mouse and moves it, and holds it there."""
+    def hold(self, selector: str, right: int, down: int = 0) -> None:
+        """Takes an element by the mouse and moves it to the right and down, or to the left and up, and holds it there."""
         moves = [{"type": "pointerMove", "duration": 0, "x": 0, "y": 0, "origin": {ELEMENT: self.find(selector)}}]
         moves += [{"type": "pointerDown", "button": 0}]
-        for part in (pixels // 2, pixels - pixels // 2):
-            moves += [{"type": "pointerMove", "duration": 40, "x": part, "y": 0, "origin": "pointer"}]
+        for x, y in ((right // 2, down // 2), (right - right // 2, down - down // 2)):
+            moves += [{"type": "pointerMove", "duration": 40, "x": x, "y": y, "origin": "pointer"}]
         self._pointer(moves)
 
     def let_go(self) -> None:
