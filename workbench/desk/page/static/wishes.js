@@ -57,7 +57,7 @@ export class Wishes {
     }
     const isHead = this.head === trip;
     const words = isHead ? "Now choose the trip of another bus" : "Swap what follows it ..";
-    return button(words, () => this.remember(isHead ? null : trip), { id: "wish-head", "aria-pressed": isHead });
+    return button(words, () => this.remember(isHead ? null : trip), { id: "wish-head", "aria-pressed": String(isHead) });
   }
 
   /** Remembers the first trip of two whose tails are swapped. */
@@ -93,8 +93,9 @@ export class Wishes {
     take.focus();
   }
 
-  /** Writes a wish. Gives whether it was taken. */
+  /** Writes a wish. Gives whether it was taken. No tail is remembered any more. */
   async take(wish, element) {
+    this.head = null;
     return Boolean((await this.page.wish("take", wish, element))?.done);
   }
 
