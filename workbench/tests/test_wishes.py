@@ -16,7 +16,7 @@ from desk.records import without_records
 from desk.rooms import room_of
 from desk.town import Town
 from tests.feeds import FolderTest, needs_program, table, write_feed
-from tests.small_town import two_trips
+from tests.small_town import small_town, two_trips
 from tests.test_rules import PAIRS, crossing
 
 RUN = program.run
@@ -107,6 +107,12 @@ class WishTest(FolderTest):
             else:
                 self.assertEqual(told, {"title": title, "cost": cost, "records": records, "taken": [], "file": FILE})
         self.assertIsNone(self.pairs())
+
+    def test_the_example_of_the_page(self) -> None:
+        """What docs/PLANNING.md shows of a wish is what is said of it."""
+        self.open(small_town(self.room / "small"))
+        told = self.ask("put", trip="wd_N1_o_2230", block="V3")
+        self.assertIn(f"```text\n{told['title']}\n{told['cost']}\n```\n", (program.ROOT / "docs" / "PLANNING.md").read_text())
 
     def test_the_cost_of_a_vehicle(self) -> None:
         """A wish that parts the trips of the only vehicle costs one, and taking it back gives it free again."""
