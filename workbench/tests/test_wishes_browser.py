@@ -49,6 +49,20 @@ class WishTest(ServedTest):
         self.assertFalse(self.is_open())
         return self.browser.text("#refusal")
 
+    def test_a_drag_scrolls(self) -> None:
+        """A drag to the lower end of the rows in view brings the next one."""
+        self.open()
+        self.browser.resize(900, 215)
+        frame = "#panel-Vehicles .frame"
+        self.browser.wait(lambda: self.box(frame)["height"] < 140)
+        room = self.box(frame)["bottom"] - self.box(self.bar("P1"))["top"] - 9
+        self.assertLess(room, 2 * ROW)
+        self.browser.hold(self.bar("P1"), 0, round(room - 3))
+        self.assertGreater(self.browser.run("return document.querySelector(arguments[0]).scrollTop", frame), 0)
+        self.assertIn("P1 on block B2", self.browser.text("#tip"))
+        self.browser.let_go()
+        self.assertIn("P1 before Q2 on B2", self.wait_for_offer())
+
     def tab_to(self, element: str) -> None:
         """Presses Tab until an element of the side has the focus."""
         for _ in range(12):

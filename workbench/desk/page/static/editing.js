@@ -4,6 +4,7 @@ A trip that is dragged to another row is wished onto the bus of that row. */
 
 import { byId, svg } from "./elements.js";
 import { room } from "./day.js";
+import { Putting } from "./putting.js";
 import { clock, signed } from "./times.js";
 
 const NEAR = 4;
@@ -13,6 +14,7 @@ export class Editing {
   a wish costs. */
   constructor(chart, tip, send, wishes, isBusy) {
     Object.assign(this, { chart, tip, send, wishes, isBusy });
+    this.putting = new Putting(chart, tip);
     this.held = null;
     const sheet = chart.vehicles.rows.sheet;
     sheet.addEventListener("pointerdown", (event) => this.take(event));
@@ -55,43 +57,10 @@ export class Editing {
       held.moved = true;
       held.group.ownerSVGElement.setPointerCapture(event.pointerId);
     }
-    held.target?.mark.remove();
-    held.target = Math.abs(down) > Math.abs(far) ? this.targetAt(event.clientY) : null;
-    if (held.target) {
-      this.drawTarget(down);
-    } else {
-      this.draw(Math.round(far / this.chart.scale.perMinute));
-    }
-  }
-
-  /** The row of another bus at a height of the window, with its block; null where there is none or no wish can be made. */
-  targetAt(y) {
-    const { vehicles } = this.chart;
-    const position = vehicles.positionAt(y);
-    const block = vehicles.day.blocks[vehicles.shown[position]];
-    return block && block.row !== this.held.bar.row && this.wishes.areOpen ? { block, mark: this.markOf(position) } : null;
-  }
-
-  /** Marks the row at a position, and where the held trip would be in it. */
-  markOf(position) {
-    const { vehicles, scale } = this.chart;
-    const { bar } = this.held;
-    const y = position * vehicles.size.row;
-    const mark = svg("g", { class: "target" }, svg("rect", { y, width: scale.width, height: vehicles.size.row }), svg("rect", {
-      class: "place-of-trip", x: scale.x(bar.from), y: y + vehicles.size.top, width: scale.x(bar.until) - scale.x(bar.from), height: vehicles.size.bar }));
-    vehicles.rows.sheet.append(mark);
-    return mark;
-  }
-
-  /** Draws the held trip on its way to the row of another bus. */
-  drawTarget(down) {
-    const { bar, group, target, room: drawn } = this.held;
-    this.held.shift = 0;
-    this.chart.quiet = true;
-    drawn?.remove();
-    group.classList.add("held");
-    group.setAttribute("transform", `translate(0 ${down})`);
-    this.tip.show([`${bar.trip.id} on block ${target.block.name}`, "Let go: the program says what it costs."], target.mark.lastChild.getBoundingClientRect());
+    const isAcross = Math.abs(down) > Math.abs(far) && this.wishes.areOpen;
+    this.draw(isAcross ? 0 : Math.round(far / this.chart.scale.perMinute));
+    this.putting.end();
+    held.target = isAcross ? this.putting.aim(held.bar, held.group, event.clientY) : null;
   }
 
   /** Draws the held trip so many minutes later, within its tolerances. */
@@ -132,7 +101,7 @@ export class Editing {
     const { bar, shift, group, target } = this.held;
     this.drop();
     if (target) {
-      this.wishes.ask({ wish: "put", trip: bar.trip.id, block: target.block.name }, group);
+      this.wishes.ask({ wish: "put", trip: bar.trip.id, block: target.name }, group);
     } else if (shift) {
       this.send({ edit: "shift", trip: bar.trip.id, shift }, group);
     }
@@ -145,7 +114,7 @@ export class Editing {
     this.chart.quiet = false;
     if (held) {
       held.room?.remove();
-      held.target?.mark.remove();
+      this.putting.end();
       held.group?.classList.remove("held");
       held.group?.removeAttribute("transform");
       this.tip.hide();

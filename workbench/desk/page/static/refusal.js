@@ -1,7 +1,7 @@
 /** The words of the program for an edit that it refuses, where the hand is. */
 
 import { button, byId, html } from "./elements.js";
-import { placeBeside } from "./tip.js";
+import { boxOf, placeBeside } from "./tip.js";
 
 /** Shows words beside an element, with hints how what they are about is mended, until they are closed. */
 export function refuse(title, words, hints, element) {
@@ -12,7 +12,7 @@ export function refuse(title, words, hints, element) {
   }, { "aria-label": "close" });
   box.replaceChildren(html("strong", {}, title), html("div", {}, words), ...hints.map((hint) => html("p", {}, hint)), close);
   box.hidden = false;
-  placeBeside(box, (element?.isConnected ? element : byId("verdict")).getBoundingClientRect());
+  placeBeside(box, boxOf(element));
 }
 
 /** Takes the words away. */

@@ -21,6 +21,11 @@ export class Tip {
   }
 }
 
+/** Where an element is in the window, beside which something is shown; the verdict where it is not there any more. */
+export function boxOf(element) {
+  return (element?.isConnected ? element : byId("verdict")).getBoundingClientRect();
+}
+
 /** Places an element below a box of the window, or above it where there is no room, and never outside. */
 export function placeBeside(element, box) {
   const [width, height] = [element.offsetWidth, element.offsetHeight];

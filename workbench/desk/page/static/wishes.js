@@ -1,7 +1,7 @@
 /** Wishes: which trips follow on one another. The program says what each costs, and then it is taken into pairs.csv or left. */
 
 import { button, byId, html, list } from "./elements.js";
-import { placeBeside } from "./tip.js";
+import { boxOf, placeBeside } from "./tip.js";
 
 const SHOWN = 4;
 
@@ -32,7 +32,7 @@ export class Wishes {
     const buttons = [
       next && ask(`Never ${next} straight after it`, { wish: "never", trip }, "wish-never"),
       this.tail(trip, ask),
-      ask(`Keep block ${bar.block} as it is`, { wish: "freeze", block: bar.block }, "wish-freeze"),
+      day.blocks[bar.row].rides.length > 1 && ask(`Keep block ${bar.block} as it is`, { wish: "freeze", block: bar.block }, "wish-freeze"),
       isKept && ask(`Take back what keeps block ${bar.block}`, { wish: "thaw", block: bar.block }, "wish-thaw"),
     ].filter((part) => part);
     return [this.put(trip), html("div", { class: "wishes", role: "group", "aria-label": "Wishes" }, ...buttons)];
@@ -89,7 +89,7 @@ export class Wishes {
       html("p", { class: "light" }, `${file}: `, ...codes, more),
       html("div", { class: "buttons" }, take, button("Leave it", () => this.leave(), { id: "wish-leave" })));
     this.box.hidden = false;
-    placeBeside(this.box, element.getBoundingClientRect());
+    placeBeside(this.box, boxOf(element));
     take.focus();
   }
 
