@@ -60,7 +60,7 @@ class StandIn:
     def suggest(self, asked: dict[str, Any]) -> dict[str, Any]:
         raise UsageError("this is no suggestion")
 
-    keep = export = proof = wish = take = cost = edit
+    keep = export = proof = wish = take_wish = cost = edit
 
 
 class WebTest(FolderTest):

@@ -15,7 +15,7 @@ from desk.pair_rules import FILE, KEEP, NEVER, Rule, in_the_way, read_rules, rew
 from desk.records import without_records
 from desk.rooms import room_of
 from desk.town import Town
-from tests.feeds import FolderTest, needs_program, table, write_feed
+from tests.feeds import FolderTest, needs_program, write_feed
 from tests.small_town import small_town, two_trips
 from tests.test_rules import PAIRS, crossing
 
@@ -77,7 +77,7 @@ class WishTest(FolderTest):
 
     def take(self, wish: str, **words: object) -> dict[str, Any]:
         """The answer to a wish that is taken."""
-        return self.session.take({"wish": wish, "state": self.state(), **words})
+        return self.session.take_wish({"wish": wish, "state": self.state(), **words})
 
     def pairs(self) -> str | None:
         """What stands in the file of rules."""
@@ -140,7 +140,7 @@ class WishTest(FolderTest):
         with mock.patch.object(program, "run", lambda words: runs.append(words[0]) or RUN(words)):
             self.session.wish({"wish": "put", "trip": "Q2", "block": "B1", "state": state})
             self.assertEqual(runs, ["blocks"])
-            answer = self.session.take({"wish": "put", "trip": "Q2", "block": "B1", "state": state})
+            answer = self.session.take_wish({"wish": "put", "trip": "Q2", "block": "B1", "state": state})
             self.assertEqual((runs, answer["change"]["trips"]), (["blocks", "blocks"], [[0, 4]]))
             self.session.edit({"edit": "cancel", "trip": "Q1", "state": answer["change"]["state"]})
             self.assertEqual(runs, ["blocks"] * 3)
@@ -224,7 +224,7 @@ class WishTest(FolderTest):
         (self.town / FILE).write_text(PAIRS + "P1,Q1,never\n")
         wish = {"wish": "put", "trip": "Q2", "block": "B1", "state": state}
         self.assertEqual((self.session.wish(wish)["said"], self.session.cost({"state": state, "without": [1]})), (CHANGED, {"plan": None}))
-        answer = self.session.take(wish)
+        answer = self.session.take_wish(wish)
         self.assertEqual((answer["done"], answer["said"], answer["day"]["numbers"]["minutes"]), (False, CHANGED, 12))
         self.assertEqual(self.pairs(), PAIRS + "P1,Q1,never\n")
 
@@ -247,7 +247,7 @@ class WishTest(FolderTest):
         (self.town / FILE).write_text(PAIRS)
         state = self.state()
         with mock.patch("os.replace", side_effect=OSError(28, "No space left on device")), self.assertRaisesRegex(DeskError, "No space left"):
-            self.session.take({"wish": "freeze", "block": "B1", "state": state})
+            self.session.take_wish({"wish": "freeze", "block": "B1", "state": state})
         self.assertEqual((self.pairs(), [path.name for path in self.town.glob(".pairs*")]), (PAIRS, []))
 
     def test_left_by_a_killed_writer(self) -> None:
@@ -275,7 +275,7 @@ class WishTest(FolderTest):
         ann = Session(self.town, "ann")
         day = ann.day()["day"]
         self.assertEqual((day["wishes"], day["numbers"]["minutes"]), ([], 12))
-        for asked in (ann.wish, ann.take, ann.cost):
+        for asked in (ann.wish, ann.take_wish, ann.cost):
             with self.assertRaisesRegex(UsageError, "wishes are of the town"):
                 asked({"wish": "back", "record": 1, "state": day["state"], "without": [1]})
         self.assertEqual(self.pairs(), PAIRS + "P1,Q2,keep\n")

@@ -11,30 +11,25 @@ from functools import partial
 from pathlib import Path
 from typing import NamedTuple
 
-from desk.answers import tell
-from desk.day import CLAIM, Day, ask_in, plan_day
+from desk.day import Day, ask_in, plan_day
 from desk.edits import Script, record_of, writing
-from desk.errors import DeskError, UsageError
-from desk.files import read_bytes, write_whole
+from desk.errors import UsageError
+from desk.files import write_whole
 from desk.hints.scripts import script_hints
 from desk.keeping import keep
+from desk.open.exports import EXPORTS, export
 from desk.open.marks import marks
 from desk.open.suggestions import SUGGESTED, offers
 from desk.open.wish_trials import cost_without, told, try_wish
 from desk.page.view import as_view, change_of, proof_view
 from desk.pair_rules import FILE, read_rules
 from desk.pipes import refuse_pipes
-from desk.plans import read_plan
 from desk.proof import proved
 from desk.rooms import FEED_FILES, room_of, scripts_of, state_of
 from desk.scripts import Record, with_record
 from desk.take import take
 from desk.texts import Json
 from desk.town import Town
-
-EXPORTS = {"blocks": ("blocks.csv and prices.csv", "blocks", CLAIM), "boards": ("boards.csv", "joined", ("boards.csv",)),
-           "feed": ("the written feed", "write", ("trips_blocks.txt", "stop_times_blocks.txt"))}
-"""What the page writes: its words, the command that writes it, and its files."""
 
 MOST_SECONDS = 10.0
 """For how many seconds an edit is waited for when the page ends."""
@@ -111,7 +106,7 @@ class Session:
                 return {"said": CHANGED, "day": self._view(day)}
         return {"wish": told(day, try_wish(day, asked))}
 
-    def take(self, asked: Json) -> Json:
+    def take_wish(self, asked: Json) -> Json:
         """Writes a wish into `pairs.csv` where the program follows it, and says what that changes."""
         self._refuse_planner()
 
@@ -155,22 +150,14 @@ class Session:
         what = asked.get("what")
         if not isinstance(what, str) or what not in EXPORTS:
             raise UsageError("this cannot be written")
-        words, command, names = EXPORTS[what]
         refuse_pipes(self.folder)
         with self.guard, writing(self.folder / "edits.csv"):
-            if command == "blocks":
+            if what == "blocks":
                 self._day = None
-            if self.planner is None:
-                said = write_files(self.folder, self.folder, words, command)
-            else:
-                day = self._read()
-                with room_of(day.town, {"edits.csv": day.script, **day.claim}) as room:
-                    said = write_files(self.folder, room, words, command)
-                    for name in names:
-                        write_whole(self.folder / name, read_bytes(room / name), replace=True)
-                if command == "blocks":
-                    self._day = None
-            return {"said": f"{words} in {self.folder.resolve()}: {said}", "day": self._view(self._read())}
+            said = export(self.folder, what, None if self.planner is None else self._read())
+            if what == "blocks":
+                self._day = None
+            return {"said": said, "day": self._view(self._read())}
 
     def close(self) -> None:
         """Waits for what is being written. Nothing is written behind it."""
@@ -228,14 +215,3 @@ class Session:
             wishes = [] if self.planner is not None else [rule._asdict() for rule in read_rules(day.town)]
             self._seen = day, view | {"planner": self.planner, "wishes": wishes} | (self.beside(view) if self.beside else {})
         return self._seen[1]
-
-
-def write_files(town: Path, folder: Path, words: str, command: str) -> str:
-    """Has the program write files into a town, or into a room with its feed, and gives what it says."""
-    try:
-        said = tell(command, town, None if folder == town else folder).rstrip("\n").rpartition("\n")[2]
-    except DeskError as error:
-        raise DeskError(f"{words} could not be written: {error}") from error
-    if command == "joined":
-        read_plan(Town(folder))
-    return said

@@ -71,7 +71,7 @@ class WebServer(ThreadingHTTPServer):
             self.asked |= {visit + "day": session.day, visit + "state": session.state}
             self.told |= {visit + "edit": session.edit, visit + "proof": session.proof, visit + "suggest": session.suggest,
                           visit + "keep": session.keep, visit + "export": session.export, visit + "wish": session.wish,
-                          visit + "take": session.take, visit + "cost": session.cost}
+                          visit + "take_wish": session.take_wish, visit + "cost": session.cost}
         super().__init__(("127.0.0.1", port), Handler)
 
     def get_request(self) -> tuple[socket.socket, Any]:

@@ -65,7 +65,8 @@ class Page {
     this.sending = (edit, element) => this.send(edit, element);
     this.wishes = new Wishes(this);
     this.editing = new Editing(this.chart, this.tip, this.sending, this.wishes, () => this.busy);
-    this.wishList = new WishList(wishPanel, (wish, element) => this.wishes.take(wish, element), (bar) => this.go(bar), () => this.stale.add("Wishes"));
+    const taking = (wish, element) => this.wishes.take(wish, element);
+    this.wishList = new WishList(wishPanel, taking, (bar) => this.go(bar), () => this.stale.add("Wishes"));
     const go = (trip) => this.go(this.day.bars.get(trip));
     this.script = new ScriptPanel(panel, this.sending, (name, body) => this.tell(name, body), go);
     this.hand = new Hand(this, this.sending);
@@ -73,7 +74,7 @@ class Page {
     for (const edit of ["undo", "redo"]) {
       byId(edit).addEventListener("click", (event) => this.send({ edit }, event.target));
     }
-    document.addEventListener("keydown", (event) => event.key === "Escape" && forgive());
+    document.addEventListener("keydown", (event) => event.key === "Escape" && this.forget());
   }
 
   /** Takes away what was said or offered beside a bar. */
@@ -267,6 +268,9 @@ class Page {
 
   /** Asks for a wish or takes it, and gives the answer. Where it cannot be, that is shown where the hand is. */
   async wish(name, wish, element) {
+    if (this.busy) {
+      return null;
+    }
     this.forget();
     this.say("");
     this.hand.take(wish.trip);
@@ -274,7 +278,8 @@ class Page {
     if (answer.done) {
       this.say(`${answer.said}: ${changeWords(this.before, this.day.view.numbers, answer.marks)}`);
     } else if (answer.wish?.misfit || !answer.wish) {
-      refuse(answer.wish?.title ?? "This wish", answer.wish?.misfit ?? answer.error ?? answer.said, answer.hints ?? [], this.placeOf(wish.trip, element));
+      const { title = "This wish", misfit = answer.error ?? answer.said } = answer.wish ?? {};
+      refuse(title, misfit, answer.hints ?? [], this.placeOf(wish.trip, element));
       return null;
     }
     return answer;

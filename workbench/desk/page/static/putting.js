@@ -40,7 +40,8 @@ export class Putting {
     const { vehicles: { size, rows }, scale } = this.chart;
     const y = position * size.row;
     const place = { x: scale.x(bar.from), y: y + size.top, width: scale.x(bar.until) - scale.x(bar.from), height: size.bar };
-    const mark = svg("g", { class: "target" }, svg("rect", { y, width: scale.width, height: size.row }), svg("rect", { class: "place-of-trip", ...place }));
+    const row = svg("rect", { y, width: scale.width, height: size.row });
+    const mark = svg("g", { class: "target" }, row, svg("rect", { class: "place-of-trip", ...place }));
     rows.sheet.append(mark);
     return mark;
   }

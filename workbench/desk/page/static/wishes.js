@@ -69,9 +69,6 @@ export class Wishes {
 
   /** Asks what a wish costs, and offers it. */
   async ask(wish, element) {
-    if (this.page.busy) {
-      return;
-    }
     const answer = await this.page.wish("wish", wish, element);
     if (answer?.wish) {
       this.offer(wish, answer.wish, element);
@@ -96,7 +93,7 @@ export class Wishes {
   /** Writes a wish. Gives whether it was taken. No tail is remembered any more. */
   async take(wish, element) {
     this.head = null;
-    return Boolean((await this.page.wish("take", wish, element))?.done);
+    return Boolean((await this.page.wish("take_wish", wish, element))?.done);
   }
 
   /** Leaves a wish, and gives the focus back to where it was asked. */
