@@ -187,8 +187,8 @@ class WishTest(ServedTest):
             self.browser.tap(button)
             self.wait_for_offer()
             self.browser.tap("#wish-take")
-            self.browser.wait(lambda second=second: path.read_text() == PAIRS + second)
-            self.browser.wait(lambda: not self.is_open())
+            self.browser.wait(lambda: not self.browser.run("return document.body.classList.contains('busy')"))
+            self.assertEqual(path.read_text(), PAIRS + second)
         for trip, button in (("P1", "#wish-head"), ("P2", "#wish-swap")):
             self.browser.tap(self.bar(trip))
             self.browser.run("document.querySelector(arguments[0]).scrollIntoView()", button)
