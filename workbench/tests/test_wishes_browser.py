@@ -167,7 +167,7 @@ class WishTest(ServedTest):
         self.assertEqual(self.browser.errors(), [])
 
     def test_touch(self) -> None:
-        """On a phone a trip that is touched has the same wishes, and the offer is inside the window. A finger that moves scrolls."""
+        """On a phone a trip that is touched has the same wishes, and the offer is inside the window."""
         path = self.open()
         self.browser.resize(390, 844)
         self.browser.wait(lambda: self.browser.run("return document.getElementById('legend').hidden"))
