@@ -76,8 +76,8 @@ impl<'a> Onward<'a> {
         }
     }
 
-    // Whether the rules of pairs allow the trip of a slot, which runs, next.
-    fn is_allowed(&self, slot: u16) -> bool
+    /// Whether the rules of pairs allow the trip of a slot, which runs, next.
+    pub fn is_allowed(&self, slot: u16) -> bool
         requires { Runs self.now.timetable slot }
         ensures { let names = slot_names self.now.timetable in
             result ≡ rules.allows self.now.matrix.rules (name_at names self.now.slot) (name_at names slot) }
@@ -101,14 +101,30 @@ impl<'a> Onward<'a> {
         }
     }
 
+    /// What it would save to make the trip of a slot, which runs, next, if no rule of pairs forbids it: the weight of the pair,
+    /// where the vehicle arrives in time.
+    pub fn timely_weight(&self, slot: u16) -> Option<u64>
+        requires { Runs self.now.timetable slot }
+        ensures weight { result
+            ≡ weight (deadhead_network (trip_moves self.now.timetable.slots) self.now.matrix) self.now.slot slot }
+        ensures bound { IfSome result (λ weight. weight ≤ VEHICLE_WEIGHT + 2 * MOST_DEADHEAD) }
+    {
+        let minutes = self.minutes_to(slot)?;
+        let out = self.matrix.pull_out(self.timetable.trip(slot).from);
+        Some(self.saved + u64::from(out) - u64::from(minutes))
+    }
+
     /// What it saves to make the trip of a slot, which runs, next: the weight of the pair, where it fits.
     pub fn weight_to(&self, slot: u16) -> Option<u64>
         requires { Runs self.now.timetable slot }
         ensures weight { result ≡ weight (network_of self.now.timetable self.now.matrix) self.now.slot slot }
         ensures bound { IfSome result (λ weight. weight ≤ VEHICLE_WEIGHT + 2 * MOST_DEADHEAD) }
     {
-        let minutes = self.empty_to(slot)?;
-        let out = self.matrix.pull_out(self.timetable.trip(slot).from);
-        Some(self.saved + u64::from(out) - u64::from(minutes))
+        let weight = self.timely_weight(slot)?;
+        if self.is_allowed(slot) {
+            Some(weight)
+        } else {
+            None
+        }
     }
 }

@@ -13,7 +13,8 @@ use deadhead_matrix::Matrix;
 use trip_model::Timetable;
 
 // Where the pair fits, two prices reach its weight. They are that of leaving the trip from which the ways lead on, and that of
-// entering the trip of a record.
+// entering the trip of a record. The rules of pairs are asked where the prices are too low alone, because a look-up of names takes
+// longer than all else.
 fn reach(onward: &Onward, leave: u64, row: &PriceRow) -> Result<(), Reason>
     requires leave { leave ≤ MOST_PRICE }
     requires slot { NamesLive onward.now.timetable row.now.slot }
@@ -21,8 +22,8 @@ fn reach(onward: &Onward, leave: u64, row: &PriceRow) -> Result<(), Reason>
     ensures { result_err result ≡ spec.low_from (network_of onward.now.timetable onward.now.matrix) onward.now.slot leave row.now }
 {
     if let Some(slot) = row.slot {
-        if let Some(weight) = onward.weight_to(slot) {
-            if leave + row.enter < weight {
+        if let Some(weight) = onward.timely_weight(slot) {
+            if leave + row.enter < weight && onward.is_allowed(slot) {
                 return Err(Reason::PriceLow(onward.slot(), slot));
             }
         }
