@@ -1,4 +1,5 @@
 pub mod AddLemmas
+pub mod AlongLemmas
 pub mod ArrangedLemmas
 pub mod DeterminedLemmas
 pub mod EndLemmas

@@ -12,7 +12,7 @@ use Rattle.assignment_model.specs.Prices.{price}
 use Rattle.pair_search.specs.declared.grow.End.{End}
 use Rattle.pair_search.specs.Assignment.{AreWeights, IsMatched, Covers, MayBegin}
 use Rattle.pair_search.specs.Inverse.{IsInverse}
-use Rattle.pair_search.specs.Relinking.{lost, IsShifted, LeadsBack, IsTightBack, IsPassing}
+use Rattle.pair_search.specs.Relinking.{lost, IsShifted, IsAlong, LeadsBack, IsTightBack, IsPassing}
 use Rattle.pair_search.specs.Search.{at, is_done, Problem, problem, IsGiven, TreeView, IsVia, IsTree, HasEnded}
 use Rattle.pair_search.proofs.InverseLemmas.{inverse-before}
 
@@ -146,7 +146,7 @@ place-of p s end out b next o i j linked done =
     (at-tree.place, at-tree.within.1, same_Some (at s.rows at-tree.place) i (sym at-tree.linked ∙ before), at-tree.far)
 
 -- a row that is linked can lose what its column gains
-pub enough : (p : Problem) (s : TreeView) (end : End) (out : ℕ → Bool) (b : Option ℕ) (next : List (Option ℕ)) → IsOver p s end out b next
+enough : (p : Problem) (s : TreeView) (end : End) (out : ℕ → Bool) (b : Option ℕ) (next : List (Option ℕ)) → IsOver p s end out b next
     → (i j : ℕ) → next_of next i ≡ Some j
     → end.fall - at s.dist j ≤ at p.leave i
 enough p s end out b next o i j linked = ⊎_elim
@@ -255,6 +255,34 @@ covers-over p s end out b next leave enter o shifted i j k inside _ fits =
         omega (arith, shifted.rows i ne, loses, o.ended.columns c column undone, covered, gains))
         (cases_Bool (is_done s.done c))
 
+-- rows of the tree are among those that may be linked
+row-within : (p : Problem) (s : TreeView) (end : End) (out : ℕ → Bool) (b : Option ℕ) (next : List (Option ℕ)) → IsOver p s end out b next
+    → (t : ℕ) → t < s.size → at s.rows t < length next
+row-within p s end out b next o t lt = ⊎_elim
+    (λ (e : t ≡ 0). let first : at s.rows t ≡ p.a = ap (at s.rows) e ∙ o.tree.root.1 in omega (arith, first, o.given.start, o.slots))
+    (λ (ne : t ≡ 0 → ⊥).
+    let via = o.tree.via t (omega arith) lt in
+    omega (arith, (o.given.rows (at s.rows t) via.column via.linked).0, o.slots))
+    (cases_eq t 0)
+
+-- prices fall along the rows of the tree alone
+pub IsAlong-over : (p : Problem) (s : TreeView) (end : End) (out : ℕ → Bool) (b : Option ℕ) (next : List (Option ℕ))
+    → IsOver p s end out b next → length s.dist ≡ p.n → IsAlong next s.dist s.far s.rows s.size end.fall
+IsAlong-over p s end out b next o dists = record {
+  root = (o.tree.root.0, ap (next_of next) o.tree.root.1 ∙ o.matched.first p.a refl, o.tree.root.2);
+  within = λ t lt. (row-within p s end out b next o t lt, omega (arith, o.tree.within t lt, o.ended.later));
+  apart = o.tree.apart;
+  once = o.matched.once;
+  via = λ t positive lt. let linked = row-linked p s end out b next o t positive lt in
+      (linked.0.column, linked.1, linked.0.far);
+  near = λ j inside near. ⊎_elim
+      (λ (done : is_done s.done j ≡ true).
+      let placed = o.tree.done j (omega (arith, inside, dists)) done in
+      (placed.place, placed.within.1, (o.inverse.linked (at s.rows placed.place) j placed.linked).1))
+      (λ (undone : is_done s.done j ≡ false). absurd (omega (arith, near, o.ended.columns j (omega (arith, inside, dists)) undone)))
+      (cases_Bool (is_done s.done j));
+}
+
 -- the tree leads back from where the search ended
 pub LeadsBack-over : (p : Problem) (s : TreeView) (end : End) (out : ℕ → Bool) (b : Option ℕ) (next : List (Option ℕ))
     → IsOver p s end out b next → length s.parent ≡ p.n → length s.rows ≡ p.n + 1
@@ -273,12 +301,7 @@ LeadsBack-over p s end out b next o parents rows = record {
       (omega (arith, same, (o.given.rows (at s.rows t) to.0.column to.0.linked).1, parents), omega (arith, parent, to.0.parent)))
       (cases_eq t 0);
   apart = λ r t less le. o.tree.apart r t less (omega (arith, o.ended.within));
-  within = λ t le. ⊎_elim
-      (λ (e : t ≡ 0). let first : at s.rows t ≡ p.a = ap (at s.rows) e ∙ o.tree.root.1 in omega (arith, first, o.given.start, o.slots))
-      (λ (ne : t ≡ 0 → ⊥).
-      let via = o.tree.via t (omega arith) (omega (arith, o.ended.within)) in
-      omega (arith, (o.given.rows (at s.rows t) via.column via.linked).0, o.slots))
-      (cases_eq t 0);
+  within = λ t le. row-within p s end out b next o t (omega (arith, o.ended.within));
 }
 
 -- on the way back each column has the weight of the row from which it was reached

@@ -17,6 +17,17 @@ pub record IsShifted (n a : ℕ) (next : List (Option ℕ)) (dist : List ℕ) (f
   pub rows : (i : ℕ) → i ≢ a → price leave' i ≡ price leave i - lost dist fall (next_of next i)
   pub columns : (j : ℕ) → j < n → price enter' j ≡ price enter j + (fall - at dist j)
 
+-- Prices fall so far along the rows of a tree, which has so many. They are distinct, and none is farther. The first is linked to
+-- none, and each other to a column that is as far as the row. Each column that is nearer than prices fall has one of them linked
+-- to it.
+pub record IsAlong (next : List (Option ℕ)) (dist far rows : List ℕ) (size fall : ℕ) : Type 0 where
+  pub root : (0 < size) × (next_of next (at rows 0) ≡ None) × (at far 0 ≡ 0)
+  pub within : (t : ℕ) → t < size → (at rows t < length next) × (at far t ≤ fall)
+  pub apart : (r t : ℕ) → r < t → t < size → at rows r ≢ at rows t
+  pub once : AreApart next
+  pub via : (t : ℕ) → 0 < t → t < size → (j : ℕ) × (next_of next (at rows t) ≡ Some j) × (at dist j ≡ at far t)
+  pub near : (j : ℕ) → j < length dist → at dist j < fall → (t : ℕ) × (t < size) × (next_of next (at rows t) ≡ Some j)
+
 -- from the row at each place of the tree up to this one the column that it is linked to leads to a place before
 pub record LeadsBack (next : List (Option ℕ)) (parent rows : List ℕ) (top : ℕ) : Type 0 where
   pub inside : top < length rows

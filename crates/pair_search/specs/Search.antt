@@ -179,9 +179,8 @@ pub record HasEnded (p : Problem) (s : TreeView) (end : End) : Type 0 where
   pub alone : end.to ≡ None → end.fall ≡ at s.far end.from + at p.leave (at s.rows end.from)
   pub column : (j : ℕ) → end.to ≡ Some j → (j < p.n) × (at s.dist j ≡ end.fall) × (at s.parent j ≡ end.from) × (next_of p.before j ≡ None)
 
--- a tree, of some size and reach, has grown until the search ended
-pub record IsGrown (p : Problem) (now : ℕ → ℕ → TreeView) (end : End) : Type 0 where
-  pub size : ℕ
+-- a tree has grown, to some reach, until the search ended
+pub record IsGrown (p : Problem) (now : ℕ → TreeView) (end : End) : Type 0 where
   pub reach : ℕ
-  pub tree : IsTree p (now size reach)
-  pub ended : HasEnded p (now size reach) end
+  pub tree : IsTree p (now reach)
+  pub ended : HasEnded p (now reach) end

@@ -26,6 +26,13 @@ pub struct End {
     pub fall: u64,
 }
 
+/// A tree that has grown until the search ended: where that is, and how many rows the tree has.
+#[derive(Clone, Copy)]
+pub(crate) struct Grown {
+    pub end: End,
+    pub size: u16,
+}
+
 /// Of two ends at rows the one at which prices have fallen less.
 pub fn sooner(best: End, from: u16, fall: u64) -> End
     ensures one { (result ≡ best) ⊎ (result ≡ record { from = from; to = None; fall = fall }) }
@@ -135,7 +142,7 @@ impl Tree {
         enter: &[u64],
         looks: &mut Looks,
         steps: &mut Steps<L>,
-    ) -> End
+    ) -> Grown
         requires before { length before.now ≡ side_slots side.now }
         requires leave { length leave.now ≡ side_slots side.now }
         requires enter { length enter.now ≡ side_slots side.now }
@@ -144,10 +151,11 @@ impl Tree {
         requires given { IsGiven (problem_of side.now (at self.old.rows.items 0) before.now leave.now enter.now) }
         requires begun { IsTree (problem_of side.now (at self.old.rows.items 0) before.now leave.now enter.now) (tree_of self.old 1 0) }
         ensures slots { vec_len self.new.dist ≡ vec_len self.old.dist }
-        ensures grown { IsGrown (problem_of side.now (at self.old.rows.items 0) before.now leave.now enter.now) (tree_of self.new) result }
+        ensures grown { IsGrown (problem_of side.now (at self.old.rows.items 0) before.now leave.now enter.now)
+            (tree_of self.new result.size) result.end }
         ensures shown { (next : List (Option ℕ)) (front : Front) → ((j : ℕ) → before_of next j ≡ next_of before.now j)
             → Shows self.old 0 None (at leave.now (at self.old.rows.items 0)) front
-            → Shows self.new result.from result.to result.fall
+            → Shows self.new result.end.from result.end.to result.end.fall
             (grown (place_weight side.now) (record { next = next; leave = leave.now; enter = enter.now }) (side_slots side.now) front) }
         ensures visited { Takes (IsOfOthers side.now (at self.old.rows.items 0)) looks.old.list looks.new.list steps.old steps.new }
         ensures counted { steps.new ≤ steps.old + side_slots side.now * side_slots side.now }
@@ -162,16 +170,17 @@ impl Tree {
         while let Some(column) = nearest(side, &self.done, &self.dist, &mut self.seen, best.fall) {
             let distance = self.dist[column as usize];
             let Some(row) = before[column as usize] else {
-                return End {
+                let end = End {
                     from: self.parent[column as usize],
                     to: Some(column),
                     fall: distance,
                 };
+                return Grown { end, size };
             };
             self.visit(side, row, column, size, leave, enter, looks, steps);
             best = sooner(best, size, distance + leave[row as usize]);
             size += 1;
         }
-        best
+        Grown { end: best, size }
     }
 }

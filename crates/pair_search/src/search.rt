@@ -62,9 +62,9 @@ fn search<L: Ledger>(
     ensures alone { next.old ≡ replicate (side_slots side.now) None → steps.new ≤ steps.old + side_slots side.now }
 {
     tree.begin(side, a, leave, enter, looks, steps);
-    let end = tree.grow(side, before, leave, enter, looks, steps);
-    shift(a, end.fall, next, &tree.dist, leave, enter);
-    relink(end, &tree.parent, &tree.rows, next, before);
+    let grown = tree.grow(side, before, leave, enter, looks, steps);
+    shift(tree, grown, next, leave, enter);
+    relink(grown.end, &tree.parent, &tree.rows, next, before);
 }
 
 // Adds one row after the other to links that link none, each by a search over the rows added so far: the one that stands last

@@ -1,57 +1,51 @@
-ghost use Rattle.std.specs.Prelude.{◌≡◌, ◌≢◌, ℕ, ◌+◌, ◌-◌, ◌*◌, ◌<◌, ◌≤◌, length, Some};
+ghost use Rattle.std.specs.Prelude.{◌≡◌, ℕ, ◌+◌, ◌-◌, ◌<◌, ◌≤◌, length, vec_len, slice_set, IfSome, IfNone, Some};
 ghost use Rattle.trip_model.specs.Links.{next_of};
-ghost use Rattle.pair_search.specs.Relinking.{lost, IsShifted};
+ghost use Rattle.pair_search.specs.Relinking.{IsAlong, IsShifted};
 ghost use Rattle.pair_search.specs.Search.{at};
 
+use crate::grow::Grown;
 use crate::limits::GREATEST_PRICE;
+use crate::tree::Tree;
 
-// Columns that were reached before prices have fallen so far gain the difference.
-fn raise(fall: u64, dist: &[u64], enter: &mut [u64])
-    requires dist { length dist.now ≡ length enter.old }
-    requires fall { fall ≤ GREATEST_PRICE }
-    requires low { (j : ℕ) → at dist.now j < fall → at enter.old j ≤ GREATEST_PRICE }
-    ensures { (j : ℕ) → j < length enter.old → at enter.new j ≡ at enter.old j + (fall - at dist.now j) }
-{
-    for column in 0..enter.len() {
-        enter[column] += fall.saturating_sub(dist[column]);
-    }
-}
-
-// Rows that are linked to such columns lose it.
-fn lower(fall: u64, next: &[Option<u16>], dist: &[u64], leave: &mut [u64])
+// A row loses so much, and the column that it is linked to gains it.
+fn pass_on(row: u16, gain: u64, next: &[Option<u16>], leave: &mut [u64], enter: &mut [u64])
     requires next { length next.now ≡ length leave.old }
-    requires within { (i j : ℕ) → next_of next.now i ≡ Some j → j < length dist.now }
-    requires enough { (i j : ℕ) → next_of next.now i ≡ Some j → fall - at dist.now j ≤ at leave.old i }
-    ensures { (i : ℕ) → at leave.new i ≡ at leave.old i - lost dist.now fall (next_of next.now i) }
+    requires row { row < length leave.old }
+    requires gain { gain ≤ GREATEST_PRICE }
+    requires enough { gain ≤ at leave.old row }
+    requires column { IfSome (next_of next.now row) (λ j. (j < length enter.old) × (at enter.old j ≤ GREATEST_PRICE)) }
+    ensures leave { leave.new ≡ slice_set leave.old row (at leave.old row - gain) }
+    ensures some { IfSome (next_of next.now row) (λ j. enter.new ≡ slice_set enter.old j (at enter.old j + gain)) }
+    ensures none { IfNone (next_of next.now row) (enter.new ≡ enter.old) }
 {
-    for row in 0..leave.len() {
-        if let Some(column) = next[row] {
-            leave[row] -= fall.saturating_sub(dist[column as usize]);
-        }
+    leave[row as usize] -= gain;
+    if let Some(column) = next[row as usize] {
+        enter[column as usize] += gain;
     }
 }
 
-/// Shifts the prices as they fall so far from the row at which a search began.
+/// Shifts the prices along the rows of a tree that has grown, as they fall so far from its first row.
 pub(crate) fn shift(
-    a: u16,
-    fall: u64,
+    tree: &Tree,
+    grown: Grown,
     next: &[Option<u16>],
-    dist: &[u64],
     leave: &mut [u64],
     enter: &mut [u64],
 )
+    requires places { grown.size ≤ vec_len tree.now.rows }
     requires next { length next.now ≡ length leave.old }
-    requires dist { length dist.now ≡ length enter.old }
-    requires within { (i j : ℕ) → next_of next.now i ≡ Some j → j < length dist.now }
-    requires enough { (i j : ℕ) → next_of next.now i ≡ Some j → fall - at dist.now j ≤ at leave.old i }
-    requires fall { fall ≤ GREATEST_PRICE }
-    requires low { (j : ℕ) → at dist.now j < fall → at enter.old j ≤ GREATEST_PRICE }
-    requires start { a < length leave.old }
-    requires root { (j : ℕ) → next_of next.now a ≢ Some j }
-    requires price { fall ≤ at leave.old a }
-    ensures { IsShifted (length enter.old) a next.now dist.now fall leave.old enter.old leave.new enter.new }
+    requires enter { length enter.old ≡ vec_len tree.now.dist }
+    requires within { (i j : ℕ) → next_of next.now i ≡ Some j → j < length enter.old }
+    requires low { (i j : ℕ) → next_of next.now i ≡ Some j → at enter.old j ≤ GREATEST_PRICE }
+    requires fall { grown.end.fall ≤ GREATEST_PRICE }
+    requires along { IsAlong next.now tree.now.dist.items tree.now.far.items tree.now.rows.items grown.size grown.end.fall }
+    requires enough { (t : ℕ) → t < grown.size → grown.end.fall ≤ at tree.now.far.items t + at leave.old (at tree.now.rows.items t) }
+    ensures { IsShifted (length enter.old) (at tree.now.rows.items 0) next.now tree.now.dist.items grown.end.fall leave.old enter.old
+        leave.new enter.new }
 {
-    raise(fall, dist, enter);
-    lower(fall, next, dist, leave);
-    leave[a as usize] -= fall;
+    for place in 0..grown.size {
+        let row = tree.rows[place as usize];
+        let far = tree.far[place as usize];
+        pass_on(row, grown.end.fall - far, next, leave, enter);
+    }
 }

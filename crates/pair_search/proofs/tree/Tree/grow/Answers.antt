@@ -84,7 +84,6 @@ returns-in_default-before-clause-grown g c =
     get_or_read was.parent.items column c.index-in_default-before.result.now
     (omega (arith, nearest.within, was.dist.ok.0, was.parent.ok.0, was.parents)) c.index-in_default-before.ensures 0 in
     record {
-      size = loop.size;
       reach = loop.invariant.reach;
       tree = loop.invariant.tree;
       ended =
@@ -322,7 +321,6 @@ returns-clause-grown g c =
     (subst (λ xs. (j : ℕ) → j < length xs → is_done c.deref.result.now j ≡ false → loop.best.fall ≤ at xs j)
     c.deref-in-loop-column.ensures.value c.in_default.ensures.none) in
     record {
-      size = loop.size;
       reach = loop.invariant.reach;
       tree = loop.invariant.tree;
       ended =
